@@ -1,0 +1,3 @@
+pub mod CanonLaws
+pub mod Permuting
+pub mod Sorting

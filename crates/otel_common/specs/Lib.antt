@@ -1,0 +1,5 @@
+pub mod Canonical
+pub mod Equality
+pub mod Faults
+pub mod Hashes
+pub mod Scopes

@@ -1,0 +1,15 @@
+//! Attributes and sets of them, instrumentation scopes, faults, and what all metrics share.
+//!
+//! Contracts see each type as plain data: a text as its bytes, a list as its items. So `≡` between
+//! two values of these types says that their contents are equal.
+#![tactic(auto)]
+
+pub mod attributes;
+pub mod canonical;
+pub mod common;
+pub mod faults;
+pub mod keys;
+pub mod lists;
+pub mod metrics;
+pub mod scopes;
+pub mod strings;

@@ -1,0 +1,153 @@
+-- What records come to (Metrics SDK, "Aggregation"). All numbers that wrap do so modulo 2^64.
+use Rattle.std.specs.Prelude.{ℕ, zero, suc, ◌+◌, ◌%◌, ◌^◌, nat_eq, ℤ, Bool, cond, List, [], ◌∷◌, replicate, length, map, count_by, sum_by, int_lt, Option, Some, None, ◌≡◌, refl}
+use Rattle.std.proofs.Common.{ap}
+use Rattle.std.proofs.lemmas.List.{length-replicate}
+use Rattle.std.specs.Int.{int_min, int_max}
+
+-- a recorded value: its 64 bits, and the whole number that it stands for
+pub record Amount : Type 0 where
+  pub bits : ℕ
+  pub wide : ℤ
+
+-- a recorded value with its bucket: how many bounds are less than it
+pub record Sample : Type 0 where
+  pub bits : ℕ
+  pub wide : ℤ
+  pub bucket : ℕ
+
+-- what a stream makes of its records
+pub data Aggregate : Type 0 where
+  Sum : Aggregate
+  LastValue : Aggregate
+  Histogram : (bounds : List ℤ) (has_min_max : Bool) (has_sum : Bool) → Aggregate
+
+-- the totals of a histogram. Without min and max the least and greatest value are never kept;
+-- without a sum it stays 0
+pub record Spread : Type 0 where
+  pub has_min_max : Bool
+  pub has_sum : Bool
+  pub count : ℕ
+  pub sum : ℕ
+  pub least : Option ℤ
+  pub greatest : Option ℤ
+  pub counts : List ℕ
+
+-- what the records so far come to: their sum, the last of them, or how they spread
+pub data Fold : Type 0 where
+  Total : ℕ → Fold
+  Last : ℕ → Fold
+  Spreads : Spread → Fold
+
+abbrev pub wrapped : ℕ → ℕ
+wrapped n = n % 2 ^ 64
+
+-- ======== one record more ========
+abbrev pub lesser : Option ℤ → ℤ → Option ℤ
+lesser None x = Some x
+lesser (Some y) x = Some (int_min y x)
+
+abbrev pub greater : Option ℤ → ℤ → Option ℤ
+greater None x = Some x
+greater (Some y) x = Some (int_max y x)
+
+-- one more in the bucket; a bucket that isn't there counts nothing
+abbrev pub counted_in : List ℕ → ℕ → List ℕ
+counted_in [] i = []
+counted_in (n ∷ ns) zero = wrapped (n + 1) ∷ ns
+counted_in (n ∷ ns) (suc i) = n ∷ counted_in ns i
+
+abbrev pub record_spread : Spread → Sample → Spread
+record_spread s v = record {
+  has_min_max = s.has_min_max;
+  has_sum = s.has_sum;
+  count = wrapped (s.count + 1);
+  sum = cond s.has_sum (wrapped (s.sum + v.bits)) s.sum;
+  least = cond s.has_min_max (lesser s.least v.wide) s.least;
+  greatest = cond s.has_min_max (greater s.greatest v.wide) s.greatest;
+  counts = counted_in s.counts v.bucket;
+}
+
+abbrev pub recorded : Fold → Sample → Fold
+recorded (Total n) v = Total (wrapped (n + v.bits))
+recorded (Last n) v = Last v.bits
+recorded (Spreads s) v = Spreads (record_spread s v)
+
+-- ======== no records ========
+-- a histogram without records, of a number of buckets
+abbrev pub no_spread : Bool → Bool → ℕ → Spread
+no_spread has_min_max has_sum n = record { has_min_max = has_min_max; has_sum = has_sum; count = 0; sum = 0; least = None; greatest = None; counts = replicate n 0 }
+
+abbrev pub cleared : Fold → Fold
+cleared (Total _) = Total 0
+cleared (Last _) = Last 0
+cleared (Spreads s) = Spreads (no_spread s.has_min_max s.has_sum (length s.counts))
+
+-- how many buckets: none without bounds
+abbrev pub buckets_of : List ℤ → ℕ
+buckets_of [] = 0
+buckets_of (b ∷ bounds) = length (b ∷ bounds) + 1
+
+abbrev pub empty_of : Aggregate → Fold
+empty_of Sum = Total 0
+empty_of LastValue = Last 0
+empty_of (Histogram bounds has_min_max has_sum) = Spreads (no_spread has_min_max has_sum (buckets_of bounds))
+
+-- how many bounds are less than the value, as whole numbers
+abbrev pub bounds_below : List ℤ → ℤ → ℕ
+bounds_below bounds x = count_by (λ bound. int_lt bound x) bounds
+
+abbrev pub bounds_of : Aggregate → List ℤ
+bounds_of Sum = []
+bounds_of LastValue = []
+bounds_of (Histogram bounds has_min_max has_sum) = bounds
+
+abbrev pub sample_of : Aggregate → Amount → Sample
+sample_of σ v = record { bits = v.bits; wide = v.wide; bucket = bounds_below (bounds_of σ) v.wide }
+
+-- clearing what has no records changes nothing
+pub cleared_no_spread : (m s : Bool) (n : ℕ) → cleared (Spreads (no_spread m s n)) ≡ Spreads (no_spread m s n)
+cleared_no_spread m s n = ap (λ k. Spreads (no_spread m s k)) (length-replicate n 0)
+
+pub cleared_empty : (σ : Aggregate) → cleared (empty_of σ) ≡ empty_of σ
+cleared_empty Sum = refl
+cleared_empty LastValue = refl
+cleared_empty (Histogram bounds m s) = cleared_no_spread m s (buckets_of bounds)
+
+-- ======== said of the whole list of records ========
+-- how many have this bucket, for each of n buckets from a on
+abbrev pub counts_from : ℕ → ℕ → List Sample → List ℕ
+counts_from a zero vs = []
+counts_from a (suc n) vs = wrapped (count_by (λ v. nat_eq v.bucket a) vs) ∷ counts_from (a + 1) n vs
+
+abbrev pub last_bits : List Sample → ℕ
+last_bits [] = 0
+last_bits (v ∷ []) = v.bits
+last_bits (v ∷ w ∷ vs) = last_bits (w ∷ vs)
+
+abbrev pub least_of : List ℤ → Option ℤ
+least_of [] = None
+least_of (x ∷ []) = Some x
+least_of (x ∷ y ∷ xs) = lesser (least_of (y ∷ xs)) x
+
+abbrev pub greatest_of : List ℤ → Option ℤ
+greatest_of [] = None
+greatest_of (x ∷ []) = Some x
+greatest_of (x ∷ y ∷ xs) = greater (greatest_of (y ∷ xs)) x
+
+-- what these records come to, the first argument telling of which aggregate
+abbrev pub folded : Fold → List Sample → Fold
+folded (Total _) vs = Total (wrapped (sum_by (λ v. v.bits) vs))
+folded (Last _) vs = Last (last_bits vs)
+folded (Spreads s) vs = Spreads (record {
+  has_min_max = s.has_min_max;
+  has_sum = s.has_sum;
+  count = wrapped (length vs);
+  sum = cond s.has_sum (wrapped (sum_by (λ v. v.bits) vs)) 0;
+  least = cond s.has_min_max (least_of (map (λ v. v.wide) vs)) None;
+  greatest = cond s.has_min_max (greatest_of (map (λ v. v.wide) vs)) None;
+  counts = counts_from 0 (length s.counts) vs;
+})
+
+-- the fold of a list of values
+abbrev pub fold_of : Aggregate → List Amount → Fold
+fold_of σ vs = folded (empty_of σ) (map (sample_of σ) vs)

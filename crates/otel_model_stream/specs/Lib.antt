@@ -1,0 +1,4 @@
+pub mod Sets
+pub mod Folds
+pub mod Entries
+pub mod Maps

@@ -1,0 +1,32 @@
+-- Sets of attributes as a stream sees them (Metrics SDK, "View" and "Cardinality limits").
+use Rattle.std.specs.Prelude.{ℕ, true, List, [], ◌∷◌, Option, None, Some, filter, codes}
+use Rattle.std.specs.List.{list_any}
+use Rattle.otel_common.specs.Canonical.{canon}
+use Rattle.otel_common.specs.Equality.{bytes_eq}
+use Rattle.otel_common.specs.declared.attributes.KeyValue.{KeyValue}
+use Rattle.otel_common.specs.declared.attributes.Value.TheVariants as value
+
+-- a set: a canonical list of attributes
+abbrev pub AttributeSet : Type 0
+AttributeSet = List KeyValue
+
+-- a stream's allow-list of keys, if it has one
+abbrev pub AllowList : Type 0
+AllowList = Option (List (List ℕ))
+
+-- the empty set
+abbrev pub none_set : AttributeSet
+none_set = []
+
+-- the set of the overflow entry: the one pair `otel.metric.overflow` = `true`
+abbrev pub over_set : AttributeSet
+over_set = record { key = codes "otel.metric.overflow"; value = value.Bool true } ∷ []
+
+-- the attributes, in order, whose key is in the list; all of them where there is none
+abbrev pub kept : AllowList → List KeyValue → List KeyValue
+kept None attributes = attributes
+kept (Some allow) attributes = filter (λ p. list_any (bytes_eq p.key) allow) attributes
+
+-- the set that a record of these attributes has in a stream
+abbrev pub set_of : AllowList → List KeyValue → AttributeSet
+set_of allow attributes = canon (kept allow attributes)
