@@ -14,3 +14,4 @@ pub mod Tidy
 pub mod Weights
 pub mod Totals
 pub mod Conserved
+pub mod Rows
