@@ -5,3 +5,5 @@ pub mod Follow
 pub mod Runs
 pub mod Recorded
 pub mod Shown
+pub mod Rows
+pub mod RowsPlaces

@@ -1,3 +1,4 @@
+use Rattle.otel_model.proofs.RowsPlaces.{row_3}
 use Rattle.otel_model.proofs.Gather.{enter_all, firsts_are_known, fate_firsts}
 use Rattle.otel_model.proofs.Single.{as_alone}
 use Rattle.otel_model.proofs.is_alone.Goals as goal
