@@ -7,3 +7,5 @@ pub mod Recorded
 pub mod Shown
 pub mod Rows
 pub mod RowsPlaces
+pub mod RowsSums
+pub mod RowsViews

@@ -1,3 +1,5 @@
+use Rattle.otel_model.proofs.RowsSums.{row_1}
+use Rattle.otel_model.proofs.RowsViews.{row_11}
 use Rattle.otel_model.proofs.RowsPlaces.{row_3}
 use Rattle.otel_model.proofs.Gather.{enter_all, firsts_are_known, fate_firsts}
 use Rattle.otel_model.proofs.Single.{as_alone}
