@@ -135,7 +135,7 @@ last_from ns (Collect ∷ es) = last_from ns es
 
 -- ======== the stream of a demand ========
 -- a drained stream keeps last values
-drained_last : (d : Demand) → is_drained d ≡ true → aggregate_of d ≡ LastValue
+pub drained_last : (d : Demand) → is_drained d ≡ true → aggregate_of d ≡ LastValue
 drained_last d e = go d.aggregation d.identity.kind e
   where
     go : (a : Aggregation) (kind : InstrumentKind) → (is_sum a && observes_sums kind) ≡ true → aggregate_from (is_sum a && observes_sums kind) kind a ≡ LastValue

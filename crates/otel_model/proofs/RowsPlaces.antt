@@ -81,8 +81,8 @@ row_24 = (refl, refl)
 -- a drained delta sum at its limit
 pub row_21 : Shows limit_1 (delta ∷ []) 0 delta
     (on (about ObservableCounter a) (
-      Collect 0 200 (observe 0 10 x1 ∷ observe 0 20 y1 ∷ observe 0 30 z1 ∷ [])
-      ∷ Collect 0 300 (observe 0 10 x1 ∷ observe 0 20 y1 ∷ observe 0 30 z1 ∷ []) ∷ []))
+    Collect 0 200 (observe 0 10 x1 ∷ observe 0 20 y1 ∷ observe 0 30 z1 ∷ [])
+    ∷ Collect 0 300 (observe 0 10 x1 ∷ observe 0 20 y1 ∷ observe 0 30 z1 ∷ []) ∷ []))
     (one a (delta_sum ((x1, 10) ∷ (over_set, 30) ∷ [])) ∷ one a (delta_sum ((x1, 0) ∷ (over_set, 0) ∷ [])) ∷ [])
 unfolding canon
 row_21 = (refl, refl)

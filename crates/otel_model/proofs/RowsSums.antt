@@ -85,7 +85,7 @@ row_27 = (refl, refl)
 
 -- two names that differ in ASCII case are one identity, another kind is another
 pub row_37 : Shown cumulative (on (about Counter (72 ∷ 105 ∷ [])) (Build (Some 0) (about Counter (104 ∷ 73 ∷ [])) 100 ∷ Build (Some 0) (about UpDownCounter (104 ∷ 105 ∷ [])) 100
-      ∷ add 1 [] ∷ Record 1 (u64 2) [] ∷ Record 2 (u64 4) [] ∷ Collect 0 200 [] ∷ []))
+    ∷ add 1 [] ∷ Record 1 (u64 2) [] ∷ Record 2 (u64 4) [] ∷ Collect 0 200 [] ∷ []))
     ((one (72 ∷ 105 ∷ []) (cumulative_sum (([], 3) ∷ [])) ++ one (104 ∷ 105 ∷ []) (Content.Sum false false (([], 4) ∷ []))) ∷ [])
 unfolding canon
 row_37 = (refl, refl)

@@ -105,7 +105,7 @@ module _ (views : Views) (row : Row) (r : ℕ) (d : Demand) where
   shown_points_are calls = shown_from [] calls
 
 -- ======== the streams of a run ========
-get_of_map : {X Y : Type 0} (f : X → Y) (xs : List X) (j : ℕ) (y : Y) → slice_get (map f xs) j ≡ Some y → (x : X) × (y ≡ f x)
+pub get_of_map : {X Y : Type 0} (f : X → Y) (xs : List X) (j : ℕ) (y : Y) → slice_get (map f xs) j ≡ Some y → (x : X) × (y ≡ f x)
 get_of_map f [] j y e = absurd (cc)
 get_of_map f (x ∷ xs) zero y e = (x, sym (some_is (f x) y e))
 get_of_map f (x ∷ xs) (suc j) y e = get_of_map f xs j y e

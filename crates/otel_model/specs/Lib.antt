@@ -13,3 +13,4 @@ pub mod Only
 pub mod History
 pub mod Totals
 pub mod Laws
+pub mod Orders

@@ -2,6 +2,7 @@
 //! calls alone, and the laws that join the two. No working code.
 #![tactic(auto)]
 
+ghost use Rattle.otel_model.specs.Orders.{AreDifferences, BindsInAnyOrder, ObservationsInAnyOrder, RecordsInAnyOrder};
 ghost use Rattle.otel_model.specs.Laws.{AreCollectionsOfHistories, AreCountedOfHistories, AreFeedsOfBuilds, ArePlacesOfHistories, ArePointsFew, AreStreamsOfBuilds, IsAllShown, IsAsOnlyReader, IsConserved, IsExportedTotal, IsRecordedTotal};
 
 /// For every list of calls each reader is answered as if it were the only one.
@@ -25,4 +26,16 @@ pub fn conserves()
     ensures conserved { IsConserved }
     ensures all_shown { IsAllShown }
     ensures few { ArePointsFew }
+{}
+
+/// In what order attributes are given changes nothing.
+pub fn orders()
+    ensures records { RecordsInAnyOrder }
+    ensures binds { BindsInAnyOrder }
+    ensures observations { ObservationsInAnyOrder }
+{}
+
+/// What observed sums show in a delta stream.
+pub fn differs()
+    ensures only { AreDifferences }
 {}

@@ -1,0 +1,46 @@
+-- The order of attributes, and what a sum of observed sums shows.
+use Rattle.std.specs.Prelude.{◌≡◌, ℕ, ◌+◌, true, List, [], ◌∷◌, ◌++◌, Some, slice_get}
+use Rattle.std.specs.List.Sorted.{IsPermutation}
+use Rattle.otel_common.specs.Canonical.{HasDistinctKeys}
+use Rattle.otel_common.specs.declared.attributes.KeyValue.{KeyValue}
+use Rattle.otel_model_stream.specs.Sets.{AttributeSet}
+use Rattle.otel_model_stream.specs.Folds.{LastValue, wrapped, fold_of}
+use Rattle.otel_model_stream.specs.Events.{Event, Point}
+use Rattle.otel_model_stream.specs.Windows.{records_of, values_of}
+use Rattle.otel_model.specs.Calls.{Number, Observed, Call, Record, Bind, Collect, Reply}
+use Rattle.otel_model.specs.Collections.{shows_differences, value_of, value_before, differences}
+use Rattle.otel_model.specs.Demands.{Demand, Row, Views}
+use Rattle.otel_model.specs.State.{State}
+use Rattle.otel_model.specs.Steps.{Run}
+use Rattle.otel_model.specs.History.{history, window_of, window_points, reported_of}
+
+-- the same attributes in another order, no key twice
+abbrev pub IsReordered : List KeyValue → List KeyValue → Type 0
+IsReordered l m = HasDistinctKeys l × IsPermutation l m
+
+-- permuting the attributes of any record changes no reply and no state
+abbrev pub RecordsInAnyOrder : Type 0
+RecordsInAnyOrder = (views : Views) (old new : State) (before later : List Call) (n : ℕ) (v : Number) (l m : List KeyValue) (replies : List Reply) → IsReordered l m
+    → Run views old (before ++ Record n v l ∷ later) replies new → Run views old (before ++ Record n v m ∷ later) replies new
+
+-- of any bind
+abbrev pub BindsInAnyOrder : Type 0
+BindsInAnyOrder = (views : Views) (old new : State) (before later : List Call) (n : ℕ) (l m : List KeyValue) (replies : List Reply) → IsReordered l m
+    → Run views old (before ++ Bind n l ∷ later) replies new → Run views old (before ++ Bind n m ∷ later) replies new
+
+-- and of any observation
+abbrev pub ObservationsInAnyOrder : Type 0
+ObservationsInAnyOrder = (views : Views) (old new : State) (before later : List Call) (r now : ℕ) (os ps : List Observed) (o : Observed) (m : List KeyValue) (replies : List Reply) → IsReordered o.attributes m
+    → Run views old (before ++ Collect r now (os ++ o ∷ ps) ∷ later) replies new
+    → Run views old (before ++ Collect r now (os ++ record o { attributes = m } ∷ ps) ∷ later) replies new
+
+-- the last value of the records of a window that count for a set
+abbrev pub last_observed : Row → Demand → List Event → AttributeSet → ℕ
+last_observed row d events set = value_of (fold_of LastValue (values_of (records_of d.limit (window_of row d events)) set))
+
+-- in a delta stream of observed sums a point plus its set's value in the collection before is the last
+-- value observed for the set, modulo 2^64
+abbrev pub AreDifferences : Type 0
+AreDifferences = (views : Views) (row : Row) (r : ℕ) (d : Demand) (calls : List Call) (events : List Event) → shows_differences row d ≡ true
+    → (k : ℕ) (p : Point) → slice_get (differences row d (reported_of views row r d calls) (window_points row d (history views row r d calls ++ events))) k ≡ Some p
+    → wrapped (value_of p.1 + value_before (reported_of views row r d calls) p.0) ≡ wrapped (last_observed row d (history views row r d calls ++ events) p.0)
