@@ -136,7 +136,7 @@ pub map_known : {X : Type 0} (f g : Demand → X) (all ds : List Demand) → ((d
 map_known f g all [] e k = refl
 map_known f g all (d ∷ ds) e k = λ i. e d k.0 i ∷ map_known f g all ds e k.1 i
 
-known_here : (before : List Demand) (d : Demand) (ds : List Demand) → is_known (before ++ d ∷ ds) d.identity ≡ true
+pub known_here : (before : List Demand) (d : Demand) (ds : List Demand) → is_known (before ++ d ∷ ds) d.identity ≡ true
 known_here before d ds = known-append before (d ∷ ds) d.identity ∙ (ap (λ b. is_known before d.identity || (b || is_known ds d.identity)) (identity_eq_self d.identity) ∙ or_true (is_known before d.identity))
   where
     or_true : (b : Bool) → (b || true) ≡ true

@@ -11,3 +11,5 @@ pub mod RowsSums
 pub mod RowsViews
 pub mod Reorder
 pub mod Differences
+pub mod Alike
+pub mod Merging

@@ -14,3 +14,4 @@ pub mod History
 pub mod Totals
 pub mod Laws
 pub mod Orders
+pub mod Builds

@@ -1,6 +1,6 @@
 -- Resources and their merge (Resource SDK, "Merge").
 use Rattle.std.specs.Prelude.{◌≡◌, ◌≢◌, ℕ, List, [], ◌∷◌, ◌++◌, cond, Option, Some, None}
-use Rattle.otel_common.specs.Canonical.{canon}
+use Rattle.otel_common.specs.Canonical.{canon, HasRisingKeys}
 use Rattle.otel_common.specs.Equality.{bytes_eq}
 use Rattle.otel_common.specs.declared.attributes.KeyValue.{KeyValue}
 use Rattle.otel_common.specs.declared.attributes.Value.{Value}
@@ -39,6 +39,10 @@ first_of (Some x) other = Some x
 abbrev pub OthersValuesWin : Type 0
 OthersValuesWin = (resource other : Resource) (key : List ℕ)
     → value_at key (merged resource other).attributes ≡ first_of (value_at key other.attributes) (value_at key resource.attributes)
+
+-- and the keys of a merge rise
+abbrev pub MergesAreCanonical : Type 0
+MergesAreCanonical = (resource other : Resource) → HasRisingKeys (merged resource other).attributes
 
 -- of three resources of which the last two have the same URL and the first another, merged from the left,
 -- the last one's URL stays; merged from the right, none

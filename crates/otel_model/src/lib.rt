@@ -3,6 +3,8 @@
 #![tactic(auto)]
 
 ghost use Rattle.otel_model.specs.Orders.{AreDifferences, BindsInAnyOrder, ObservationsInAnyOrder, RecordsInAnyOrder};
+ghost use Rattle.otel_model.specs.Builds.{AlikeFeedTheSame};
+ghost use Rattle.otel_model.specs.Resources.{MergesAreCanonical, OthersValuesWin, UrlsMergeFromTheLeft, UrlsMergeFromTheRight};
 ghost use Rattle.otel_model.specs.Laws.{AreCollectionsOfHistories, AreCountedOfHistories, AreFeedsOfBuilds, ArePlacesOfHistories, ArePointsFew, AreStreamsOfBuilds, IsAllShown, IsAsOnlyReader, IsConserved, IsExportedTotal, IsRecordedTotal};
 
 /// For every list of calls each reader is answered as if it were the only one.
@@ -38,4 +40,17 @@ pub fn orders()
 /// What observed sums show in a delta stream.
 pub fn differs()
     ensures only { AreDifferences }
+{}
+
+/// Two builds that agree in what makes a stream the same feed the same streams.
+pub fn shares()
+    ensures only { AlikeFeedTheSame }
+{}
+
+/// The other's values win a merge, which is not associative on URLs.
+pub fn merges()
+    ensures values { OthersValuesWin }
+    ensures canonical { MergesAreCanonical }
+    ensures left { UrlsMergeFromTheLeft }
+    ensures right { UrlsMergeFromTheRight }
 {}

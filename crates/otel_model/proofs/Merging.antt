@@ -1,0 +1,61 @@
+-- The merge of resources.
+use Rattle.std.proofs.Common.{◌≡◌, ⊎_elim, ℕ, Bool, true, false, List, [], ◌∷◌, ◌++◌, map, refl, sym, ◌∙◌, ap, Option, Some, None, subst, cond}
+use Rattle.std.specs.Prelude.{◌≢◌}
+use Rattle.std.specs.Ordering.{is_eq, eq_by_cmp}
+use Rattle.std.specs.Cmp.{Equal-is}
+use Rattle.std.specs.Cmp.Lexicographic.{nat_list_cmp_total, bytes_decides}
+use Rattle.std.proofs.lemmas.Cmp.{tied_itself}
+use Rattle.std.proofs.lemmas.Bool.{cases_Bool, true≢false, false≢true}
+use Rattle.otel_common.specs.Canonical.{canon, key_cmp}
+use Rattle.otel_common.specs.Equality.{bytes_eq}
+use Rattle.otel_common.specs.declared.attributes.KeyValue.{KeyValue}
+use Rattle.otel_common.specs.declared.attributes.Value.{Value}
+use Rattle.otel_common.proofs.CanonLaws.{key_cmp-IsAntisymmetric, value_at-canon, canon-rising}
+use Rattle.otel_common.proofs.CanonLaws as found
+use Rattle.otel_model.specs.Resources.{Resource, merged_url, merged, value_at, first_of, OthersValuesWin, UrlsMergeFromTheLeft, UrlsMergeFromTheRight, MergesAreCanonical}
+
+-- the two tests of a key
+same_test : (k q : List ℕ) → bytes_eq k q ≡ eq_by_cmp key_cmp q k
+same_test k q = ⊎_elim
+    (λ e. e ∙ sym (ap (λ x. eq_by_cmp key_cmp x k) (sym ((bytes_decides k q).0 e)) ∙ ap is_eq (tied_itself nat_list_cmp_total k)))
+    (λ e. e ∙ sym (⊎_elim
+    (λ t. absurd (true≢false (sym ((bytes_decides k q).1 (sym (key_cmp-IsAntisymmetric q k ((Equal-is (key_cmp q k)).0 t)))) ∙ e)))
+    (λ t. t)
+    (cases_Bool (eq_by_cmp key_cmp q k))))
+    (cases_Bool (bytes_eq k q))
+
+same_value : (q : List ℕ) (l : List KeyValue) → value_at q l ≡ found.value_at q l
+same_value q [] = refl
+same_value q (p ∷ l) = λ i. cond (same_test p.key q i) (Some p.value) (same_value q l i)
+
+value_at-append : (q : List ℕ) (l m : List KeyValue) → value_at q (l ++ m) ≡ first_of (value_at q l) (value_at q m)
+value_at-append q [] m = refl
+value_at-append q (p ∷ l) m = go (bytes_eq p.key q) (value_at-append q l m)
+  where
+    go : (b : Bool) → value_at q (l ++ m) ≡ first_of (value_at q l) (value_at q m) → cond b (Some p.value) (value_at q (l ++ m)) ≡ first_of (cond b (Some p.value) (value_at q l)) (value_at q m)
+    go true e = refl
+    go false e = e
+
+pub values_law : OthersValuesWin
+values_law resource other key =
+    same_value key (canon (other.attributes ++ resource.attributes))
+    ∙ (value_at-canon (other.attributes ++ resource.attributes) key
+    ∙ (sym (same_value key (other.attributes ++ resource.attributes))
+    ∙ value_at-append key other.attributes resource.attributes))
+
+pub canonical_law : MergesAreCanonical
+canonical_law resource other = canon-rising (other.attributes ++ resource.attributes)
+
+differ : (one two : List ℕ) → one ≢ two → bytes_eq one two ≡ false
+differ one two n = ⊎_elim (λ e. absurd (n ((bytes_decides one two).0 e))) (λ e. e) (cases_Bool (bytes_eq one two))
+
+pub left_law : UrlsMergeFromTheLeft
+left_law a b c one two n e f g =
+    (λ i. merged_url (merged_url (e i) (f i)) (g i))
+    ∙ ap (λ t. merged_url (cond t (Some one) None) (Some two)) (differ one two n)
+
+pub right_law : UrlsMergeFromTheRight
+right_law a b c one two n e f g =
+    (λ i. merged_url (e i) (merged_url (f i) (g i)))
+    ∙ (ap (λ t. merged_url (Some one) (cond t (Some two) None)) ((bytes_decides two two).1 refl)
+    ∙ ap (λ t. cond t (Some one) None) (differ one two n))

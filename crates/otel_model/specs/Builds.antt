@@ -1,0 +1,28 @@
+-- Two builds of the same streams (Metrics SDK, "Duplicate instrument registration").
+use Rattle.std.specs.Prelude.{◌≡◌, ℕ, true, List, map, Option, Some, slice_get}
+use Rattle.otel_common.specs.declared.scopes.InstrumentationScope.{InstrumentationScope}
+use Rattle.otel_model.specs.Calls.{lowered}
+use Rattle.otel_model.specs.Demands.{View, Views, StreamSpec, instrument_of, description_of, unit_of, is_good}
+use Rattle.otel_model.specs.History.{Built, builds_in, made}
+use Rattle.otel_model.specs.Laws.{OfEachReader}
+
+-- two good builds on the meters of one scope, so before a shutdown, that agree in kind, number type,
+-- description, unit, and in name but for ASCII case, and to which each view answers alike
+pub record AreAlike (views : Views) (i j : Built) : Type 0 where
+  pub scope : InstrumentationScope
+  pub first_scope : i.scope ≡ Some scope
+  pub second_scope : j.scope ≡ Some scope
+  pub first_good : is_good i.about ≡ true
+  pub second_good : is_good j.about ≡ true
+  pub kind : i.about.kind ≡ j.about.kind
+  pub signed : i.about.signed ≡ j.about.signed
+  pub description : description_of i.about ≡ description_of j.about
+  pub unit : unit_of i.about ≡ unit_of j.about
+  pub name : lowered i.about.name ≡ lowered j.about.name
+  pub answers : map (λ (view : View). view (instrument_of scope i.about)) views ≡ map (λ (view : View). view (instrument_of scope j.about)) views
+
+-- they feed the same streams
+abbrev pub AlikeFeedTheSame : Type 0
+AlikeFeedTheSame = OfEachReader (λ views resource calls replies new r row part.
+    (m n : ℕ) (i j : Built) → slice_get (builds_in (made calls replies)) m ≡ Some i → slice_get (builds_in (made calls replies)) n ≡ Some j → AreAlike views i j
+    → slice_get part.feeds m ≡ slice_get part.feeds n)
