@@ -9,7 +9,3 @@ pub mod Rows
 pub mod RowsPlaces
 pub mod RowsSums
 pub mod RowsViews
-pub mod Reorder
-pub mod Differences
-pub mod Alike
-pub mod Merging

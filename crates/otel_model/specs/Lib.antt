@@ -13,5 +13,3 @@ pub mod Only
 pub mod History
 pub mod Totals
 pub mod Laws
-pub mod Orders
-pub mod Builds

@@ -12,7 +12,7 @@ use Rattle.otel_model.specs.Collections.{shows_differences, value_of, value_befo
 use Rattle.otel_model.specs.Demands.{Demand, Row, Views}
 use Rattle.otel_model.specs.Streams.{is_drained, is_delta, kind_of, aggregate_of}
 use Rattle.otel_model.specs.History.{history, window_of, window_points, reported_of}
-use Rattle.otel_model.specs.Orders.{last_observed, AreDifferences}
+use Rattle.otel_model_laws.specs.Orders.{last_observed, AreDifferences}
 use Rattle.otel_model.proofs.Recorded.{drained_last}
 use Rattle.otel_model.proofs.Shown.{get_of_map}
 use Rattle.otel_model.proofs.Single.{some_is}

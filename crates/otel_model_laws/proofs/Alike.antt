@@ -8,7 +8,7 @@ use Rattle.otel_common.specs.declared.scopes.InstrumentationScope.{Instrumentati
 use Rattle.otel_model.specs.Calls.{Text, lowered, or_else, About, InstrumentKind, Counter, UpDownCounter, Histogram, ObservableCounter, ObservableUpDownCounter, Gauge, ObservableGauge}
 use Rattle.otel_model.specs.Demands.{Identity, identity_eq, Demand, Views, View, Row, StreamSpec, nothing_said, Aggregation, Drop, Default, Sum, LastValue, ExplicitBucketHistogram, fits, with_bounds, with_own, reader_default, resolved, description_of, unit_of, instrument_of, demand_of, own_demand, add_answer, view_demands, is_compatible, fate_of, is_drop_fate, is_dropped, is_known, is_empty, needs_own, demands_with, demands_on, is_good, has_identity, each_once, fed}
 use Rattle.otel_model.specs.History.{Built, demands_after, feeds_of, builds_in, made}
-use Rattle.otel_model.specs.Builds.{AreAlike, AlikeFeedTheSame}
+use Rattle.otel_model_laws.specs.Builds.{AreAlike, AlikeFeedTheSame}
 use Rattle.otel_model.proofs.Gather.{known_here}
 use Rattle.otel_model.proofs.Runs.{feeds_law}
 use Rattle.otel_model.proofs.Single.{some_is}

@@ -1,5 +1,5 @@
-use Rattle.otel_model.proofs.Reorder.{records_law, binds_law, observations_law}
-use Rattle.otel_model.proofs.orders.Goals as goal
+use Rattle.otel_model_laws.proofs.Reorder.{records_law, binds_law, observations_law}
+use Rattle.otel_model_laws.proofs.orders.Goals as goal
 
 pub returns-clause-records : goal.returns-clause-records
 returns-clause-records c = records_law

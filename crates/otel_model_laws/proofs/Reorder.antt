@@ -23,7 +23,7 @@ use Rattle.otel_model.specs.Refusals.{refusal, observation_refusal, observations
 use Rattle.otel_model.specs.Sent.{is_fed, set_for, observed, sent}
 use Rattle.otel_model.specs.Machine.{machine_after, since_after, points_at, reported_after, recorded_after, exported_after, stream_after, part_sent, changed_at, accepted_after, shared_after, readers_after}
 use Rattle.otel_model.specs.Steps.{collect_from, collect_reply, answer_of, reply_by, after_by, reply_of, after, takes_memory, asks_readers, Step, Run}
-use Rattle.otel_model.specs.Orders.{IsReordered, RecordsInAnyOrder, BindsInAnyOrder, ObservationsInAnyOrder}
+use Rattle.otel_model_laws.specs.Orders.{IsReordered, RecordsInAnyOrder, BindsInAnyOrder, ObservationsInAnyOrder}
 
 -- ======== sets ========
 abbrev is_kept : List (List ℕ) → List ℕ → Bool

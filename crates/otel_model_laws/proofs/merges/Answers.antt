@@ -1,5 +1,5 @@
-use Rattle.otel_model.proofs.Merging.{values_law, canonical_law, left_law, right_law}
-use Rattle.otel_model.proofs.merges.Goals as goal
+use Rattle.otel_model_laws.proofs.Merging.{values_law, canonical_law, left_law, right_law}
+use Rattle.otel_model_laws.proofs.merges.Goals as goal
 
 pub returns-clause-values : goal.returns-clause-values
 returns-clause-values c = values_law

@@ -1,0 +1,4 @@
+pub mod Reorder
+pub mod Differences
+pub mod Alike
+pub mod Merging

@@ -1,0 +1,31 @@
+//! Further laws of the metrics provider's definitions. No working code.
+#![tactic(auto)]
+
+ghost use Rattle.otel_model.specs.Resources.{MergesAreCanonical, OthersValuesWin, UrlsMergeFromTheLeft, UrlsMergeFromTheRight};
+ghost use Rattle.otel_model_laws.specs.Builds.{AlikeFeedTheSame};
+ghost use Rattle.otel_model_laws.specs.Orders.{AreDifferences, BindsInAnyOrder, ObservationsInAnyOrder, RecordsInAnyOrder};
+
+/// In what order attributes are given changes nothing.
+pub fn orders()
+    ensures records { RecordsInAnyOrder }
+    ensures binds { BindsInAnyOrder }
+    ensures observations { ObservationsInAnyOrder }
+{}
+
+/// What observed sums show in a delta stream.
+pub fn differs()
+    ensures only { AreDifferences }
+{}
+
+/// Two builds that agree in what makes a stream the same feed the same streams.
+pub fn shares()
+    ensures only { AlikeFeedTheSame }
+{}
+
+/// The other's values win a merge, which is not associative on URLs.
+pub fn merges()
+    ensures values { OthersValuesWin }
+    ensures canonical { MergesAreCanonical }
+    ensures left { UrlsMergeFromTheLeft }
+    ensures right { UrlsMergeFromTheRight }
+{}
