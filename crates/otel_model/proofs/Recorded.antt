@@ -18,7 +18,7 @@ abbrev pub numbers : Handles → List ℕ
 numbers live = map (λ p. p.0) live
 
 -- ======== live handles ========
-held_is : (h : ℕ) (live : Handles) → has_number h (numbers live) ≡ is_some (held_by h live)
+pub held_is : (h : ℕ) (live : Handles) → has_number h (numbers live) ≡ is_some (held_by h live)
 held_is h [] = refl
 held_is h (p ∷ ps) = go (p.0 == h) (held_is h ps)
   where
@@ -80,11 +80,11 @@ module _ (σ : Aggregate) (kind : Kind) (limit : ℕ) where
       ∙ ap (λ k. wrapped (n + k)) (sym (λ i. cond ((held_is h m.live ∙ ap is_some e) i) (size σ v) 0 + recorded_from (size σ) (numbers m.live) es))
 
   -- an unbind
-  by_unbind : (m : Machine) (h : ℕ) → (o : Option AttributeSet) → held_by h m.live ≡ o → numbers (let_go o h m).live ≡ without_number h (numbers m.live)
+  pub by_unbind : (m : Machine) (h : ℕ) → (o : Option AttributeSet) → held_by h m.live ≡ o → numbers (let_go o h m).live ≡ without_number h (numbers m.live)
   by_unbind m h None e = ap numbers (sym (absent_stays h m.live e)) ∙ without_is h m.live
   by_unbind m h (Some g) e = without_is h m.live
 
-  collect_keeps : (k : Kind) (m : Machine) → keeps_handles k ≡ true → (step σ k limit m Collect).live ≡ m.live
+  pub collect_keeps : (k : Kind) (m : Machine) → keeps_handles k ≡ true → (step σ k limit m Collect).live ≡ m.live
   collect_keeps Delta m e = refl
   collect_keeps Cumulative m e = refl
   collect_keeps Drained m e = absurd (false≢true e)
@@ -145,7 +145,7 @@ drained_last d e = go d.aggregation d.identity.kind e
     go Aggregation.LastValue kind e = refl
     go (Aggregation.ExplicitBucketHistogram bounds m) kind e = absurd (false≢true e)
 
-keeps_when : (b delta : Bool) → b ≡ false → keeps_handles (cond b Drained (cond delta Delta Cumulative)) ≡ true
+pub keeps_when : (b delta : Bool) → b ≡ false → keeps_handles (cond b Drained (cond delta Delta Cumulative)) ≡ true
 keeps_when true delta e = absurd (true≢false e)
 keeps_when false true e = refl
 keeps_when false false e = refl

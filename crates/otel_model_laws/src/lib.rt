@@ -1,6 +1,7 @@
 //! Further laws of the metrics provider's definitions. No working code.
 #![tactic(auto)]
 
+ghost use Rattle.otel_model.specs.Laws.{IsAccepted};
 ghost use Rattle.otel_model.specs.Resources.{MergesAreCanonical, OthersValuesWin, UrlsMergeFromTheLeft, UrlsMergeFromTheRight};
 ghost use Rattle.otel_model_laws.specs.Builds.{AlikeFeedTheSame};
 ghost use Rattle.otel_model_laws.specs.Orders.{AreDifferences, BindsInAnyOrder, ObservationsInAnyOrder, RecordsInAnyOrder};
@@ -28,4 +29,9 @@ pub fn merges()
     ensures canonical { MergesAreCanonical }
     ensures left { UrlsMergeFromTheLeft }
     ensures right { UrlsMergeFromTheRight }
+{}
+
+/// What a synchronous stream recorded is what the instruments that feed it accepted.
+pub fn accounts()
+    ensures only { IsAccepted }
 {}
