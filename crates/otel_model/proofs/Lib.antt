@@ -9,3 +9,5 @@ pub mod Rows
 pub mod RowsPlaces
 pub mod RowsSums
 pub mod RowsViews
+pub mod RowsChecks
+pub mod Numbers

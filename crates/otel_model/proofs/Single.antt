@@ -8,8 +8,9 @@ use Rattle.otel_model.specs.Demands.{Views}
 use Rattle.otel_model.specs.State.{Shared, ReaderPart, State}
 use Rattle.otel_model.specs.Refusals.{refusal}
 use Rattle.otel_model.specs.Sent.{scope_of}
-use Rattle.otel_model.specs.Machine.{changed_at, built, part_sent, readers_after, shared_after, accepted_after}
+use Rattle.otel_model.specs.Machine.{changed_at, built, part_sent, readers_after, shared_after, accepted_after, new_part, new_state}
 use Rattle.otel_model.specs.Steps.{collect_reply, answer_of, reply_by, after_by, reply_of, after, asks_readers, Step, Run, replies_of}
+use Rattle.otel_model.specs.Laws.{IsAsOnlyReader}
 use Rattle.otel_model.specs.Only.{alone, is_short, is_others, renumbered, only, replies_left, without_asking, EachAsAlone}
 
 -- ======== lists ========
@@ -262,3 +263,7 @@ as_alone views old new [] [] run = λ r p h. refl
 as_alone views old new [] (reply ∷ replies) run = absurd run
 as_alone views old new (call ∷ calls) [] run = absurd run
 as_alone views old new (call ∷ calls) (reply ∷ replies) run = join views old run.0 call reply calls replies (step_cases views old run.0 call reply run.1) (as_alone views run.0 new calls replies run.2)
+
+pub as_only : IsAsOnlyReader
+as_only views resource identity rows calls replies new run r row h =
+    as_alone views (new_state resource identity rows) new calls replies run r (new_part row) (get_map new_part rows r row h)

@@ -1,5 +1,5 @@
 -- The laws of whole runs: what the machine does is what is read off the calls alone.
-use Rattle.std.specs.Prelude.{◌≡◌, ℕ, ◌+◌, ◌≤◌, false, List, [], map, filter, length, Some, slice_get, ◌++◌}
+use Rattle.std.specs.Prelude.{◌≡◌, ℕ, ◌+◌, ◌≤◌, true, false, List, [], ◌∷◌, map, filter, length, Some, slice_get, ◌++◌}
 use Rattle.otel_model_stream.specs.Entries.{Entry}
 use Rattle.otel_model_stream.specs.Events.{Event}
 use Rattle.otel_model_stream.specs.Folds.{wrapped}
@@ -9,12 +9,13 @@ use Rattle.otel_model_stream.specs.Windows.{places_of, uncounted_of, counted}
 use Rattle.otel_model.specs.Resources.{Resource}
 use Rattle.otel_model.specs.Calls.{is_observable, Call, Reply}
 use Rattle.otel_model.specs.Collections.{differences}
-use Rattle.otel_model.specs.Demands.{Demand, Row, Views}
+use Rattle.otel_model.specs.Demands.{Identity, Demand, Row, Views, has_identity}
 use Rattle.otel_model.specs.Streams.{is_drained, is_delta, kind_of, aggregate_of}
 use Rattle.otel_model.specs.State.{ReaderPart, State, Stream}
+use Rattle.otel_model.specs.Sent.{is_fed}
 use Rattle.otel_model.specs.Machine.{new_state}
-use Rattle.otel_model.specs.Steps.{Run}
-use Rattle.otel_model.specs.Only.{EachAsAlone}
+use Rattle.otel_model.specs.Steps.{Run, replies_of}
+use Rattle.otel_model.specs.Only.{only, replies_left, without_asking, EachAsAlone}
 use Rattle.otel_model.specs.History.{made, builds_in, streams_of, feeds_of, history, window_of, window_points, reported_of, collections_of, given}
 use Rattle.otel_model.specs.Totals.{exported_in, recorded_in, accepted_for}
 
@@ -30,11 +31,22 @@ OfEachReader P = (views : Views) (resource : Resource) (identity : ℕ) (rows : 
     → P views resource calls replies new r row part
 
 -- ======== each reader as the only one ========
--- the replies to its collections, and the others that remain, are those that it would get as the only reader
+-- the replies to its collections, and the others that remain, are those of a provider with that reader alone,
+-- over the calls that are left, where memory is never refused
 abbrev pub IsAsOnlyReader : Type 0
 IsAsOnlyReader = (views : Views) (resource : Resource) (identity : ℕ) (rows : List Row) (calls : List Call) (replies : List Reply) (new : State)
     → IsRun views resource identity rows calls replies new
-    → EachAsAlone views (new_state resource identity rows) calls replies
+    → (r : ℕ) (row : Row) → slice_get rows r ≡ Some row
+    → replies_left r calls replies ≡ without_asking (only r calls replies) (replies_of views (new_state resource identity (row ∷ [])) (only r calls replies))
+
+-- so from any state of a provider
+abbrev pub IsAsOnlyReaderFromAny : Type 0
+IsAsOnlyReaderFromAny = (views : Views) (old : State) (calls : List Call) (replies : List Reply) (new : State) → Run views old calls replies new → EachAsAlone views old calls replies
+
+-- no identity stands twice
+abbrev pub AreApart : List Identity → Type 0
+AreApart [] = Unit {0}
+AreApart (x ∷ xs) = (has_identity xs x ≡ false) × AreApart xs
 
 -- ======== streams, places, collections ========
 -- each reader's streams are the first demands, that do not drop, of the builds made
@@ -46,6 +58,21 @@ AreStreamsOfBuilds = OfEachReader (λ views resource calls replies new r row par
 abbrev pub AreFeedsOfBuilds : Type 0
 AreFeedsOfBuilds = OfEachReader (λ views resource calls replies new r row part.
     part.feeds ≡ feeds_of views row [] (builds_in (made calls replies)))
+
+-- the identities of a reader's streams are apart
+abbrev pub AreStreamsApart : Type 0
+AreStreamsApart = OfEachReader (λ views resource calls replies new r row part.
+    AreApart (map (λ (s : Stream). s.demand.identity) part.streams))
+
+-- so are those of the streams that an instrument feeds
+abbrev pub AreFeedsApart : Type 0
+AreFeedsApart = OfEachReader (λ views resource calls replies new r row part.
+    (n : ℕ) (xs : List Identity) → slice_get part.feeds n ≡ Some xs → AreApart xs)
+
+-- and each of these is a stream of the reader
+abbrev pub AreFeedsStreams : Type 0
+AreFeedsStreams = OfEachReader (λ views resource calls replies new r row part.
+    (n : ℕ) (x : Identity) → is_fed part.feeds n x ≡ true → has_identity (map (λ (s : Stream). s.demand.identity) part.streams) x ≡ true)
 
 -- the entries of each stream are the places of its window so far, in order
 abbrev pub ArePlacesOfHistories : Type 0

@@ -2,11 +2,12 @@
 //! calls alone, and the laws that join the two. No working code.
 #![tactic(auto)]
 
-ghost use Rattle.otel_model.specs.Laws.{AreCollectionsOfHistories, AreCountedOfHistories, AreFeedsOfBuilds, ArePlacesOfHistories, ArePointsFew, AreStreamsOfBuilds, IsAllShown, IsAsOnlyReader, IsConserved, IsExportedTotal, IsRecordedTotal};
+ghost use Rattle.otel_model.specs.Laws.{AreCollectionsOfHistories, AreCountedOfHistories, AreFeedsOfBuilds, ArePlacesOfHistories, ArePointsFew, AreStreamsOfBuilds, IsAllShown, IsAsOnlyReader, IsAsOnlyReaderFromAny, IsConserved, IsExportedTotal, IsRecordedTotal};
 
 /// For every list of calls each reader is answered as if it were the only one.
 pub fn is_alone()
     ensures only { IsAsOnlyReader }
+    ensures from_any { IsAsOnlyReaderFromAny }
 {}
 
 /// For every list of calls each reader's streams, places and collections are those of the calls made.

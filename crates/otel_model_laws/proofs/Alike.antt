@@ -123,7 +123,7 @@ known_all before (d ∷ ds) =
     let P : List Demand → Type 0 = λ l. AllIds (λ x. is_known l x ≡ true) (ids ds) in
     (known_here before d ds, subst P (append_assoc before (d ∷ []) ds) (known_all (before ++ d ∷ []) ds))
 
-fate_stays : (ds more : List Demand) (x : Identity) → is_known ds x ≡ true → fate_of (ds ++ more) x ≡ fate_of ds x
+pub fate_stays : (ds more : List Demand) (x : Identity) → is_known ds x ≡ true → fate_of (ds ++ more) x ≡ fate_of ds x
 fate_stays [] more x e = absurd (false≢true e)
 fate_stays (d ∷ ds) more x e = go (identity_eq d.identity x) e (fate_stays ds more x)
   where

@@ -56,7 +56,7 @@ none_held feeds x [] e = refl
 none_held feeds x (p ∷ ps) e = ap (λ b. handles_of (cond b (p ∷ filter (λ (p : LiveHandle). is_fed feeds p.1 x) ps) (filter (λ (p : LiveHandle). is_fed feeds p.1 x) ps))) (e p.1) ∙ none_held feeds x ps e
 
 -- ======== what a build feeds was demanded ========
-is_one : (a b : Bool) → (a || b) ≡ true → (a ≡ true) ⊎ (b ≡ true)
+pub is_one : (a b : Bool) → (a || b) ≡ true → (a ≡ true) ⊎ (b ≡ true)
 is_one true b e = inl refl
 is_one false b e = inr e
 

@@ -5,3 +5,4 @@ pub mod Merging
 pub mod Amounts
 pub mod Feeding
 pub mod Booked
+pub mod Apart

@@ -1,7 +1,7 @@
 //! Further laws of the metrics provider's definitions. No working code.
 #![tactic(auto)]
 
-ghost use Rattle.otel_model.specs.Laws.{IsAccepted};
+ghost use Rattle.otel_model.specs.Laws.{AreFeedsApart, AreFeedsStreams, AreStreamsApart, IsAccepted};
 ghost use Rattle.otel_model.specs.Resources.{MergesAreCanonical, OthersValuesWin, UrlsMergeFromTheLeft, UrlsMergeFromTheRight};
 ghost use Rattle.otel_model_laws.specs.Builds.{AlikeFeedTheSame};
 ghost use Rattle.otel_model_laws.specs.Orders.{AreDifferences, BindsInAnyOrder, ObservationsInAnyOrder, RecordsInAnyOrder};
@@ -34,4 +34,11 @@ pub fn merges()
 /// What a synchronous stream recorded is what the instruments that feed it accepted.
 pub fn accounts()
     ensures only { IsAccepted }
+{}
+
+/// A reader's streams have identities of their own, and an instrument feeds each of its streams once.
+pub fn feeds()
+    ensures streams_apart { AreStreamsApart }
+    ensures feeds_apart { AreFeedsApart }
+    ensures feeds_streams { AreFeedsStreams }
 {}

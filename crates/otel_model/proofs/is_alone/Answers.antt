@@ -1,10 +1,14 @@
+use Rattle.otel_model.proofs.RowsChecks.{row_16}
+use Rattle.otel_model.proofs.RowsPlaces.{row_3}
 use Rattle.otel_model.proofs.RowsSums.{row_1}
 use Rattle.otel_model.proofs.RowsViews.{row_11}
-use Rattle.otel_model.proofs.RowsPlaces.{row_3}
-use Rattle.otel_model.proofs.Gather.{enter_all, firsts_are_known, fate_firsts}
-use Rattle.otel_model.proofs.Single.{as_alone}
+use Rattle.otel_model.proofs.Numbers.{fed_by_numbers}
+use Rattle.otel_model.proofs.Single.{as_alone, as_only}
 use Rattle.otel_model.proofs.is_alone.Goals as goal
 use Rattle.otel_model.specs.Machine.{new_state}
 
-pub returns : goal.returns
-returns c = record { only = λ views resource identity rows calls replies new run. as_alone views (new_state resource identity rows) new calls replies run }
+pub returns-clause-only : goal.returns-clause-only
+returns-clause-only c = let checks = row_16 in let places = row_3 in let sums = row_1 in let views = row_11 in let by_numbers = fed_by_numbers in as_only
+
+pub returns-clause-from_any : goal.returns-clause-from_any
+returns-clause-from_any c = λ views old calls replies new run. as_alone views old new calls replies run
