@@ -1,27 +1,24 @@
 -- The machine's parts are what is read off the calls made.
-use Rattle.std.proofs.Common.{◌≡◌, ⊎_elim, ℕ, ◌+◌, Bool, true, false, List, [], ◌∷◌, ◌++◌, length, map, refl, arith, sym, ◌∙◌, ap, Option, Some, None, subst, cond, ◌||◌, append_assoc}
-use Rattle.std.specs.Prelude.{◌==◌, ◌^◌, filter, fold, not, slice_get, sum_by}
-use Rattle.std.proofs.lemmas.Bool.{cases_Bool, true≢false, false≢true}
+use Rattle.std.proofs.Common.{◌≡◌, ℕ, ◌+◌, Bool, true, false, List, [], ◌∷◌, ◌++◌, map, refl, sym, ◌∙◌, ap, Option, cond, append_assoc}
+use Rattle.std.specs.Prelude.{◌==◌, ◌^◌, filter, fold, not, sum_by}
 use Rattle.std.proofs.lemmas.List.{append-nil, map-append}
 use Rattle.std.proofs.lemmas.List.Elements.{filter-append}
 use Rattle.std.proofs.lemmas.List.Sums.{sum_by_push}
 use Rattle.std.proofs.Math.Nat.{mod-add-mod}
-use Rattle.otel_common.specs.declared.scopes.InstrumentationScope.{InstrumentationScope}
 use Rattle.otel_model_stream.specs.Folds.{Aggregate, wrapped}
 use Rattle.otel_model_stream.specs.Events.{Event, Kind, Point}
 use Rattle.otel_model_stream.specs.Machine.{Machine, begin, run, step, points}
 use Rattle.otel_model_stream.specs.Totals.{points_total}
-use Rattle.otel_model_stream.specs.Windows.{opening, window, points_of}
 use Rattle.otel_model.specs.Calls.{About, Observed, Call, Meter, Build, Record, Bind, RecordBound, Unbind, Collect, Flush, Shutdown}
 use Rattle.otel_model.specs.Demands.{Identity, Demand, Views, Row, fate_of, is_known, is_drop, is_drop_fate, is_dropped, demands_on, fed}
 use Rattle.otel_model.specs.Streams.{is_delta, kind_of, aggregate_of}
 use Rattle.otel_model.specs.Collections.{shows_differences}
 use Rattle.otel_model.specs.State.{Stream, ReaderPart}
 use Rattle.otel_model.specs.Sent.{scope_of, observed, sent}
-use Rattle.otel_model.specs.Machine.{points_at, since_after, reported_after, recorded_with, recorded_over, exported_after, stream_after, new_stream, enter, make, demanded, build_demands, with_feeds, built, part_sent}
-use Rattle.otel_model.specs.History.{Built, gather, build_in, builds_in, binds_in, meters_in, demands_after, demands_of, new_demand, firsts, streams_of, feeds_of, concerns, events_at, history, window_of, window_points, shown_by, shown_at, shown_points, last_or, moment_at}
+use Rattle.otel_model.specs.Machine.{points_at, since_after, reported_after, recorded_with, recorded_over, exported_after, stream_after, new_stream, enter, demanded, build_demands, with_feeds, built, part_sent}
+use Rattle.otel_model.specs.History.{Built, gather, build_in, builds_in, binds_in, meters_in, demands_after, demands_of, new_demand, firsts, streams_of, feeds_of, concerns, events_at, history, window_points, shown_by, shown_at, shown_points, last_or, moment_at}
 use Rattle.otel_model.proofs.StreamFacts.{points_of_run}
-use Rattle.otel_model.proofs.Gather.{gather_push, gather_append, map_both, cond_same, known-append, unknown_before, known_firsts, fate_firsts, enter_first, enter_all, AreKnown, map_known, firsts_are_known}
+use Rattle.otel_model.proofs.Gather.{gather_push, gather_append, map_both, cond_same, unknown_before, known_firsts, fate_firsts, enter_first, enter_all, AreKnown, map_known, firsts_are_known}
 
 -- ======== one stream ========
 pub run_append : (σ : Aggregate) (kind : Kind) (limit : ℕ) (m : Machine) (es fs : List Event) → run σ kind limit m (es ++ fs) ≡ run σ kind limit (run σ kind limit m es) fs

@@ -1,13 +1,13 @@
 -- Streams that a list of numbers names, changed one after another: the same as all streams, each changed if its identity is named.
-use Rattle.std.proofs.Common.{◌≡◌, ⊎_elim, ℕ, zero, suc, Bool, true, false, List, [], ◌∷◌, ◌++◌, map, refl, sym, ◌∙◌, ap, Option, Some, None, cond, subst, ◌||◌}
+use Rattle.std.proofs.Common.{◌≡◌, ⊎_elim, ℕ, zero, suc, Bool, true, false, List, [], ◌∷◌, ◌++◌, map, refl, sym, ◌∙◌, ap, Some, cond, subst, ◌||◌}
 use Rattle.std.specs.Prelude.{slice_get, fold, filter, not}
-use Rattle.std.proofs.lemmas.Bool.{cases_Bool, true≢false, false≢true, or_parts}
-use Rattle.otel_model.specs.Demands.{Identity, identity_eq, Demand, Views, Row, is_known, is_drop, is_dropped, has_identity, each_once, fed}
-use Rattle.otel_model.specs.History.{Built, gather, new_demand, firsts, demands_after, demands_of, streams_of, feeds_of}
+use Rattle.std.proofs.lemmas.Bool.{cases_Bool, true≢false, or_parts}
+use Rattle.otel_model.specs.Demands.{Identity, identity_eq, Demand, Views, Row, is_known, is_drop, has_identity}
+use Rattle.otel_model.specs.History.{Built, gather, new_demand, firsts, demands_of, streams_of}
 use Rattle.otel_model.specs.Laws.{AreApart}
 use Rattle.otel_model.specs.State.{Stream}
 use Rattle.otel_model.specs.Machine.{changed_at}
-use Rattle.otel_model.proofs.Single.{some_is, get_map}
+use Rattle.otel_model.proofs.Single.{some_is}
 use Rattle.otel_model.proofs.Gather.{known-append, map_both, identity_eq_true, identity_eq_self}
 
 abbrev pub names : List Stream → List Identity
@@ -78,8 +78,8 @@ module _ (f : Stream → Stream) (keeps : (s : Stream) → (f s).demand.identity
   both : (x : Identity) (xs : List Identity) (s : Stream) → has_identity xs x ≡ false → at_all xs (at x s) ≡ at_all (x ∷ xs) s
   both x xs s a = ⊎_elim
       (λ t. ap (λ b. at_all xs (cond b (f s) s)) t
-        ∙ (ap (λ b. cond b (f (f s)) (f s)) (ap (has_identity xs) (keeps s ∙ sym (identity_eq_true x s.demand.identity t)) ∙ a)
-        ∙ sym (ap (λ b. cond (b || has_identity xs s.demand.identity) (f s) s) t)))
+      ∙ (ap (λ b. cond b (f (f s)) (f s)) (ap (has_identity xs) (keeps s ∙ sym (identity_eq_true x s.demand.identity t)) ∙ a)
+      ∙ sym (ap (λ b. cond (b || has_identity xs s.demand.identity) (f s) s) t)))
       (λ t. ap (λ b. at_all xs (cond b (f s) s)) t ∙ sym (ap (λ b. cond (b || has_identity xs s.demand.identity) (f s) s) t))
       (cases_Bool (identity_eq x s.demand.identity))
 

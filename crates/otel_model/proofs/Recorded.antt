@@ -1,18 +1,18 @@
 -- What a stream's machine recorded is the total of the records in its history.
 use Rattle.std.proofs.Common.{◌≡◌, ⊎_elim, ℕ, ◌+◌, Bool, true, false, List, [], ◌∷◌, ◌++◌, map, refl, arith, sym, ◌∙◌, ap, Option, Some, None, subst, cond, ◌||◌}
-use Rattle.std.specs.Prelude.{◌==◌, ◌%◌, ◌^◌, ◌&&◌, is_some}
+use Rattle.std.specs.Prelude.{◌==◌, ◌^◌, ◌&&◌, is_some}
 use Rattle.std.proofs.lemmas.Bool.{cases_Bool, true≢false, false≢true}
 use Rattle.std.proofs.lemmas.List.{map-append}
 use Rattle.std.proofs.Math.Nat.{mod-add-mod}
 use Rattle.otel_model_stream.specs.Sets.{AttributeSet}
 use Rattle.otel_model_stream.specs.Folds.{Aggregate, LastValue, Amount, wrapped, sample_of}
 use Rattle.otel_model_stream.specs.Events.{Event, Record, Bind, RecordBound, Unbind, Collect, Kind, Delta, Cumulative, Drained, Handles, held_by, without}
-use Rattle.otel_model_stream.specs.Machine.{Machine, begin, step, run, through, let_go}
+use Rattle.otel_model_stream.specs.Machine.{Machine, begin, step, through, let_go}
 use Rattle.otel_model_stream.specs.Totals.{size, has_number, without_number, recorded_from, recorded_total}
-use Rattle.otel_model.specs.Calls.{InstrumentKind, ObservableCounter, ObservableUpDownCounter}
+use Rattle.otel_model.specs.Calls.{InstrumentKind}
 use Rattle.otel_model.specs.Demands.{Aggregation, Demand, Row}
 use Rattle.otel_model.specs.Streams.{is_sum, observes_sums, is_drained, is_delta, kind_of, aggregate_from, aggregate_of}
-use Rattle.otel_model.specs.Machine.{if_held, recorded_with, recorded_over}
+use Rattle.otel_model.specs.Machine.{if_held, recorded_over}
 
 abbrev pub numbers : Handles → List ℕ
 numbers live = map (λ p. p.0) live

@@ -1,15 +1,13 @@
 -- What the worked rows are written in: instruments, values, sets, views and readers, and what is seen of collections.
-use Rattle.std.specs.Prelude.{◌≡◌, ℕ, ◌+◌, ℤ, pos, Bool, true, false, cond, List, [], ◌∷◌, ◌++◌, map, Option, Some, None, codes}
+use Rattle.std.specs.Prelude.{◌≡◌, ℕ, ℤ, pos, true, false, cond, List, [], ◌∷◌, ◌++◌, map, Some, None}
 use Rattle.otel_common.specs.Equality.{bytes_eq}
 use Rattle.otel_common.specs.declared.attributes.KeyValue.{KeyValue}
 use Rattle.otel_common.specs.declared.attributes.Value.TheVariants as value
 use Rattle.otel_common.specs.declared.scopes.InstrumentationScope.{InstrumentationScope}
-use Rattle.otel_model_stream.specs.Sets.{AttributeSet, AllowList}
-use Rattle.otel_model_stream.specs.Folds.{Amount, Spread}
+use Rattle.otel_model_stream.specs.Sets.{AttributeSet}
 use Rattle.otel_model.specs.Resources.{empty_resource}
-use Rattle.otel_model.specs.Calls.{Text, InstrumentKind, kind_number, Number, About, Observed, Call, Meter, Build, Record, Collect, Content, Metric, ScopeMetrics, Collection, Reply}
-use Rattle.otel_model.specs.Demands.{Aggregation, Instrument, StreamSpec, View, Views, Answer, Row, nothing_said}
-use Rattle.otel_model.specs.State.{State}
+use Rattle.otel_model.specs.Calls.{Text, InstrumentKind, kind_number, Number, About, Observed, Call, Meter, Build, Record, Content, Metric, ScopeMetrics, Collection, Reply}
+use Rattle.otel_model.specs.Demands.{Aggregation, StreamSpec, View, Views, Answer, Row, nothing_said}
 use Rattle.otel_model.specs.Machine.{changed_at, new_state}
 use Rattle.otel_model.specs.Steps.{replies_of}
 use Rattle.otel_model.specs.History.{collections_of, given, made}

@@ -88,7 +88,7 @@ abbrev with_url : Option (List ℕ) → Resource
 with_url url = record { attributes = []; schema_url = url }
 
 pub row_20 : (merged (record { attributes = text 97 [] ∷ text 98 (codes "b-value") ∷ text 100 (codes "d-value") ∷ []; schema_url = None })
-      (record { attributes = text 97 (codes "a-value") ∷ text 99 (codes "c-value") ∷ text 100 [] ∷ []; schema_url = None })).attributes
+    (record { attributes = text 97 (codes "a-value") ∷ text 99 (codes "c-value") ∷ text 100 [] ∷ []; schema_url = None })).attributes
     ≡ text 97 (codes "a-value") ∷ text 98 (codes "b-value") ∷ text 99 (codes "c-value") ∷ text 100 [] ∷ []
 unfolding canon
 row_20 = refl

@@ -1,10 +1,10 @@
 -- Worked rows on places, overflow, eviction and handles, on the machine and read off the calls.
-use Rattle.std.specs.Prelude.{◌≡◌, ℕ, ℤ, pos, Bool, true, false, List, [], ◌∷◌, Option, Some, None}
+use Rattle.std.specs.Prelude.{List, [], ◌∷◌, Some}
 use Rattle.std.proofs.Common.{refl}
 use Rattle.otel_common.specs.Canonical.{canon}
 use Rattle.otel_common.specs.declared.attributes.KeyValue.{KeyValue}
 use Rattle.otel_model_stream.specs.Sets.{over_set}
-use Rattle.otel_model.specs.Calls.{Counter, Histogram, ObservableCounter, Call, Meter, Build, Record, Bind, RecordBound, Collect}
+use Rattle.otel_model.specs.Calls.{Counter, ObservableCounter, Call, Bind, RecordBound, Collect}
 use Rattle.otel_model.specs.Demands.{Views, Row, Delta, Cumulative, preferring, nothing_said}
 use Rattle.otel_model.proofs.Rows.{a, b, m, about, u64, x1, y1, z1, pair, if_named, limited, Shows, one, delta_sum, cumulative_sum, on, add, observe}
 

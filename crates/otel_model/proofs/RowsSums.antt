@@ -1,11 +1,10 @@
 -- Worked rows on sums, histograms, last values, starts and several readers, on the machine and read off the calls.
-use Rattle.std.specs.Prelude.{◌≡◌, ℕ, ◌^◌, ℤ, pos, negsuc, Bool, true, false, List, [], ◌∷◌, ◌++◌, map, Option, Some, None}
+use Rattle.std.specs.Prelude.{◌≡◌, ℕ, ℤ, pos, negsuc, true, false, List, [], ◌∷◌, ◌++◌, map, Option, Some, None}
 use Rattle.std.proofs.Common.{refl}
 use Rattle.otel_common.specs.Canonical.{canon}
-use Rattle.otel_common.specs.declared.attributes.KeyValue.{KeyValue}
 use Rattle.otel_model_stream.specs.Folds.{Spread}
-use Rattle.otel_model.specs.Calls.{Counter, UpDownCounter, Histogram, ObservableCounter, Gauge, ObservableGauge, About, Call, Meter, Build, Record, Bind, RecordBound, Unbind, Collect, Flush, Shutdown, Fault, UnknownHandle, WrongKind, WrongNumber, AlreadyShutdown, ReaderShutDown, UnknownReader, Content, Reply}
-use Rattle.otel_model.specs.Demands.{Views, Row, Delta, Cumulative, LowMemory, preferring, default_bounds}
+use Rattle.otel_model.specs.Calls.{Counter, UpDownCounter, Histogram, ObservableCounter, Gauge, ObservableGauge, About, Call, Meter, Build, Record, Bind, RecordBound, Unbind, Collect, Flush, Shutdown, UnknownHandle, WrongKind, WrongNumber, AlreadyShutdown, ReaderShutDown, UnknownReader, Content, Reply}
+use Rattle.otel_model.specs.Demands.{Row, Delta, Cumulative, LowMemory, preferring, default_bounds}
 use Rattle.otel_model.proofs.Rows.{Seen, a, b, m, scope_named, about, with_own_bounds, u64, i64, x1, Shows, HasMoments, replies, one, delta_sum, cumulative_sum, on, add, observe}
 
 abbrev delta : Row

@@ -1,11 +1,11 @@
 -- Worked rows on views, fates, and the limits and aggregations of readers, on the machine and read off the calls.
-use Rattle.std.specs.Prelude.{◌≡◌, ℕ, ℤ, pos, Bool, true, false, List, [], ◌∷◌, ◌++◌, Option, Some, None}
+use Rattle.std.specs.Prelude.{ℕ, ℤ, pos, true, false, List, [], ◌∷◌, ◌++◌, Some, None}
 use Rattle.std.proofs.Common.{refl}
 use Rattle.otel_common.specs.Canonical.{canon}
 use Rattle.otel_model_stream.specs.Sets.{over_set}
 use Rattle.otel_model_stream.specs.Folds.{Spread}
-use Rattle.otel_model.specs.Calls.{Counter, UpDownCounter, Histogram, ObservableCounter, Call, Meter, Build, Record, Collect, Content}
-use Rattle.otel_model.specs.Demands.{Aggregation, Drop, Default, Sum, LastValue, ExplicitBucketHistogram, Views, Row, Delta, Cumulative, preferring, nothing_said}
+use Rattle.otel_model.specs.Calls.{Counter, UpDownCounter, Histogram, ObservableCounter, Call, Build, Record, Collect, Content}
+use Rattle.otel_model.specs.Demands.{Aggregation, Drop, Default, Sum, LastValue, ExplicitBucketHistogram, Views, Row, Delta, Cumulative, preferring}
 use Rattle.otel_model.proofs.Rows.{Seen, a, b, about, with_own_bounds, u64, x1, y1, if_named, limited, named, aggregating, but_for, limit_of, default_of, Shows, one, delta_sum, cumulative_sum, on, add, observe}
 
 abbrev delta : Row

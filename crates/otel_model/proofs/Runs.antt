@@ -9,26 +9,26 @@ use Rattle.otel_common.specs.Scopes.{scope_eq, scope_eq-Decides}
 use Rattle.otel_common.specs.declared.attributes.KeyValue.{KeyValue}
 use Rattle.otel_common.specs.declared.scopes.InstrumentationScope.{InstrumentationScope}
 use Rattle.otel_model_stream.specs.Entries.{Entry}
-use Rattle.otel_model_stream.specs.Events.{Event, Kind, Point}
-use Rattle.otel_model_stream.specs.Machine.{Machine, begin, run, points}
-use Rattle.otel_model_stream.specs.Windows.{places_of, counted, uncounted_of, opening, window}
+use Rattle.otel_model_stream.specs.Events.{Point}
+use Rattle.otel_model_stream.specs.Machine.{run}
+use Rattle.otel_model_stream.specs.Windows.{places_of, counted, uncounted_of}
 use Rattle.otel_model.specs.Resources.{Resource}
-use Rattle.otel_model.specs.Calls.{About, Observed, Call, Meter, Build, Record, Bind, RecordBound, Unbind, Collect, Flush, Shutdown, Fault, OutOfMemory, UnknownMeter, UnknownInstrument, UnknownHandle, UnknownReader, WrongNumber, WrongKind, AlreadyShutdown, ReaderShutDown, ReadersFailed, Exhausted, LedgerFull, UseWorker, WorkersMissing, Reply, Collection, Metric}
-use Rattle.otel_model.specs.Demands.{Identity, Demand, Views, Row}
+use Rattle.otel_model.specs.Calls.{Observed, Call, Meter, Build, Record, Bind, RecordBound, Unbind, Collect, Flush, Shutdown, Fault, OutOfMemory, UnknownMeter, UnknownInstrument, UnknownHandle, UnknownReader, WrongNumber, WrongKind, AlreadyShutdown, ReaderShutDown, ReadersFailed, Exhausted, LedgerFull, UseWorker, WorkersMissing, Reply, Metric}
+use Rattle.otel_model.specs.Demands.{Demand, Views, Row}
 use Rattle.otel_model.specs.Streams.{kind_of, aggregate_of}
 use Rattle.otel_model.specs.Collections.{shows_differences, difference, content_of, metric, ScopedMetric, collection}
 use Rattle.otel_model.specs.State.{Shared, Stream, ReaderPart, State}
 use Rattle.otel_model.specs.Refusals.{refusal, observations_refusal}
 use Rattle.otel_model.specs.Sent.{has_scope, scope_of, observed}
-use Rattle.otel_model.specs.Machine.{with_meter, built, part_sent, readers_after, shared_after, points_at, stream_after, accepted_after, new_part, new_state}
+use Rattle.otel_model.specs.Machine.{with_meter, built, part_sent, shared_after, points_at, accepted_after, new_part, new_state}
 use Rattle.otel_model.specs.Steps.{collect_reply, collect_from, answer_of, reply_by, after_by, reply_of, after, asks_readers, Step, Run}
 use Rattle.otel_model.specs.Only.{is_others}
-use Rattle.otel_model.specs.History.{is_shutdown, is_failed, counts, made, gather, is_bind, is_shut, binds_in, scope_asked, new_scope, meters_in, builds_in, streams_of, feeds_of, history, window_of, window_points, start_of, reported_of, concerns, collection_of, made_by, collections_of, shown_in, collected_by, given}
+use Rattle.otel_model.specs.History.{is_shutdown, is_failed, counts, made, gather, is_bind, is_shut, binds_in, scope_asked, new_scope, meters_in, builds_in, streams_of, feeds_of, history, window_of, window_points, start_of, reported_of, collection_of, made_by, shown_in, collected_by, given}
 use Rattle.otel_model.specs.Laws.{IsRun, AreStreamsOfBuilds, AreFeedsOfBuilds, ArePlacesOfHistories, AreCountedOfHistories, AreCollectionsOfHistories}
 use Rattle.otel_model.proofs.StreamFacts.{places_are, counted_are}
 use Rattle.otel_model.proofs.Single.{some_is, get_map, part_after, concerned, unconcerned}
-use Rattle.otel_model.proofs.Gather.{gather_push, gather_append, map_both, cond_same}
-use Rattle.otel_model.proofs.Follow.{run_append, stream_in, part_of, part_sends, part_rests, part_unseen, part_builds, points_now, kept_of}
+use Rattle.otel_model.proofs.Gather.{gather_push, map_both, cond_same}
+use Rattle.otel_model.proofs.Follow.{stream_in, part_of, part_sends, part_rests, part_unseen, part_builds, points_now, kept_of}
 
 -- ======== what is shared ========
 has_append : (s : InstrumentationScope) (xs ys : List InstrumentationScope) → has_scope s (xs ++ ys) ≡ (has_scope s xs || has_scope s ys)

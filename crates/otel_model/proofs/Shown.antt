@@ -1,12 +1,11 @@
 -- What is shown of a stream, and that nothing is lost between its records and its reader's collections.
-use Rattle.std.proofs.Common.{◌≡◌, ⊎_elim, ℕ, zero, suc, ◌+◌, ◌≤◌, Bool, true, false, List, [], ◌∷◌, ◌++◌, length, map, refl, arith, sym, ◌∙◌, ap, Option, Some, None, subst, cond, append_assoc}
-use Rattle.std.specs.Prelude.{◌==◌, ◌^◌, slice_get, sum_by, ◌&&◌}
-use Rattle.std.proofs.lemmas.Bool.{cases_Bool, true≢false, false≢true}
-use Rattle.std.proofs.lemmas.List.{append-nil, length-map}
+use Rattle.std.proofs.Common.{◌≡◌, ℕ, zero, suc, ◌+◌, ◌≤◌, Bool, true, false, List, [], ◌∷◌, ◌++◌, length, map, refl, arith, sym, ◌∙◌, ap, Some, subst, cond}
+use Rattle.std.specs.Prelude.{◌^◌, slice_get, sum_by}
+use Rattle.std.proofs.lemmas.List.{length-map}
 use Rattle.std.proofs.Math.Nat.{mod-add-mod}
 use Rattle.otel_model_stream.specs.Folds.{Aggregate, wrapped}
 use Rattle.otel_model_stream.specs.Events.{Event, Kind, Delta, Cumulative, Drained, Point}
-use Rattle.otel_model_stream.specs.Machine.{begin, run, points}
+use Rattle.otel_model_stream.specs.Machine.{run, points}
 use Rattle.otel_model_stream.specs.Windows.{Window, opening, more, cut, window, collections, points_of}
 use Rattle.otel_model_stream.specs.Totals.{recorded_total, points_total}
 use Rattle.otel_model.specs.Resources.{Resource}
@@ -21,8 +20,8 @@ use Rattle.otel_model.specs.Totals.{exported_in, recorded_in}
 use Rattle.otel_model.specs.Laws.{IsRun, IsRecordedTotal, IsExportedTotal, IsConserved, IsAllShown, ArePointsFew}
 use Rattle.otel_model.proofs.StreamFacts.{delta_total, cumulative_total, few_are}
 use Rattle.otel_model.proofs.Single.{some_is}
-use Rattle.otel_model.proofs.Gather.{gather_push, cond_same}
-use Rattle.otel_model.proofs.Follow.{stream_in, part_of, points_run}
+use Rattle.otel_model.proofs.Gather.{gather_push}
+use Rattle.otel_model.proofs.Follow.{stream_in, points_run}
 use Rattle.otel_model.proofs.Recorded.{recorded_is}
 use Rattle.otel_model.proofs.Runs.{part_is}
 

@@ -1,9 +1,8 @@
 -- One reader by itself: a call moves it as if it were the only reader.
-use Rattle.std.proofs.Common.{◌≡◌, ◌⊎◌, inl, inr, ⊎_elim, ℕ, zero, suc, ◌<◌, Bool, true, false, List, [], ◌∷◌, ◌++◌, length, map, refl, arith, sym, ◌∙◌, ap, Option, Some, None, subst, cond}
-use Rattle.std.specs.Prelude.{◌==◌, IsTrue, slice_get, nat_lt, ◌||◌, not}
+use Rattle.std.proofs.Common.{◌≡◌, ◌⊎◌, inl, inr, ⊎_elim, ℕ, zero, suc, ◌<◌, Bool, true, false, List, [], ◌∷◌, length, map, refl, arith, sym, ◌∙◌, ap, Option, Some, None, subst, cond}
+use Rattle.std.specs.Prelude.{◌==◌, slice_get, nat_lt, ◌||◌, not}
 use Rattle.std.proofs.lemmas.Bool.{eqb-true, eqb-false, cases_Bool, true≢false, false≢true, lt-ltb}
-use Rattle.std.proofs.lemmas.Option.{slice_get-map}
-use Rattle.otel_model.specs.Calls.{Observed, Call, Meter, Build, Record, Bind, RecordBound, Unbind, Collect, Flush, Shutdown, Fault, OutOfMemory, UnknownMeter, UnknownInstrument, UnknownHandle, UnknownReader, WrongNumber, WrongKind, AlreadyShutdown, ReaderShutDown, ReadersFailed, Exhausted, LedgerFull, UseWorker, WorkersMissing, Reply}
+use Rattle.otel_model.specs.Calls.{Call, Meter, Build, Record, Bind, RecordBound, Unbind, Collect, Flush, Shutdown, Fault, OutOfMemory, UnknownMeter, UnknownInstrument, UnknownHandle, UnknownReader, WrongNumber, WrongKind, AlreadyShutdown, ReaderShutDown, ReadersFailed, Exhausted, LedgerFull, UseWorker, WorkersMissing, Reply}
 use Rattle.otel_model.specs.Demands.{Views}
 use Rattle.otel_model.specs.State.{Shared, ReaderPart, State}
 use Rattle.otel_model.specs.Refusals.{refusal}

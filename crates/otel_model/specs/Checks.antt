@@ -1,6 +1,6 @@
 -- Which names, units and bounds of an instrument are good (Metrics API, "Instrument name syntax" and
 -- "Instrument unit"; Metrics SDK, "Explicit Bucket Histogram Aggregation").
-use Rattle.std.specs.Prelude.{ℕ, ◌≤◌, nat_lt, nat_le, nat_eq, ◌==◌, ℤ, int_lt, Bool, true, false, cond, ◌&&◌, ◌||◌, not, List, [], ◌∷◌, length, Option, Some, None, codes, is_none}
+use Rattle.std.specs.Prelude.{ℕ, nat_lt, nat_le, nat_eq, ℤ, int_lt, Bool, true, false, cond, ◌&&◌, ◌||◌, not, List, [], ◌∷◌, length, Option, Some, None, codes, is_none}
 use Rattle.std.specs.List.{list_any}
 
 -- ======== names ========

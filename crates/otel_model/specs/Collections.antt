@@ -1,5 +1,5 @@
 -- What a collection has (Metrics SDK, "MetricReader" and "Metric points" of the data model).
-use Rattle.std.specs.Prelude.{ℕ, ◌+◌, ◌-◌, ◌^◌, nat_lt, ℤ, Bool, true, false, cond, ◌&&◌, List, [], ◌∷◌, map, filter, length, None}
+use Rattle.std.specs.Prelude.{ℕ, ◌+◌, ◌-◌, ◌^◌, nat_lt, Bool, false, cond, ◌&&◌, List, [], ◌∷◌, map, filter, length}
 use Rattle.otel_common.specs.Equality.{set_eq}
 use Rattle.otel_common.specs.Scopes.{scope_eq}
 use Rattle.otel_common.specs.declared.scopes.InstrumentationScope.{InstrumentationScope}

@@ -1,5 +1,5 @@
 -- What a build demands of a reader, and the fate of what is demanded (Metrics SDK, "View" and "MetricReader").
-use Rattle.std.specs.Prelude.{ℕ, ◌==◌, nat_lt, ℤ, neg_ℤ, pos, Bool, true, false, cond, ◌&&◌, ◌||◌, not, is_none, List, [], ◌∷◌, ◌++◌, map, filter, Option, Some, None, slice_get}
+use Rattle.std.specs.Prelude.{ℕ, ℤ, pos, Bool, true, false, cond, ◌&&◌, ◌||◌, not, is_none, List, [], ◌∷◌, ◌++◌, map, filter, Option, Some, None, slice_get}
 use Rattle.std.specs.Bool.{beq}
 use Rattle.std.specs.List.{list_any}
 use Rattle.otel_common.specs.Equality.{bytes_eq}

@@ -1,6 +1,6 @@
 -- What was made, read off the calls alone: meters, builds, demands, streams, and the history of each stream.
 -- No table, no entry, no counter is kept.
-use Rattle.std.specs.Prelude.{ℕ, ◌==◌, Bool, true, false, cond, ◌&&◌, not, List, [], ◌∷◌, ◌++◌, map, filter, length, Option, Some, None}
+use Rattle.std.specs.Prelude.{ℕ, ◌==◌, Bool, true, false, cond, ◌&&◌, not, List, [], ◌∷◌, ◌++◌, map, filter, length, Option}
 use Rattle.std.specs.List.{list_any}
 use Rattle.otel_common.specs.declared.scopes.InstrumentationScope.{InstrumentationScope}
 use Rattle.otel_model_stream.specs.Events.{Event, Point}
@@ -9,7 +9,7 @@ use Rattle.otel_model.specs.Resources.{Resource}
 use Rattle.otel_model.specs.Calls.{About, Observed, Call, Meter, Build, Record, Bind, RecordBound, Unbind, Collect, Flush, Shutdown, Fault, OutOfMemory, UnknownMeter, UnknownInstrument, UnknownHandle, UnknownReader, WrongNumber, WrongKind, AlreadyShutdown, ReaderShutDown, ReadersFailed, Exhausted, LedgerFull, UseWorker, WorkersMissing, Reply, Collection}
 use Rattle.otel_model.specs.Demands.{Identity, Demand, Views, Row, is_known, is_dropped, is_drop, demands_on, fed}
 use Rattle.otel_model.specs.Streams.{is_delta, kind_of, aggregate_of}
-use Rattle.otel_model.specs.Collections.{ScopedMetric, metric, collection}
+use Rattle.otel_model.specs.Collections.{metric, collection}
 use Rattle.otel_model.specs.Sent.{has_scope, scope_of, observed, sent}
 
 -- ======== the calls that count ========

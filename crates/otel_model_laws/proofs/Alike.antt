@@ -1,12 +1,12 @@
 -- Two builds that agree in what makes a stream the same feed the same streams.
-use Rattle.std.proofs.Common.{◌≡◌, ⊎_elim, ℕ, zero, suc, Bool, true, false, List, [], ◌∷◌, ◌++◌, map, refl, sym, ◌∙◌, ap, Option, Some, None, subst, cond, ◌||◌, append_assoc}
+use Rattle.std.proofs.Common.{◌≡◌, ℕ, zero, suc, Bool, true, false, List, [], ◌∷◌, ◌++◌, map, refl, sym, ◌∙◌, ap, Option, Some, None, subst, cond, ◌||◌, append_assoc}
 use Rattle.std.specs.Prelude.{◌&&◌, not, filter, slice_get, ℤ}
 use Rattle.std.specs.List.{list_any}
-use Rattle.std.proofs.lemmas.Bool.{cases_Bool, true≢false, false≢true}
+use Rattle.std.proofs.lemmas.Bool.{false≢true}
 use Rattle.std.proofs.lemmas.List.{append-nil, map-append}
 use Rattle.otel_common.specs.declared.scopes.InstrumentationScope.{InstrumentationScope}
 use Rattle.otel_model.specs.Calls.{Text, lowered, or_else, About, InstrumentKind, Counter, UpDownCounter, Histogram, ObservableCounter, ObservableUpDownCounter, Gauge, ObservableGauge}
-use Rattle.otel_model.specs.Demands.{Identity, identity_eq, Demand, Views, View, Row, StreamSpec, nothing_said, Aggregation, Drop, Default, Sum, LastValue, ExplicitBucketHistogram, fits, with_bounds, with_own, reader_default, resolved, description_of, unit_of, instrument_of, demand_of, own_demand, add_answer, view_demands, is_compatible, fate_of, is_drop_fate, is_dropped, is_known, is_empty, needs_own, demands_with, demands_on, is_good, has_identity, each_once, fed}
+use Rattle.otel_model.specs.Demands.{Identity, identity_eq, Demand, Views, View, Row, StreamSpec, nothing_said, Aggregation, Drop, Default, Sum, LastValue, ExplicitBucketHistogram, fits, with_bounds, with_own, reader_default, resolved, instrument_of, demand_of, own_demand, add_answer, view_demands, is_compatible, fate_of, is_drop_fate, is_dropped, is_known, is_empty, needs_own, demands_with, demands_on, is_good, has_identity, each_once, fed}
 use Rattle.otel_model.specs.History.{Built, demands_after, feeds_of, builds_in, made}
 use Rattle.otel_model_laws.specs.Builds.{AreAlike, AlikeFeedTheSame}
 use Rattle.otel_model.proofs.Gather.{known_here}

@@ -1,12 +1,12 @@
 -- A reader's streams have identities of their own, and an instrument feeds each of its streams once.
-use Rattle.std.proofs.Common.{◌≡◌, ◌⊎◌, inl, inr, ⊎_elim, ℕ, zero, suc, Bool, true, false, List, [], ◌∷◌, ◌++◌, map, refl, sym, ◌∙◌, ap, Option, Some, None, subst, cond, ◌||◌, append_assoc}
+use Rattle.std.proofs.Common.{◌≡◌, ⊎_elim, ℕ, zero, suc, Bool, true, false, List, [], ◌∷◌, ◌++◌, map, refl, sym, ◌∙◌, ap, Some, subst, cond, ◌||◌, append_assoc}
 use Rattle.std.specs.Prelude.{filter, not, slice_get}
 use Rattle.std.proofs.lemmas.Bool.{cases_Bool, true≢false, false≢true, or_parts}
 use Rattle.std.proofs.lemmas.List.{append-nil}
 use Rattle.otel_model.specs.Demands.{Identity, identity_eq, Demand, Views, Row, fate_of, is_drop, is_drop_fate, is_dropped, is_known, has_identity, each_once, fed}
-use Rattle.otel_model.specs.History.{Built, gather, new_demand, firsts, demands_after, demands_of, streams_of, feeds_of, builds_in, made}
+use Rattle.otel_model.specs.History.{Built, firsts, demands_after, demands_of, streams_of, feeds_of, builds_in, made}
 use Rattle.otel_model.specs.Sent.{is_fed}
-use Rattle.otel_model.specs.State.{Stream, ReaderPart}
+use Rattle.otel_model.specs.State.{Stream}
 use Rattle.otel_model.specs.Laws.{AreApart, AreStreamsApart, AreFeedsApart, AreFeedsStreams}
 use Rattle.otel_model.proofs.Gather.{identity_eq_true, identity_eq_self, fate_firsts, map_both}
 use Rattle.otel_model.proofs.Numbers.{ids, streams_apart}
@@ -147,9 +147,10 @@ fed_stays views row earlier [] n x e = absurd (false≢true e)
 fed_stays views row earlier (i ∷ is) zero x e =
     let now = demands_after views row earlier i in
     let known : is_known (earlier ++ now) x ≡ true = known_later earlier now x (fed_demanded (is_dropped (earlier ++ now)) now x e) in
-    let q = grown views row (earlier ++ now) is in
-    (ap (λ l. is_known l x) q.1 ∙ known_stays (earlier ++ now) q.0 x known,
-     ap (λ l. is_dropped l x) q.1 ∙ (ap is_drop_fate (fate_stays (earlier ++ now) q.0 x known) ∙ not_dropped (is_dropped (earlier ++ now)) (each_once [] (ids now)) x e))
+    let q = grown views row (earlier ++ now) is in (
+      ap (λ l. is_known l x) q.1 ∙ known_stays (earlier ++ now) q.0 x known,
+      ap (λ l. is_dropped l x) q.1 ∙ (ap is_drop_fate (fate_stays (earlier ++ now) q.0 x known) ∙ not_dropped (is_dropped (earlier ++ now)) (each_once [] (ids now)) x e),
+    )
 fed_stays views row earlier (i ∷ is) (suc n) x e = fed_stays views row (earlier ++ demands_after views row earlier i) is n x e
 
 fed_is_stream : (views : Views) (row : Row) (is : List Built) (n : ℕ) (x : Identity) → is_fed (feeds_of views row [] is) n x ≡ true → has_identity (ids (streams_of views row is)) x ≡ true

@@ -1,31 +1,30 @@
 -- What a synchronous stream recorded is what the instruments that feed it accepted.
-use Rattle.std.proofs.Common.{◌≡◌, ◌⊎◌, inl, inr, ⊎_elim, ℕ, zero, suc, ◌+◌, ◌<◌, Bool, true, false, List, [], ◌∷◌, ◌++◌, length, map, refl, arith, sym, ◌∙◌, ap, Option, Some, None, subst, cond, ◌||◌}
-use Rattle.std.specs.Prelude.{◌==◌, ◌^◌, ◌&&◌, filter, fold, slice_get, is_some, nat_lt}
+use Rattle.std.proofs.Common.{◌≡◌, ⊎_elim, ℕ, zero, suc, ◌+◌, ◌<◌, Bool, true, false, List, [], ◌∷◌, ◌++◌, length, refl, arith, sym, ◌∙◌, ap, Option, Some, None, subst, cond}
+use Rattle.std.specs.Prelude.{◌^◌, ◌&&◌, fold, slice_get, is_some, nat_lt}
 use Rattle.std.proofs.lemmas.Bool.{cases_Bool, true≢false, false≢true}
 use Rattle.std.proofs.lemmas.List.{append-nil, map-append}
 use Rattle.std.proofs.Math.Nat.{mod-add-mod}
-use Rattle.otel_common.specs.declared.attributes.KeyValue.{KeyValue}
 use Rattle.otel_model_stream.specs.Sets.{AttributeSet}
 use Rattle.otel_model_stream.specs.Folds.{Aggregate, Amount, wrapped, sample_of}
-use Rattle.otel_model_stream.specs.Events.{Event, Kind, Delta, Cumulative, Drained, held_by}
-use Rattle.otel_model_stream.specs.Machine.{Machine, step, run, through, let_go}
+use Rattle.otel_model_stream.specs.Events.{Event, held_by}
+use Rattle.otel_model_stream.specs.Machine.{Machine, run, through}
 use Rattle.otel_model_stream.specs.Totals.{size, has_number, without_number}
 use Rattle.otel_model.specs.Resources.{Resource}
-use Rattle.otel_model.specs.Calls.{InstrumentKind, Counter, UpDownCounter, Histogram, ObservableCounter, ObservableUpDownCounter, Gauge, ObservableGauge, is_observable, Number, About, Observed, Call, Meter, Build, Record, Bind, RecordBound, Unbind, Collect, Flush, Shutdown, Fault, UnknownReader, ReaderShutDown, UnknownInstrument, WrongKind, Reply}
-use Rattle.otel_model.specs.Demands.{Identity, Aggregation, Demand, Views, Row, is_known, is_dropped, fed, has_identity}
+use Rattle.otel_model.specs.Calls.{InstrumentKind, Counter, UpDownCounter, Histogram, ObservableCounter, ObservableUpDownCounter, Gauge, ObservableGauge, is_observable, About, Observed, Call, Meter, Build, Record, Bind, RecordBound, Unbind, Collect, Flush, Shutdown, Fault, UnknownReader, ReaderShutDown, WrongKind, Reply}
+use Rattle.otel_model.specs.Demands.{Identity, Demand, Views, Row, is_known, is_dropped, fed}
 use Rattle.otel_model.specs.Streams.{is_sum, observes_sums, is_drained, is_delta, kind_of, aggregate_of}
 use Rattle.otel_model.specs.State.{InstrumentState, LiveHandle, Shared, Stream, ReaderPart, State}
 use Rattle.otel_model.specs.Refusals.{refusal, record_refusal, bind_refusal, instrument_held, handle_refusal, held_refusal, number_refusal, observation_refusal, observations_refusal, first_fault}
-use Rattle.otel_model.specs.Sent.{scope_of, is_fed, set_for, observed, sent}
+use Rattle.otel_model.specs.Sent.{scope_of, is_fed, set_for, observed}
 use Rattle.otel_model.specs.Machine.{new_instrument, accepted, changed_at, accepted_by, without_handle, shared_after, if_held, recorded_with, recorded_over, stream_after, new_stream, demanded, build_demands, with_feeds, built, part_sent, accepted_after, new_part, new_state}
-use Rattle.otel_model.specs.Steps.{after_by, after, Step, Run}
-use Rattle.otel_model.specs.Only.{is_others, is_short}
+use Rattle.otel_model.specs.Steps.{after_by, after, Run}
+use Rattle.otel_model.specs.Only.{is_others}
 use Rattle.otel_model.specs.Totals.{accepted_for}
-use Rattle.otel_model.specs.Laws.{IsRun, IsAccepted}
+use Rattle.otel_model.specs.Laws.{IsAccepted}
 use Rattle.otel_model.proofs.Single.{some_is, get_map, step_cases, part_after, concerned, unconcerned}
-use Rattle.otel_model.proofs.Recorded.{numbers, held_is, by_unbind, keeps_handles, collect_keeps, keeps_when}
-use Rattle.otel_model_laws.proofs.Amounts.{EachOf, each_weaker, each_push, each_map, each_at, each_without, not_fed, when_fed, new_adds_nothing, nothing_accepted, kinds_of, same_kinds, same_number, handles_of, AreDistinct, absent_below, distinct_push, distinct_without, held_for, held_push, held_when_fed, held_without}
-use Rattle.otel_model_laws.proofs.Feeding.{fed_or_new, known_feed, held_before, none_held, fed_demanded, demands_kind, known_kind, known_after, demanded_known, same_row, same_feeds, streams_after}
+use Rattle.otel_model.proofs.Recorded.{numbers, held_is, by_unbind, collect_keeps, keeps_when}
+use Rattle.otel_model_laws.proofs.Amounts.{EachOf, each_weaker, each_push, each_map, each_at, each_without, not_fed, when_fed, new_adds_nothing, nothing_accepted, kinds_of, same_kinds, same_number, AreDistinct, distinct_push, distinct_without, held_for, held_push, held_when_fed, held_without}
+use Rattle.otel_model_laws.proofs.Feeding.{fed_or_new, known_feed, held_before, none_held, fed_demanded, demands_kind, known_kind, known_after, demanded_known, same_feeds, streams_after}
 
 -- ======== what is shared ========
 -- live handles have numbers of their own, below the next, and instruments that are there

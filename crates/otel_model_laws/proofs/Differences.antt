@@ -1,15 +1,13 @@
 -- What observed sums show in a delta stream.
-use Rattle.std.proofs.Common.{◌≡◌, ⊎_elim, ℕ, zero, suc, ◌+◌, ◌<◌, ◌≤◌, Bool, true, false, List, [], ◌∷◌, ◌++◌, map, refl, arith, sym, ◌∙◌, ap, Option, Some, None, subst, cond}
-use Rattle.std.specs.Prelude.{◌-◌, ◌%◌, ◌^◌, ◌&&◌, slice_get, filter}
-use Rattle.std.proofs.lemmas.Bool.{and_parts, true≢false}
+use Rattle.std.proofs.Common.{◌≡◌, ℕ, zero, suc, ◌+◌, ◌<◌, ◌≤◌, List, [], ◌∷◌, ◌++◌, map, refl, arith, sym, ◌∙◌, ap, Some, subst, cond}
+use Rattle.std.specs.Prelude.{◌-◌, ◌^◌, slice_get, filter}
+use Rattle.std.proofs.lemmas.Bool.{and_parts}
 use Rattle.std.proofs.Math.Nat.{mod-add-mod, add-mod-mod, add-mod_right, mod-lt}
 use Rattle.otel_model_stream.specs.Sets.{AttributeSet, none_set}
-use Rattle.otel_model_stream.specs.Folds.{Aggregate, LastValue, Amount, wrapped, fold_of}
-use Rattle.otel_model_stream.specs.Events.{Event, Point}
+use Rattle.otel_model_stream.specs.Folds.{wrapped, fold_of}
+use Rattle.otel_model_stream.specs.Events.{Point}
 use Rattle.otel_model_stream.specs.Windows.{records_of, is_hit, shown_places, values_of, point}
-use Rattle.otel_model.specs.Calls.{Call}
-use Rattle.otel_model.specs.Collections.{shows_differences, value_of, value_before, less, difference, differences}
-use Rattle.otel_model.specs.Demands.{Demand, Row, Views}
+use Rattle.otel_model.specs.Collections.{value_of, value_before, less, difference}
 use Rattle.otel_model.specs.Streams.{is_drained, is_delta, kind_of, aggregate_of}
 use Rattle.otel_model.specs.History.{history, window_of, window_points, reported_of}
 use Rattle.otel_model_laws.specs.Orders.{last_observed, AreDifferences}

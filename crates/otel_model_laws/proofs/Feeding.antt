@@ -1,18 +1,17 @@
 -- What a build adds to what feeds what.
-use Rattle.std.proofs.Common.{◌≡◌, ◌⊎◌, inl, inr, ⊎_elim, ℕ, zero, suc, ◌+◌, ◌<◌, Bool, true, false, List, [], ◌∷◌, ◌++◌, length, map, refl, arith, sym, ◌∙◌, ap, Option, Some, None, subst, cond, ◌||◌}
+use Rattle.std.proofs.Common.{◌≡◌, ◌⊎◌, inl, inr, ⊎_elim, ℕ, zero, suc, ◌<◌, Bool, true, false, List, [], ◌∷◌, ◌++◌, length, map, refl, arith, sym, ◌∙◌, ap, Option, Some, None, subst, cond, ◌||◌}
 use Rattle.std.specs.Prelude.{filter, fold, not, slice_get}
-use Rattle.std.specs.List.{list_any}
-use Rattle.std.proofs.lemmas.Bool.{cases_Bool, true≢false, false≢true}
+use Rattle.std.proofs.lemmas.Bool.{true≢false, false≢true}
 use Rattle.std.proofs.lemmas.List.{append-nil}
 use Rattle.otel_common.specs.declared.scopes.InstrumentationScope.{InstrumentationScope}
 use Rattle.otel_model.specs.Calls.{About, InstrumentKind}
-use Rattle.otel_model.specs.Demands.{Identity, identity_eq, Demand, Views, Row, instrument_of, StreamSpec, demand_of, own_demand, add_answer, view_demands, is_compatible, needs_own, demands_with, demands_on, is_good, is_known, is_dropped, is_drop, has_identity, each_once, fed}
+use Rattle.otel_model.specs.Demands.{Identity, identity_eq, Demand, Views, Row, instrument_of, StreamSpec, own_demand, add_answer, view_demands, is_compatible, needs_own, demands_with, demands_on, is_good, is_known, is_drop, has_identity, each_once, fed}
 use Rattle.otel_model.specs.State.{Stream, ReaderPart, LiveHandle}
 use Rattle.otel_model.specs.Sent.{is_fed}
-use Rattle.otel_model.specs.Machine.{new_stream, enter, make, demanded, build_demands}
+use Rattle.otel_model.specs.Machine.{new_stream, enter, demanded}
 use Rattle.otel_model.proofs.Gather.{identity_eq_true, identity_eq_self, known-append}
 use Rattle.otel_model.proofs.Single.{some_is}
-use Rattle.otel_model_laws.proofs.Amounts.{EachOf, each_weaker, each_push, held_for, handles_of}
+use Rattle.otel_model_laws.proofs.Amounts.{EachOf, each_push, held_for, handles_of}
 
 -- ======== lists of feeds ========
 -- a feed in the list with one more stands in the list, or is the new one

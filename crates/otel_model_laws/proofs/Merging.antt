@@ -1,18 +1,17 @@
 -- The merge of resources.
-use Rattle.std.proofs.Common.{◌≡◌, ⊎_elim, ℕ, Bool, true, false, List, [], ◌∷◌, ◌++◌, map, refl, sym, ◌∙◌, ap, Option, Some, None, subst, cond}
+use Rattle.std.proofs.Common.{◌≡◌, ⊎_elim, ℕ, Bool, true, false, List, [], ◌∷◌, ◌++◌, refl, sym, ◌∙◌, ap, Some, None, cond}
 use Rattle.std.specs.Prelude.{◌≢◌}
 use Rattle.std.specs.Ordering.{is_eq, eq_by_cmp}
 use Rattle.std.specs.Cmp.{Equal-is}
 use Rattle.std.specs.Cmp.Lexicographic.{nat_list_cmp_total, bytes_decides}
 use Rattle.std.proofs.lemmas.Cmp.{tied_itself}
-use Rattle.std.proofs.lemmas.Bool.{cases_Bool, true≢false, false≢true}
+use Rattle.std.proofs.lemmas.Bool.{cases_Bool, true≢false}
 use Rattle.otel_common.specs.Canonical.{canon, key_cmp}
 use Rattle.otel_common.specs.Equality.{bytes_eq}
 use Rattle.otel_common.specs.declared.attributes.KeyValue.{KeyValue}
-use Rattle.otel_common.specs.declared.attributes.Value.{Value}
 use Rattle.otel_common.proofs.CanonLaws.{key_cmp-IsAntisymmetric, value_at-canon, canon-rising}
 use Rattle.otel_common.proofs.CanonLaws as found
-use Rattle.otel_model.specs.Resources.{Resource, merged_url, merged, value_at, first_of, OthersValuesWin, UrlsMergeFromTheLeft, UrlsMergeFromTheRight, MergesAreCanonical}
+use Rattle.otel_model.specs.Resources.{merged_url, value_at, first_of, OthersValuesWin, UrlsMergeFromTheLeft, UrlsMergeFromTheRight, MergesAreCanonical}
 
 -- the two tests of a key
 same_test : (k q : List ℕ) → bytes_eq k q ≡ eq_by_cmp key_cmp q k

@@ -1,27 +1,24 @@
 -- A call with its attributes in another order does the same.
-use Rattle.std.proofs.Common.{◌≡◌, ⊎_elim, ℕ, zero, suc, ◌+◌, Bool, true, false, List, [], ◌∷◌, ◌++◌, length, map, refl, arith, sym, ◌∙◌, ap, Option, Some, None, subst, cond}
-use Rattle.std.specs.Prelude.{◌==◌, IsTrue, slice_get, filter, nat_lt}
+use Rattle.std.proofs.Common.{◌≡◌, ⊎_elim, ℕ, zero, suc, ◌+◌, Bool, true, false, List, [], ◌∷◌, ◌++◌, length, map, refl, arith, sym, ◌∙◌, ap, Option, Some, None, cond}
+use Rattle.std.specs.Prelude.{slice_get, nat_lt}
 use Rattle.std.specs.List.{list_any}
 use Rattle.std.specs.Ordering.{eq_by_cmp}
 use Rattle.std.specs.Cmp.{Equal-is}
-use Rattle.std.specs.List.Sorted.{IsPermutation}
-use Rattle.std.proofs.lemmas.Bool.{cases_Bool, true≢false, false≢true}
-use Rattle.std.proofs.lemmas.List.{nil_from_length}
+use Rattle.std.proofs.lemmas.Bool.{cases_Bool}
 use Rattle.std.proofs.lemmas.List.Sorted.{length_permutation}
 use Rattle.otel_common.specs.Canonical.{canon, key_cmp}
 use Rattle.otel_common.specs.Equality.{bytes_eq}
 use Rattle.otel_common.specs.declared.attributes.KeyValue.{KeyValue}
-use Rattle.otel_common.specs.declared.attributes.Value.{Value}
 use Rattle.otel_common.proofs.CanonLaws.{value_at, value_at-canon, canon-same, key_cmp-IsAntisymmetric}
 use Rattle.otel_common.proofs.Permuting.{canon-permutation}
 use Rattle.otel_model_stream.specs.Sets.{AllowList, kept, set_of}
 use Rattle.otel_model_stream.specs.Events.{Event}
-use Rattle.otel_model.specs.Calls.{Number, Observed, Call, Meter, Build, Record, Bind, RecordBound, Unbind, Collect, Flush, Shutdown, Fault, OutOfMemory, UnknownMeter, UnknownInstrument, UnknownHandle, UnknownReader, WrongNumber, WrongKind, AlreadyShutdown, ReaderShutDown, ReadersFailed, Exhausted, LedgerFull, UseWorker, WorkersMissing, Reply}
+use Rattle.otel_model.specs.Calls.{Number, Observed, Call, Record, Bind, Collect, OutOfMemory, UnknownMeter, UnknownInstrument, UnknownHandle, UnknownReader, WrongNumber, WrongKind, AlreadyShutdown, ReaderShutDown, ReadersFailed, Exhausted, LedgerFull, UseWorker, WorkersMissing, Reply}
 use Rattle.otel_model.specs.Demands.{Identity, Demand, Row, Views}
 use Rattle.otel_model.specs.State.{InstrumentState, Shared, Stream, ReaderPart, State}
 use Rattle.otel_model.specs.Refusals.{refusal, observation_refusal, observations_refusal, first_fault}
 use Rattle.otel_model.specs.Sent.{is_fed, set_for, observed, sent}
-use Rattle.otel_model.specs.Machine.{machine_after, since_after, points_at, reported_after, recorded_after, exported_after, stream_after, part_sent, changed_at, accepted_after, shared_after, readers_after}
+use Rattle.otel_model.specs.Machine.{machine_after, since_after, points_at, reported_after, recorded_after, exported_after, stream_after, part_sent, changed_at, accepted_after, shared_after}
 use Rattle.otel_model.specs.Steps.{collect_from, collect_reply, answer_of, reply_by, after_by, reply_of, after, takes_memory, asks_readers, Step, Run}
 use Rattle.otel_model_laws.specs.Orders.{IsReordered, RecordsInAnyOrder, BindsInAnyOrder, ObservationsInAnyOrder}
 

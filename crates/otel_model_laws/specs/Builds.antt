@@ -1,8 +1,8 @@
 -- Two builds of the same streams (Metrics SDK, "Duplicate instrument registration").
-use Rattle.std.specs.Prelude.{◌≡◌, ℕ, true, List, map, Option, Some, slice_get}
+use Rattle.std.specs.Prelude.{◌≡◌, ℕ, true, map, Some, slice_get}
 use Rattle.otel_common.specs.declared.scopes.InstrumentationScope.{InstrumentationScope}
 use Rattle.otel_model.specs.Calls.{lowered}
-use Rattle.otel_model.specs.Demands.{View, Views, StreamSpec, instrument_of, description_of, unit_of, is_good}
+use Rattle.otel_model.specs.Demands.{View, Views, instrument_of, description_of, unit_of, is_good}
 use Rattle.otel_model.specs.History.{Built, builds_in, made}
 use Rattle.otel_model.specs.Laws.{OfEachReader}
 

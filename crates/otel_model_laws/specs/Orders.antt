@@ -1,5 +1,5 @@
 -- The order of attributes, and what a sum of observed sums shows.
-use Rattle.std.specs.Prelude.{◌≡◌, ℕ, ◌+◌, true, List, [], ◌∷◌, ◌++◌, Some, slice_get}
+use Rattle.std.specs.Prelude.{◌≡◌, ℕ, ◌+◌, true, List, ◌∷◌, ◌++◌, Some, slice_get}
 use Rattle.std.specs.List.Sorted.{IsPermutation}
 use Rattle.otel_common.specs.Canonical.{HasDistinctKeys}
 use Rattle.otel_common.specs.declared.attributes.KeyValue.{KeyValue}

@@ -5,7 +5,6 @@ use Rattle.otel_model.proofs.RowsViews.{row_11}
 use Rattle.otel_model.proofs.Numbers.{fed_by_numbers}
 use Rattle.otel_model.proofs.Single.{as_alone, as_only}
 use Rattle.otel_model.proofs.is_alone.Goals as goal
-use Rattle.otel_model.specs.Machine.{new_state}
 
 pub returns-clause-only : goal.returns-clause-only
 returns-clause-only c = let checks = row_16 in let places = row_3 in let sums = row_1 in let views = row_11 in let by_numbers = fed_by_numbers in as_only
