@@ -7,10 +7,10 @@ use Rattle.otel_common.specs.Equality.{set_eq}
 use Rattle.otel_model_stream.specs.Sets.{AttributeSet, none_set}
 use Rattle.otel_model_stream.specs.Folds.{Aggregate, Amount, wrapped}
 use Rattle.otel_model_stream.specs.Events.{Kind, Delta, Cumulative, Drained, Handles, held_by, without, Point}
-use Rattle.otel_model_stream.specs.Windows.{Window, mem, by_handle, places_of, records_of, is_hit, values_of, point, points_of}
+use Rattle.otel_model_stream.specs.Windows.{Window, is_in, by_handle, places_of, records_of, is_hit, values_of, point, points_of}
 use Rattle.otel_model_stream.specs.Totals.{size, weight, has_number, without_number, points_total}
 use Rattle.otel_model_stream.proofs.Sets.{set_eq_true}
-use Rattle.otel_model_stream.proofs.Lists.{or_true, same_eq}
+use Rattle.otel_model_stream.proofs.Lists.{or_true, same_eq, same_sym}
 use Rattle.otel_model_stream.proofs.Build.{Pairs, no_values}
 use Rattle.otel_model_stream.proofs.Steps.{IsSound}
 use Rattle.otel_model_stream.proofs.Moves.{facts}
@@ -31,6 +31,33 @@ numbers-without h (q ∷ hs) = go (q.0 == h) (numbers-without h hs)
 
 pub mod_both : (a b c d : ℕ) → wrapped a ≡ wrapped c → wrapped b ≡ wrapped d → wrapped (a + b) ≡ wrapped (c + d)
 mod_both a b c d e f = omega arith
+
+-- of distinct sets, a set is at most one
+no_hit : (g : AttributeSet) (v : ℕ) (ks : List AttributeSet) → is_in g ks ≡ false → sum_by (λ x. cond (set_eq g x) v 0) ks ≡ 0
+no_hit g v [] m = refl
+no_hit g v (k ∷ ks) m =
+    let q = or_parts (set_eq k g) (is_in g ks) m in
+    sum_by-cons (λ x. cond (set_eq g x) v 0) k ks ∙ (λ i. cond ((same_sym g k ∙ q.0) i) v 0 + no_hit g v ks q.1 i)
+
+one_hit : (g : AttributeSet) (v : ℕ) (ks : List AttributeSet) → IsDistinct ks → is_in g ks ≡ true → sum_by (λ x. cond (set_eq g x) v 0) ks ≡ v
+one_hit g v [] d m = absurd (false≢true m)
+one_hit g v (k ∷ ks) d m = sum_by-cons (λ x. cond (set_eq g x) v 0) k ks ∙ ⊎_elim hit (miss (λ m. one_hit g v ks d.1 m)) (cases_Bool (set_eq k g))
+  where
+    hit : set_eq k g ≡ true → cond (set_eq g k) v 0 + sum_by (λ x. cond (set_eq g x) v 0) ks ≡ v
+    hit e =
+        let a : cond (set_eq g k) v 0 ≡ v = ap (λ b. cond b v 0) (same_sym g k ∙ e) in
+        let z = no_hit g v ks (ap (λ y. is_in y ks) (sym (set_eq_true k g e)) ∙ d.0) in
+        omega arith
+
+    miss : (is_in g ks ≡ true → sum_by (λ x. cond (set_eq g x) v 0) ks ≡ v) → set_eq k g ≡ false → cond (set_eq g k) v 0 + sum_by (λ x. cond (set_eq g x) v 0) ks ≡ v
+    miss ih e =
+        let a : cond (set_eq g k) v 0 ≡ 0 = ap (λ b. cond b v 0) (same_sym g k ∙ e) in
+        let z = ih (ap (λ b. b || is_in g ks) (sym e) ∙ m) in
+        omega arith
+
+sum_split : (f g h : AttributeSet → ℕ) (ks : List AttributeSet) → ((x : AttributeSet) → f x ≡ g x + h x) → sum_by f ks ≡ sum_by g ks + sum_by h ks
+sum_split f g h [] e = refl
+sum_split f g h (k ∷ ks) e = omega (arith, sum_by-cons f k ks, sum_by-cons g k ks, sum_by-cons h k ks, e k, sum_split f g h ks e)
 
 module _ (σ : Aggregate) where
   -- the total of these records
@@ -60,41 +87,11 @@ module _ (σ : Aggregate) where
           zero_plus : (n : ℕ) → n ≡ 0 + n
           zero_plus n = omega arith
 
-  no_hit : (g : AttributeSet) (v : ℕ) (ks : List AttributeSet) → mem g ks ≡ false → sum_by (λ x. cond (set_eq g x) v 0) ks ≡ 0
-  no_hit g v [] m = refl
-  no_hit g v (k ∷ ks) m =
-      let q = or_parts (set_eq k g) (mem g ks) m in
-      sum_by-cons (λ x. cond (set_eq g x) v 0) k ks ∙ (λ i. cond (other q.0 i) v 0 + no_hit g v ks q.1 i)
-    where
-      other : set_eq k g ≡ false → set_eq g k ≡ false
-      other e = false_from_ne_true (set_eq g k) (λ t. true≢false (sym (same_eq k g (sym (set_eq_true g k t))) ∙ e))
-
-  one_hit : (g : AttributeSet) (v : ℕ) (ks : List AttributeSet) → IsDistinct ks → mem g ks ≡ true → sum_by (λ x. cond (set_eq g x) v 0) ks ≡ v
-  one_hit g v [] d m = absurd (false≢true m)
-  one_hit g v (k ∷ ks) d m = sum_by-cons (λ x. cond (set_eq g x) v 0) k ks ∙ ⊎_elim hit (miss (λ m. one_hit g v ks d.1 m)) (cases_Bool (set_eq k g))
-    where
-      hit : set_eq k g ≡ true → cond (set_eq g k) v 0 + sum_by (λ x. cond (set_eq g x) v 0) ks ≡ v
-      hit e =
-          let a : cond (set_eq g k) v 0 ≡ v = ap (λ b. cond b v 0) (same_eq g k (sym (set_eq_true k g e))) in
-          let z = no_hit g v ks (ap (λ y. mem y ks) (sym (set_eq_true k g e)) ∙ d.0) in
-          omega arith
-
-      miss : (mem g ks ≡ true → sum_by (λ x. cond (set_eq g x) v 0) ks ≡ v) → set_eq k g ≡ false → cond (set_eq g k) v 0 + sum_by (λ x. cond (set_eq g x) v 0) ks ≡ v
-      miss ih e =
-          let f : set_eq g k ≡ false = false_from_ne_true (set_eq g k) (λ t. true≢false (sym (same_eq k g (sym (set_eq_true g k t))) ∙ e)) in
-          let a : cond (set_eq g k) v 0 ≡ 0 = ap (λ b. cond b v 0) f in
-          let z = ih (ap (λ b. b || mem g ks) (sym e) ∙ m) in
-          omega arith
-
   sum_zero : (ks : List AttributeSet) → sum_by (λ x. sum_by (size σ) (values_of [] x)) ks ≡ 0
   sum_zero [] = refl
   sum_zero (k ∷ ks) = sum_by-cons (λ x. sum_by (size σ) (values_of [] x)) k ks ∙ omega (arith, sum_zero ks)
 
-  sum_split : (f g h : AttributeSet → ℕ) (ks : List AttributeSet) → ((x : AttributeSet) → f x ≡ g x + h x) → sum_by f ks ≡ sum_by g ks + sum_by h ks
-  sum_split f g h [] e = refl
-  sum_split f g h (k ∷ ks) e = omega (arith, sum_by-cons f k ks, sum_by-cons g k ks, sum_by-cons h k ks, e k, sum_split f g h ks e)
-
-  pub sum_values : (ks : List AttributeSet) (rs : Pairs) → IsDistinct ks → ((x : AttributeSet) → is_hit rs x ≡ true → mem x ks ≡ true) → sum_by (λ x. sum_by (size σ) (values_of rs x)) ks ≡ amount rs
+  pub sum_values : (ks : List AttributeSet) (rs : Pairs) → IsDistinct ks → ((x : AttributeSet) → is_hit rs x ≡ true → is_in x ks ≡ true) → sum_by (λ x. sum_by (size σ) (values_of rs x)) ks ≡ amount rs
   sum_values ks [] d h = sum_zero ks
   sum_values ks (r ∷ rs) d h =
       let a = sum_split (λ x. sum_by (size σ) (values_of (r ∷ rs) x)) (λ x. cond (set_eq r.0 x) (size σ r.1) 0) (λ x. sum_by (size σ) (values_of rs x)) ks (value_cons r rs) in
@@ -119,10 +116,10 @@ module _ (σ : Aggregate) where
       go true e ih = omega (arith, sum_by-cons (λ x. sum_by (size σ) (values_of rs x)) x l, sum_by-cons (λ x. sum_by (size σ) (values_of rs x)) x (filter (is_hit rs) l))
       go false e ih = let z : sum_by (size σ) (values_of rs x) ≡ 0 = ap (sum_by (size σ)) (no_values rs x e) in omega (arith, sum_by-cons (λ x. sum_by (size σ) (values_of rs x)) x l)
 
-  hits_in : (limit : ℕ) (w : Window) → IsSound limit w → (x : AttributeSet) → is_hit (records_of limit w) x ≡ true → mem x (none_set ∷ places_of limit w) ≡ true
+  hits_in : (limit : ℕ) (w : Window) → IsSound limit w → (x : AttributeSet) → is_hit (records_of limit w) x ≡ true → is_in x (none_set ∷ places_of limit w) ≡ true
   hits_in limit w a x e = ⊎_elim
-      (λ n. ap (λ b. b || mem x (places_of limit w)) (same_eq none_set x (sym (set_eq_true x none_set n))))
-      (λ n. ⊎_elim (λ m. ap (λ b. set_eq none_set x || b) m ∙ or_true (set_eq none_set x)) (λ m. absurd (true≢false (sym e ∙ a.hits x n m))) (cases_Bool (mem x (places_of limit w))))
+      (λ n. ap (λ b. b || is_in x (places_of limit w)) (same_eq none_set x (sym (set_eq_true x none_set n))))
+      (λ n. ⊎_elim (λ m. ap (λ b. set_eq none_set x || b) m ∙ or_true (set_eq none_set x)) (λ m. absurd (true≢false (sym e ∙ a.hits x n m))) (cases_Bool (is_in x (places_of limit w))))
       (cases_Bool (set_eq x none_set))
 
   pub window_total : (kind : Kind) (limit : ℕ) (w : Window) → IsSound limit w → IsTidy limit (facts limit w) → wrapped (points_total (points_of σ kind limit w)) ≡ wrapped (amount (records_of limit w))

@@ -20,8 +20,8 @@ pub record Window : Type 0 where
   pub events : List Event
 
 -- ======== places ========
-abbrev pub mem : AttributeSet → List AttributeSet → Bool
-mem s xs = list_any (λ x. set_eq x s) xs
+abbrev pub is_in : AttributeSet → List AttributeSet → Bool
+is_in s xs = list_any (λ x. set_eq x s) xs
 
 -- the sets that records and binds name, in order
 abbrev pub mentions : List Event → List AttributeSet
@@ -35,7 +35,7 @@ mentions (Collect ∷ es) = mentions es
 -- the distinct sets mentioned, other than the empty one, that aren't among those seen, in order of first mention
 abbrev pub newcomers : List AttributeSet → List AttributeSet → List AttributeSet
 newcomers seen [] = []
-newcomers seen (s ∷ ms) = cond (set_eq s none_set || mem s seen) (newcomers seen ms) (s ∷ newcomers (seen ++ s ∷ []) ms)
+newcomers seen (s ∷ ms) = cond (set_eq s none_set || is_in s seen) (newcomers seen ms) (s ∷ newcomers (seen ++ s ∷ []) ms)
 
 -- the sets without the overflow set, if that isn't counted
 abbrev pub counted : Bool → List AttributeSet → List AttributeSet
@@ -54,7 +54,7 @@ is_left_over limit start ms = nat_lt (room limit start) (length (newcomers start
 
 -- whether the limit makes the overflow set a place
 abbrev pub overflows : ℕ → Start → List AttributeSet → Bool
-overflows limit start ms = is_left_over limit start ms && not (mem over_set (start.sets ++ admitted limit start ms))
+overflows limit start ms = is_left_over limit start ms && not (is_in over_set (start.sets ++ admitted limit start ms))
 
 -- the sets that have a place once these were mentioned: those at the start, the admitted, and the
 -- overflow set where a newcomer is left over
@@ -66,7 +66,7 @@ uncounted_now limit start ms = start.uncounted || overflows limit start ms
 
 -- the goal of a mention of s: the set that it counts for
 abbrev pub goal : ℕ → Start → List AttributeSet → AttributeSet → AttributeSet
-goal limit start ms s = cond (set_eq s none_set) none_set (cond (mem s (start.sets ++ admitted limit start ms)) s over_set)
+goal limit start ms s = cond (set_eq s none_set) none_set (cond (is_in s (start.sets ++ admitted limit start ms)) s over_set)
 
 -- ======== records ========
 -- the live handles after the events, each with the goal of its bind
