@@ -15,8 +15,8 @@ use Rattle.otel_model_stream.specs.Machine.{Machine, hold, let_go}
 use Rattle.otel_model_stream.specs.Windows.{is_in, counted, is_hit, is_held, values_of}
 use Rattle.otel_model_stream.proofs.Sets.{set_eq_self, over_apart}
 use Rattle.otel_model_stream.proofs.Lists.{is_in_same, same_sym, or_true, or_false}
-use Rattle.otel_model_stream.proofs.Places.{grown}
 use Rattle.otel_model_stream.proofs.FoldLaws.{fold_of-none, fold_of-push}
+use Rattle.otel_model_stream.proofs.Places.{Grown, grown_by, grown}
 
 abbrev pub Pairs : Type 0
 Pairs = List (AttributeSet × Amount)
@@ -194,16 +194,18 @@ counts_new true s p h e = go (set_eq s over_set) (λ f. sym (is_in_same s over_s
     go false f = refl
 
 -- the machine's entries for the places and the flag
-abbrev pub entries_for : Aggregate → Pairs → Handles → List AttributeSet × Bool → List Entry
+abbrev pub entries_for : Aggregate → Pairs → Handles → Grown → List Entry
 entries_for σ rs hs q = map (entry σ q.1 rs hs) q.0
+
+-- the machine's entries by the same four tests
+abbrev placed_by : (a b c d : Bool) → Aggregate → AttributeSet → List Entry → List Entry
+placed_by a b c d σ s es = cond a es (cond b es (cond c (es ++ fresh (empty_of σ) s true ∷ []) (cond d es (es ++ fresh (empty_of σ) over_set false ∷ []))))
 
 pub places_one : (σ : Aggregate) (limit : ℕ) (s : AttributeSet) (p : List AttributeSet) (u : Bool) (rs : Pairs) (hs : Handles) → (u ≡ true → is_in over_set p ≡ true) → AreHitsPlaced p rs → AreHandlesPlaced p hs
     → placed limit (empty_of σ) s (map (entry σ u rs hs) p) ≡ entries_for σ rs hs (grown limit s p u)
 places_one σ limit s p u rs hs over hits helds =
-    ap (λ b. cond (set_eq s none_set) (map (entry σ u rs hs) p) (cond b (map (entry σ u rs hs) p) (cond (nat_lt (number_counted (map (entry σ u rs hs) p)) limit) (map (entry σ u rs hs) p ++ fresh (empty_of σ) s true ∷ []) (cond (has over_set (map (entry σ u rs hs) p)) (map (entry σ u rs hs) p) (map (entry σ u rs hs) p ++ fresh (empty_of σ) over_set false ∷ []))))) (has_built σ u rs hs s p)
-    ∙ (ap (λ b. cond (set_eq s none_set) (map (entry σ u rs hs) p) (cond (is_in s p) (map (entry σ u rs hs) p) (cond (nat_lt (number_counted (map (entry σ u rs hs) p)) limit) (map (entry σ u rs hs) p ++ fresh (empty_of σ) s true ∷ []) (cond b (map (entry σ u rs hs) p) (map (entry σ u rs hs) p ++ fresh (empty_of σ) over_set false ∷ []))))) (has_built σ u rs hs over_set p)
-    ∙ (ap (λ n. cond (set_eq s none_set) (map (entry σ u rs hs) p) (cond (is_in s p) (map (entry σ u rs hs) p) (cond (nat_lt n limit) (map (entry σ u rs hs) p ++ fresh (empty_of σ) s true ∷ []) (cond (is_in over_set p) (map (entry σ u rs hs) p) (map (entry σ u rs hs) p ++ fresh (empty_of σ) over_set false ∷ []))))) (count_built σ u rs hs p)
-    ∙ go (set_eq s none_set) (is_in s p) (nat_lt (length (counted u p)) limit) (is_in over_set p) (λ a b. counted_place a b) overflow_place))
+    (λ i. placed_by (set_eq s none_set) (has_built σ u rs hs s p i) (nat_lt (count_built σ u rs hs p i) limit) (has_built σ u rs hs over_set p i) σ s (map (entry σ u rs hs) p))
+    ∙ go (set_eq s none_set) (is_in s p) (nat_lt (length (counted u p)) limit) (is_in over_set p) counted_place overflow_place
   where
     counted_place : set_eq s none_set ≡ false → is_in s p ≡ false → map (entry σ u rs hs) p ++ fresh (empty_of σ) s true ∷ [] ≡ map (entry σ u rs hs) (p ++ s ∷ [])
     counted_place a b =
@@ -217,8 +219,7 @@ places_one σ limit s p u rs hs over hits helds =
 
     go : (a b c d : Bool) → (a ≡ false → b ≡ false → map (entry σ u rs hs) p ++ fresh (empty_of σ) s true ∷ [] ≡ map (entry σ u rs hs) (p ++ s ∷ []))
         → (d ≡ false → map (entry σ u rs hs) p ++ fresh (empty_of σ) over_set false ∷ [] ≡ map (entry σ true rs hs) (p ++ over_set ∷ []))
-        → cond a (map (entry σ u rs hs) p) (cond b (map (entry σ u rs hs) p) (cond c (map (entry σ u rs hs) p ++ fresh (empty_of σ) s true ∷ []) (cond d (map (entry σ u rs hs) p) (map (entry σ u rs hs) p ++ fresh (empty_of σ) over_set false ∷ []))))
-        ≡ entries_for σ rs hs (cond a (p, u) (cond b (p, u) (cond c (p ++ s ∷ [], u) (cond d (p, u) (p ++ over_set ∷ [], true)))))
+        → placed_by a b c d σ s (map (entry σ u rs hs) p) ≡ entries_for σ rs hs (grown_by a b c d s p u)
     go true b c d f g = refl
     go false true c d f g = refl
     go false false true d f g = f refl refl

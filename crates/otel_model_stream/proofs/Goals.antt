@@ -1,16 +1,15 @@
 -- Goals stay as the window goes on, and so do the records and the live handles.
-use Rattle.otel_model_stream.proofs.Lists.{same_eq}
-use Rattle.otel_common.specs.Equality.{set_eq}
-use Rattle.otel_model_stream.specs.Sets.{AttributeSet, none_set, over_set}
-use Rattle.otel_model_stream.proofs.Sets.{set_eq_true}
 use Rattle.std.proofs.Common.{◌≡◌, ◌⊎◌, ⊎_elim, ℕ, ◌<◌, ◌≤◌, List, [], ◌∷◌, ◌++◌, length, Bool, true, false, cond, ◌||◌, refl, sym, ap, ◌∙◌, arith, append_assoc}
 use Rattle.std.specs.Prelude.{nat_lt}
 use Rattle.std.proofs.lemmas.Bool.{false≢true, true≢false, cases_Bool, cases_lt, ltb-true, or_cases}
 use Rattle.std.proofs.lemmas.List.{append-nil}
+use Rattle.otel_common.specs.Equality.{set_eq}
+use Rattle.otel_model_stream.specs.Sets.{AttributeSet, none_set, over_set}
 use Rattle.otel_model_stream.specs.Events.{Event, Record, Bind, RecordBound, Unbind, Collect, Handles, held_by, without}
 use Rattle.otel_model_stream.specs.Windows.{Start, is_in, mentions, newcomers, counted, room, admitted, overflows, places, uncounted_now, goal, live, records, by_handle}
-use Rattle.otel_model_stream.proofs.Lists.{is_in-append, is_in_left, is_in_right, is_in_same, or_true}
-use Rattle.otel_model_stream.proofs.Places.{grown, full, open_sets, places_push, IsLawful, no_newcomer}
+use Rattle.otel_model_stream.proofs.Sets.{set_eq_true}
+use Rattle.otel_model_stream.proofs.Lists.{same_eq, is_in-append, is_in_left, is_in_right, is_in_same, or_true}
+use Rattle.otel_model_stream.proofs.Places.{grown_by, grown, full, open_sets, places_push, IsLawful, no_newcomer}
 use Rattle.otel_model_stream.proofs.Build.{target}
 
 -- an overflow place changes no target
@@ -57,8 +56,7 @@ stable limit t p u s settled = go (set_eq t none_set) (is_in t p) (nat_lt (lengt
     kept : length (counted u p) < limit → target (p ++ t ∷ []) s ≡ target p s
     kept l = ⊎_elim (λ e. rw e refl) (λ e. ⊎_elim (λ f. rw (is_in_left s p (t ∷ []) f, f) refl) (λ f. absurd (omega (arith, settled e f))) (cases_Bool (is_in s p))) (cases_Bool (set_eq s none_set))
 
-    go : (a b c d : Bool) → (c ≡ true → target (p ++ t ∷ []) s ≡ target p s)
-        → target (cond {A = List AttributeSet × Bool} a (p, u) (cond b (p, u) (cond c (p ++ t ∷ [], u) (cond d (p, u) (p ++ over_set ∷ [], true))))).0 s ≡ target p s
+    go : (a b c d : Bool) → (c ≡ true → target (p ++ t ∷ []) s ≡ target p s) → target (grown_by a b c d t p u).0 s ≡ target p s
     go true b c d f = refl
     go false true c d f = refl
     go false false true d f = f refl

@@ -1,10 +1,10 @@
 -- Facts on lists and tests that know nothing of streams.
-use Rattle.otel_common.specs.Equality.{set_eq}
-use Rattle.otel_model_stream.specs.Sets.{AttributeSet, over_set}
-use Rattle.otel_model_stream.proofs.Sets.{set_eq_true, set_eq_self}
 use Rattle.std.proofs.Common.{◌≡◌, ℕ, zero, suc, List, [], ◌∷◌, ◌++◌, take, Bool, true, false, cond, ◌||◌, refl, sym, ap, ◌∙◌}
 use Rattle.std.proofs.lemmas.Bool.{or_parts}
+use Rattle.otel_common.specs.Equality.{set_eq}
+use Rattle.otel_model_stream.specs.Sets.{AttributeSet, over_set}
 use Rattle.otel_model_stream.specs.Windows.{is_in}
+use Rattle.otel_model_stream.proofs.Sets.{set_eq_true, set_eq_self}
 
 pub is_in-append : (y : AttributeSet) (xs ys : List AttributeSet) → is_in y (xs ++ ys) ≡ (is_in y xs || is_in y ys)
 is_in-append y [] ys = refl

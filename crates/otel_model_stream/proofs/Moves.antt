@@ -1,17 +1,17 @@
 -- The machine moves as its window does, event by event.
-use Rattle.otel_model_stream.specs.Sets.{AttributeSet, none_set, over_set}
-use Rattle.otel_model_stream.specs.Folds.{Aggregate, Amount, empty_of, sample_of}
 use Rattle.std.proofs.Common.{◌≡◌, Option, Some, None, ℕ, List, [], ◌∷◌, ◌++◌, Bool, true, false, cond, refl, sym, ap, ◌∙◌}
 use Rattle.std.specs.Prelude.{◌==◌}
 use Rattle.std.proofs.lemmas.List.{append-nil}
+use Rattle.otel_model_stream.specs.Sets.{AttributeSet, none_set, over_set}
+use Rattle.otel_model_stream.specs.Folds.{Aggregate, Amount, empty_of, sample_of}
 use Rattle.otel_model_stream.specs.Events.{Event, Record, Bind, RecordBound, Unbind, Handles, held_by, without}
 use Rattle.otel_model_stream.specs.Entries.{write, at_entry, place, recorded_at}
 use Rattle.otel_model_stream.specs.Machine.{Machine, hold, bound, through, let_go}
 use Rattle.otel_model_stream.specs.Windows.{Window, is_in, mentions, newcomers, by_handle, places_of, uncounted_of, goal_of, live_of, records_of, more}
-use Rattle.otel_model_stream.proofs.Places.{grown, both, places_push, IsLawful}
+use Rattle.otel_model_stream.proofs.Places.{Grown, grown, both, places_push, IsLawful}
 use Rattle.otel_model_stream.proofs.Build.{Pairs, target, item, table_of, built, goal_built, writes, holds, lets_go, AreHitsPlaced, AreHandlesPlaced, places_one}
 use Rattle.otel_model_stream.proofs.Goals.{goal_is_target, mentions-append}
-use Rattle.otel_model_stream.proofs.Steps.{summary, IsSound, Grown, live_more, records_more}
+use Rattle.otel_model_stream.proofs.Steps.{summary, IsSound, live_more, records_more}
 
 -- what a summary is made of: places, flag, records and live handles
 abbrev pub Facts : Type 0

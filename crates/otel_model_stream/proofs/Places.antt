@@ -1,15 +1,15 @@
 -- The places of a window after one more mention.
 
-use Rattle.otel_common.specs.Equality.{set_eq}
-use Rattle.otel_model_stream.specs.Sets.{AttributeSet, none_set, over_set}
-use Rattle.otel_model_stream.proofs.Sets.{set_eq_self}
 use Rattle.std.proofs.Common.{◌≡◌, ⊎_elim, ℕ, ◌+◌, ◌<◌, ◌≤◌, List, [], ◌∷◌, ◌++◌, length, take, Bool, true, false, cond, not, ◌||◌, ◌&&◌, refl, sym, ap, ◌∙◌, arith, append_assoc, length-append}
 use Rattle.std.specs.Prelude.{nat_lt}
 use Rattle.std.proofs.lemmas.Bool.{or_parts, false≢true, cases_Bool, cases_lt, cases_order, lt-ltb, le-ltb}
 use Rattle.std.proofs.lemmas.List.{append-nil, take_all, take_at, take-append-le, length-take-le}
 use Rattle.std.proofs.lemmas.List.Elements.{filter-append}
 use Rattle.std.proofs.lemmas.List.Sums.{length-filter, count_by-le-length}
+use Rattle.otel_common.specs.Equality.{set_eq}
+use Rattle.otel_model_stream.specs.Sets.{AttributeSet, none_set, over_set}
 use Rattle.otel_model_stream.specs.Windows.{Start, is_in, newcomers, counted, room, places, uncounted_now}
+use Rattle.otel_model_stream.proofs.Sets.{set_eq_self}
 use Rattle.otel_model_stream.proofs.Lists.{is_in_here, is_in_left, is_in_right, is_in_take, is_in_same, or_true, or_false, kept_by}
 
 -- what one more mention adds to the newcomers
@@ -54,9 +54,17 @@ counted_all true (x ∷ xs) h =
     let p = or_parts (set_eq x over_set) (is_in over_set xs) (h refl) in
     rw p.0 (ap (λ l. x ∷ l) (counted_all true xs (λ _. p.1)))
 
+-- places, and whether the overflow set is among them without being counted
+abbrev pub Grown : Type 0
+Grown = List AttributeSet × Bool
+
+-- by four tests: s is empty, has a place, may count, the overflow set has a place
+abbrev pub grown_by : (a b c d : Bool) → AttributeSet → List AttributeSet → Bool → Grown
+grown_by a b c d s p u = cond a (p, u) (cond b (p, u) (cond c (p ++ s ∷ [], u) (cond d (p, u) (p ++ over_set ∷ [], true))))
+
 -- what a mention of s does to the places p with the flag u
-abbrev pub grown : ℕ → AttributeSet → List AttributeSet → Bool → List AttributeSet × Bool
-grown limit s p u = cond (set_eq s none_set) (p, u) (cond (is_in s p) (p, u) (cond (nat_lt (length (counted u p)) limit) (p ++ s ∷ [], u) (cond (is_in over_set p) (p, u) (p ++ over_set ∷ [], true))))
+abbrev pub grown : ℕ → AttributeSet → List AttributeSet → Bool → Grown
+grown limit s p u = grown_by (set_eq s none_set) (is_in s p) (nat_lt (length (counted u p)) limit) (is_in over_set p) s p u
 
 -- ======== one more mention ========
 -- the places and the flag, for these newcomers n
@@ -126,10 +134,10 @@ module _ (limit : ℕ) (start : Start) where
           (ap (is_in over_set) p.0 ∙ is_in_right over_set (begun ++ take space n) (over_set ∷ []) is_in_here, rw (p.0, p.1, size, length-append begun (take space n), long) (omega arith))
 
   -- ======== the step ========
-  abbrev pub both : List AttributeSet → List AttributeSet × Bool
+  abbrev pub both : List AttributeSet → Grown
   both n = (sets_with n, flag_with n)
 
-  abbrev pub grow : AttributeSet → List AttributeSet → List AttributeSet × Bool
+  abbrev pub grow : AttributeSet → List AttributeSet → Grown
   grow s n = grown limit s (sets_with n) (flag_with n)
 
   pub stay : (n : List AttributeSet) (s : AttributeSet) → IsFull n → grow s n ≡ both n
@@ -153,7 +161,7 @@ module _ (limit : ℕ) (start : Start) where
       few : space < length n → both n ≡ grow s n
       few h = sym (stay n s (full n h new))
 
-      seen : (b : Bool) (p : List AttributeSet × Bool) → p ≡ cond b p p
+      seen : (b : Bool) (p : Grown) → p ≡ cond b p p
       seen true p = refl
       seen false p = refl
 

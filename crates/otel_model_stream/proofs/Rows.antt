@@ -1,13 +1,13 @@
 -- Worked rows, computed on the windows and on the machine.
 use Rattle.std.proofs.Common.{◌≡◌, ℕ, ℤ, List, [], ◌∷◌, map, Bool, true, false, Option, Some, None, refl, replicate, ◌++◌, cond, sym, ap, ◌∙◌, true≢false}
-use Rattle.std.specs.Prelude.{codes, pos, negsuc}
-use Rattle.std.specs.Ordering.{eq_by_cmp}
 use Rattle.std.specs.Cmp.{Equal-is}
+use Rattle.std.specs.Ordering.{eq_by_cmp}
+use Rattle.std.specs.Prelude.{codes, pos, negsuc}
 use Rattle.otel_common.specs.Canonical.{canon, key_cmp}
 use Rattle.otel_common.specs.Equality.{bytes_eq}
-use Rattle.otel_common.proofs.CanonLaws.{key_cmp-IsAntisymmetric, canon-unique}
 use Rattle.otel_common.specs.declared.attributes.KeyValue.{KeyValue}
 use Rattle.otel_common.specs.declared.attributes.Value.TheVariants as value
+use Rattle.otel_common.proofs.CanonLaws.{key_cmp-IsAntisymmetric, canon-unique}
 use Rattle.otel_model_stream.specs.Sets.{AttributeSet, none_set, over_set, kept, set_of}
 use Rattle.otel_model_stream.specs.Folds.{Aggregate, Sum, LastValue, Histogram, Amount, Total, Last, Spreads}
 use Rattle.otel_model_stream.specs.Events.{Event, Record, Bind, RecordBound, Unbind, Collect, Kind, Delta, Cumulative, Point}

@@ -1,17 +1,16 @@
 -- What is kept from event to event.
-use Rattle.otel_model_stream.proofs.Lists.{same_eq}
-use Rattle.otel_common.specs.Equality.{set_eq}
-use Rattle.otel_model_stream.specs.Sets.{AttributeSet, none_set, over_set}
-use Rattle.otel_model_stream.specs.Folds.{Amount}
-use Rattle.otel_model_stream.proofs.Sets.{set_eq_true}
 use Rattle.std.proofs.Common.{◌≡◌, inl, inr, ⊎_elim, Option, Some, None, ℕ, ◌≤◌, List, [], ◌∷◌, ◌++◌, Bool, true, false, cond, ◌||◌, refl, sym, ap, ◌∙◌, subst, arith}
 use Rattle.std.specs.Prelude.{◌==◌}
 use Rattle.std.proofs.lemmas.Bool.{or_parts, true≢false, cases_Bool, false_from_ne_true}
 use Rattle.std.proofs.lemmas.List.{append-nil}
 use Rattle.std.proofs.lemmas.List.Folds.{list_any-append}
+use Rattle.otel_common.specs.Equality.{set_eq}
+use Rattle.otel_model_stream.specs.Sets.{AttributeSet, none_set, over_set}
+use Rattle.otel_model_stream.specs.Folds.{Amount}
 use Rattle.otel_model_stream.specs.Events.{Record, Bind, RecordBound, Unbind, Handles, held_by, without}
 use Rattle.otel_model_stream.specs.Windows.{Start, Window, is_in, room, by_handle, places_of, uncounted_of, is_held, more}
-use Rattle.otel_model_stream.proofs.Lists.{or_true}
+use Rattle.otel_model_stream.proofs.Sets.{set_eq_true}
+use Rattle.otel_model_stream.proofs.Lists.{same_eq, or_true}
 use Rattle.otel_model_stream.proofs.Places.{grown, open_sets, open_flag, IsLawful}
 use Rattle.otel_model_stream.proofs.Build.{Pairs, target, hit_push, AreHitsPlaced, AreHandlesPlaced}
 use Rattle.otel_model_stream.proofs.Steps.{IsSound, grown_keeps, grown_over, Lands, lands}

@@ -1,22 +1,19 @@
 -- Places are distinct, and those that count are within the limit.
-use Rattle.otel_model_stream.proofs.Lists.{same_eq}
+use Rattle.std.proofs.Common.{◌≡◌, ℕ, suc, ◌+◌, ◌≤◌, List, [], ◌∷◌, ◌++◌, length, Bool, true, false, cond, not, ◌||◌, ◌&&◌, refl, sym, ap, ◌∙◌, subst, arith, length-append}
+use Rattle.std.specs.Prelude.{filter, nat_lt}
+use Rattle.std.proofs.lemmas.Bool.{or_parts, ltb-true, and_parts}
+use Rattle.std.proofs.lemmas.List.{append-nil}
+use Rattle.std.proofs.lemmas.List.Elements.{filter-append}
 use Rattle.otel_common.specs.Equality.{set_eq}
 use Rattle.otel_model_stream.specs.Sets.{AttributeSet, none_set, over_set}
 use Rattle.otel_model_stream.specs.Folds.{Amount}
-use Rattle.otel_model_stream.proofs.Sets.{set_eq_true, set_eq_self, over_apart}
-use Rattle.std.proofs.Common.{◌≡◌, ℕ, suc, ◌+◌, ◌≤◌, List, [], ◌∷◌, ◌++◌, length, Bool, true, false, cond, not, ◌||◌, ◌&&◌, refl, sym, ap, ◌∙◌, subst, arith, length-append}
-use Rattle.std.specs.Prelude.{filter, nat_lt}
-use Rattle.std.proofs.lemmas.Bool.{or_parts, true≢false, ltb-true, false_from_ne_true, and_parts}
-use Rattle.std.proofs.lemmas.List.{append-nil}
 use Rattle.otel_model_stream.specs.Events.{Record, Bind, RecordBound, Unbind, Kind, Delta, Cumulative, Drained}
 use Rattle.otel_model_stream.specs.Windows.{Start, Window, is_in, counted, places_of, uncounted_of, live_of, records_of, is_hit, is_held, first, next, cut, more}
+use Rattle.otel_model_stream.proofs.Sets.{set_eq_true, set_eq_self, over_apart}
 use Rattle.otel_model_stream.proofs.Lists.{is_in-append, same_sym}
-use Rattle.otel_model_stream.proofs.Places.{IsLawful}
-use Rattle.otel_model_stream.proofs.Steps.{Grown}
+use Rattle.otel_model_stream.proofs.Places.{grown_by, IsLawful, counted_all}
 use Rattle.otel_model_stream.proofs.Moves.{Facts, facts, mention_facts, facts_record, facts_bind, facts_through, facts_let_go}
 use Rattle.otel_model_stream.proofs.Sound.{starting, facts_start}
-use Rattle.otel_model_stream.proofs.Places.{counted_all}
-use Rattle.std.proofs.lemmas.List.Elements.{filter-append}
 
 abbrev pub IsDistinct : List AttributeSet → Type 0
 IsDistinct [] = Unit {0}
@@ -58,7 +55,7 @@ tidy_mention : (limit : ℕ) (s : AttributeSet) (f : Facts) → IsTidy limit f �
 tidy_mention limit s f t = go (set_eq s none_set) (is_in s f.0) (nat_lt (length (counted f.1 f.0)) limit) (is_in over_set f.0) refl refl refl refl
   where
     go : (a b c d : Bool) → set_eq s none_set ≡ a → is_in s f.0 ≡ b → nat_lt (length (counted f.1 f.0)) limit ≡ c → is_in over_set f.0 ≡ d
-        → (λ (q : Grown). IsTidy limit (q.0, q.1, f.2, f.3)) (cond a (f.0, f.1) (cond b (f.0, f.1) (cond c (f.0 ++ s ∷ [], f.1) (cond d (f.0, f.1) (f.0 ++ over_set ∷ [], true)))))
+        → IsTidy limit ((grown_by a b c d s f.0 f.1).0, (grown_by a b c d s f.0 f.1).1, f.2, f.3)
     go true b c d e g h k = record { distinct = t.distinct; few = t.few }
     go false true c d e g h k = record { distinct = t.distinct; few = t.few }
     go false false true d e g h k = record { distinct = push f.0 s t.distinct e g; few = omega (arith, one_more f.1 f.0 s, ltb-true (length (counted f.1 f.0)) limit h) }

@@ -1,16 +1,16 @@
 -- The machine agrees with the windows, for every list of events.
-use Rattle.otel_common.specs.Equality.{set_eq}
-use Rattle.otel_model_stream.specs.Sets.{AttributeSet, none_set, over_set}
-use Rattle.otel_model_stream.specs.Folds.{Aggregate}
-use Rattle.otel_model_stream.proofs.Sets.{set_eq_true, set_eq_self}
 use Rattle.std.proofs.Common.{◌≡◌, ◌⊎◌, inl, inr, ⊎_elim, ℕ, ◌+◌, List, [], ◌∷◌, ◌++◌, map, Bool, true, false, cond, ◌||◌, refl, sym, ap, ◌∙◌, arith}
 use Rattle.std.specs.Prelude.{filter, nat_lt, count_by}
 use Rattle.std.proofs.lemmas.Bool.{false≢true, true≢false, cases_Bool, lt-ltb, or_cases, false_from_ne_true}
 use Rattle.std.proofs.lemmas.List.Sums.{sum_by-cons}
+use Rattle.otel_common.specs.Equality.{set_eq}
+use Rattle.otel_model_stream.specs.Sets.{AttributeSet, none_set, over_set}
+use Rattle.otel_model_stream.specs.Folds.{Aggregate}
 use Rattle.otel_model_stream.specs.Events.{Event, Record, Bind, RecordBound, Unbind, Collect, Kind, Delta, Cumulative, Drained, Handles}
 use Rattle.otel_model_stream.specs.Entries.{Entry, reset, stays, shown}
 use Rattle.otel_model_stream.specs.Machine.{Machine, begin, collected, points, run, answers}
 use Rattle.otel_model_stream.specs.Windows.{Window, is_in, counted, places_of, uncounted_of, live_of, records_of, is_hit, is_held, values_of, point, points_of, first, next, cut, opening, more, window, collections}
+use Rattle.otel_model_stream.proofs.Sets.{set_eq_true, set_eq_self}
 use Rattle.otel_model_stream.proofs.Lists.{or_true}
 use Rattle.otel_model_stream.proofs.Clearing.{cleared_list}
 use Rattle.otel_model_stream.proofs.FoldLaws.{fold_of-none}
