@@ -52,6 +52,7 @@ IsFoldOfList = (σ : Aggregate) (values : List Amount) → fold recorded (empty_
 abbrev pub IsFoldedByOneMore : Type 0
 IsFoldedByOneMore = (empty : Fold) (records : List Sample) (v : Sample) → folded empty (records ++ v ∷ []) ≡ recorded (folded empty records) v
 
+-- the bucket counts of a histogram
 abbrev pub bucket_counts : Fold → List ℕ
 bucket_counts (Total n) = []
 bucket_counts (Last n) = []

@@ -20,6 +20,7 @@ pub record Window : Type 0 where
   pub events : List Event
 
 -- ======== places ========
+-- whether the set s is among these
 abbrev pub is_in : AttributeSet → List AttributeSet → Bool
 is_in s xs = list_any (λ x. set_eq x s) xs
 
@@ -49,6 +50,7 @@ room limit start = limit - length (counted start.uncounted start.sets)
 abbrev pub admitted : ℕ → Start → List AttributeSet → List AttributeSet
 admitted limit start ms = take (room limit start) (newcomers start.sets ms)
 
+-- whether there are more newcomers than room
 abbrev pub is_left_over : ℕ → Start → List AttributeSet → Bool
 is_left_over limit start ms = nat_lt (room limit start) (length (newcomers start.sets ms))
 
@@ -61,6 +63,7 @@ overflows limit start ms = is_left_over limit start ms && not (is_in over_set (s
 abbrev pub places : ℕ → Start → List AttributeSet → List AttributeSet
 places limit start ms = (start.sets ++ admitted limit start ms) ++ cond (overflows limit start ms) (over_set ∷ []) []
 
+-- whether the overflow set has a place without being counted
 abbrev pub uncounted_now : ℕ → Start → List AttributeSet → Bool
 uncounted_now limit start ms = start.uncounted || overflows limit start ms
 
@@ -78,6 +81,7 @@ live g held (RecordBound h v ∷ es) = live g held es
 live g held (Unbind h ∷ es) = live g (without h held) es
 live g held (Collect ∷ es) = live g held es
 
+-- a record through a handle, if it is live
 abbrev pub by_handle : Option AttributeSet → Amount → List (AttributeSet × Amount)
 by_handle None v = []
 by_handle (Some x) v = (x, v) ∷ []
@@ -92,25 +96,31 @@ records g held (Unbind h ∷ es) = records g (without h held) es
 records g held (Collect ∷ es) = records g held es
 
 -- ======== of a window ========
+-- the places of the window
 abbrev pub places_of : ℕ → Window → List AttributeSet
 places_of limit w = places limit w.start (mentions w.events)
 
+-- whether the overflow set is among them without being counted
 abbrev pub uncounted_of : ℕ → Window → Bool
 uncounted_of limit w = uncounted_now limit w.start (mentions w.events)
 
+-- the goal of a mention in the window
 abbrev pub goal_of : ℕ → Window → AttributeSet → AttributeSet
 goal_of limit w = goal limit w.start (mentions w.events)
 
+-- the live handles at its end
 abbrev pub live_of : ℕ → Window → Handles
 live_of limit w = live (goal_of limit w) w.start.held w.events
 
+-- its records, with their goals
 abbrev pub records_of : ℕ → Window → List (AttributeSet × Amount)
 records_of limit w = records (goal_of limit w) w.start.held w.events
 
--- whether the set is the goal of a record, and of a live handle
+-- whether the set is the goal of a record
 abbrev pub is_hit : List (AttributeSet × Amount) → AttributeSet → Bool
 is_hit rs x = list_any (λ r. set_eq r.0 x) rs
 
+-- whether it is the goal of a live handle
 abbrev pub is_held : Handles → AttributeSet → Bool
 is_held hs x = list_any (λ p. set_eq p.1 x) hs
 
@@ -118,6 +128,7 @@ is_held hs x = list_any (λ p. set_eq p.1 x) hs
 abbrev pub values_of : List (AttributeSet × Amount) → AttributeSet → List Amount
 values_of rs x = map (λ r. r.1) (filter (λ r. set_eq r.0 x) rs)
 
+-- the point of a set: the fold of the records whose goal it is
 abbrev pub point : Aggregate → List (AttributeSet × Amount) → AttributeSet → Point
 point σ rs x = (x, fold_of σ (values_of rs x))
 
@@ -132,6 +143,7 @@ abbrev pub points_of : Aggregate → Kind → ℕ → Window → List Point
 points_of σ kind limit w = map (point σ (records_of limit w)) (filter (is_hit (records_of limit w)) (none_set ∷ []) ++ shown_places kind limit w)
 
 -- ======== windows one after another ========
+-- a window starts with nothing at first
 abbrev pub first : Start
 first = record { sets = []; uncounted = false; held = [] }
 
@@ -149,9 +161,11 @@ cut Delta limit w = record { start = next limit w; events = [] }
 cut Cumulative limit w = w
 cut Drained limit w = record { start = first; events = [] }
 
+-- the first window, without events
 abbrev pub opening : Window
 opening = record { start = first; events = [] }
 
+-- the window with one event more
 abbrev pub more : Window → Event → Window
 more w e = record { start = w.start; events = w.events ++ e ∷ [] }
 
