@@ -6,8 +6,8 @@ ghost use Rattle.std.specs.Prelude.{◌≡◌};
 ghost use Rattle.otel_model_stream.specs.Folds.{Aggregate, cleared, empty_of};
 ghost use Rattle.otel_model_stream.specs.Laws.{AreBucketsCounted, AreCountedOfWindows, ArePlacesOfWindows, ArePointsFew, ArePointsNow, ArePointsOfWindows, IsAllShown, IsClearedAlike, IsConserved, IsDrained, IsEvicted, IsFoldOfList, IsFoldedByOneMore, IsForgotten, IsHeld, IsMeasured};
 
-/// For every list of events the entries are the places of the window so far, and each collection
-/// has the points of its window.
+/// For every list of events the entries are the places of the window so far, those counted are the
+/// ones that it counts, each collection has the points of its window, and one now would too.
 pub fn agrees()
     ensures places { ArePlacesOfWindows }
     ensures counted { AreCountedOfWindows }
