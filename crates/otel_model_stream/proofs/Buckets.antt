@@ -2,11 +2,11 @@
 use Rattle.std.proofs.Common.{ℕ, zero, suc, ◌+◌, ◌<◌, ◌≡◌, ℤ, Bool, List, [], ◌∷◌, length, map, ap, arith, sym, ◌∙◌, sum_by, fold, replicate}
 use Rattle.std.specs.Prelude.{int_lt}
 use Rattle.std.proofs.lemmas.List.{length-replicate}
-use Rattle.std.proofs.lemmas.List.Sums.{sum_by-cons, count_by-le-length}
 use Rattle.std.proofs.lemmas.List.Folds.{sum_by-replicate}
+use Rattle.std.proofs.lemmas.List.Sums.{sum_by-cons, count_by-le-length}
 use Rattle.otel_model_stream.specs.Folds.{Aggregate, Histogram, Amount, Spread, Spreads, wrapped, recorded, record_spread, counted_in, no_spread, buckets_of, sample_of, fold_of}
-use Rattle.otel_model_stream.specs.Laws.{bucket_counts}
 use Rattle.otel_model_stream.specs.Totals.{weight}
+use Rattle.otel_model_stream.specs.Laws.{bucket_counts}
 use Rattle.otel_model_stream.proofs.Clearing.{length-counted_in}
 use Rattle.otel_model_stream.proofs.FoldLaws.{fold_is}
 

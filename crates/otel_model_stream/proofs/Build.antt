@@ -12,11 +12,11 @@ use Rattle.otel_model_stream.specs.Folds.{Aggregate, Amount, empty_of, sample_of
 use Rattle.otel_model_stream.specs.Events.{Handles, held_by, without}
 use Rattle.otel_model_stream.specs.Entries.{Entry, Table, fresh, has, number_counted, placed, entry_for, on, write, take_handle, drop_handle, at_entry}
 use Rattle.otel_model_stream.specs.Machine.{Machine, hold, let_go}
-use Rattle.otel_model_stream.specs.Windows.{mem, counted, is_hit, is_held, values_of}
+use Rattle.otel_model_stream.specs.Windows.{is_in, counted, is_hit, is_held, values_of}
 use Rattle.otel_model_stream.proofs.Sets.{set_eq_self, over_apart}
-use Rattle.otel_model_stream.proofs.Lists.{mem_same, same_sym, or_true, or_false}
-use Rattle.otel_model_stream.proofs.Places.{grown}
+use Rattle.otel_model_stream.proofs.Lists.{is_in_same, same_sym, or_true, or_false}
 use Rattle.otel_model_stream.proofs.FoldLaws.{fold_of-none, fold_of-push}
+use Rattle.otel_model_stream.proofs.Places.{Grown, grown_by, grown}
 
 abbrev pub Pairs : Type 0
 Pairs = List (AttributeSet × Amount)
@@ -45,10 +45,10 @@ built σ p u rs hs = record { table = table_of σ p u rs hs; live = hs }
 
 -- the set of the entry that s uses, where p have places
 abbrev pub target : List AttributeSet → AttributeSet → AttributeSet
-target p s = cond (set_eq s none_set) none_set (cond (mem s p) s over_set)
+target p s = cond (set_eq s none_set) none_set (cond (is_in s p) s over_set)
 
 -- ======== lists of entries ========
-pub has_built : (σ : Aggregate) (u : Bool) (rs : Pairs) (hs : Handles) (s : AttributeSet) (p : List AttributeSet) → has s (map (entry σ u rs hs) p) ≡ mem s p
+pub has_built : (σ : Aggregate) (u : Bool) (rs : Pairs) (hs : Handles) (s : AttributeSet) (p : List AttributeSet) → has s (map (entry σ u rs hs) p) ≡ is_in s p
 has_built σ u rs hs s [] = refl
 has_built σ u rs hs s (x ∷ p) = ap (λ b. set_eq x s || b) (has_built σ u rs hs s p)
 
@@ -126,9 +126,6 @@ released : (h : ℕ) (g x : AttributeSet) (hs : Handles) → held_by h hs ≡ So
 released h g x [] e = absurd (cc)
 released h g x (q ∷ hs) e = go (q.0 == h) e (released h g x hs)
   where
-    ct : Handles → ℕ
-    ct l = count_by (λ p. set_eq p.1 x) l
-
     go : (b : Bool) → cond b (Some q.1) (held_by h hs) ≡ Some g → (held_by h hs ≡ Some g → count_by (λ p. set_eq p.1 x) (without h hs) + cond (set_eq g x) 1 0 ≡ count_by (λ p. set_eq p.1 x) hs)
         → count_by (λ p. set_eq p.1 x) (cond b hs (q ∷ without h hs)) + cond (set_eq g x) 1 0 ≡ count_by (λ p. set_eq p.1 x) (q ∷ hs)
     go true e ih = ap (λ z. count_by (λ p. set_eq p.1 x) hs + cond (set_eq z x) 1 0) (sym (some_same _ _ e)) ∙ omega (arith, sum_by-cons (λ (p : ℕ × AttributeSet). cond (set_eq p.1 x) 1 0) q hs)
@@ -156,10 +153,10 @@ lets_go σ p u rs hs h g e = λ i. record {
 -- ======== a new place ========
 -- every goal is the empty set or has a place
 abbrev pub AreHitsPlaced : List AttributeSet → Pairs → Type 0
-AreHitsPlaced p rs = (x : AttributeSet) → set_eq x none_set ≡ false → mem x p ≡ false → is_hit rs x ≡ false
+AreHitsPlaced p rs = (x : AttributeSet) → set_eq x none_set ≡ false → is_in x p ≡ false → is_hit rs x ≡ false
 
 abbrev pub AreHandlesPlaced : List AttributeSet → Handles → Type 0
-AreHandlesPlaced p hs = (x : AttributeSet) → set_eq x none_set ≡ false → mem x p ≡ false → is_held hs x ≡ false
+AreHandlesPlaced p hs = (x : AttributeSet) → set_eq x none_set ≡ false → is_in x p ≡ false → is_held hs x ≡ false
 
 pub no_values : (rs : Pairs) (x : AttributeSet) → is_hit rs x ≡ false → values_of rs x ≡ []
 no_values [] x e = refl
@@ -175,10 +172,10 @@ fresh_is : (σ : Aggregate) (c d : Bool) (rs : Pairs) (hs : Handles) (x : Attrib
 fresh_is σ c d rs hs x e f same = λ i. record { set = x; counted = same i; updated = sym e i; fold = sym (ap (fold_of σ) (no_values rs x e) ∙ fold_of-none σ) i; handles = sym (no_handles hs x f) i }
 
 -- where the overflow set has no place, the flag is not looked at
-flag_unread : (σ : Aggregate) (u v : Bool) (rs : Pairs) (hs : Handles) (p : List AttributeSet) → mem over_set p ≡ false → map (entry σ u rs hs) p ≡ map (entry σ v rs hs) p
+flag_unread : (σ : Aggregate) (u v : Bool) (rs : Pairs) (hs : Handles) (p : List AttributeSet) → is_in over_set p ≡ false → map (entry σ u rs hs) p ≡ map (entry σ v rs hs) p
 flag_unread σ u v rs hs [] e = refl
 flag_unread σ u v rs hs (x ∷ p) e =
-    let q = or_parts (set_eq x over_set) (mem over_set p) e in
+    let q = or_parts (set_eq x over_set) (is_in over_set p) e in
     let both : (a b c : Bool) → c ≡ false → not (a && c) ≡ not (b && c) = off in
     λ i. item σ (both u v (set_eq x over_set) q.0 i) rs hs x ∷ flag_unread σ u v rs hs p q.1 i
   where
@@ -188,40 +185,41 @@ flag_unread σ u v rs hs (x ∷ p) e =
     off false true c e = sym (ap not e)
     off false false c e = refl
 
-counts_new : (u : Bool) (s : AttributeSet) (p : List AttributeSet) → (u ≡ true → mem over_set p ≡ true) → mem s p ≡ false → counts u s ≡ true
+counts_new : (u : Bool) (s : AttributeSet) (p : List AttributeSet) → (u ≡ true → is_in over_set p ≡ true) → is_in s p ≡ false → counts u s ≡ true
 counts_new false s p h e = refl
-counts_new true s p h e = go (set_eq s over_set) (λ f. sym (mem_same s over_set p f ∙ h refl) ∙ e)
+counts_new true s p h e = go (set_eq s over_set) (λ f. sym (is_in_same s over_set p f ∙ h refl) ∙ e)
   where
     go : (b : Bool) → (b ≡ true → true ≡ false) → not b ≡ true
     go true f = absurd (true≢false (f refl))
     go false f = refl
 
 -- the machine's entries for the places and the flag
-abbrev pub entries_for : Aggregate → Pairs → Handles → List AttributeSet × Bool → List Entry
+abbrev pub entries_for : Aggregate → Pairs → Handles → Grown → List Entry
 entries_for σ rs hs q = map (entry σ q.1 rs hs) q.0
 
-pub places_one : (σ : Aggregate) (limit : ℕ) (s : AttributeSet) (p : List AttributeSet) (u : Bool) (rs : Pairs) (hs : Handles) → (u ≡ true → mem over_set p ≡ true) → AreHitsPlaced p rs → AreHandlesPlaced p hs
+-- the machine's entries by the same four tests
+abbrev placed_by : (a b c d : Bool) → Aggregate → AttributeSet → List Entry → List Entry
+placed_by a b c d σ s es = cond a es (cond b es (cond c (es ++ fresh (empty_of σ) s true ∷ []) (cond d es (es ++ fresh (empty_of σ) over_set false ∷ []))))
+
+pub places_one : (σ : Aggregate) (limit : ℕ) (s : AttributeSet) (p : List AttributeSet) (u : Bool) (rs : Pairs) (hs : Handles) → (u ≡ true → is_in over_set p ≡ true) → AreHitsPlaced p rs → AreHandlesPlaced p hs
     → placed limit (empty_of σ) s (map (entry σ u rs hs) p) ≡ entries_for σ rs hs (grown limit s p u)
 places_one σ limit s p u rs hs over hits helds =
-    ap (λ b. cond (set_eq s none_set) (map (entry σ u rs hs) p) (cond b (map (entry σ u rs hs) p) (cond (nat_lt (number_counted (map (entry σ u rs hs) p)) limit) (map (entry σ u rs hs) p ++ fresh (empty_of σ) s true ∷ []) (cond (has over_set (map (entry σ u rs hs) p)) (map (entry σ u rs hs) p) (map (entry σ u rs hs) p ++ fresh (empty_of σ) over_set false ∷ []))))) (has_built σ u rs hs s p)
-    ∙ (ap (λ b. cond (set_eq s none_set) (map (entry σ u rs hs) p) (cond (mem s p) (map (entry σ u rs hs) p) (cond (nat_lt (number_counted (map (entry σ u rs hs) p)) limit) (map (entry σ u rs hs) p ++ fresh (empty_of σ) s true ∷ []) (cond b (map (entry σ u rs hs) p) (map (entry σ u rs hs) p ++ fresh (empty_of σ) over_set false ∷ []))))) (has_built σ u rs hs over_set p)
-    ∙ (ap (λ n. cond (set_eq s none_set) (map (entry σ u rs hs) p) (cond (mem s p) (map (entry σ u rs hs) p) (cond (nat_lt n limit) (map (entry σ u rs hs) p ++ fresh (empty_of σ) s true ∷ []) (cond (mem over_set p) (map (entry σ u rs hs) p) (map (entry σ u rs hs) p ++ fresh (empty_of σ) over_set false ∷ []))))) (count_built σ u rs hs p)
-    ∙ go (set_eq s none_set) (mem s p) (nat_lt (length (counted u p)) limit) (mem over_set p) (λ a b. counted_place a b) overflow_place))
+    (λ i. placed_by (set_eq s none_set) (has_built σ u rs hs s p i) (nat_lt (count_built σ u rs hs p i) limit) (has_built σ u rs hs over_set p i) σ s (map (entry σ u rs hs) p))
+    ∙ go (set_eq s none_set) (is_in s p) (nat_lt (length (counted u p)) limit) (is_in over_set p) counted_place overflow_place
   where
-    counted_place : set_eq s none_set ≡ false → mem s p ≡ false → map (entry σ u rs hs) p ++ fresh (empty_of σ) s true ∷ [] ≡ map (entry σ u rs hs) (p ++ s ∷ [])
+    counted_place : set_eq s none_set ≡ false → is_in s p ≡ false → map (entry σ u rs hs) p ++ fresh (empty_of σ) s true ∷ [] ≡ map (entry σ u rs hs) (p ++ s ∷ [])
     counted_place a b =
         ap (λ e. map (entry σ u rs hs) p ++ e ∷ []) (fresh_is σ true (counts u s) rs hs s (hits s a b) (helds s a b) (sym (counts_new u s p over b)))
         ∙ sym (map-append (entry σ u rs hs) p (s ∷ []))
 
-    overflow_place : mem over_set p ≡ false → map (entry σ u rs hs) p ++ fresh (empty_of σ) over_set false ∷ [] ≡ map (entry σ true rs hs) (p ++ over_set ∷ [])
+    overflow_place : is_in over_set p ≡ false → map (entry σ u rs hs) p ++ fresh (empty_of σ) over_set false ∷ [] ≡ map (entry σ true rs hs) (p ++ over_set ∷ [])
     overflow_place m =
         (λ i. flag_unread σ u true rs hs p m i ++ fresh_is σ false (counts true over_set) rs hs over_set (hits over_set over_apart m) (helds over_set over_apart m) (sym (ap not (set_eq_self over_set))) i ∷ [])
         ∙ sym (map-append (entry σ true rs hs) p (over_set ∷ []))
 
     go : (a b c d : Bool) → (a ≡ false → b ≡ false → map (entry σ u rs hs) p ++ fresh (empty_of σ) s true ∷ [] ≡ map (entry σ u rs hs) (p ++ s ∷ []))
         → (d ≡ false → map (entry σ u rs hs) p ++ fresh (empty_of σ) over_set false ∷ [] ≡ map (entry σ true rs hs) (p ++ over_set ∷ []))
-        → cond a (map (entry σ u rs hs) p) (cond b (map (entry σ u rs hs) p) (cond c (map (entry σ u rs hs) p ++ fresh (empty_of σ) s true ∷ []) (cond d (map (entry σ u rs hs) p) (map (entry σ u rs hs) p ++ fresh (empty_of σ) over_set false ∷ []))))
-        ≡ entries_for σ rs hs (cond a (p, u) (cond b (p, u) (cond c (p ++ s ∷ [], u) (cond d (p, u) (p ++ over_set ∷ [], true)))))
+        → placed_by a b c d σ s (map (entry σ u rs hs) p) ≡ entries_for σ rs hs (grown_by a b c d s p u)
     go true b c d f g = refl
     go false true c d f g = refl
     go false false true d f g = f refl refl

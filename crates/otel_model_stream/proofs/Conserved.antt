@@ -12,8 +12,8 @@ use Rattle.otel_model_stream.proofs.Places.{IsLawful}
 use Rattle.otel_model_stream.proofs.Steps.{IsSound, live_more, records_more}
 use Rattle.otel_model_stream.proofs.Moves.{facts}
 use Rattle.otel_model_stream.proofs.Sound.{sound_record, sound_bind, sound_through, sound_let_go}
-use Rattle.otel_model_stream.proofs.Whole.{sound_cut, sound_opening}
 use Rattle.otel_model_stream.proofs.Tidy.{IsTidy, tidy_record, tidy_bind, tidy_through, tidy_let_go, tidy_cut, tidy_start, places_few}
+use Rattle.otel_model_stream.proofs.Whole.{sound_cut, sound_opening}
 use Rattle.otel_model_stream.proofs.Totals.{numbers, numbers-without, mod_both, amount, amount-cons, through_amount, window_total}
 
 abbrev pub live_numbers : ℕ → Window → List ℕ

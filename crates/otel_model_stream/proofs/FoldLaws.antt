@@ -1,8 +1,8 @@
 -- One more record, at a list of records; and records one by one against their whole list.
 use Rattle.std.proofs.Common.{ℕ, zero, suc, ◌+◌, ◌<◌, ◌≡◌, ℤ, List, [], ◌∷◌, ◌++◌, length, map, nat_eq, Bool, true, false, cond, Option, Some, None, refl, ap, arith, sym, ◌∙◌, count_by, sum_by, fold, replicate, length-append, append_assoc}
 use Rattle.std.specs.Int.{int_min, int_max}
-use Rattle.std.proofs.lemmas.Int.{ints, int_min_is, int_max_is}
 use Rattle.std.proofs.lemmas.Bool.Decides.{nat_tests}
+use Rattle.std.proofs.lemmas.Int.{ints, int_min_is, int_max_is}
 use Rattle.std.proofs.lemmas.List.{map-append, append-nil, length-replicate}
 use Rattle.std.proofs.lemmas.List.Sums.{sum_by_push}
 use Rattle.otel_model_stream.specs.Folds.{Aggregate, Sum, LastValue, Histogram, Amount, Sample, Spread, Fold, Total, Last, Spreads, wrapped, recorded, counted_in, counts_from, last_bits, least_of, greatest_of, lesser, greater, no_spread, buckets_of, empty_of, sample_of, folded, fold_of}

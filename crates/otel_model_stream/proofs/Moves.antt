@@ -1,17 +1,17 @@
 -- The machine moves as its window does, event by event.
-use Rattle.otel_model_stream.specs.Sets.{AttributeSet, none_set, over_set}
-use Rattle.otel_model_stream.specs.Folds.{Aggregate, Amount, empty_of, sample_of}
 use Rattle.std.proofs.Common.{◌≡◌, Option, Some, None, ℕ, List, [], ◌∷◌, ◌++◌, Bool, true, false, cond, refl, sym, ap, ◌∙◌}
 use Rattle.std.specs.Prelude.{◌==◌}
 use Rattle.std.proofs.lemmas.List.{append-nil}
+use Rattle.otel_model_stream.specs.Sets.{AttributeSet, none_set, over_set}
+use Rattle.otel_model_stream.specs.Folds.{Aggregate, Amount, empty_of, sample_of}
 use Rattle.otel_model_stream.specs.Events.{Event, Record, Bind, RecordBound, Unbind, Handles, held_by, without}
 use Rattle.otel_model_stream.specs.Entries.{write, at_entry, place, recorded_at}
 use Rattle.otel_model_stream.specs.Machine.{Machine, hold, bound, through, let_go}
-use Rattle.otel_model_stream.specs.Windows.{Window, mem, mentions, newcomers, by_handle, places_of, uncounted_of, goal_of, live_of, records_of, more}
-use Rattle.otel_model_stream.proofs.Places.{grown, both, places_push, IsLawful}
+use Rattle.otel_model_stream.specs.Windows.{Window, is_in, mentions, newcomers, by_handle, places_of, uncounted_of, goal_of, live_of, records_of, more}
+use Rattle.otel_model_stream.proofs.Places.{Grown, grown, both, places_push, IsLawful}
 use Rattle.otel_model_stream.proofs.Build.{Pairs, target, item, table_of, built, goal_built, writes, holds, lets_go, AreHitsPlaced, AreHandlesPlaced, places_one}
 use Rattle.otel_model_stream.proofs.Goals.{goal_is_target, mentions-append}
-use Rattle.otel_model_stream.proofs.Steps.{summary, IsSound, Grown, live_more, records_more}
+use Rattle.otel_model_stream.proofs.Steps.{summary, IsSound, live_more, records_more}
 
 -- what a summary is made of: places, flag, records and live handles
 abbrev pub Facts : Type 0
@@ -40,11 +40,11 @@ let_go_facts h f = (f.0, f.1, f.2, without h f.3)
 
 -- ======== the machine ========
 -- a mention places its set
-places_mention : (σ : Aggregate) (limit : ℕ) (s : AttributeSet) (p : List AttributeSet) (u : Bool) (rs : Pairs) (hs : Handles) → (u ≡ true → mem over_set p ≡ true) → AreHitsPlaced p rs → AreHandlesPlaced p hs
+places_mention : (σ : Aggregate) (limit : ℕ) (s : AttributeSet) (p : List AttributeSet) (u : Bool) (rs : Pairs) (hs : Handles) → (u ≡ true → is_in over_set p ≡ true) → AreHitsPlaced p rs → AreHandlesPlaced p hs
     → place limit (empty_of σ) s (table_of σ p u rs hs) ≡ table_of σ (grown limit s p u).0 (grown limit s p u).1 rs hs
 places_mention σ limit s p u rs hs over hits helds = λ i. record { none = item σ false rs hs none_set; entries = places_one σ limit s p u rs hs over hits helds i }
 
-moves_record : (σ : Aggregate) (limit : ℕ) (s : AttributeSet) (v : Amount) (p : List AttributeSet) (u : Bool) (rs : Pairs) (hs : Handles) → (u ≡ true → mem over_set p ≡ true) → AreHitsPlaced p rs → AreHandlesPlaced p hs
+moves_record : (σ : Aggregate) (limit : ℕ) (s : AttributeSet) (v : Amount) (p : List AttributeSet) (u : Bool) (rs : Pairs) (hs : Handles) → (u ≡ true → is_in over_set p ≡ true) → AreHitsPlaced p rs → AreHandlesPlaced p hs
     → recorded_at s (sample_of σ v) (place limit (empty_of σ) s (table_of σ p u rs hs)) ≡ table_of σ (grown limit s p u).0 (grown limit s p u).1 (rs ++ (target (grown limit s p u).0 s, v) ∷ []) hs
 moves_record σ limit s v p u rs hs over hits helds =
     let q : Grown = grown limit s p u in
@@ -52,7 +52,7 @@ moves_record σ limit s v p u rs hs over hits helds =
     ∙ (ap (λ g. at_entry g (write (sample_of σ v)) (table_of σ q.0 q.1 rs hs)) (goal_built σ q.0 q.1 rs hs s)
     ∙ writes σ q.0 q.1 rs hs (target q.0 s) v)
 
-moves_bind : (σ : Aggregate) (limit h : ℕ) (s : AttributeSet) (p : List AttributeSet) (u : Bool) (rs : Pairs) (hs : Handles) → (u ≡ true → mem over_set p ≡ true) → AreHitsPlaced p rs → AreHandlesPlaced p hs
+moves_bind : (σ : Aggregate) (limit h : ℕ) (s : AttributeSet) (p : List AttributeSet) (u : Bool) (rs : Pairs) (hs : Handles) → (u ≡ true → is_in over_set p ≡ true) → AreHitsPlaced p rs → AreHandlesPlaced p hs
     → bound h s (record { table = place limit (empty_of σ) s (table_of σ p u rs hs); live = hs }) ≡ built σ (grown limit s p u).0 (grown limit s p u).1 rs (hs ++ (h, target (grown limit s p u).0 s) ∷ [])
 moves_bind σ limit h s p u rs hs over hits helds =
     let q : Grown = grown limit s p u in

@@ -1,13 +1,13 @@
 -- Worked rows, computed on the windows and on the machine.
 use Rattle.std.proofs.Common.{◌≡◌, ℕ, ℤ, List, [], ◌∷◌, map, Bool, true, false, Option, Some, None, refl, replicate, ◌++◌, cond, sym, ap, ◌∙◌, true≢false}
-use Rattle.std.specs.Prelude.{codes, pos, negsuc}
-use Rattle.std.specs.Ordering.{eq_by_cmp}
 use Rattle.std.specs.Cmp.{Equal-is}
+use Rattle.std.specs.Ordering.{eq_by_cmp}
+use Rattle.std.specs.Prelude.{codes, pos, negsuc}
 use Rattle.otel_common.specs.Canonical.{canon, key_cmp}
 use Rattle.otel_common.specs.Equality.{bytes_eq}
-use Rattle.otel_common.proofs.CanonLaws.{key_cmp-IsAntisymmetric, canon-unique}
 use Rattle.otel_common.specs.declared.attributes.KeyValue.{KeyValue}
 use Rattle.otel_common.specs.declared.attributes.Value.TheVariants as value
+use Rattle.otel_common.proofs.CanonLaws.{key_cmp-IsAntisymmetric, canon-unique}
 use Rattle.otel_model_stream.specs.Sets.{AttributeSet, none_set, over_set, kept, set_of}
 use Rattle.otel_model_stream.specs.Folds.{Aggregate, Sum, LastValue, Histogram, Amount, Total, Last, Spreads}
 use Rattle.otel_model_stream.specs.Events.{Event, Record, Bind, RecordBound, Unbind, Collect, Kind, Delta, Cumulative, Point}
@@ -85,6 +85,15 @@ pub row_39_without_bounds : AreShown (Histogram [] true true) Cumulative 2000 (v
     ((spread none_set 1 7 (Some (pos 7)) (Some (pos 7)) [] ∷ []) ∷ [])
 row_39_without_bounds = (refl, refl)
 
+pub row_47_without_min_max : AreShown (Histogram (bounds (10 ∷ [])) false true) Cumulative 2000 (values (10 ∷ 11 ∷ []) ++ Collect ∷ [])
+    (((none_set, Spreads (record { has_min_max = false; has_sum = true; count = 2; sum = 21; least = None; greatest = None; counts = 1 ∷ 1 ∷ [] })) ∷ []) ∷ [])
+row_47_without_min_max = (refl, refl)
+
+-- a histogram without a sum
+pub without_sum : AreShown (Histogram (bounds (10 ∷ [])) true false) Cumulative 2000 (values (10 ∷ 11 ∷ []) ++ Collect ∷ [])
+    (((none_set, Spreads (record { has_min_max = true; has_sum = false; count = 2; sum = 0; least = Some (pos 10); greatest = Some (pos 11); counts = 1 ∷ 1 ∷ [] })) ∷ []) ∷ [])
+without_sum = (refl, refl)
+
 -- ======== places ========
 pub row_3 : AreShown Sum Delta 2 (add x1 1 ∷ add y1 2 ∷ add z1 4 ∷ add x1 8 ∷ Collect ∷ [])
     ((sum x1 9 ∷ sum y1 2 ∷ sum over_set 4 ∷ []) ∷ [])
@@ -113,6 +122,11 @@ row_34 = (refl, refl)
 pub row_35 : AreShown Sum Delta 1 (add x1 1 ∷ add y1 2 ∷ add over_set 4 ∷ Collect ∷ Collect ∷ add over_set 8 ∷ add z1 16 ∷ Collect ∷ [])
     ((sum x1 1 ∷ sum over_set 6 ∷ []) ∷ [] ∷ (sum over_set 8 ∷ sum z1 16 ∷ []) ∷ [])
 row_35 = (refl, refl)
+
+-- a quiet set that a handle holds keeps its place; once it is let go, another set gets it
+pub held_place : AreShown Sum Delta 1 (Bind 0 x1 ∷ Collect ∷ add y1 1 ∷ Collect ∷ Unbind 0 ∷ Collect ∷ add y1 2 ∷ Collect ∷ [])
+    ([] ∷ (sum over_set 1 ∷ []) ∷ [] ∷ (sum y1 2 ∷ []) ∷ [])
+held_place = (refl, refl)
 
 -- the overflow key with another value
 abbrev no_overflow : AttributeSet

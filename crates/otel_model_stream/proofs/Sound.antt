@@ -1,24 +1,23 @@
 -- What is kept from event to event.
-use Rattle.otel_model_stream.proofs.Lists.{same_eq}
-use Rattle.otel_common.specs.Equality.{set_eq}
-use Rattle.otel_model_stream.specs.Sets.{AttributeSet, none_set, over_set}
-use Rattle.otel_model_stream.specs.Folds.{Amount}
-use Rattle.otel_model_stream.proofs.Sets.{set_eq_true}
 use Rattle.std.proofs.Common.{◌≡◌, inl, inr, ⊎_elim, Option, Some, None, ℕ, ◌≤◌, List, [], ◌∷◌, ◌++◌, Bool, true, false, cond, ◌||◌, refl, sym, ap, ◌∙◌, subst, arith}
 use Rattle.std.specs.Prelude.{◌==◌}
 use Rattle.std.proofs.lemmas.Bool.{or_parts, true≢false, cases_Bool, false_from_ne_true}
 use Rattle.std.proofs.lemmas.List.{append-nil}
 use Rattle.std.proofs.lemmas.List.Folds.{list_any-append}
+use Rattle.otel_common.specs.Equality.{set_eq}
+use Rattle.otel_model_stream.specs.Sets.{AttributeSet, none_set, over_set}
+use Rattle.otel_model_stream.specs.Folds.{Amount}
 use Rattle.otel_model_stream.specs.Events.{Record, Bind, RecordBound, Unbind, Handles, held_by, without}
-use Rattle.otel_model_stream.specs.Windows.{Start, Window, mem, room, by_handle, places_of, uncounted_of, is_held, more}
-use Rattle.otel_model_stream.proofs.Lists.{or_true}
+use Rattle.otel_model_stream.specs.Windows.{Start, Window, is_in, room, by_handle, places_of, uncounted_of, is_held, more}
+use Rattle.otel_model_stream.proofs.Sets.{set_eq_true}
+use Rattle.otel_model_stream.proofs.Lists.{same_eq, or_true}
 use Rattle.otel_model_stream.proofs.Places.{grown, open_sets, open_flag, IsLawful}
 use Rattle.otel_model_stream.proofs.Build.{Pairs, target, hit_push, AreHitsPlaced, AreHandlesPlaced}
 use Rattle.otel_model_stream.proofs.Steps.{IsSound, grown_keeps, grown_over, Lands, lands}
 use Rattle.otel_model_stream.proofs.Moves.{Facts, facts, mention_facts, recorded_facts, bound_facts, through_facts, let_go_facts, facts_record, facts_bind, facts_through, facts_let_go}
 
 pub record Fits (f : Facts) : Type 0 where
-  pub over : f.1 ≡ true → mem over_set f.0 ≡ true
+  pub over : f.1 ≡ true → is_in over_set f.0 ≡ true
   pub hits : AreHitsPlaced f.0 f.2
   pub helds : AreHandlesPlaced f.0 f.3
 
@@ -29,18 +28,18 @@ pub sound_of : (limit : ℕ) (w : Window) → IsLawful w.start → Fits (facts l
 sound_of limit w l f = record { lawful = l; over = f.over; hits = f.hits; helds = f.helds }
 
 -- a set with no place was not there before, and is not where a record lands
-not_before : (p p' : List AttributeSet) (x : AttributeSet) → ((x : AttributeSet) → mem x p ≡ true → mem x p' ≡ true) → mem x p' ≡ false → mem x p ≡ false
-not_before p p' x keeps m = false_from_ne_true (mem x p) (λ e. true≢false (sym (keeps x e) ∙ m))
+not_before : (p p' : List AttributeSet) (x : AttributeSet) → ((x : AttributeSet) → is_in x p ≡ true → is_in x p' ≡ true) → is_in x p' ≡ false → is_in x p ≡ false
+not_before p p' x keeps m = false_from_ne_true (is_in x p) (λ e. true≢false (sym (keeps x e) ∙ m))
 
-not_landed : (p : List AttributeSet) (g x : AttributeSet) → Lands p g → set_eq x none_set ≡ false → mem x p ≡ false → set_eq g x ≡ false
+not_landed : (p : List AttributeSet) (g x : AttributeSet) → Lands p g → set_eq x none_set ≡ false → is_in x p ≡ false → set_eq g x ≡ false
 not_landed p g x l e m = false_from_ne_true (set_eq g x) (λ same.
     ⊎_elim (λ n. true≢false (sym (same_eq x none_set (sym (set_eq_true g x same) ∙ set_eq_true g none_set n)) ∙ e))
-    (λ n. true≢false (sym (ap (λ z. mem z p) (sym (set_eq_true g x same)) ∙ n) ∙ m)) l)
+    (λ n. true≢false (sym (ap (λ z. is_in z p) (sym (set_eq_true g x same)) ∙ n) ∙ m)) l)
 
-hits_more : (p p' : List AttributeSet) (rs : Pairs) (g : AttributeSet) (v : Amount) → ((x : AttributeSet) → mem x p ≡ true → mem x p' ≡ true) → Lands p' g → AreHitsPlaced p rs → AreHitsPlaced p' (rs ++ (g, v) ∷ [])
+hits_more : (p p' : List AttributeSet) (rs : Pairs) (g : AttributeSet) (v : Amount) → ((x : AttributeSet) → is_in x p ≡ true → is_in x p' ≡ true) → Lands p' g → AreHitsPlaced p rs → AreHitsPlaced p' (rs ++ (g, v) ∷ [])
 hits_more p p' rs g v keeps l h x e m = hit_push rs g v x ∙ (λ i. h x e (not_before p p' x keeps m) i || not_landed p' g x l e m i)
 
-helds_more : (p p' : List AttributeSet) (hs : Handles) (h : ℕ) (g : AttributeSet) → ((x : AttributeSet) → mem x p ≡ true → mem x p' ≡ true) → Lands p' g → AreHandlesPlaced p hs → AreHandlesPlaced p' (hs ++ (h, g) ∷ [])
+helds_more : (p p' : List AttributeSet) (hs : Handles) (h : ℕ) (g : AttributeSet) → ((x : AttributeSet) → is_in x p ≡ true → is_in x p' ≡ true) → Lands p' g → AreHandlesPlaced p hs → AreHandlesPlaced p' (hs ++ (h, g) ∷ [])
 helds_more p p' hs h g keeps l a x e m =
     list_any-append (λ (q : ℕ × AttributeSet). set_eq q.1 x) hs ((h, g) ∷ [])
     ∙ (λ i. a x e (not_before p p' x keeps m) i || (not_landed p' g x l e m i || false))
@@ -71,7 +70,7 @@ is_held_at h g (q ∷ hs) e = go (q.0 == h) e (is_held_at h g hs)
     go false e ih = ap (λ b. set_eq q.1 g || b) (ih e) ∙ or_true (set_eq q.1 g)
 
 landed : (p : List AttributeSet) (hs : Handles) (h : ℕ) (g : AttributeSet) → AreHandlesPlaced p hs → held_by h hs ≡ Some g → Lands p g
-landed p hs h g a e = ⊎_elim inl (λ n. ⊎_elim inr (λ m. absurd (true≢false (sym (is_held_at h g hs e) ∙ a g n m))) (cases_Bool (mem g p))) (cases_Bool (set_eq g none_set))
+landed p hs h g a e = ⊎_elim inl (λ n. ⊎_elim inr (λ m. absurd (true≢false (sym (is_held_at h g hs e) ∙ a g n m))) (cases_Bool (is_in g p))) (cases_Bool (set_eq g none_set))
 
 fits_through : (h : ℕ) (v : Amount) (f : Facts) → Fits f → Fits (through_facts h v f)
 fits_through h v f a = go (held_by h f.3) refl

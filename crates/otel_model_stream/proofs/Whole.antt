@@ -1,16 +1,16 @@
 -- The machine agrees with the windows, for every list of events.
-use Rattle.otel_common.specs.Equality.{set_eq}
-use Rattle.otel_model_stream.specs.Sets.{AttributeSet, none_set, over_set}
-use Rattle.otel_model_stream.specs.Folds.{Aggregate}
-use Rattle.otel_model_stream.proofs.Sets.{set_eq_true, set_eq_self}
 use Rattle.std.proofs.Common.{◌≡◌, ◌⊎◌, inl, inr, ⊎_elim, ℕ, ◌+◌, List, [], ◌∷◌, ◌++◌, map, Bool, true, false, cond, ◌||◌, refl, sym, ap, ◌∙◌, arith}
 use Rattle.std.specs.Prelude.{filter, nat_lt, count_by}
 use Rattle.std.proofs.lemmas.Bool.{false≢true, true≢false, cases_Bool, lt-ltb, or_cases, false_from_ne_true}
 use Rattle.std.proofs.lemmas.List.Sums.{sum_by-cons}
+use Rattle.otel_common.specs.Equality.{set_eq}
+use Rattle.otel_model_stream.specs.Sets.{AttributeSet, none_set, over_set}
+use Rattle.otel_model_stream.specs.Folds.{Aggregate}
 use Rattle.otel_model_stream.specs.Events.{Event, Record, Bind, RecordBound, Unbind, Collect, Kind, Delta, Cumulative, Drained, Handles}
 use Rattle.otel_model_stream.specs.Entries.{Entry, reset, stays, shown}
 use Rattle.otel_model_stream.specs.Machine.{Machine, begin, collected, points, run, answers}
-use Rattle.otel_model_stream.specs.Windows.{Window, mem, counted, places_of, uncounted_of, live_of, records_of, is_hit, is_held, values_of, point, points_of, first, next, cut, opening, more, window, collections}
+use Rattle.otel_model_stream.specs.Windows.{Window, is_in, counted, places_of, uncounted_of, live_of, records_of, is_hit, is_held, values_of, point, points_of, first, next, cut, opening, more, window, collections}
+use Rattle.otel_model_stream.proofs.Sets.{set_eq_true, set_eq_self}
 use Rattle.otel_model_stream.proofs.Lists.{or_true}
 use Rattle.otel_model_stream.proofs.Clearing.{cleared_list}
 use Rattle.otel_model_stream.proofs.FoldLaws.{fold_of-none}
@@ -99,22 +99,22 @@ same_cut σ Drained limit w =
     })
     ∙ ap (made_of σ) (sym (facts_start limit first))
 
-mem_filter : (f : AttributeSet → Bool) (x : AttributeSet) (p : List AttributeSet) → f x ≡ true → mem x p ≡ true → mem x (filter f p) ≡ true
-mem_filter f x [] e m = m
-mem_filter f x (y ∷ p) e m = go (f y) (λ d. ap f (set_eq_true y x d) ∙ e) (or_cases (set_eq y x) (mem x p) m) (mem_filter f x p e)
+is_in_filter : (f : AttributeSet → Bool) (x : AttributeSet) (p : List AttributeSet) → f x ≡ true → is_in x p ≡ true → is_in x (filter f p) ≡ true
+is_in_filter f x [] e m = m
+is_in_filter f x (y ∷ p) e m = go (f y) (λ d. ap f (set_eq_true y x d) ∙ e) (or_cases (set_eq y x) (is_in x p) m) (is_in_filter f x p e)
   where
-    go : (b : Bool) → (set_eq y x ≡ true → b ≡ true) → (set_eq y x ≡ true) ⊎ (mem x p ≡ true) → (mem x p ≡ true → mem x (filter f p) ≡ true) → mem x (cond b (y ∷ filter f p) (filter f p)) ≡ true
-    go true g w ih = ⊎_elim (λ d. ap (λ b. b || mem x (filter f p)) d) (λ m. ap (λ b. set_eq y x || b) (ih m) ∙ or_true (set_eq y x)) w
+    go : (b : Bool) → (set_eq y x ≡ true → b ≡ true) → (set_eq y x ≡ true) ⊎ (is_in x p ≡ true) → (is_in x p ≡ true → is_in x (filter f p) ≡ true) → is_in x (cond b (y ∷ filter f p) (filter f p)) ≡ true
+    go true g w ih = ⊎_elim (λ d. ap (λ b. b || is_in x (filter f p)) d) (λ m. ap (λ b. set_eq y x || b) (ih m) ∙ or_true (set_eq y x)) w
     go false g w ih = ⊎_elim (λ d. absurd (false≢true (g d))) ih w
 
 pub sound_cut : (kind : Kind) (limit : ℕ) (w : Window) → IsSound limit w → IsSound limit (cut kind limit w)
 sound_cut Delta limit w a = sound_start limit (next limit w)
-    (λ u. mem_filter (stays_in (records_of limit w) (live_of limit w)) over_set (places_of limit w)
+    (λ u. is_in_filter (stays_in (records_of limit w) (live_of limit w)) over_set (places_of limit w)
     (ap (λ b. is_hit (records_of limit w) over_set || b) (ap (λ c. is_held (live_of limit w) over_set || c) (set_eq_self over_set) ∙ or_true (is_held (live_of limit w) over_set)) ∙ or_true (is_hit (records_of limit w) over_set)) (a.over u))
-    (λ x e m. false_from_ne_true (is_held (live_of limit w) x) (λ h. kept x e m h (cases_Bool (mem x (places_of limit w)))))
+    (λ x e m. false_from_ne_true (is_held (live_of limit w) x) (λ h. kept x e m h (cases_Bool (is_in x (places_of limit w)))))
   where
-    kept : (x : AttributeSet) → set_eq x none_set ≡ false → mem x (filter (stays_in (records_of limit w) (live_of limit w)) (places_of limit w)) ≡ false → is_held (live_of limit w) x ≡ true → (mem x (places_of limit w) ≡ true) ⊎ (mem x (places_of limit w) ≡ false) → ⊥
-    kept x e m h (inl p) = true≢false (sym (mem_filter (stays_in (records_of limit w) (live_of limit w)) x (places_of limit w)
+    kept : (x : AttributeSet) → set_eq x none_set ≡ false → is_in x (filter (stays_in (records_of limit w) (live_of limit w)) (places_of limit w)) ≡ false → is_held (live_of limit w) x ≡ true → (is_in x (places_of limit w) ≡ true) ⊎ (is_in x (places_of limit w) ≡ false) → ⊥
+    kept x e m h (inl p) = true≢false (sym (is_in_filter (stays_in (records_of limit w) (live_of limit w)) x (places_of limit w)
         (ap (λ b. is_hit (records_of limit w) x || (b || set_eq x over_set)) h ∙ or_true (is_hit (records_of limit w) x)) p) ∙ m)
     kept x e m h (inr p) = true≢false (sym h ∙ a.helds x e p)
 sound_cut Cumulative limit w a = a
@@ -170,6 +170,9 @@ summary_opening σ limit =
 
 pub run_is : (σ : Aggregate) (kind : Kind) (limit : ℕ) (es : List Event) → run σ kind limit (begin σ) es ≡ summary σ limit (window kind limit opening es)
 run_is σ kind limit es = ap (λ m. run σ kind limit m es) (summary_opening σ limit) ∙ (whole σ kind limit opening es (sound_opening limit)).0
+
+pub points_of_run : (σ : Aggregate) (kind : Kind) (limit : ℕ) (es : List Event) → points kind (run σ kind limit (begin σ) es) ≡ points_of σ kind limit (window kind limit opening es)
+points_of_run σ kind limit es = ap (points kind) (run_is σ kind limit es) ∙ same_points σ kind limit (window kind limit opening es)
 
 pub points_are : (σ : Aggregate) (kind : Kind) (limit : ℕ) (es : List Event) → answers σ kind limit (begin σ) es ≡ collections σ kind limit opening es
 points_are σ kind limit es = ap (λ m. answers σ kind limit m es) (summary_opening σ limit) ∙ (whole σ kind limit opening es (sound_opening limit)).1

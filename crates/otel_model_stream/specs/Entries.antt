@@ -16,6 +16,7 @@ pub record Entry : Type 0 where
   pub fold : Fold
   pub handles : ℕ
 
+-- the table of a stream
 pub record Table : Type 0 where
   pub none : Entry
   pub entries : List Entry
@@ -24,15 +25,19 @@ pub record Table : Type 0 where
 abbrev pub fresh : Fold → AttributeSet → Bool → Entry
 fresh empty s counted = record { set = s; counted = counted; updated = false; fold = empty; handles = 0 }
 
+-- the table of a new stream
 abbrev pub new_table : Fold → Table
 new_table empty = record { none = fresh empty none_set false; entries = [] }
 
+-- whether this is the entry of the set s
 abbrev pub is_of : AttributeSet → Entry → Bool
 is_of s e = set_eq e.set s
 
+-- whether the set s has an entry
 abbrev pub has : AttributeSet → List Entry → Bool
 has s es = list_any (is_of s) es
 
+-- how many entries the limit counts
 abbrev pub number_counted : List Entry → ℕ
 number_counted es = length (filter (λ e. e.counted) es)
 
@@ -49,18 +54,23 @@ placed limit empty s es =
 abbrev pub entry_for : AttributeSet → List Entry → AttributeSet
 entry_for s es = cond (set_eq s none_set) none_set (cond (has s es) s over_set)
 
+-- the change f, if this is the entry of the set g
 abbrev pub on : AttributeSet → (Entry → Entry) → Entry → Entry
 on g f e = cond (is_of g e) (f e) e
 
+-- a record more
 abbrev pub write : Sample → Entry → Entry
 write v e = record e { updated = true; fold = recorded e.fold v }
 
+-- a live handle more
 abbrev pub take_handle : Entry → Entry
 take_handle e = record e { handles = e.handles + 1 }
 
+-- a live handle less
 abbrev pub drop_handle : Entry → Entry
 drop_handle e = record e { handles = e.handles - 1 }
 
+-- no records since now
 abbrev pub reset : Entry → Entry
 reset e = record e { updated = false; fold = cleared e.fold }
 
@@ -68,6 +78,7 @@ reset e = record e { updated = false; fold = cleared e.fold }
 abbrev pub at_entry : AttributeSet → (Entry → Entry) → Table → Table
 at_entry g f m = record { none = on g f m.none; entries = map (on g f) m.entries }
 
+-- the table once the set s has a place
 abbrev pub place : ℕ → Fold → AttributeSet → Table → Table
 place limit empty s m = record { none = m.none; entries = placed limit empty s m.entries }
 
@@ -79,12 +90,15 @@ recorded_at s v m = at_entry (entry_for s m.entries) (write v) m
 abbrev pub stays : Entry → Bool
 stays e = e.updated || (nat_lt 0 e.handles || set_eq e.set over_set)
 
+-- what a resetting collection leaves
 abbrev pub evicted : Table → Table
 evicted m = record { none = reset m.none; entries = map reset (filter stays m.entries) }
 
+-- what a draining collection leaves
 abbrev pub drained : Table → Table
 drained m = record { none = reset m.none; entries = [] }
 
+-- the point of an entry
 abbrev pub shown : Entry → Point
 shown e = (e.set, e.fold)
 

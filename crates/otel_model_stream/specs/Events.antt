@@ -23,10 +23,12 @@ pub data Kind : Type 0 where
 abbrev pub Handles : Type 0
 Handles = List (ℕ × AttributeSet)
 
+-- the set of the live handle with this number
 abbrev pub held_by : ℕ → Handles → Option AttributeSet
 held_by h [] = None
 held_by h (p ∷ ps) = cond (p.0 == h) (Some p.1) (held_by h ps)
 
+-- the handles without the one of this number
 abbrev pub without : ℕ → Handles → Handles
 without h [] = []
 without h (p ∷ ps) = cond (p.0 == h) ps (p ∷ without h ps)

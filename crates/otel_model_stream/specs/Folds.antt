@@ -38,14 +38,17 @@ pub data Fold : Type 0 where
   Last : ℕ → Fold
   Spreads : Spread → Fold
 
+-- modulo 2^64
 abbrev pub wrapped : ℕ → ℕ
 wrapped n = n % 2 ^ 64
 
 -- ======== one record more ========
+-- the lesser of what was least so far and x
 abbrev pub lesser : Option ℤ → ℤ → Option ℤ
 lesser None x = Some x
 lesser (Some y) x = Some (int_min y x)
 
+-- the greater of what was greatest so far and x
 abbrev pub greater : Option ℤ → ℤ → Option ℤ
 greater None x = Some x
 greater (Some y) x = Some (int_max y x)
@@ -56,6 +59,7 @@ counted_in [] i = []
 counted_in (n ∷ ns) zero = wrapped (n + 1) ∷ ns
 counted_in (n ∷ ns) (suc i) = n ∷ counted_in ns i
 
+-- a histogram with one record more
 abbrev pub record_spread : Spread → Sample → Spread
 record_spread s v = record {
   has_min_max = s.has_min_max;
@@ -67,6 +71,7 @@ record_spread s v = record {
   counts = counted_in s.counts v.bucket;
 }
 
+-- a fold with one record more
 abbrev pub recorded : Fold → Sample → Fold
 recorded (Total n) v = Total (wrapped (n + v.bits))
 recorded (Last n) v = Last v.bits
@@ -77,6 +82,7 @@ recorded (Spreads s) v = Spreads (record_spread s v)
 abbrev pub no_spread : Bool → Bool → ℕ → Spread
 no_spread has_min_max has_sum n = record { has_min_max = has_min_max; has_sum = has_sum; count = 0; sum = 0; least = None; greatest = None; counts = replicate n 0 }
 
+-- a fold of the same kind without records
 abbrev pub cleared : Fold → Fold
 cleared (Total _) = Total 0
 cleared (Last _) = Last 0
@@ -87,6 +93,7 @@ abbrev pub buckets_of : List ℤ → ℕ
 buckets_of [] = 0
 buckets_of (b ∷ bounds) = length (b ∷ bounds) + 1
 
+-- what no records of this aggregate come to
 abbrev pub empty_of : Aggregate → Fold
 empty_of Sum = Total 0
 empty_of LastValue = Last 0
@@ -96,11 +103,13 @@ empty_of (Histogram bounds has_min_max has_sum) = Spreads (no_spread has_min_max
 abbrev pub bounds_below : List ℤ → ℤ → ℕ
 bounds_below bounds x = count_by (λ bound. int_lt bound x) bounds
 
+-- the bounds of an aggregate, none but a histogram's
 abbrev pub bounds_of : Aggregate → List ℤ
 bounds_of Sum = []
 bounds_of LastValue = []
 bounds_of (Histogram bounds has_min_max has_sum) = bounds
 
+-- a value with its bucket in this aggregate
 abbrev pub sample_of : Aggregate → Amount → Sample
 sample_of σ v = record { bits = v.bits; wide = v.wide; bucket = bounds_below (bounds_of σ) v.wide }
 
@@ -119,16 +128,19 @@ abbrev pub counts_from : ℕ → ℕ → List Sample → List ℕ
 counts_from a zero vs = []
 counts_from a (suc n) vs = wrapped (count_by (λ v. nat_eq v.bucket a) vs) ∷ counts_from (a + 1) n vs
 
+-- the bits of the last record, 0 if there is none
 abbrev pub last_bits : List Sample → ℕ
 last_bits [] = 0
 last_bits (v ∷ []) = v.bits
 last_bits (v ∷ w ∷ vs) = last_bits (w ∷ vs)
 
+-- the least value, if there is one
 abbrev pub least_of : List ℤ → Option ℤ
 least_of [] = None
 least_of (x ∷ []) = Some x
 least_of (x ∷ y ∷ xs) = lesser (least_of (y ∷ xs)) x
 
+-- the greatest value, if there is one
 abbrev pub greatest_of : List ℤ → Option ℤ
 greatest_of [] = None
 greatest_of (x ∷ []) = Some x

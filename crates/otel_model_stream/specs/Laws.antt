@@ -2,10 +2,10 @@
 use Rattle.std.specs.Prelude.{◌≡◌, ℕ, ◌+◌, ◌≤◌, ℤ, Bool, List, [], ◌∷◌, ◌++◌, map, filter, length, fold, sum_by}
 use Rattle.otel_model_stream.specs.Sets.{AttributeSet}
 use Rattle.otel_model_stream.specs.Folds.{Aggregate, Histogram, Amount, Sample, Fold, Total, Last, Spreads, wrapped, recorded, cleared, empty_of, sample_of, folded, fold_of}
-use Rattle.otel_model_stream.specs.Events.{Event, Record, Kind, Delta, Cumulative}
-use Rattle.otel_model_stream.specs.Entries.{Entry, Table}
-use Rattle.otel_model_stream.specs.Maps.{MapState, measured}
-use Rattle.otel_model_stream.specs.Machine.{Machine, begin, step, run, answers}
+use Rattle.otel_model_stream.specs.Events.{Event, Record, Bind, Collect, Kind, Delta, Cumulative, Drained}
+use Rattle.otel_model_stream.specs.Entries.{Entry, Table, entry_for, at_entry, take_handle}
+use Rattle.otel_model_stream.specs.Maps.{MapState, with_place, measured, evicted_map, drained_map}
+use Rattle.otel_model_stream.specs.Machine.{Machine, begin, step, run, answers, points}
 use Rattle.otel_model_stream.specs.Windows.{opening, window, collections, places_of, points_of, uncounted_of, counted}
 use Rattle.otel_model_stream.specs.Totals.{recorded_total, weight, points_total}
 
@@ -24,6 +24,10 @@ AreCountedOfWindows = (σ : Aggregate) (kind : Kind) (limit : ℕ) (events : Lis
 -- each collection gives the points of its window
 abbrev pub ArePointsOfWindows : Type 0
 ArePointsOfWindows = (σ : Aggregate) (kind : Kind) (limit : ℕ) (events : List Event) → answers σ kind limit (begin σ) events ≡ collections σ kind limit opening events
+
+-- and so does what a collection would show now
+abbrev pub ArePointsNow : Type 0
+ArePointsNow = (σ : Aggregate) (kind : Kind) (limit : ℕ) (events : List Event) → points kind (run σ kind limit (begin σ) events) ≡ points_of σ kind limit (window kind limit opening events)
 
 -- ======== totals ========
 -- in a delta stream what the collections gave and what is pending is all that was recorded
@@ -48,6 +52,7 @@ IsFoldOfList = (σ : Aggregate) (values : List Amount) → fold recorded (empty_
 abbrev pub IsFoldedByOneMore : Type 0
 IsFoldedByOneMore = (empty : Fold) (records : List Sample) (v : Sample) → folded empty (records ++ v ∷ []) ≡ recorded (folded empty records) v
 
+-- the bucket counts of a histogram
 abbrev pub bucket_counts : Fold → List ℕ
 bucket_counts (Total n) = []
 bucket_counts (Last n) = []
@@ -67,7 +72,7 @@ abbrev pub IsClearedAlike : Type 0
 IsClearedAlike = (f : Fold) (records : List Sample) → cleared (fold recorded f records) ≡ cleared f
 
 -- ======== the machine and a bounded map ========
--- the map of a machine with this aggregate and limit
+-- the map of a stream with this aggregate, limit and table
 abbrev pub map_of : Aggregate → ℕ → Table → MapState
 map_of σ limit table = record { limit = limit; empty = empty_of σ; table = table }
 
@@ -75,3 +80,17 @@ map_of σ limit table = record { limit = limit; empty = empty_of σ; table = tab
 abbrev pub IsMeasured : Type 0
 IsMeasured = (σ : Aggregate) (kind : Kind) (limit : ℕ) (m : Machine) (s : AttributeSet) (v : Amount) →
     map_of σ limit (step σ kind limit m (Record s v)).table ≡ measured s (sample_of σ v) (map_of σ limit m.table)
+
+-- a bind gives its set a place in the map, and the entry that it uses a handle
+abbrev pub IsHeld : Type 0
+IsHeld = (σ : Aggregate) (kind : Kind) (limit : ℕ) (m : Machine) (h : ℕ) (s : AttributeSet) →
+    let placed : MapState = with_place s (map_of σ limit m.table) in
+    (step σ kind limit m (Bind h s)).table ≡ at_entry (entry_for s placed.table.entries) take_handle placed.table
+
+-- a collection of a delta stream evicts and resets
+abbrev pub IsEvicted : Type 0
+IsEvicted = (σ : Aggregate) (limit : ℕ) (m : Machine) → map_of σ limit (step σ Delta limit m Collect).table ≡ evicted_map (map_of σ limit m.table)
+
+-- one of a drained stream, where no handle is live, empties
+abbrev pub IsDrained : Type 0
+IsDrained = (σ : Aggregate) (limit : ℕ) (m : Machine) → m.table.none.handles ≡ 0 → map_of σ limit (step σ Drained limit m Collect).table ≡ drained_map (map_of σ limit m.table)

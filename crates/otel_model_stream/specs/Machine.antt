@@ -5,10 +5,12 @@ use Rattle.otel_model_stream.specs.Folds.{Aggregate, Sample, empty_of, sample_of
 use Rattle.otel_model_stream.specs.Events.{Event, Record, Bind, RecordBound, Unbind, Collect, Kind, Delta, Cumulative, Drained, Handles, held_by, without, Point}
 use Rattle.otel_model_stream.specs.Entries.{Table, new_table, entry_for, at_entry, write, take_handle, drop_handle, place, recorded_at, evicted, drained, points as points_in}
 
+-- its state: the entries, and the live handles
 pub record Machine : Type 0 where
   pub table : Table
   pub live : Handles
 
+-- the machine of a new stream
 abbrev pub begin : Aggregate → Machine
 begin σ = record { table = new_table (empty_of σ); live = [] }
 
@@ -47,9 +49,11 @@ shows_all Delta = false
 shows_all Cumulative = true
 shows_all Drained = true
 
+-- what a collection shows
 abbrev pub points : Kind → Machine → List Point
 points kind m = points_in (shows_all kind) m.table
 
+-- the machine after one event
 abbrev pub step : Aggregate → Kind → ℕ → Machine → Event → Machine
 step σ kind limit m (Record s v) = record m { table = recorded_at s (sample_of σ v) (place limit (empty_of σ) s m.table) }
 step σ kind limit m (Bind h s) = bound h s (record m { table = place limit (empty_of σ) s m.table })
@@ -57,6 +61,7 @@ step σ kind limit m (RecordBound h v) = through (held_by h m.live) (sample_of �
 step σ kind limit m (Unbind h) = let_go (held_by h m.live) h m
 step σ kind limit m Collect = collected kind m
 
+-- the points that an event gives: those of a collection
 abbrev pub answer : Kind → Machine → Event → List (List Point)
 answer kind m (Record s v) = []
 answer kind m (Bind h s) = []
@@ -65,11 +70,12 @@ answer kind m (Unbind h) = []
 answer kind m Collect = points kind m ∷ []
 
 -- ======== a list of events ========
--- the machine after these events, and the points of each collection among them
+-- the machine after these events
 abbrev pub run : Aggregate → Kind → ℕ → Machine → List Event → Machine
 run σ kind limit m [] = m
 run σ kind limit m (e ∷ es) = run σ kind limit (step σ kind limit m e) es
 
+-- the points of each collection among them
 abbrev pub answers : Aggregate → Kind → ℕ → Machine → List Event → List (List Point)
 answers σ kind limit m [] = []
 answers σ kind limit m (e ∷ es) = answer kind m e ++ answers σ kind limit (step σ kind limit m e) es

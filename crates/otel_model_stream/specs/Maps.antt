@@ -5,11 +5,13 @@ use Rattle.otel_model_stream.specs.Sets.{AttributeSet, none_set}
 use Rattle.otel_model_stream.specs.Folds.{Fold, Sample}
 use Rattle.otel_model_stream.specs.Entries.{Table, new_table, has, place, recorded_at, evicted, drained}
 
+-- what limits it, what no records come to, and its table
 pub record MapState : Type 0 where
   pub limit : ℕ
   pub empty : Fold
   pub table : Table
 
+-- a map without entries
 abbrev pub new_map : ℕ → Fold → MapState
 new_map limit empty = record { limit = limit; empty = empty; table = new_table empty }
 
@@ -21,9 +23,11 @@ with_place s m = record m { table = place m.limit m.empty s m.table }
 abbrev pub measured : AttributeSet → Sample → MapState → MapState
 measured s v m = record m { table = recorded_at s v (place m.limit m.empty s m.table) }
 
+-- after a resetting collection
 abbrev pub evicted_map : MapState → MapState
 evicted_map m = record m { table = evicted m.table }
 
+-- after a draining collection
 abbrev pub drained_map : MapState → MapState
 drained_map m = record m { table = drained m.table }
 

@@ -11,9 +11,11 @@ size Sum v = v.bits
 size LastValue v = 0
 size (Histogram bounds has_min_max has_sum) v = 1
 
+-- whether a handle of this number is live
 abbrev pub has_number : ℕ → List ℕ → Bool
 has_number h ns = list_any (λ n. n == h) ns
 
+-- the numbers without this one
 abbrev pub without_number : ℕ → List ℕ → List ℕ
 without_number h [] = []
 without_number h (n ∷ ns) = cond (n == h) ns (n ∷ without_number h ns)
@@ -27,6 +29,7 @@ recorded_from amount ns (RecordBound h v ∷ es) = cond (has_number h ns) (amoun
 recorded_from amount ns (Unbind h ∷ es) = recorded_from amount (without_number h ns) es
 recorded_from amount ns (Collect ∷ es) = recorded_from amount ns es
 
+-- the total of all records of a history
 abbrev pub recorded_total : Aggregate → List Event → ℕ
 recorded_total σ es = recorded_from (size σ) [] es
 
@@ -37,5 +40,6 @@ weight (Total n) = n
 weight (Last n) = 0
 weight (Spreads s) = s.count
 
+-- the total of these points
 abbrev pub points_total : List Point → ℕ
 points_total ps = sum_by (λ (q : Point). weight q.1) ps

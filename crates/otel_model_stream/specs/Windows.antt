@@ -20,8 +20,9 @@ pub record Window : Type 0 where
   pub events : List Event
 
 -- ======== places ========
-abbrev pub mem : AttributeSet → List AttributeSet → Bool
-mem s xs = list_any (λ x. set_eq x s) xs
+-- whether the set s is among these
+abbrev pub is_in : AttributeSet → List AttributeSet → Bool
+is_in s xs = list_any (λ x. set_eq x s) xs
 
 -- the sets that records and binds name, in order
 abbrev pub mentions : List Event → List AttributeSet
@@ -35,7 +36,7 @@ mentions (Collect ∷ es) = mentions es
 -- the distinct sets mentioned, other than the empty one, that aren't among those seen, in order of first mention
 abbrev pub newcomers : List AttributeSet → List AttributeSet → List AttributeSet
 newcomers seen [] = []
-newcomers seen (s ∷ ms) = cond (set_eq s none_set || mem s seen) (newcomers seen ms) (s ∷ newcomers (seen ++ s ∷ []) ms)
+newcomers seen (s ∷ ms) = cond (set_eq s none_set || is_in s seen) (newcomers seen ms) (s ∷ newcomers (seen ++ s ∷ []) ms)
 
 -- the sets without the overflow set, if that isn't counted
 abbrev pub counted : Bool → List AttributeSet → List AttributeSet
@@ -49,24 +50,26 @@ room limit start = limit - length (counted start.uncounted start.sets)
 abbrev pub admitted : ℕ → Start → List AttributeSet → List AttributeSet
 admitted limit start ms = take (room limit start) (newcomers start.sets ms)
 
+-- whether there are more newcomers than room
 abbrev pub is_left_over : ℕ → Start → List AttributeSet → Bool
 is_left_over limit start ms = nat_lt (room limit start) (length (newcomers start.sets ms))
 
 -- whether the limit makes the overflow set a place
 abbrev pub overflows : ℕ → Start → List AttributeSet → Bool
-overflows limit start ms = is_left_over limit start ms && not (mem over_set (start.sets ++ admitted limit start ms))
+overflows limit start ms = is_left_over limit start ms && not (is_in over_set (start.sets ++ admitted limit start ms))
 
 -- the sets that have a place once these were mentioned: those at the start, the admitted, and the
 -- overflow set where a newcomer is left over
 abbrev pub places : ℕ → Start → List AttributeSet → List AttributeSet
 places limit start ms = (start.sets ++ admitted limit start ms) ++ cond (overflows limit start ms) (over_set ∷ []) []
 
+-- whether the overflow set has a place without being counted
 abbrev pub uncounted_now : ℕ → Start → List AttributeSet → Bool
 uncounted_now limit start ms = start.uncounted || overflows limit start ms
 
 -- the goal of a mention of s: the set that it counts for
 abbrev pub goal : ℕ → Start → List AttributeSet → AttributeSet → AttributeSet
-goal limit start ms s = cond (set_eq s none_set) none_set (cond (mem s (start.sets ++ admitted limit start ms)) s over_set)
+goal limit start ms s = cond (set_eq s none_set) none_set (cond (is_in s (start.sets ++ admitted limit start ms)) s over_set)
 
 -- ======== records ========
 -- the live handles after the events, each with the goal of its bind
@@ -78,6 +81,7 @@ live g held (RecordBound h v ∷ es) = live g held es
 live g held (Unbind h ∷ es) = live g (without h held) es
 live g held (Collect ∷ es) = live g held es
 
+-- a record through a handle, if it is live
 abbrev pub by_handle : Option AttributeSet → Amount → List (AttributeSet × Amount)
 by_handle None v = []
 by_handle (Some x) v = (x, v) ∷ []
@@ -92,25 +96,31 @@ records g held (Unbind h ∷ es) = records g (without h held) es
 records g held (Collect ∷ es) = records g held es
 
 -- ======== of a window ========
+-- the places of the window
 abbrev pub places_of : ℕ → Window → List AttributeSet
 places_of limit w = places limit w.start (mentions w.events)
 
+-- whether the overflow set is among them without being counted
 abbrev pub uncounted_of : ℕ → Window → Bool
 uncounted_of limit w = uncounted_now limit w.start (mentions w.events)
 
+-- the goal of a mention in the window
 abbrev pub goal_of : ℕ → Window → AttributeSet → AttributeSet
 goal_of limit w = goal limit w.start (mentions w.events)
 
+-- the live handles at its end
 abbrev pub live_of : ℕ → Window → Handles
 live_of limit w = live (goal_of limit w) w.start.held w.events
 
+-- its records, with their goals
 abbrev pub records_of : ℕ → Window → List (AttributeSet × Amount)
 records_of limit w = records (goal_of limit w) w.start.held w.events
 
--- whether the set is the goal of a record, and of a live handle
+-- whether the set is the goal of a record
 abbrev pub is_hit : List (AttributeSet × Amount) → AttributeSet → Bool
 is_hit rs x = list_any (λ r. set_eq r.0 x) rs
 
+-- whether it is the goal of a live handle
 abbrev pub is_held : Handles → AttributeSet → Bool
 is_held hs x = list_any (λ p. set_eq p.1 x) hs
 
@@ -118,6 +128,7 @@ is_held hs x = list_any (λ p. set_eq p.1 x) hs
 abbrev pub values_of : List (AttributeSet × Amount) → AttributeSet → List Amount
 values_of rs x = map (λ r. r.1) (filter (λ r. set_eq r.0 x) rs)
 
+-- the point of a set: the fold of the records whose goal it is
 abbrev pub point : Aggregate → List (AttributeSet × Amount) → AttributeSet → Point
 point σ rs x = (x, fold_of σ (values_of rs x))
 
@@ -132,6 +143,7 @@ abbrev pub points_of : Aggregate → Kind → ℕ → Window → List Point
 points_of σ kind limit w = map (point σ (records_of limit w)) (filter (is_hit (records_of limit w)) (none_set ∷ []) ++ shown_places kind limit w)
 
 -- ======== windows one after another ========
+-- a window starts with nothing at first
 abbrev pub first : Start
 first = record { sets = []; uncounted = false; held = [] }
 
@@ -149,9 +161,11 @@ cut Delta limit w = record { start = next limit w; events = [] }
 cut Cumulative limit w = w
 cut Drained limit w = record { start = first; events = [] }
 
+-- the first window, without events
 abbrev pub opening : Window
 opening = record { start = first; events = [] }
 
+-- the window with one event more
 abbrev pub more : Window → Event → Window
 more w e = record { start = w.start; events = w.events ++ e ∷ [] }
 

@@ -2,14 +2,17 @@
 //! of the stream cut into windows, with the laws that join the two. No working code.
 #![tactic(auto)]
 
-ghost use Rattle.otel_model_stream.specs.Laws.{AreBucketsCounted, AreCountedOfWindows, ArePlacesOfWindows, ArePointsFew, ArePointsOfWindows, IsAllShown, IsClearedAlike, IsConserved, IsFoldOfList, IsFoldedByOneMore, IsForgotten, IsMeasured};
+ghost use Rattle.std.specs.Prelude.{◌≡◌};
+ghost use Rattle.otel_model_stream.specs.Folds.{Aggregate, cleared, empty_of};
+ghost use Rattle.otel_model_stream.specs.Laws.{AreBucketsCounted, AreCountedOfWindows, ArePlacesOfWindows, ArePointsFew, ArePointsNow, ArePointsOfWindows, IsAllShown, IsClearedAlike, IsConserved, IsDrained, IsEvicted, IsFoldOfList, IsFoldedByOneMore, IsForgotten, IsHeld, IsMeasured};
 
-/// For every list of events the entries are the places of the window so far, and each collection
-/// has the points of its window.
+/// For every list of events the entries are the places of the window so far, those counted are the
+/// ones that it counts, each collection has the points of its window, and one now would too.
 pub fn agrees()
     ensures places { ArePlacesOfWindows }
     ensures counted { AreCountedOfWindows }
     ensures points { ArePointsOfWindows }
+    ensures now { ArePointsNow }
 {}
 
 /// Nothing that was recorded is lost, modulo 2^64, and there are few points.
@@ -28,11 +31,15 @@ pub fn folds()
 
 /// Clearing forgets all records.
 pub fn clears()
+    ensures nothing { (σ : Aggregate) → cleared (empty_of σ) ≡ empty_of σ }
     ensures list { IsForgotten }
     ensures steps { IsClearedAlike }
 {}
 
-/// A record is a record of the bounded map.
-pub fn measures()
-    ensures only { IsMeasured }
+/// A record, a bind and a collection are what they are for the bounded map.
+pub fn maps()
+    ensures record { IsMeasured }
+    ensures bind { IsHeld }
+    ensures delta { IsEvicted }
+    ensures drained { IsDrained }
 {}

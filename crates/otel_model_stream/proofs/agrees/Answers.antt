@@ -1,6 +1,6 @@
 use Rattle.otel_model_stream.proofs.agrees.Goals as goal
 use Rattle.otel_model_stream.proofs.Rows.{row_1}
-use Rattle.otel_model_stream.proofs.Whole.{places_are, counted_are, points_are}
+use Rattle.otel_model_stream.proofs.Whole.{places_are, counted_are, points_are, points_of_run}
 
 pub returns-clause-places : goal.returns-clause-places
 returns-clause-places c = places_are
@@ -10,3 +10,6 @@ returns-clause-counted c = counted_are
 
 pub returns-clause-points : goal.returns-clause-points
 returns-clause-points c = let worked = row_1 in points_are
+
+pub returns-clause-now : goal.returns-clause-now
+returns-clause-now c = points_of_run
