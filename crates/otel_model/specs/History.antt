@@ -147,6 +147,17 @@ feeds_of views row earlier (i ∷ is) =
     fed (is_dropped (earlier ++ demands_after views row earlier i)) (demands_after views row earlier i)
     ∷ feeds_of views row (earlier ++ demands_after views row earlier i) is
 
+-- all compatible demands, and what feeds what, after these calls
+abbrev pub demands_by : Views → Row → List Call → List Demand
+demands_by views row calls = demands_of views row [] (builds_in calls)
+
+abbrev pub feeds_by : Views → Row → List Call → List (List Identity)
+feeds_by views row calls = feeds_of views row [] (builds_in calls)
+
+-- whether the stream of d was demanded by then
+abbrev pub is_demanded : Views → Row → Demand → List Call → Bool
+is_demanded views row d calls = is_known (demands_by views row calls) d.identity
+
 -- ======== the history of a stream ========
 -- whether a call concerns reader r
 abbrev pub concerns : ℕ → Call → Bool
@@ -164,8 +175,8 @@ concerns r Shutdown = true
 -- records and unbinds through handles, and the reader's collections, each after its observations
 abbrev pub events_at : Views → Row → ℕ → Demand → List Call → Call → List Event
 events_at views row r d before call =
-    cond (is_known (demands_of views row [] (builds_in before)) d.identity)
-    (cond (concerns r call) (sent (feeds_of views row [] (builds_in before)) (binds_in before) d call) []) []
+    cond (is_demanded views row d before)
+    (cond (concerns r call) (sent (feeds_by views row before) (binds_in before) d call) []) []
 
 abbrev pub history : Views → Row → ℕ → Demand → List Call → List Event
 history views row r d calls = gather (events_at views row r d) [] calls
@@ -178,6 +189,10 @@ window_of row d es = window (kind_of row d) d.limit opening es
 abbrev pub window_points : Row → Demand → List Event → List Point
 window_points row d es = points_of (aggregate_of d) (kind_of row d) d.limit (window_of row d es)
 
+-- the points after these calls and the observations of a collection
+abbrev pub points_with : Views → Row → ℕ → Demand → List Call → List Observed → List Point
+points_with views row r d before os = window_points row d (history views row r d before ++ observed (feeds_by views row before) d os)
+
 -- the points that a collection shows of a stream
 abbrev pub shown_by : Views → Row → ℕ → Demand → List Call → Call → List (List Point)
 shown_by views row r d before (Meter scope) = []
@@ -186,12 +201,12 @@ shown_by views row r d before (Record n v l) = []
 shown_by views row r d before (Bind n l) = []
 shown_by views row r d before (RecordBound h v) = []
 shown_by views row r d before (Unbind h) = []
-shown_by views row r d before (Collect q now os) = window_points row d (history views row r d before ++ observed (feeds_of views row [] (builds_in before)) d os) ∷ []
+shown_by views row r d before (Collect q now os) = points_with views row r d before os ∷ []
 shown_by views row r d before Flush = []
 shown_by views row r d before Shutdown = []
 
 abbrev pub shown_at : Views → Row → ℕ → Demand → List Call → Call → List (List Point)
-shown_at views row r d before call = cond (is_known (demands_of views row [] (builds_in before)) d.identity) (cond (concerns r call) (shown_by views row r d before call) []) []
+shown_at views row r d before call = cond (is_demanded views row d before) (cond (concerns r call) (shown_by views row r d before call) []) []
 
 -- the points of the stream of d in each of reader r's collections
 abbrev pub shown_points : Views → Row → ℕ → Demand → List Call → List (List Point)
@@ -205,12 +220,12 @@ last_or x (y ∷ ys) = last_or y ys
 -- the moments of the builds up to its making and, of a delta stream, of the reader's collections since
 abbrev pub moment_at : Views → Row → ℕ → Demand → List Call → Call → List ℕ
 moment_at views row r d before (Meter scope) = []
-moment_at views row r d before (Build meter about now) = cond (is_known (demands_of views row [] (builds_in before)) d.identity) [] (now ∷ [])
+moment_at views row r d before (Build meter about now) = cond (is_demanded views row d before) [] (now ∷ [])
 moment_at views row r d before (Record n v l) = []
 moment_at views row r d before (Bind n l) = []
 moment_at views row r d before (RecordBound h v) = []
 moment_at views row r d before (Unbind h) = []
-moment_at views row r d before (Collect q now os) = cond (is_known (demands_of views row [] (builds_in before)) d.identity) (cond (q == r) (cond (is_delta row d) (now ∷ []) []) []) []
+moment_at views row r d before (Collect q now os) = cond (is_demanded views row d before) (cond (q == r) (cond (is_delta row d) (now ∷ []) []) []) []
 moment_at views row r d before Flush = []
 moment_at views row r d before Shutdown = []
 
@@ -226,7 +241,7 @@ reported_of views row r d calls = last_or [] (shown_points views row r d calls)
 -- the collection that reader r makes after these calls, with its observations
 abbrev pub collection_of : Views → Resource → Row → ℕ → List Call → ℕ → List Observed → Collection
 collection_of views resource row r before now os = collection resource (meters_in before)
-    (map (λ (d : Demand). (d.identity.scope, metric row now (start_of views row r d before) (reported_of views row r d before) d (window_points row d (history views row r d before ++ observed (feeds_of views row [] (builds_in before)) d os)))) (streams_of views row (builds_in before)))
+    (map (λ (d : Demand). (d.identity.scope, metric row now (start_of views row r d before) (reported_of views row r d before) d (points_with views row r d before os))) (streams_of views row (builds_in before)))
 
 abbrev pub made_by : Views → Resource → Row → ℕ → List Call → Call → List Collection
 made_by views resource row r before (Meter scope) = []
