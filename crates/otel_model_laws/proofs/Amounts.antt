@@ -16,6 +16,7 @@ use Rattle.otel_model.specs.Machine.{new_instrument, accepted, changed_at, witho
 use Rattle.otel_model.specs.Totals.{accepted_amount, accepted_for}
 use Rattle.otel_model.proofs.Gather.{cond_same}
 use Rattle.otel_model.proofs.Single.{some_is}
+pub use Rattle.otel_model_laws.specs.Lawful.{EachOf, kinds_of, handles_of, AreDistinct, held_for}
 
 -- ======== what is accepted ========
 amount_more : (σ : Aggregate) (v : Amount) (i : InstrumentState) → accepted_amount σ (accepted v i) ≡ wrapped (accepted_amount σ i + size σ v)
@@ -84,10 +85,6 @@ nothing_accepted σ x (xs ∷ feeds) [] e = refl
 nothing_accepted σ x (xs ∷ feeds) (i ∷ is) e =
     ap (λ b. cond b (accepted_amount σ i) 0 + accepted_for σ x feeds is) (e 0) ∙ (zero_plus (accepted_for σ x feeds is) ∙ nothing_accepted σ x feeds is (λ n. e (suc n)))
 
--- kinds stay
-abbrev pub kinds_of : List InstrumentState → List InstrumentKind
-kinds_of is = map (λ (i : InstrumentState). i.kind) is
-
 pub same_kinds : (n : ℕ) (v : Amount) (is : List InstrumentState) → kinds_of (changed_at n (accepted v) is) ≡ kinds_of is
 same_kinds n v [] = refl
 same_kinds zero v (i ∷ is) = refl
@@ -97,11 +94,6 @@ pub same_number : {X : Type 0} (n : ℕ) (f : X → X) (xs : List X) → length 
 same_number n f [] = refl
 same_number zero f (x ∷ xs) = refl
 same_number (suc n) f (x ∷ xs) = let ih : length (changed_at n f xs) ≡ length xs = same_number n f xs in omega arith
-
--- ======== handles ========
-abbrev pub EachOf : {X : Type 0} → (X → Type 0) → List X → Type 0
-EachOf P [] = Unit {0}
-EachOf P (x ∷ xs) = P x × EachOf P xs
 
 pub each_weaker : {X : Type 0} (P Q : X → Type 0) (xs : List X) → ((x : X) → P x → Q x) → EachOf P xs → EachOf Q xs
 each_weaker P Q [] h a = tt
@@ -127,14 +119,6 @@ each_without P h (p ∷ ps) a = go (p.0 == h) (each_without P h ps a.1)
     go : (b : Bool) → EachOf P (without_handle h ps) → EachOf P (cond b ps (p ∷ without_handle h ps))
     go true ih = a.1
     go false ih = (a.0, ih)
-
-abbrev pub handles_of : List LiveHandle → List ℕ
-handles_of live = map (λ (p : LiveHandle). p.0) live
-
--- no number stands twice
-abbrev pub AreDistinct : List LiveHandle → Type 0
-AreDistinct [] = Unit {0}
-AreDistinct (p ∷ ps) = (has_number p.0 (handles_of ps) ≡ false) × AreDistinct ps
 
 or_false : (a b : Bool) → a ≡ false → b ≡ false → (a || b) ≡ false
 or_false a b e f = λ i. e i || f i
@@ -181,10 +165,6 @@ distinct_without h (p ∷ ps) d = go (p.0 == h) (distinct_without h ps d.1)
     go : (b : Bool) → AreDistinct (without_handle h ps) → AreDistinct (cond b ps (p ∷ without_handle h ps))
     go true ih = d.1
     go false ih = (has_without h p.0 ps d.0, ih)
-
--- the numbers of the live handles of a stream: those bound at instruments that feed it
-abbrev pub held_for : List (List Identity) → Identity → List LiveHandle → List ℕ
-held_for feeds x live = handles_of (filter (λ (p : LiveHandle). is_fed feeds p.1 x) live)
 
 module _ (feeds : List (List Identity)) (x : Identity) where
   pub held_push : (live : List LiveHandle) (h n : ℕ) → held_for feeds x (live ++ (h, n) ∷ []) ≡ held_for feeds x live ++ cond (is_fed feeds n x) (h ∷ []) []

@@ -1,5 +1,5 @@
 -- What a synchronous stream recorded is what the instruments that feed it accepted.
-use Rattle.std.proofs.Common.{◌≡◌, ⊎_elim, ℕ, zero, suc, ◌+◌, ◌<◌, Bool, true, false, List, [], ◌∷◌, ◌++◌, length, refl, arith, sym, ◌∙◌, ap, Option, Some, None, subst, cond}
+use Rattle.std.proofs.Common.{◌≡◌, map, ⊎_elim, ℕ, zero, suc, ◌+◌, ◌<◌, Bool, true, false, List, [], ◌∷◌, ◌++◌, length, refl, arith, sym, ◌∙◌, ap, Option, Some, None, subst, cond}
 use Rattle.std.specs.Prelude.{◌^◌, ◌&&◌, fold, slice_get, is_some, nat_lt}
 use Rattle.std.proofs.lemmas.Bool.{cases_Bool, true≢false, false≢true}
 use Rattle.std.proofs.lemmas.List.{append-nil, map-append}
@@ -16,23 +16,19 @@ use Rattle.otel_model.specs.Streams.{is_sum, observes_sums, is_drained, is_delta
 use Rattle.otel_model.specs.State.{InstrumentState, LiveHandle, Shared, Stream, ReaderPart, State}
 use Rattle.otel_model.specs.Refusals.{refusal, record_refusal, bind_refusal, instrument_held, handle_refusal, held_refusal, number_refusal, observation_refusal, observations_refusal, first_fault}
 use Rattle.otel_model.specs.Sent.{scope_of, is_fed, set_for, observed}
-use Rattle.otel_model.specs.Machine.{new_instrument, accepted, changed_at, accepted_by, without_handle, shared_after, if_held, recorded_with, recorded_over, stream_after, new_stream, demanded, build_demands, with_feeds, built, part_sent, accepted_after, new_part, new_state}
+use Rattle.otel_model.specs.Machine.{new_instrument, accepted, changed_at, accepted_by, without_handle, shared_after, if_held, recorded_with, recorded_over, stream_after, new_stream, demanded, build_demands, with_feeds, built, part_sent, readers_after, accepted_after, new_part, new_state}
 use Rattle.otel_model.specs.Steps.{after_by, after, Run}
 use Rattle.otel_model.specs.Only.{is_others}
 use Rattle.otel_model.specs.Totals.{accepted_for}
 use Rattle.otel_model.specs.Laws.{IsAccepted}
 use Rattle.otel_model.proofs.Single.{some_is, get_map, step_cases, part_after, concerned, unconcerned}
-use Rattle.otel_model.proofs.Recorded.{numbers, held_is, by_unbind, collect_keeps, keeps_when}
-use Rattle.otel_model_laws.proofs.Amounts.{EachOf, each_weaker, each_push, each_map, each_at, each_without, not_fed, when_fed, new_adds_nothing, nothing_accepted, kinds_of, same_kinds, same_number, AreDistinct, distinct_push, distinct_without, held_for, held_push, held_when_fed, held_without}
-use Rattle.otel_model_laws.proofs.Feeding.{fed_or_new, known_feed, held_before, none_held, fed_demanded, demands_kind, known_kind, known_after, demanded_known, same_feeds, streams_after}
+use Rattle.otel_model.proofs.Recorded.{held_is, by_unbind, collect_keeps, keeps_when}
+use Rattle.otel_model_laws.specs.Lawful.{EachOf, HandlesAreSound, numbers, IsAccounted, IsOfEvents, PartIsLawful, IsLawful, IsBalanced, IsPaidFor, IsLawfulAtFirst, EachCallKeepsLawful, EachRunKeepsLawful, LawfulBalances}
+use Rattle.otel_model_laws.proofs.OfEvents.{events_after, events_at_first, balanced_events}
+use Rattle.otel_model_laws.proofs.Amounts.{each_weaker, each_push, each_map, each_at, each_without, not_fed, when_fed, new_adds_nothing, nothing_accepted, kinds_of, same_kinds, same_number, AreDistinct, distinct_push, distinct_without, held_for, held_push, held_when_fed, held_without}
+use Rattle.otel_model_laws.proofs.Feeding.{fed_or_new, known_feed, held_before, none_held, fed_demanded, demands_kind, known_kind, known_after, demanded_known, same_row, same_feeds, streams_after}
 
 -- ======== what is shared ========
--- live handles have numbers of their own, below the next, and instruments that are there
-record SharedIsSound (s : Shared) : Type 0 where
-  bound : EachOf (λ (p : LiveHandle). p.1 < length s.instruments) s.live
-  below : EachOf (λ (p : LiveHandle). p.0 < s.next) s.live
-  distinct : AreDistinct s.live
-
 get_lt : {X : Type 0} (xs : List X) (n : ℕ) (x : X) → slice_get xs n ≡ Some x → n < length xs
 get_lt [] n x e = absurd (cc)
 get_lt (y ∷ ys) zero x e = omega arith
@@ -75,7 +71,7 @@ next_above n = omega arith
 grown : (a b : ℕ) → a < b → a < b + 1
 grown a b h = omega arith
 
-shared_sound : (s : Shared) (readers : ℕ) (c : Call) → refusal s readers c ≡ None → SharedIsSound s → SharedIsSound (shared_after s c)
+shared_sound : (s : Shared) (readers : ℕ) (c : Call) → refusal s readers c ≡ None → HandlesAreSound s → HandlesAreSound (shared_after s c)
 shared_sound s readers (Meter scope) e a = record { bound = a.bound; below = a.below; distinct = a.distinct }
 shared_sound s readers (Build meter about now) e a = record {
   bound = each_weaker (λ (p : LiveHandle). p.1 < length s.instruments) (λ (p : LiveHandle). p.1 < length (s.instruments ++ new_instrument about ∷ [])) s.live
@@ -112,11 +108,6 @@ shared_sound s readers Flush e a = a
 shared_sound s readers Shutdown e a = record { bound = a.bound; below = a.below; distinct = a.distinct }
 
 -- ======== one stream ========
--- its handles are those bound at instruments that feed it, and it recorded what these accepted
-abbrev IsAccounted : List (List Identity) → List LiveHandle → List InstrumentState → Stream → Type 0
-IsAccounted feeds live is q = is_observable q.demand.identity.kind ≡ false
-    → (numbers q.machine.live ≡ held_for feeds q.demand.identity live) × (q.recorded ≡ wrapped (accepted_for (aggregate_of q.demand) q.demand.identity feeds is))
-
 -- a synchronous stream isn't drained
 synchronous_stays : (d : Demand) → is_observable d.identity.kind ≡ false → is_drained d ≡ false
 synchronous_stays d e = go (is_sum d.aggregation) d.identity.kind e
@@ -231,25 +222,20 @@ module _ (row : Row) (feeds : List (List Identity)) (live : List LiveHandle) (is
       (ap numbers (collect_keeps σ (kind_of row q.demand) q.demand.limit (kind_of row q.demand) q.machine (keeps_when (is_drained q.demand) (is_delta row q.demand) (synchronous_stays q.demand sync))), refl)
 
 -- ======== a reader's part ========
-record PartIsSound (live : List LiveHandle) (is : List InstrumentState) (p : ReaderPart) : Type 0 where
-  known : (n : ℕ) (y : Identity) → is_fed p.feeds n y ≡ true → is_known p.fates y ≡ true
-  kinds : (n : ℕ) (y : Identity) (k : InstrumentKind) → is_fed p.feeds n y ≡ true → slice_get (kinds_of is) n ≡ Some k → is_observable k ≡ is_observable y.kind
-  as_many : length p.feeds ≡ length is
-  streams : EachOf (IsAccounted p.feeds live is) p.streams
-
 -- a call that only sends to the streams
-sent_sound : (live live' : List LiveHandle) (is is' : List InstrumentState) (p : ReaderPart) (next : ℕ) (c : Call) → PartIsSound live is p → kinds_of is' ≡ kinds_of is → length is' ≡ length is
-    → ((q : Stream) → IsAccounted p.feeds live is q → IsAccounted p.feeds live' is' (stream_after p.row p.feeds next c q)) → PartIsSound live' is' (part_sent next c p)
+sent_sound : (live live' : List LiveHandle) (is is' : List InstrumentState) (p : ReaderPart) (next : ℕ) (c : Call) → PartIsLawful live is p → kinds_of is' ≡ kinds_of is → length is' ≡ length is
+    → ((q : Stream) → IsAccounted p.feeds live is q → IsAccounted p.feeds live' is' (stream_after p.row p.feeds next c q)) → PartIsLawful live' is' (part_sent next c p)
 sent_sound live live' is is' p next c a k l each = record {
   known = a.known;
   kinds = λ n y j f g. a.kinds n y j f (sym (ap (λ ks. slice_get ks n) k) ∙ g);
   as_many = a.as_many ∙ sym l;
   streams = each_map (IsAccounted p.feeds live is) (IsAccounted p.feeds live' is') (stream_after p.row p.feeds next c) p.streams each a.streams;
+  of_events = each_map (IsOfEvents p.row) (IsOfEvents p.row) (stream_after p.row p.feeds next c) p.streams (λ q h. events_after p.row p.feeds next c q h) a.of_events;
 }
 
 -- a build
-with_sound : (live : List LiveHandle) (is : List InstrumentState) (p : ReaderPart) (ds : List Demand) (about : About) (now : ℕ) → PartIsSound live is p → EachOf (λ (h : LiveHandle). h.1 < length is) live
-    → EachOf (λ (d : Demand). d.identity.kind ≡ about.kind) ds → PartIsSound live (is ++ new_instrument about ∷ []) (with_feeds ds (fold (demanded now) p ds))
+with_sound : (live : List LiveHandle) (is : List InstrumentState) (p : ReaderPart) (ds : List Demand) (about : About) (now : ℕ) → PartIsLawful live is p → EachOf (λ (h : LiveHandle). h.1 < length is) live
+    → EachOf (λ (d : Demand). d.identity.kind ≡ about.kind) ds → PartIsLawful live (is ++ new_instrument about ∷ []) (with_feeds ds (fold (demanded now) p ds))
 with_sound live is p ds about now a b k = record {
   known = λ n y f. ⊎_elim
       (λ t. known_after now ds p y (a.known n y t))
@@ -264,6 +250,7 @@ with_sound live is p ds about now a b k = record {
       (each_weaker (IsAccounted p.feeds live is) (IsAccounted (p.feeds ++ new ∷ []) live (is ++ new_instrument about ∷ [])) after.streams
       (λ q h sync. ((h sync).0 ∙ sym (held_before p.feeds new q.demand.identity live below), (h sync).1 ∙ sym (ap wrapped (new_adds_nothing (aggregate_of q.demand) q.demand.identity p.feeds is new about a.as_many))))
       (streams_after now (IsAccounted p.feeds live is) (λ y. (n : ℕ) × (is_fed p.feeds n y ≡ true)) begun ds p (λ y h. a.known h.0 y h.1) a.streams));
+  of_events = subst (λ row. EachOf (IsOfEvents row) after.streams) (sym (same_row now ds p)) (streams_after now (IsOfEvents p.row) (λ y. ⊥) (λ d h. events_at_first p.row now d) ds p (λ y h. absurd h) a.of_events);
 }
   where
     after : ReaderPart
@@ -296,8 +283,8 @@ observed_fine s readers r now os e = go (nat_lt r readers) s.shut e
     go true false e = e
     go false c e = absurd (cc)
 
-part_sound : (views : Views) (s : Shared) (readers : ℕ) (c : Call) (p : ReaderPart) → refusal s readers c ≡ None → SharedIsSound s → PartIsSound s.live s.instruments p
-    → PartIsSound (shared_after s c).live (shared_after s c).instruments (part_after views s c p)
+part_sound : (views : Views) (s : Shared) (readers : ℕ) (c : Call) (p : ReaderPart) → refusal s readers c ≡ None → HandlesAreSound s → PartIsLawful s.live s.instruments p
+    → PartIsLawful (shared_after s c).live (shared_after s c).instruments (part_after views s c p)
 part_sound views s readers (Meter scope) p e h a = a
 part_sound views s readers (Build meter about now) p e h a =
     with_sound s.live s.instruments p (build_demands views p (scope_of s.meters meter) about) about now a h.bound (demands_kind (λ ds. is_dropped (fold Rattle.otel_model.specs.Machine.enter p.fates ds)) views p.row (scope_of s.meters meter) about)
@@ -332,59 +319,67 @@ part_sound views s readers (Collect r now os) p e h a =
 part_sound views s readers Flush p e h a = a
 part_sound views s readers Shutdown p e h a = a
 
--- ======== runs ========
-record IsSound (rows : List Row) (st : State) : Type 0 where
-  shared : SharedIsSound st.shared
-  parts : (r : ℕ) (row : Row) → slice_get rows r ≡ Some row → (p : ReaderPart) × (slice_get st.readers r ≡ Some p) × PartIsSound st.shared.live st.shared.instruments p
+-- ======== providers ========
+each_changed : {X : Type 0} (P Q : X → Type 0) (f : X → X) (n : ℕ) (xs : List X) → ((x : X) → P x → Q (f x)) → ((x : X) → P x → Q x) → EachOf P xs → EachOf Q (changed_at n f xs)
+each_changed P Q f n [] g h a = tt
+each_changed P Q f zero (x ∷ xs) g h a = (g x a.0, each_weaker P Q xs h a.1)
+each_changed P Q f (suc n) (x ∷ xs) g h a = (h x a.0, each_changed P Q f n xs g h a.1)
 
-accepted_sound : (views : Views) (rows : List Row) (st : State) (c : Call) → refusal st.shared (length st.readers) c ≡ None → IsSound rows st → IsSound rows (accepted_after views st c)
-accepted_sound views rows st c e a = record {
-  shared = shared_sound st.shared (length st.readers) c e a.shared;
-  parts = λ r row h.
-      let q = a.parts r row h in
-      ⊎_elim
-      (λ m.
-      let u = unconcerned views st.shared c st.readers r m in
-      (q.0, u.0 ∙ q.1, subst (λ (s : Shared). PartIsSound s.live s.instruments q.0) (sym u.1) q.2))
-      (λ m. (part_after views st.shared c q.0, concerned views st.shared c st.readers r q.0 q.1 m, part_sound views st.shared (length st.readers) c q.0 e a.shared q.2))
-      (cases_Bool (is_others r c));
-}
+-- each reader's part after a call
+parts_lawful : (views : Views) (s : Shared) (readers : ℕ) (c : Call) (ps : List ReaderPart) → refusal s readers c ≡ None → HandlesAreSound s → EachOf (PartIsLawful s.live s.instruments) ps
+    → EachOf (PartIsLawful (shared_after s c).live (shared_after s c).instruments) (readers_after views s c ps)
+parts_lawful views s readers (Meter scope) ps e h a = a
+parts_lawful views s readers (Build meter about now) ps e h a =
+    each_map (PartIsLawful s.live s.instruments) (PartIsLawful s.live (s.instruments ++ new_instrument about ∷ [])) (built views (scope_of s.meters meter) about now) ps (λ p q. part_sound views s readers (Build meter about now) p e h q) a
+parts_lawful views s readers (Record n v l) ps e h a =
+    each_map (PartIsLawful s.live s.instruments) (PartIsLawful s.live (changed_at n (accepted v.amount) s.instruments)) (part_sent s.next (Record n v l)) ps (λ p q. part_sound views s readers (Record n v l) p e h q) a
+parts_lawful views s readers (Bind n l) ps e h a =
+    each_map (PartIsLawful s.live s.instruments) (PartIsLawful (s.live ++ (s.next, n) ∷ []) s.instruments) (part_sent s.next (Bind n l)) ps (λ p q. part_sound views s readers (Bind n l) p e h q) a
+parts_lawful views s readers (RecordBound k v) ps e h a =
+    each_map (PartIsLawful s.live s.instruments) (PartIsLawful s.live (accepted_by (instrument_held k s.live) v.amount s.instruments)) (part_sent s.next (RecordBound k v)) ps (λ p q. part_sound views s readers (RecordBound k v) p e h q) a
+parts_lawful views s readers (Unbind k) ps e h a =
+    each_map (PartIsLawful s.live s.instruments) (PartIsLawful (without_handle k s.live) s.instruments) (part_sent s.next (Unbind k)) ps (λ p q. part_sound views s readers (Unbind k) p e h q) a
+parts_lawful views s readers (Collect r now os) ps e h a =
+    each_changed (PartIsLawful s.live s.instruments) (PartIsLawful s.live s.instruments) (part_sent s.next (Collect r now os)) r ps (λ p q. part_sound views s readers (Collect r now os) p e h q) (λ p q. q) a
+parts_lawful views s readers Flush ps e h a = a
+parts_lawful views s readers Shutdown ps e h a = a
 
-after_sound : (views : Views) (rows : List Row) (st : State) (c : Call) → IsSound rows st → IsSound rows (after views st c)
-after_sound views rows st c a = go (refusal st.shared (length st.readers) c) refl
+pub after_lawful : EachCallKeepsLawful
+after_lawful views st c a = go (refusal st.shared (length st.readers) c) refl
   where
-    go : (f : Option Fault) → refusal st.shared (length st.readers) c ≡ f → IsSound rows (after_by f st (accepted_after views st c))
-    go None e = accepted_sound views rows st c e a
+    go : (f : Option Fault) → refusal st.shared (length st.readers) c ≡ f → IsLawful (after_by f st (accepted_after views st c))
+    go None e = record { handles = shared_sound st.shared (length st.readers) c e a.handles; parts = parts_lawful views st.shared (length st.readers) c st.readers e a.handles a.parts }
     go (Some f) e = a
 
-run_sound : (views : Views) (rows : List Row) (old new : State) (calls : List Call) (replies : List Reply) → Run views old calls replies new → IsSound rows old → IsSound rows new
-run_sound views rows old new [] [] run a = subst (IsSound rows) (sym run) a
-run_sound views rows old new [] (reply ∷ replies) run a = absurd run
-run_sound views rows old new (c ∷ calls) [] run a = absurd run
-run_sound views rows old new (c ∷ calls) (reply ∷ replies) run a =
-    run_sound views rows run.0 new calls replies run.2 (⊎_elim
-    (λ s. subst (IsSound rows) (sym s.1) a)
-    (λ s. subst (IsSound rows) (sym s.1) (after_sound views rows old c a))
+pub run_lawful : EachRunKeepsLawful
+run_lawful views old new [] [] run a = subst IsLawful (sym run) a
+run_lawful views old new [] (reply ∷ replies) run a = absurd run
+run_lawful views old new (c ∷ calls) [] run a = absurd run
+run_lawful views old new (c ∷ calls) (reply ∷ replies) run a =
+    run_lawful views run.0 new calls replies run.2 (⊎_elim
+    (λ s. subst IsLawful (sym s.1) a)
+    (λ s. subst IsLawful (sym s.1) (after_lawful views old c a))
     (step_cases views old run.0 c reply run.1))
 
-new_sound : (resource : Resource) (identity : ℕ) (rows : List Row) → IsSound rows (new_state resource identity rows)
-new_sound resource identity rows = record {
-  shared = record { bound = tt; below = tt; distinct = tt };
-  parts = λ r row h. (
-    new_part row,
-    get_map new_part rows r row h,
-    record {
-      known = λ n y f. absurd (false≢true f);
-      kinds = λ n y k f g. absurd (false≢true f);
-      as_many = refl;
-      streams = tt;
-    },
-  );
-}
+first_parts : (rows : List Row) → EachOf (PartIsLawful [] []) (map new_part rows)
+first_parts [] = tt
+first_parts (row ∷ rows) = (record { known = λ n y f. absurd (false≢true f); kinds = λ n y k f g. absurd (false≢true f); as_many = refl; streams = tt; of_events = tt }, first_parts rows)
+
+pub first_lawful : IsLawfulAtFirst
+first_lawful resource identity rows = record { handles = record { bound = tt; below = tt; distinct = tt }; parts = first_parts rows }
+
+-- ======== balances ========
+both_of : (p : ReaderPart) (feeds : List (List Identity)) (live : List LiveHandle) (is : List InstrumentState) (qs : List Stream) → EachOf (IsAccounted feeds live is) qs → EachOf (IsOfEvents p.row) qs
+    → EachOf (λ (q : Stream). IsBalanced p.row q × IsPaidFor feeds is q) qs
+both_of p feeds live is [] a b = tt
+both_of p feeds live is (q ∷ qs) a b = ((balanced_events p.row q b.0, λ sync. (a.0 sync).1), both_of p feeds live is qs a.1 b.1)
+
+pub balances_law : LawfulBalances
+balances_law st a = each_weaker (PartIsLawful st.shared.live st.shared.instruments) (λ (p : ReaderPart). EachOf (λ (q : Stream). IsBalanced p.row q × IsPaidFor p.feeds st.shared.instruments q) p.streams) st.readers
+    (λ p h. both_of p p.feeds st.shared.live st.shared.instruments p.streams h.streams h.of_events) a.parts
 
 pub accepted_law : IsAccepted
 accepted_law views resource identity rows calls replies new run r row part h g j s e sync =
-    let q = (run_sound views rows (new_state resource identity rows) new calls replies run (new_sound resource identity rows)).parts r row h in
-    let there : q.0 ≡ part = some_is q.0 part (sym q.1 ∙ g) in
-    let P : ReaderPart → Type 0 = λ p. PartIsSound new.shared.live new.shared.instruments p in
-    (each_at (IsAccounted part.feeds new.shared.live new.shared.instruments) part.streams j s (subst P there q.2).streams e sync).1
+    let lawful = run_lawful views (new_state resource identity rows) new calls replies run (first_lawful resource identity rows) in
+    let part_lawful = each_at (PartIsLawful new.shared.live new.shared.instruments) new.readers r part lawful.parts g in
+    (each_at (IsAccounted part.feeds new.shared.live new.shared.instruments) part.streams j s part_lawful.streams e sync).1

@@ -6,3 +6,4 @@ pub mod Amounts
 pub mod Feeding
 pub mod Booked
 pub mod Apart
+pub mod OfEvents

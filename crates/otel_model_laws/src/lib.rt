@@ -4,6 +4,7 @@
 ghost use Rattle.otel_model.specs.Laws.{AreFeedsApart, AreFeedsStreams, AreStreamsApart, IsAccepted};
 ghost use Rattle.otel_model.specs.Resources.{MergesAreCanonical, OthersValuesWin, UrlsMergeFromTheLeft, UrlsMergeFromTheRight};
 ghost use Rattle.otel_model_laws.specs.Builds.{AlikeFeedTheSame};
+ghost use Rattle.otel_model_laws.specs.Lawful.{EachCallKeepsLawful, EachRunKeepsLawful, IsLawfulAtFirst, LawfulBalances};
 ghost use Rattle.otel_model_laws.specs.Orders.{AreDifferences, BindsInAnyOrder, ObservationsInAnyOrder, RecordsInAnyOrder};
 
 /// In what order attributes are given changes nothing.
@@ -41,4 +42,12 @@ pub fn feeds()
     ensures streams_apart { AreStreamsApart }
     ensures feeds_apart { AreFeedsApart }
     ensures feeds_streams { AreFeedsStreams }
+{}
+
+/// What a provider keeps from call to call, whatever its views: its balances.
+pub fn keeps()
+    ensures first { IsLawfulAtFirst }
+    ensures call { EachCallKeepsLawful }
+    ensures run { EachRunKeepsLawful }
+    ensures balances { LawfulBalances }
 {}

@@ -1,0 +1,100 @@
+-- What a provider keeps from call to call, whatever its views: its balances, and the facts that carry them.
+use Rattle.std.specs.Prelude.{◌≡◌, ℕ, ◌+◌, ◌<◌, true, false, cond, List, [], ◌∷◌, map, filter, length, Some, slice_get, sum_by}
+use Rattle.otel_model_stream.specs.Events.{Event, Handles}
+use Rattle.otel_model_stream.specs.Folds.{wrapped}
+use Rattle.otel_model_stream.specs.Machine.{begin, run, answers, points}
+use Rattle.otel_model_stream.specs.Totals.{has_number, points_total}
+use Rattle.otel_model.specs.Resources.{Resource}
+use Rattle.otel_model.specs.Calls.{InstrumentKind, is_observable, Call, Reply}
+use Rattle.otel_model.specs.Demands.{Identity, Row, Views, is_known}
+use Rattle.otel_model.specs.Streams.{is_drained, is_delta, kind_of, aggregate_of}
+use Rattle.otel_model.specs.State.{InstrumentState, LiveHandle, Shared, Stream, ReaderPart, State}
+use Rattle.otel_model.specs.Sent.{is_fed}
+use Rattle.otel_model.specs.Machine.{recorded_over, new_state}
+use Rattle.otel_model.specs.Steps.{after, Run}
+use Rattle.otel_model.specs.Totals.{accepted_for}
+
+abbrev pub EachOf : {X : Type 0} → (X → Type 0) → List X → Type 0
+EachOf P [] = Unit {0}
+EachOf P (x ∷ xs) = P x × EachOf P xs
+
+-- ======== balances ========
+-- what a stream recorded is what it exported and what is pending, modulo 2^64
+abbrev pub IsBalanced : Row → Stream → Type 0
+IsBalanced row q = is_drained q.demand ≡ false → q.recorded ≡ wrapped (q.exported + points_total (points (kind_of row q.demand) q.machine))
+
+-- and what the instruments that feed it accepted
+abbrev pub IsPaidFor : List (List Identity) → List InstrumentState → Stream → Type 0
+IsPaidFor feeds is q = is_observable q.demand.identity.kind ≡ false → q.recorded ≡ wrapped (accepted_for (aggregate_of q.demand) q.demand.identity feeds is)
+
+-- both, of each stream of each reader
+abbrev pub Balances : State → Type 0
+Balances st = EachOf (λ (p : ReaderPart). EachOf (λ (q : Stream). IsBalanced p.row q × IsPaidFor p.feeds st.shared.instruments q) p.streams) st.readers
+
+-- ======== handles ========
+abbrev pub handles_of : List LiveHandle → List ℕ
+handles_of live = map (λ (p : LiveHandle). p.0) live
+
+-- no number stands twice
+abbrev pub AreDistinct : List LiveHandle → Type 0
+AreDistinct [] = Unit {0}
+AreDistinct (p ∷ ps) = (has_number p.0 (handles_of ps) ≡ false) × AreDistinct ps
+
+-- live handles have instruments that are there, and numbers of their own, below the next
+pub record HandlesAreSound (s : Shared) : Type 0 where
+  pub bound : EachOf (λ (p : LiveHandle). p.1 < length s.instruments) s.live
+  pub below : EachOf (λ (p : LiveHandle). p.0 < s.next) s.live
+  pub distinct : AreDistinct s.live
+
+-- ======== streams ========
+abbrev pub numbers : Handles → List ℕ
+numbers live = map (λ p. p.0) live
+
+-- the numbers of the handles that were bound at instruments that feed the stream
+abbrev pub held_for : List (List Identity) → Identity → List LiveHandle → List ℕ
+held_for feeds x live = handles_of (filter (λ (p : LiveHandle). is_fed feeds p.1 x) live)
+
+-- a synchronous stream's handles are those, and it is paid for
+abbrev pub IsAccounted : List (List Identity) → List LiveHandle → List InstrumentState → Stream → Type 0
+IsAccounted feeds live is q = is_observable q.demand.identity.kind ≡ false
+    → (numbers q.machine.live ≡ held_for feeds q.demand.identity live) × (q.recorded ≡ wrapped (accepted_for (aggregate_of q.demand) q.demand.identity feeds is))
+
+-- a stream is what some list of events made of it
+pub record IsOfEvents (row : Row) (q : Stream) : Type 0 where
+  pub events : List Event
+  pub machine : q.machine ≡ run (aggregate_of q.demand) (kind_of row q.demand) q.demand.limit (begin (aggregate_of q.demand)) events
+  pub recorded : q.recorded ≡ recorded_over (aggregate_of q.demand) (kind_of row q.demand) q.demand.limit (begin (aggregate_of q.demand)) 0 events
+  pub exported : q.exported ≡ cond (is_delta row q.demand) (wrapped (sum_by points_total (answers (aggregate_of q.demand) (kind_of row q.demand) q.demand.limit (begin (aggregate_of q.demand)) events))) 0
+
+-- ======== readers, providers ========
+abbrev pub kinds_of : List InstrumentState → List InstrumentKind
+kinds_of is = map (λ (i : InstrumentState). i.kind) is
+
+-- what an instrument feeds was demanded, and is observable if the instrument is
+pub record PartIsLawful (live : List LiveHandle) (is : List InstrumentState) (p : ReaderPart) : Type 0 where
+  pub known : (n : ℕ) (y : Identity) → is_fed p.feeds n y ≡ true → is_known p.fates y ≡ true
+  pub kinds : (n : ℕ) (y : Identity) (k : InstrumentKind) → is_fed p.feeds n y ≡ true → slice_get (kinds_of is) n ≡ Some k → is_observable k ≡ is_observable y.kind
+  pub as_many : length p.feeds ≡ length is
+  pub streams : EachOf (IsAccounted p.feeds live is) p.streams
+  pub of_events : EachOf (IsOfEvents p.row) p.streams
+
+pub record IsLawful (st : State) : Type 0 where
+  pub handles : HandlesAreSound st.shared
+  pub parts : EachOf (PartIsLawful st.shared.live st.shared.instruments) st.readers
+
+-- ======== laws ========
+-- a provider as it is built is lawful
+abbrev pub IsLawfulAtFirst : Type 0
+IsLawfulAtFirst = (resource : Resource) (identity : ℕ) (rows : List Row) → IsLawful (new_state resource identity rows)
+
+-- each call keeps it so
+abbrev pub EachCallKeepsLawful : Type 0
+EachCallKeepsLawful = (views : Views) (st : State) (call : Call) → IsLawful st → IsLawful (after views st call)
+
+-- and each run
+abbrev pub EachRunKeepsLawful : Type 0
+EachRunKeepsLawful = (views : Views) (old new : State) (calls : List Call) (replies : List Reply) → Run views old calls replies new → IsLawful old → IsLawful new
+
+-- a lawful provider balances
+abbrev pub LawfulBalances : Type 0
+LawfulBalances = (st : State) → IsLawful st → Balances st
