@@ -11,3 +11,4 @@ pub mod RowsSums
 pub mod RowsViews
 pub mod RowsChecks
 pub mod Numbers
+pub mod RowsEdges

@@ -7,7 +7,7 @@ use Rattle.std.proofs.lemmas.List.Elements.{filter-append}
 use Rattle.std.proofs.Math.Nat.{mod-add-mod, add-mod-mod}
 use Rattle.otel_model_stream.specs.Folds.{Aggregate, Sum, LastValue, Histogram, Amount, wrapped}
 use Rattle.otel_model_stream.specs.Totals.{size, has_number, without_number}
-use Rattle.otel_model.specs.Calls.{InstrumentKind, About}
+use Rattle.otel_model.specs.Calls.{About}
 use Rattle.otel_model.specs.Demands.{Identity, has_identity}
 use Rattle.otel_model.specs.State.{InstrumentState, LiveHandle}
 use Rattle.otel_model.specs.Refusals.{instrument_held}

@@ -9,19 +9,17 @@ use Rattle.otel_model_stream.specs.Folds.{Aggregate, Amount, wrapped, sample_of}
 use Rattle.otel_model_stream.specs.Events.{Event, held_by}
 use Rattle.otel_model_stream.specs.Machine.{Machine, run, through}
 use Rattle.otel_model_stream.specs.Totals.{size, has_number, without_number}
-use Rattle.otel_model.specs.Resources.{Resource}
-use Rattle.otel_model.specs.Calls.{InstrumentKind, Counter, UpDownCounter, Histogram, ObservableCounter, ObservableUpDownCounter, Gauge, ObservableGauge, is_observable, About, Observed, Call, Meter, Build, Record, Bind, RecordBound, Unbind, Collect, Flush, Shutdown, Fault, UnknownReader, ReaderShutDown, WrongKind, Reply}
-use Rattle.otel_model.specs.Demands.{Identity, Demand, Views, Row, is_known, is_dropped, fed}
+use Rattle.otel_model.specs.Calls.{InstrumentKind, Counter, UpDownCounter, Histogram, ObservableCounter, ObservableUpDownCounter, Gauge, ObservableGauge, is_observable, About, Observed, Call, Meter, Build, Record, Bind, RecordBound, Unbind, Collect, Flush, Shutdown, Fault, UnknownReader, ReaderShutDown, WrongKind}
+use Rattle.otel_model.specs.Demands.{Identity, Demand, Views, Row, is_dropped, fed}
 use Rattle.otel_model.specs.Streams.{is_sum, observes_sums, is_drained, is_delta, kind_of, aggregate_of}
-use Rattle.otel_model.specs.State.{InstrumentState, LiveHandle, Shared, Stream, ReaderPart, State}
+use Rattle.otel_model.specs.State.{InstrumentState, LiveHandle, Shared, Stream, ReaderPart}
 use Rattle.otel_model.specs.Refusals.{refusal, record_refusal, bind_refusal, instrument_held, handle_refusal, held_refusal, number_refusal, observation_refusal, observations_refusal, first_fault}
 use Rattle.otel_model.specs.Sent.{scope_of, is_fed, set_for, observed}
 use Rattle.otel_model.specs.Machine.{new_instrument, accepted, changed_at, accepted_by, without_handle, shared_after, if_held, recorded_with, recorded_over, stream_after, new_stream, demanded, build_demands, with_feeds, built, part_sent, readers_after, accepted_after, new_part, new_state}
-use Rattle.otel_model.specs.Steps.{after_by, after, Run}
-use Rattle.otel_model.specs.Only.{is_others}
+use Rattle.otel_model.specs.Steps.{after_by}
 use Rattle.otel_model.specs.Totals.{accepted_for}
 use Rattle.otel_model.specs.Laws.{IsAccepted}
-use Rattle.otel_model.proofs.Single.{some_is, get_map, step_cases, part_after, concerned, unconcerned}
+use Rattle.otel_model.proofs.Single.{get_map, step_cases, part_after}
 use Rattle.otel_model.proofs.Recorded.{held_is, by_unbind, collect_keeps, keeps_when}
 use Rattle.otel_model_laws.specs.Lawful.{EachOf, HandlesAreSound, numbers, IsAccounted, IsOfEvents, PartIsLawful, IsLawful, IsBalanced, IsPaidFor, IsLawfulAtFirst, EachCallKeepsLawful, EachRunKeepsLawful, LawfulBalances}
 use Rattle.otel_model_laws.proofs.OfEvents.{events_after, events_at_first, balanced_events}

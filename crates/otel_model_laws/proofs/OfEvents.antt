@@ -1,5 +1,5 @@
 -- A stream is what a list of events made of it, and so it balances.
-use Rattle.std.proofs.Common.{◌≡◌, ⊎_elim, ℕ, ◌+◌, Bool, true, false, List, [], ◌∷◌, ◌++◌, refl, arith, sym, ◌∙◌, ap, cond, subst, append_assoc}
+use Rattle.std.proofs.Common.{◌≡◌, ℕ, ◌+◌, Bool, true, false, List, [], ◌∷◌, ◌++◌, refl, arith, sym, ◌∙◌, ap, cond, subst, append_assoc}
 use Rattle.std.specs.Prelude.{◌^◌, sum_by}
 use Rattle.std.proofs.lemmas.List.{append-nil}
 use Rattle.std.proofs.lemmas.List.Sums.{sum_by_push}
@@ -15,7 +15,7 @@ use Rattle.otel_model.specs.Demands.{Identity, Demand, Row}
 use Rattle.otel_model.specs.Streams.{is_drained, is_delta, kind_of, aggregate_of}
 use Rattle.otel_model.specs.State.{Stream}
 use Rattle.otel_model.specs.Sent.{is_fed, set_for, observed, sent}
-use Rattle.otel_model.specs.Machine.{points_at, exported_after, recorded_over, stream_after, new_stream}
+use Rattle.otel_model.specs.Machine.{exported_after, recorded_over, stream_after, new_stream}
 use Rattle.otel_model.proofs.StreamFacts.{points_of_run, delta_total, cumulative_total}
 use Rattle.otel_model.proofs.Follow.{run_append, recorded_append}
 use Rattle.otel_model.proofs.Gather.{cond_same}
