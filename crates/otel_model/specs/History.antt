@@ -1,4 +1,5 @@
--- What was made, read off the calls alone: meters, builds, demands, streams, and the history of each stream.
+-- What was made (Metrics SDK, "View", "MetricReader"), read off the calls alone: meters, builds, demands, streams, and
+-- the history of each stream.
 -- No table, no entry, no counter is kept.
 use Rattle.std.specs.Prelude.{ℕ, ◌==◌, Bool, true, false, cond, ◌&&◌, not, List, [], ◌∷◌, ◌++◌, map, filter, length, Option}
 use Rattle.std.specs.List.{list_any}

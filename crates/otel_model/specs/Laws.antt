@@ -17,7 +17,8 @@ use Rattle.otel_model.specs.Machine.{new_state}
 use Rattle.otel_model.specs.Steps.{Run, replies_of}
 use Rattle.otel_model.specs.Only.{only, replies_left, without_asking, EachAsAlone}
 use Rattle.otel_model.specs.History.{made, builds_in, streams_of, feeds_of, history, window_of, window_points, reported_of, collections_of, given}
-use Rattle.otel_model.specs.Totals.{exported_in, recorded_in, accepted_for}
+use Rattle.otel_model.specs.Totals.{exported_in, recorded_in}
+use Rattle.otel_model.specs.Accepted.{accepted_for}
 
 -- a run from a provider as it is built
 abbrev pub IsRun : Views → Resource → ℕ → List Row → List Call → List Reply → State → Type 0

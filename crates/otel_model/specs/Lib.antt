@@ -12,4 +12,5 @@ pub mod Steps
 pub mod Only
 pub mod History
 pub mod Totals
+pub mod Accepted
 pub mod Laws

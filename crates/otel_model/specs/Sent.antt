@@ -1,4 +1,5 @@
--- What the machine and the histories both say: scopes, which streams an instrument feeds, and what a call sends to a stream.
+-- What the machine and the histories both say: scopes, which streams an instrument feeds, and what a call sends to a
+-- stream (Metrics SDK, "View", "MetricReader").
 use Rattle.std.specs.Prelude.{ℕ, Bool, cond, List, [], ◌∷◌, ◌++◌, Option, Some, None, slice_get}
 use Rattle.std.specs.List.{list_any}
 use Rattle.otel_common.specs.Scopes.{scope_eq}

@@ -1,4 +1,4 @@
--- What a provider is: what all its readers share, and a part for each reader.
+-- What a provider is (Metrics SDK, "MeterProvider"): what all its readers share, and a part for each reader.
 use Rattle.std.specs.Prelude.{ℕ, Bool, List}
 use Rattle.otel_common.specs.declared.scopes.InstrumentationScope.{InstrumentationScope}
 use Rattle.otel_model_stream.specs.Events.{Point}

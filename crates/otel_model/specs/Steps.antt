@@ -1,4 +1,4 @@
--- What a call answers, and what lists of calls do.
+-- What a call answers, and what lists of calls do (Metrics SDK, "Shutdown", "ForceFlush", "Collect").
 use Rattle.std.specs.Prelude.{◌≡◌, ℕ, ◌+◌, Bool, true, false, cond, IsTrue, List, [], ◌∷◌, map, length, Option, Some, None, slice_get}
 use Rattle.otel_common.specs.Scopes.{scope_eq}
 use Rattle.otel_common.specs.declared.scopes.InstrumentationScope.{InstrumentationScope}

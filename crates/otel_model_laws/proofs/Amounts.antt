@@ -13,7 +13,7 @@ use Rattle.otel_model.specs.State.{InstrumentState, LiveHandle}
 use Rattle.otel_model.specs.Refusals.{instrument_held}
 use Rattle.otel_model.specs.Sent.{is_fed}
 use Rattle.otel_model.specs.Machine.{new_instrument, accepted, changed_at, without_handle}
-use Rattle.otel_model.specs.Totals.{accepted_amount, accepted_for}
+use Rattle.otel_model.specs.Accepted.{accepted_amount, accepted_for}
 use Rattle.otel_model.proofs.Gather.{cond_same}
 use Rattle.otel_model.proofs.Single.{some_is}
 pub use Rattle.otel_model_laws.specs.Lawful.{EachOf, kinds_of, handles_of, AreDistinct, held_for}

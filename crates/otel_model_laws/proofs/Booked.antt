@@ -17,7 +17,7 @@ use Rattle.otel_model.specs.Refusals.{refusal, record_refusal, bind_refusal, ins
 use Rattle.otel_model.specs.Sent.{scope_of, is_fed, set_for, observed}
 use Rattle.otel_model.specs.Machine.{new_instrument, accepted, changed_at, accepted_by, without_handle, shared_after, if_held, recorded_with, recorded_over, stream_after, new_stream, demanded, build_demands, with_feeds, built, part_sent, readers_after, accepted_after, new_part, new_state}
 use Rattle.otel_model.specs.Steps.{after_by}
-use Rattle.otel_model.specs.Totals.{accepted_for}
+use Rattle.otel_model.specs.Accepted.{accepted_for}
 use Rattle.otel_model.specs.Laws.{IsAccepted}
 use Rattle.otel_model.proofs.Single.{get_map, step_cases, part_after}
 use Rattle.otel_model.proofs.Recorded.{held_is, by_unbind, collect_keeps, keeps_when}

@@ -12,7 +12,7 @@ use Rattle.otel_model.specs.State.{InstrumentState, LiveHandle, Shared, Stream, 
 use Rattle.otel_model.specs.Sent.{is_fed}
 use Rattle.otel_model.specs.Machine.{recorded_over, new_state}
 use Rattle.otel_model.specs.Steps.{after, Run}
-use Rattle.otel_model.specs.Totals.{accepted_for}
+use Rattle.otel_model.specs.Accepted.{accepted_for}
 
 abbrev pub EachOf : {X : Type 0} → (X → Type 0) → List X → Type 0
 EachOf P [] = Unit {0}
