@@ -37,7 +37,7 @@ length_push [] x = omega arith
 length_push (y ∷ ys) x = let ih : length (ys ++ x ∷ []) ≡ length ys + 1 = length_push ys x in omega arith
 
 -- the instrument of a record or bind that is not refused is there
-recorded_there : (o : Option InstrumentState) (given : Bool) → record_refusal o given ≡ None → (i : InstrumentState) × (o ≡ Some i)
+pub recorded_there : (o : Option InstrumentState) (given : Bool) → record_refusal o given ≡ None → (i : InstrumentState) × (o ≡ Some i)
 recorded_there None given e = absurd (cc)
 recorded_there (Some i) given e = (i, refl)
 
@@ -49,7 +49,7 @@ held_there : (o : Option InstrumentState) (given : Bool) → held_refusal o give
 held_there None given e = absurd (cc)
 held_there (Some i) given e = (i, refl)
 
-handle_there : (o : Option ℕ) (is : List InstrumentState) (given : Bool) → handle_refusal o is given ≡ None → (n : ℕ) × (i : InstrumentState) × (o ≡ Some n) × (slice_get is n ≡ Some i)
+pub handle_there : (o : Option ℕ) (is : List InstrumentState) (given : Bool) → handle_refusal o is given ≡ None → (n : ℕ) × (i : InstrumentState) × (o ≡ Some n) × (slice_get is n ≡ Some i)
 handle_there None is given e = absurd (cc)
 handle_there (Some n) is given e = let q = held_there (slice_get is n) given e in (n, q.0, refl, q.1)
 

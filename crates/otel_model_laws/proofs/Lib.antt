@@ -7,3 +7,4 @@ pub mod Feeding
 pub mod Booked
 pub mod Apart
 pub mod OfEvents
+pub mod Accepting

@@ -1,3 +1,4 @@
 pub mod Orders
 pub mod Builds
 pub mod Lawful
+pub mod Books

@@ -3,6 +3,7 @@
 
 ghost use Rattle.otel_model.specs.Laws.{AreFeedsApart, AreFeedsStreams, AreStreamsApart, IsAccepted};
 ghost use Rattle.otel_model.specs.Resources.{MergesAreCanonical, OthersValuesWin, UrlsMergeFromTheLeft, UrlsMergeFromTheRight};
+ghost use Rattle.otel_model_laws.specs.Books.{EachCallIsBooked, EachRunIsBooked};
 ghost use Rattle.otel_model_laws.specs.Builds.{AlikeFeedTheSame};
 ghost use Rattle.otel_model_laws.specs.Lawful.{EachCallKeepsLawful, EachRunKeepsLawful, IsLawfulAtFirst, LawfulBalances};
 ghost use Rattle.otel_model_laws.specs.Orders.{AreDifferences, BindsInAnyOrder, ObservationsInAnyOrder, RecordsInAnyOrder};
@@ -50,4 +51,10 @@ pub fn keeps()
     ensures call { EachCallKeepsLawful }
     ensures run { EachRunKeepsLawful }
     ensures balances { LawfulBalances }
+{}
+
+/// What all instruments together accepted grows by each record that is answered by `Done`, and by nothing else.
+pub fn books()
+    ensures call { EachCallIsBooked }
+    ensures run { EachRunIsBooked }
 {}
