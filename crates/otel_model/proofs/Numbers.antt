@@ -4,14 +4,11 @@ use Rattle.std.specs.Prelude.{slice_get, fold, filter, not}
 use Rattle.std.proofs.lemmas.Bool.{cases_Bool, true≢false, or_parts}
 use Rattle.otel_model.specs.Demands.{Identity, identity_eq, Demand, Views, Row, is_known, is_drop, has_identity}
 use Rattle.otel_model.specs.History.{Built, gather, new_demand, firsts, demands_of, streams_of}
-use Rattle.otel_model.specs.Laws.{AreApart}
+use Rattle.otel_model.specs.Laws.{AreApart, AreNumbered, names}
 use Rattle.otel_model.specs.State.{Stream}
 use Rattle.otel_model.specs.Machine.{changed_at}
 use Rattle.otel_model.proofs.Single.{some_is}
 use Rattle.otel_model.proofs.Gather.{known-append, map_both, identity_eq_true, identity_eq_self}
-
-abbrev pub names : List Stream → List Identity
-names ss = map (λ (s : Stream). s.demand.identity) ss
 
 module _ (f : Stream → Stream) (keeps : (s : Stream) → (f s).demand.identity ≡ s.demand.identity) where
   -- the stream of an identity changed
@@ -61,13 +58,6 @@ module _ (f : Stream → Stream) (keeps : (s : Stream) → (f s).demand.identity
     where
       apart : identity_eq s.demand.identity t.demand.identity ≡ false
       apart = ⊎_elim (λ w. absurd (true≢false (sym (there ss k s e) ∙ (ap (has_identity (names ss)) (identity_eq_true s.demand.identity t.demand.identity w) ∙ a.0)))) (λ w. w) (cases_Bool (identity_eq s.demand.identity t.demand.identity))
-
-  -- each number names the stream of the identity beside it
-  abbrev pub AreNumbered : List Identity → List ℕ → List Identity → Type 0
-  AreNumbered ns [] [] = Unit {0}
-  AreNumbered ns [] (x ∷ xs) = ⊥
-  AreNumbered ns (k ∷ ks) [] = ⊥
-  AreNumbered ns (k ∷ ks) (x ∷ xs) = (slice_get ns k ≡ Some x) × AreNumbered ns ks xs
 
   named : (ss : List Stream) (k : ℕ) (x : Identity) → slice_get (names ss) k ≡ Some x → (s : Stream) × (slice_get ss k ≡ Some s) × (s.demand.identity ≡ x)
   named [] k x e = absurd (cc)

@@ -49,6 +49,17 @@ abbrev pub AreApart : List Identity → Type 0
 AreApart [] = Unit {0}
 AreApart (x ∷ xs) = (has_identity xs x ≡ false) × AreApart xs
 
+-- the identities of streams, in order
+abbrev pub names : List Stream → List Identity
+names ss = map (λ (s : Stream). s.demand.identity) ss
+
+-- these identities stand in the list at these numbers
+abbrev pub AreNumbered : List Identity → List ℕ → List Identity → Type 0
+AreNumbered ns [] [] = Unit {0}
+AreNumbered ns [] (x ∷ xs) = ⊥
+AreNumbered ns (k ∷ ks) [] = ⊥
+AreNumbered ns (k ∷ ks) (x ∷ xs) = (slice_get ns k ≡ Some x) × AreNumbered ns ks xs
+
 -- ======== streams, places, collections ========
 -- each reader's streams are the first demands, that do not drop, of the builds made
 abbrev pub AreStreamsOfBuilds : Type 0
@@ -63,7 +74,7 @@ AreFeedsOfBuilds = OfEachReader (λ views resource calls replies new r row part.
 -- the identities of a reader's streams are apart
 abbrev pub AreStreamsApart : Type 0
 AreStreamsApart = OfEachReader (λ views resource calls replies new r row part.
-    AreApart (map (λ (s : Stream). s.demand.identity) part.streams))
+    AreApart (names part.streams))
 
 -- so are those of the streams that an instrument feeds
 abbrev pub AreFeedsApart : Type 0
@@ -73,7 +84,7 @@ AreFeedsApart = OfEachReader (λ views resource calls replies new r row part.
 -- and each of these is a stream of the reader
 abbrev pub AreFeedsStreams : Type 0
 AreFeedsStreams = OfEachReader (λ views resource calls replies new r row part.
-    (n : ℕ) (x : Identity) → is_fed part.feeds n x ≡ true → has_identity (map (λ (s : Stream). s.demand.identity) part.streams) x ≡ true)
+    (n : ℕ) (x : Identity) → is_fed part.feeds n x ≡ true → has_identity (names part.streams) x ≡ true)
 
 -- the entries of each stream are the places of its window so far, in order
 abbrev pub ArePlacesOfHistories : Type 0

@@ -8,3 +8,4 @@ pub mod Booked
 pub mod Apart
 pub mod OfEvents
 pub mod Accepting
+pub mod Shows

@@ -2,3 +2,4 @@ pub mod Orders
 pub mod Builds
 pub mod Lawful
 pub mod Books
+pub mod Showing

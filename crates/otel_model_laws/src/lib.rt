@@ -6,6 +6,7 @@ ghost use Rattle.otel_model.specs.Resources.{MergesAreCanonical, OthersValuesWin
 ghost use Rattle.otel_model_laws.specs.Books.{EachCallIsBooked, EachRunIsBooked};
 ghost use Rattle.otel_model_laws.specs.Builds.{AlikeFeedTheSame};
 ghost use Rattle.otel_model_laws.specs.Lawful.{EachCallKeepsLawful, EachRunKeepsLawful, IsLawfulAtFirst, LawfulBalances};
+ghost use Rattle.otel_model_laws.specs.Showing.{BindsByNumber, RecordsByNumber, UnheldRests};
 ghost use Rattle.otel_model_laws.specs.Orders.{AreDifferences, BindsInAnyOrder, ObservationsInAnyOrder, RecordsInAnyOrder};
 
 /// In what order attributes are given changes nothing.
@@ -57,4 +58,11 @@ pub fn keeps()
 pub fn books()
     ensures call { EachCallIsBooked }
     ensures run { EachRunIsBooked }
+{}
+
+/// What a program that names streams by number owes to be the machine.
+pub fn numbers()
+    ensures records { RecordsByNumber }
+    ensures binds { BindsByNumber }
+    ensures unheld { UnheldRests }
 {}
