@@ -30,6 +30,7 @@ pub data InstrumentKind : Type 0 where
   Gauge : InstrumentKind
   ObservableGauge : InstrumentKind
 
+-- its place in the list of kinds
 abbrev pub kind_number : InstrumentKind → ℕ
 kind_number Counter = 0
 kind_number UpDownCounter = 1
@@ -39,9 +40,11 @@ kind_number ObservableUpDownCounter = 4
 kind_number Gauge = 5
 kind_number ObservableGauge = 6
 
+-- whether two kinds are the same
 abbrev pub kind_eq : InstrumentKind → InstrumentKind → Bool
 kind_eq a b = nat_eq (kind_number a) (kind_number b)
 
+-- whether the instrument is asynchronous
 abbrev pub is_observable : InstrumentKind → Bool
 is_observable Counter = false
 is_observable UpDownCounter = false
@@ -118,14 +121,17 @@ pub record Metric : Type 0 where
   pub start : ℕ
   pub time : ℕ
 
+-- the metrics of one scope
 pub record ScopeMetrics : Type 0 where
   pub scope : InstrumentationScope
   pub metrics : List Metric
 
+-- what a collection answers
 pub record Collection : Type 0 where
   pub resource : Resource
   pub scopes : List ScopeMetrics
 
+-- what a call answers
 pub data Reply : Type 0 where
   Meter : (number : Option ℕ) → Reply
   Instrument : (number : ℕ) → Reply

@@ -11,6 +11,7 @@ pub data NameFault : Type 0 where
   BadStart : NameFault
   BadCharacter : NameFault
 
+-- a byte from one to another
 abbrev pub is_within : ℕ → ℕ → ℕ → Bool
 is_within least greatest b = nat_le least b && nat_le b greatest
 
@@ -18,6 +19,7 @@ is_within least greatest b = nat_le least b && nat_le b greatest
 abbrev pub is_letter : ℕ → Bool
 is_letter b = is_within 65 90 b || is_within 97 122 b
 
+-- an ASCII digit
 abbrev pub is_digit : ℕ → Bool
 is_digit b = is_within 48 57 b
 
@@ -25,6 +27,7 @@ is_digit b = is_within 48 57 b
 abbrev pub is_name_byte : ℕ → Bool
 is_name_byte b = is_letter b || (is_digit b || (nat_eq b 95 || (nat_eq b 46 || (nat_eq b 45 || nat_eq b 47))))
 
+-- the first character is there and is no ASCII letter
 abbrev pub starts_badly : List ℕ → Bool
 starts_badly [] = false
 starts_badly (b ∷ bytes) = not (is_letter b)
@@ -38,12 +41,14 @@ name_fault name =
     (cond (starts_badly name) (Some BadStart)
     (cond (list_any (λ b. not (is_name_byte b)) name) (Some BadCharacter) None)))
 
+-- the text of each
 abbrev pub name_fault_text : NameFault → List ℕ
 name_fault_text Empty = codes "name must be non-empty"
 name_fault_text Long = codes "name must be less than 256 characters"
 name_fault_text BadStart = codes "name must start with an alphabetic character"
 name_fault_text BadCharacter = codes "characters in name must be ASCII and belong to the alphanumeric characters, '_', '.', '-' and '/'"
 
+-- a name without fault
 abbrev pub is_good_name : List ℕ → Bool
 is_good_name name = is_none (name_fault name)
 
@@ -53,6 +58,7 @@ pub data UnitFault : Type 0 where
   Long : UnitFault
   NotAscii : UnitFault
 
+-- no byte beyond ASCII
 abbrev pub is_ascii : List ℕ → Bool
 is_ascii bytes = not (list_any (λ b. nat_lt 127 b) bytes)
 
@@ -62,6 +68,7 @@ unit_fault unit =
     cond (nat_lt 63 (length unit)) (Some UnitFault.Long)
     (cond (is_ascii unit) None (Some NotAscii))
 
+-- the text of each
 abbrev pub unit_fault_text : UnitFault → List ℕ
 unit_fault_text UnitFault.Long = codes "unit must be less than 64 characters"
 unit_fault_text NotAscii = codes "characters in unit must be ASCII"
@@ -71,6 +78,7 @@ abbrev pub optional_unit_fault : Option (List ℕ) → Option UnitFault
 optional_unit_fault None = None
 optional_unit_fault (Some unit) = unit_fault unit
 
+-- a unit without fault
 abbrev pub is_good_unit : List ℕ → Bool
 is_good_unit unit = is_none (unit_fault unit)
 
@@ -81,13 +89,15 @@ rises [] = true
 rises (a ∷ []) = true
 rises (a ∷ b ∷ bounds) = int_lt a b && rises (b ∷ bounds)
 
--- what is answered where bounds do not rise: of an instrument, of a stream, of an aggregation
+-- what is answered where bounds do not rise: those of an instrument
 abbrev pub bounds_fault_text : List ℕ
 bounds_fault_text = codes "Bucket boundaries must be sorted and non-duplicate"
 
+-- those of a stream
 abbrev pub stream_bounds_fault_text : List ℕ
 stream_bounds_fault_text = codes "Bucket boundaries must be sorted and not contain any duplicates"
 
+-- those of an aggregation
 abbrev pub aggregation_bounds_fault_text : List ℕ
 aggregation_bounds_fault_text = codes "aggregation: explicit bucket histogram: non-monotonic boundaries"
 

@@ -24,9 +24,11 @@ spread_of (Total n) = no_spread false false 0
 spread_of (Last n) = no_spread false false 0
 spread_of (Spreads s) = s
 
+-- a point of a sum or gauge
 abbrev pub value_point : Point → AttributeSet × ℕ
 value_point p = (p.0, value_of p.1)
 
+-- a point of a histogram
 abbrev pub spread_point : Point → AttributeSet × Spread
 spread_point p = (p.0, spread_of p.1)
 
@@ -44,9 +46,11 @@ value_before (p ∷ ps) x = cond (set_eq p.0 x) (value_of p.1) (value_before ps 
 abbrev pub less : ℕ → ℕ → ℕ
 less n before = wrapped (n + (2 ^ 64 - wrapped before))
 
+-- a point less its value in the collection before
 abbrev pub difference : List Point → Point → Point
 difference before p = (p.0, Last (less (value_of p.1) (value_before before p.0)))
 
+-- the points of a stream, as differences where it shows these
 abbrev pub differences : Row → Demand → List Point → List Point → List Point
 differences row d before ps = cond (shows_differences row d) (map (difference before) ps) ps
 
@@ -70,11 +74,13 @@ metric row now since before d ps = record {
   time = now;
 }
 
+-- how many points a metric has
 abbrev pub number_of_points : Content → ℕ
 number_of_points (Content.Gauge ps) = length ps
 number_of_points (Content.Sum is_delta is_monotonic ps) = length ps
 number_of_points (Content.Histogram is_delta bounds ps) = length ps
 
+-- whether it has some
 abbrev pub has_points : Metric → Bool
 has_points m = nat_lt 0 (number_of_points m.content)
 
@@ -87,6 +93,7 @@ ScopedMetric = InstrumentationScope × Metric
 abbrev pub in_scope : List ScopedMetric → InstrumentationScope → ScopeMetrics
 in_scope ms scope = record { scope = scope; metrics = map (λ (m : ScopedMetric). m.1) (filter (λ (m : ScopedMetric). scope_eq m.0 scope && has_points m.1) ms) }
 
+-- whether a scope has metrics
 abbrev pub has_metrics : ScopeMetrics → Bool
 has_metrics s = nat_lt 0 (length s.metrics)
 

@@ -19,6 +19,7 @@ pub record Identity : Type 0 where
   pub unit : Text
   pub name : Text
 
+-- whether two identities are the same
 abbrev pub identity_eq : Identity → Identity → Bool
 identity_eq a b = scope_eq a.scope b.scope && (kind_eq a.kind b.kind && (beq a.signed b.signed && (bytes_eq a.description b.description && (bytes_eq a.unit b.unit && bytes_eq a.name b.name))))
 
@@ -30,6 +31,7 @@ pub data Aggregation : Type 0 where
   LastValue : Aggregation
   ExplicitBucketHistogram : (boundaries : List ℤ) (record_min_max : Bool) → Aggregation
 
+-- whether nothing is kept
 abbrev pub is_drop : Aggregation → Bool
 is_drop Drop = true
 is_drop Default = false
@@ -49,6 +51,7 @@ fits Gauge LastValue = true
 fits ObservableGauge LastValue = true
 fits kind LastValue = false
 
+-- bounds that rise, if there are some
 abbrev pub is_valid : Aggregation → Bool
 is_valid Drop = true
 is_valid Default = true
@@ -56,6 +59,7 @@ is_valid Sum = true
 is_valid LastValue = true
 is_valid (ExplicitBucketHistogram bounds m) = rises bounds
 
+-- the bounds of the default histogram
 abbrev pub default_bounds : List ℤ
 default_bounds = pos 0 ∷ pos 5 ∷ pos 10 ∷ pos 25 ∷ pos 50 ∷ pos 75 ∷ pos 100 ∷ pos 250 ∷ pos 500 ∷ pos 750 ∷ pos 1000 ∷ pos 2500 ∷ pos 5000 ∷ pos 7500 ∷ pos 10000 ∷ []
 
@@ -91,9 +95,11 @@ pub record StreamSpec : Type 0 where
 abbrev pub View : Type 0
 View = Instrument → Option StreamSpec
 
+-- the views of a provider, in order
 abbrev pub Views : Type 0
 Views = List View
 
+-- what a reader may answer for a kind
 pub data Temporality : Type 0 where
   Cumulative : Temporality
   Delta : Temporality
@@ -125,6 +131,7 @@ pub record Answer : Type 0 where
 abbrev pub Row : Type 0
 Row = List Answer
 
+-- all kinds, in the order of their numbers
 abbrev pub kinds : List InstrumentKind
 kinds = Counter ∷ UpDownCounter ∷ Histogram ∷ ObservableCounter ∷ ObservableUpDownCounter ∷ Gauge ∷ ObservableGauge ∷ []
 
@@ -132,9 +139,11 @@ kinds = Counter ∷ UpDownCounter ∷ Histogram ∷ ObservableCounter ∷ Observ
 abbrev pub preferring : Temporality → Row
 preferring temporality = map (λ kind. record { temporality = temporality_preference kind temporality; limit = None; aggregation = None }) kinds
 
+-- of a kind that the row does not have
 abbrev pub no_answer : Answer
 no_answer = record { temporality = Cumulative; limit = None; aggregation = None }
 
+-- the answer for a kind
 abbrev pub answer_for : Row → InstrumentKind → Answer
 answer_for row kind = or_else (slice_get row (kind_number kind)) no_answer
 
@@ -153,6 +162,7 @@ default_from kind None = kind_default kind
 default_from kind (Some Default) = kind_default kind
 default_from kind (Some a) = cond (is_valid a && fits kind a) a (kind_default kind)
 
+-- the default aggregation of a kind at a reader with these answers
 abbrev pub reader_default : Row → InstrumentKind → Aggregation
 reader_default row kind = default_from kind (answer_for row kind).aggregation
 
@@ -177,9 +187,11 @@ resolved row about (Some a) = a
 abbrev pub description_of : About → Text
 description_of about = or_else about.description []
 
+-- so an absent unit
 abbrev pub unit_of : About → Text
 unit_of about = or_else about.unit []
 
+-- the instrument of a build, as views see it
 abbrev pub instrument_of : InstrumentationScope → About → Instrument
 instrument_of scope about = record { name = about.name; description = description_of about; kind = about.kind; unit = unit_of about; scope = scope }
 
@@ -204,6 +216,7 @@ demand_of row scope about s = record {
   limit = or_else s.limit (or_else (answer_for row about.kind).limit default_limit);
 }
 
+-- a view's answer that leaves everything to the instrument
 abbrev pub nothing_said : StreamSpec
 nothing_said = record { name = None; description = None; unit = None; aggregation = None; allow = None; limit = None }
 
@@ -211,6 +224,7 @@ nothing_said = record { name = None; description = None; unit = None; aggregatio
 abbrev pub own_demand : Row → InstrumentationScope → About → Demand
 own_demand row scope about = demand_of row scope about nothing_said
 
+-- one view's demand before the others
 abbrev pub add_answer : Row → InstrumentationScope → About → Option StreamSpec → List Demand → List Demand
 add_answer row scope about None ds = ds
 add_answer row scope about (Some s) ds = demand_of row scope about s ∷ ds
@@ -220,6 +234,7 @@ abbrev pub view_demands : Views → Row → InstrumentationScope → About → L
 view_demands [] row scope about = []
 view_demands (view ∷ views) row scope about = add_answer row scope about (view (instrument_of scope about)) (view_demands views row scope about)
 
+-- whether its aggregation fits its kind
 abbrev pub is_compatible : Demand → Bool
 is_compatible d = fits d.identity.kind d.aggregation
 
@@ -229,16 +244,20 @@ abbrev pub fate_of : List Demand → Identity → Option Demand
 fate_of [] x = None
 fate_of (d ∷ ds) x = cond (identity_eq d.identity x) (Some d) (fate_of ds x)
 
+-- whether the fate is to be dropped
 abbrev pub is_drop_fate : Option Demand → Bool
 is_drop_fate None = false
 is_drop_fate (Some d) = is_drop d.aggregation
 
+-- whether the identity is dropped by its first demand
 abbrev pub is_dropped : List Demand → Identity → Bool
 is_dropped ds x = is_drop_fate (fate_of ds x)
 
+-- whether the identity was demanded
 abbrev pub is_known : List Demand → Identity → Bool
 is_known ds x = list_any (λ d. identity_eq d.identity x) ds
 
+-- whether there is no demand
 abbrev pub is_empty : List Demand → Bool
 is_empty [] = true
 is_empty (d ∷ ds) = false
@@ -269,6 +288,7 @@ abbrev pub demands_on : (List Demand → Identity → Bool) → Views → Row �
 demands_on dropped views row None about = []
 demands_on dropped views row (Some scope) about = cond (is_good about) (demands_with dropped views row scope about) []
 
+-- whether the identity is in the list
 abbrev pub has_identity : List Identity → Identity → Bool
 has_identity xs x = list_any (λ y. identity_eq y x) xs
 

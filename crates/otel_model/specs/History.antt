@@ -42,6 +42,7 @@ is_failed LedgerFull = false
 is_failed UseWorker = false
 is_failed WorkersMissing = false
 
+-- whether a call with this reply counts as made
 abbrev pub counts : Call → Reply → Bool
 counts call (Reply.Meter n) = true
 counts call (Reply.Instrument n) = true
@@ -93,6 +94,7 @@ scope_asked before (Collect r now os) = []
 scope_asked before Flush = []
 scope_asked before Shutdown = []
 
+-- a scope that was not asked for before
 abbrev pub new_scope : List InstrumentationScope → InstrumentationScope → List InstrumentationScope
 new_scope before scope = cond (has_scope scope before) [] (scope ∷ [])
 
@@ -117,6 +119,7 @@ build_in before (Collect r now os) = []
 build_in before Flush = []
 build_in before Shutdown = []
 
+-- the builds of a list of calls, in order
 abbrev pub builds_in : List Call → List Built
 builds_in calls = gather build_in [] calls
 
@@ -134,6 +137,7 @@ demands_of views row earlier (i ∷ is) = demands_of views row (earlier ++ deman
 abbrev pub new_demand : List Demand → Demand → List Demand
 new_demand before d = cond (is_known before d.identity) [] (d ∷ [])
 
+-- the first demands of a list
 abbrev pub firsts : List Demand → List Demand
 firsts ds = gather new_demand [] ds
 
@@ -152,6 +156,7 @@ feeds_of views row earlier (i ∷ is) =
 abbrev pub demands_by : Views → Row → List Call → List Demand
 demands_by views row calls = demands_of views row [] (builds_in calls)
 
+-- for each build the streams that it feeds, after these calls
 abbrev pub feeds_by : Views → Row → List Call → List (List Identity)
 feeds_by views row calls = feeds_of views row [] (builds_in calls)
 
@@ -179,6 +184,7 @@ events_at views row r d before call =
     cond (is_demanded views row d before)
     (cond (concerns r call) (sent (feeds_by views row before) (binds_in before) d call) []) []
 
+-- all events of the stream
 abbrev pub history : Views → Row → ℕ → Demand → List Call → List Event
 history views row r d calls = gather (events_at views row r d) [] calls
 
@@ -186,7 +192,11 @@ history views row r d calls = gather (events_at views row r d) [] calls
 abbrev pub window_of : Row → Demand → List Event → Window
 window_of row d es = window (kind_of row d) d.limit opening es
 
--- the points of that window
+-- the window of a stream after these calls
+abbrev pub window_after : Views → Row → ℕ → Demand → List Call → Window
+window_after views row r d calls = window_of row d (history views row r d calls)
+
+-- the points of the window in which a history ends
 abbrev pub window_points : Row → Demand → List Event → List Point
 window_points row d es = points_of (aggregate_of d) (kind_of row d) d.limit (window_of row d es)
 
@@ -206,6 +216,7 @@ shown_by views row r d before (Collect q now os) = points_with views row r d bef
 shown_by views row r d before Flush = []
 shown_by views row r d before Shutdown = []
 
+-- of a stream that was demanded, at its reader's collections alone
 abbrev pub shown_at : Views → Row → ℕ → Demand → List Call → Call → List (List Point)
 shown_at views row r d before call = cond (is_demanded views row d before) (cond (concerns r call) (shown_by views row r d before call) []) []
 
@@ -244,6 +255,7 @@ abbrev pub collection_of : Views → Resource → Row → ℕ → List Call → 
 collection_of views resource row r before now os = collection resource (meters_in before)
     (map (λ (d : Demand). (d.identity.scope, metric row now (start_of views row r d before) (reported_of views row r d before) d (points_with views row r d before os))) (streams_of views row (builds_in before)))
 
+-- the collection of reader r that a call makes, if it makes one
 abbrev pub made_by : Views → Resource → Row → ℕ → List Call → Call → List Collection
 made_by views resource row r before (Meter scope) = []
 made_by views resource row r before (Build meter about now) = []
@@ -268,6 +280,7 @@ shown_in Reply.Done = []
 shown_in (Reply.Collected c) = c ∷ []
 shown_in (Reply.Refused f) = []
 
+-- the collection that a call of reader r was given, if it was given one
 abbrev pub collected_by : ℕ → Call → Reply → List Collection
 collected_by r (Meter scope) reply = []
 collected_by r (Build meter about now) reply = []
@@ -279,6 +292,7 @@ collected_by r (Collect q now os) reply = cond (q == r) (shown_in reply) []
 collected_by r Flush reply = []
 collected_by r Shutdown reply = []
 
+-- of a list of calls with these replies
 abbrev pub given : ℕ → List Call → List Reply → List Collection
 given r [] replies = []
 given r (call ∷ calls) [] = []

@@ -1,11 +1,12 @@
 -- The laws of whole runs: what the machine does is what is read off the calls alone.
 use Rattle.std.specs.Prelude.{◌≡◌, ℕ, ◌+◌, ◌≤◌, true, false, List, [], ◌∷◌, map, filter, length, Some, slice_get, ◌++◌}
 use Rattle.otel_model_stream.specs.Entries.{Entry}
+use Rattle.otel_model_stream.specs.Sets.{AttributeSet}
 use Rattle.otel_model_stream.specs.Events.{Event}
 use Rattle.otel_model_stream.specs.Folds.{wrapped}
 use Rattle.otel_model_stream.specs.Machine.{points}
 use Rattle.otel_model_stream.specs.Totals.{recorded_total, points_total}
-use Rattle.otel_model_stream.specs.Windows.{places_of, uncounted_of, counted}
+use Rattle.otel_model_stream.specs.Windows.{Window, places_of, uncounted_of, counted}
 use Rattle.otel_model.specs.Resources.{Resource}
 use Rattle.otel_model.specs.Calls.{is_observable, Call, Reply}
 use Rattle.otel_model.specs.Collections.{differences}
@@ -16,7 +17,7 @@ use Rattle.otel_model.specs.Sent.{is_fed}
 use Rattle.otel_model.specs.Machine.{new_state}
 use Rattle.otel_model.specs.Steps.{Run, replies_of}
 use Rattle.otel_model.specs.Only.{only, replies_left, without_asking, EachAsAlone}
-use Rattle.otel_model.specs.History.{made, builds_in, streams_of, feeds_of, history, window_of, window_points, reported_of, collections_of, given}
+use Rattle.otel_model.specs.History.{made, builds_in, streams_of, feeds_of, history, window_after, window_points, reported_of, collections_of, given}
 use Rattle.otel_model.specs.Totals.{exported_in, recorded_in}
 use Rattle.otel_model.specs.Accepted.{accepted_for}
 
@@ -90,13 +91,17 @@ AreFeedsStreams = OfEachReader (λ views resource calls replies new r row part.
 abbrev pub ArePlacesOfHistories : Type 0
 ArePlacesOfHistories = OfEachReader (λ views resource calls replies new r row part.
     map (λ (s : Stream). map (λ (e : Entry). e.set) s.machine.table.entries) part.streams
-    ≡ map (λ (d : Demand). places_of d.limit (window_of row d (history views row r d (made calls replies)))) (streams_of views row (builds_in (made calls replies))))
+    ≡ map (λ (d : Demand). places_of d.limit (window_after views row r d (made calls replies))) (streams_of views row (builds_in (made calls replies))))
+
+-- the places of a window that count
+abbrev pub counted_places : ℕ → Window → List AttributeSet
+counted_places limit w = counted (uncounted_of limit w) (places_of limit w)
 
 -- and the counted ones are those that the window counts
 abbrev pub AreCountedOfHistories : Type 0
 AreCountedOfHistories = OfEachReader (λ views resource calls replies new r row part.
     map (λ (s : Stream). map (λ (e : Entry). e.set) (filter (λ (e : Entry). e.counted) s.machine.table.entries)) part.streams
-    ≡ map (λ (d : Demand). counted (uncounted_of d.limit (window_of row d (history views row r d (made calls replies)))) (places_of d.limit (window_of row d (history views row r d (made calls replies))))) (streams_of views row (builds_in (made calls replies))))
+    ≡ map (λ (d : Demand). counted_places d.limit (window_after views row r d (made calls replies))) (streams_of views row (builds_in (made calls replies))))
 
 -- each collection has the resource, scopes, headings, moments and points that are read off the calls
 abbrev pub AreCollectionsOfHistories : Type 0
@@ -116,6 +121,7 @@ abbrev pub IsRecordedTotal : Type 0
 IsRecordedTotal = OfEachStream (λ views calls replies new r row part s.
     s.recorded ≡ wrapped (recorded_in views row r s.demand (made calls replies)))
 
+-- and what it exported
 abbrev pub IsExportedTotal : Type 0
 IsExportedTotal = OfEachStream (λ views calls replies new r row part s.
     s.exported ≡ wrapped (exported_in views row r s.demand (made calls replies)))

@@ -21,6 +21,7 @@ use Rattle.otel_model.specs.Sent.{has_scope, scope_of, observed, sent}
 abbrev pub with_meter : InstrumentationScope → List InstrumentationScope → List InstrumentationScope
 with_meter scope ms = cond (has_scope scope ms) ms (ms ++ scope ∷ [])
 
+-- an instrument that accepted nothing
 abbrev pub new_instrument : About → InstrumentState
 new_instrument about = record { kind = about.kind; signed = about.signed; count = 0; sum = 0 }
 
@@ -28,15 +29,18 @@ new_instrument about = record { kind = about.kind; signed = about.signed; count 
 abbrev pub accepted : Amount → InstrumentState → InstrumentState
 accepted v i = record i { count = wrapped (i.count + 1); sum = wrapped (i.sum + v.bits) }
 
+-- the element of this number changed
 abbrev pub changed_at : {X : Type 0} → ℕ → (X → X) → List X → List X
 changed_at n f [] = []
 changed_at zero f (x ∷ xs) = f x ∷ xs
 changed_at (suc n) f (x ∷ xs) = x ∷ changed_at n f xs
 
+-- one record more at the instrument of a handle
 abbrev pub accepted_by : Option ℕ → Amount → List InstrumentState → List InstrumentState
 accepted_by None v is = is
 accepted_by (Some n) v is = changed_at n (accepted v) is
 
+-- the live handles without this one
 abbrev pub without_handle : ℕ → List LiveHandle → List LiveHandle
 without_handle h [] = []
 without_handle h (p ∷ ps) = cond (p.0 == h) ps (p ∷ without_handle h ps)
@@ -85,6 +89,7 @@ reported_after row feeds (Collect r now os) s = cond (shows_differences row s.de
 reported_after row feeds Flush s = s.reported
 reported_after row feeds Shutdown s = s.reported
 
+-- one or the other, as the handle is there
 abbrev pub if_held : Option AttributeSet → ℕ → ℕ → ℕ
 if_held None more total = total
 if_held (Some g) more total = more
@@ -97,10 +102,12 @@ recorded_with σ m total (Event.RecordBound h v) = if_held (held_by h m.live) (w
 recorded_with σ m total (Event.Unbind h) = total
 recorded_with σ m total Event.Collect = total
 
+-- after a list of events
 abbrev pub recorded_over : Aggregate → Kind → ℕ → Machine → ℕ → List Event → ℕ
 recorded_over σ kind limit m total [] = total
 recorded_over σ kind limit m total (e ∷ es) = recorded_over σ kind limit (step σ kind limit m e) (recorded_with σ m total e) es
 
+-- after what a call sends
 abbrev pub recorded_after : Row → List Event → Stream → ℕ
 recorded_after row es s = recorded_over (aggregate_of s.demand) (kind_of row s.demand) s.demand.limit s.machine s.recorded es
 
@@ -116,6 +123,7 @@ exported_after row feeds (Collect r now os) s = cond (is_delta row s.demand) (wr
 exported_after row feeds Flush s = s.exported
 exported_after row feeds Shutdown s = s.exported
 
+-- a stream after a call
 abbrev pub stream_after : Row → List (List Identity) → ℕ → Call → Stream → Stream
 stream_after row feeds next call s = record {
   demand = s.demand;
@@ -138,6 +146,7 @@ enter fates d = cond (is_known fates d.identity) fates (fates ++ d ∷ [])
 abbrev pub make : ℕ → List Demand → List Stream → Demand → List Stream
 make now fates ss d = cond (is_known fates d.identity) ss (ss ++ cond (is_drop d.aggregation) [] (new_stream now d ∷ []))
 
+-- a reader's part after one demand
 abbrev pub demanded : ℕ → ReaderPart → Demand → ReaderPart
 demanded now p d = record p { fates = enter p.fates d; streams = make now p.fates p.streams d }
 
@@ -145,9 +154,11 @@ demanded now p d = record p { fates = enter p.fates d; streams = make now p.fate
 abbrev pub build_demands : Views → ReaderPart → Option InstrumentationScope → About → List Demand
 build_demands views p scope about = demands_on (λ ds. is_dropped (fold enter p.fates ds)) views p.row scope about
 
+-- and the streams that the new instrument feeds
 abbrev pub with_feeds : List Demand → ReaderPart → ReaderPart
 with_feeds ds p = record p { feeds = p.feeds ++ fed (is_dropped p.fates) ds ∷ [] }
 
+-- a reader's part after a build
 abbrev pub built : Views → Option InstrumentationScope → About → ℕ → ReaderPart → ReaderPart
 built views scope about now p = with_feeds (build_demands views p scope about) (fold (demanded now) p (build_demands views p scope about))
 
@@ -155,6 +166,7 @@ built views scope about now p = with_feeds (build_demands views p scope about) (
 abbrev pub part_sent : ℕ → Call → ReaderPart → ReaderPart
 part_sent next call p = record p { streams = map (stream_after p.row p.feeds next call) p.streams }
 
+-- all readers' parts after a call that isn't refused
 abbrev pub readers_after : Views → Shared → Call → List ReaderPart → List ReaderPart
 readers_after views s (Meter scope) ps = ps
 readers_after views s (Build meter about now) ps = map (built views (scope_of s.meters meter) about now) ps
@@ -166,6 +178,7 @@ readers_after views s (Collect r now os) ps = changed_at r (part_sent s.next (Co
 readers_after views s Flush ps = ps
 readers_after views s Shutdown ps = ps
 
+-- the provider after a call that isn't refused
 abbrev pub accepted_after : Views → State → Call → State
 accepted_after views st call = record { shared = shared_after st.shared call; readers = readers_after views st.shared call st.readers }
 
@@ -173,6 +186,7 @@ accepted_after views st call = record { shared = shared_after st.shared call; re
 abbrev pub new_part : Row → ReaderPart
 new_part row = record { row = row; fates = []; streams = []; feeds = [] }
 
+-- the provider before its first call
 abbrev pub new_state : Resource → ℕ → List Row → State
 new_state resource identity rows = record {
   shared = record { resource = resource; identity = identity; meters = []; instruments = []; live = []; next = 0; shut = false };

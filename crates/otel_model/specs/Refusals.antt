@@ -28,6 +28,7 @@ abbrev pub instrument_held : ℕ → List LiveHandle → Option ℕ
 instrument_held h [] = None
 instrument_held h (p ∷ ps) = cond (p.0 == h) (Some p.1) (instrument_held h ps)
 
+-- the number type of a handle's instrument
 abbrev pub held_refusal : Option InstrumentState → Bool → Option Fault
 held_refusal None given = Some UnknownHandle
 held_refusal (Some i) given = number_refusal i.signed given
@@ -37,6 +38,7 @@ abbrev pub handle_refusal : Option ℕ → List InstrumentState → Bool → Opt
 handle_refusal None is given = Some UnknownHandle
 handle_refusal (Some n) is given = held_refusal (slice_get is n) given
 
+-- an unbind: the handle
 abbrev pub unbind_refusal : Option ℕ → Option Fault
 unbind_refusal None = Some UnknownHandle
 unbind_refusal (Some n) = None
@@ -46,6 +48,7 @@ abbrev pub observation_refusal : Option InstrumentState → Bool → Option Faul
 observation_refusal None given = Some UnknownInstrument
 observation_refusal (Some i) given = cond (is_observable i.kind) (number_refusal i.signed given) (Some WrongKind)
 
+-- the first of two that stands
 abbrev pub first_fault : Option Fault → Option Fault → Option Fault
 first_fault None later = later
 first_fault (Some f) later = Some f

@@ -10,6 +10,7 @@ pub record Resource : Type 0 where
   pub attributes : List KeyValue
   pub schema_url : Option (List ℕ)
 
+-- no attributes and no URL
 abbrev pub empty_resource : Resource
 empty_resource = record { attributes = []; schema_url = None }
 
@@ -31,6 +32,7 @@ abbrev pub value_at : List ℕ → List KeyValue → Option Value
 value_at key [] = None
 value_at key (p ∷ attributes) = cond (bytes_eq p.key key) (Some p.value) (value_at key attributes)
 
+-- the first of two that is there
 abbrev pub first_of : {X : Type 0} → Option X → Option X → Option X
 first_of None other = other
 first_of (Some x) other = Some x
@@ -50,6 +52,7 @@ abbrev pub UrlsMergeFromTheLeft : Type 0
 UrlsMergeFromTheLeft = (a b c : Resource) (one two : List ℕ) → one ≢ two → a.schema_url ≡ Some one → b.schema_url ≡ Some two → c.schema_url ≡ Some two
     → (merged (merged a b) c).schema_url ≡ Some two
 
+-- so merged from the right, no URL is left
 abbrev pub UrlsMergeFromTheRight : Type 0
 UrlsMergeFromTheRight = (a b c : Resource) (one two : List ℕ) → one ≢ two → a.schema_url ≡ Some one → b.schema_url ≡ Some two → c.schema_url ≡ Some two
     → (merged a (merged b c)).schema_url ≡ None

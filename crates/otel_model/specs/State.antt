@@ -18,6 +18,8 @@ pub record InstrumentState : Type 0 where
 abbrev pub LiveHandle : Type 0
 LiveHandle = ℕ × ℕ
 
+-- resource, identity, the scopes of the meters, instruments, live handles, the next handle's number, and
+-- whether the provider was shut down
 pub record Shared : Type 0 where
   pub resource : Resource
   pub identity : ℕ
@@ -45,6 +47,7 @@ pub record ReaderPart : Type 0 where
   pub streams : List Stream
   pub feeds : List (List Identity)
 
+-- a provider
 pub record State : Type 0 where
   pub shared : Shared
   pub readers : List ReaderPart

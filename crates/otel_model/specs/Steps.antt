@@ -15,10 +15,12 @@ abbrev pub number_from : ℕ → InstrumentationScope → List InstrumentationSc
 number_from k scope [] = None
 number_from k scope (m ∷ ms) = cond (scope_eq m scope) (Some k) (number_from (k + 1) scope ms)
 
+-- the collection of a reader
 abbrev pub collect_from : Shared → ℕ → List Observed → ReaderPart → Collection
 collect_from s now os p = collection s.resource s.meters
     (map (λ (q : Stream). (q.demand.identity.scope, metric p.row now q.since q.reported q.demand (points_at p.row p.feeds os q))) p.streams)
 
+-- of a reader that is there
 abbrev pub collect_reply : Shared → ℕ → List Observed → Option ReaderPart → Reply
 collect_reply s now os None = Reply.Refused UnknownReader
 collect_reply s now os (Some p) = Reply.Collected (collect_from s now os p)
@@ -35,10 +37,12 @@ answer_of st (Collect r now os) = collect_reply st.shared now os (slice_get st.r
 answer_of st Flush = Reply.Done
 answer_of st Shutdown = Reply.Done
 
+-- the fault, or else the reply
 abbrev pub reply_by : Option Fault → Reply → Reply
 reply_by None reply = reply
 reply_by (Some f) reply = Reply.Refused f
 
+-- the old state, if there is a fault
 abbrev pub after_by : Option Fault → State → State → State
 after_by None old new = new
 after_by (Some f) old new = old
@@ -97,6 +101,7 @@ abbrev pub replies_of : Views → State → List Call → List Reply
 replies_of views st [] = []
 replies_of views st (call ∷ calls) = reply_of st call ∷ replies_of views (after views st call) calls
 
+-- and the state after these calls
 abbrev pub state_of : Views → State → List Call → State
 state_of views st [] = st
 state_of views st (call ∷ calls) = state_of views (after views st call) calls

@@ -5,6 +5,7 @@ use Rattle.otel_model_stream.specs.Events.{Kind}
 use Rattle.otel_model.specs.Calls.{InstrumentKind, Counter, UpDownCounter, Histogram, ObservableCounter, ObservableUpDownCounter, Gauge, ObservableGauge}
 use Rattle.otel_model.specs.Demands.{Aggregation, Drop, Default, Sum, LastValue, ExplicitBucketHistogram, Row, answer_for, resets, Demand}
 
+-- whether the aggregation is a sum
 abbrev pub is_sum : Aggregation → Bool
 is_sum Drop = false
 is_sum Default = false
@@ -12,6 +13,7 @@ is_sum Sum = true
 is_sum LastValue = false
 is_sum (ExplicitBucketHistogram bounds m) = false
 
+-- whether it is a last value
 abbrev pub is_last_value : Aggregation → Bool
 is_last_value Drop = false
 is_last_value Default = false
@@ -29,6 +31,7 @@ observes_sums ObservableUpDownCounter = true
 observes_sums Gauge = false
 observes_sums ObservableGauge = false
 
+-- asynchronous gauges observe values that stand
 abbrev pub observes_last_values : InstrumentKind → Bool
 observes_last_values Counter = false
 observes_last_values UpDownCounter = false
@@ -46,6 +49,7 @@ is_drained d = is_sum d.aggregation && observes_sums d.identity.kind
 abbrev pub always_resets : Demand → Bool
 always_resets d = is_last_value d.aggregation && observes_last_values d.identity.kind
 
+-- a delta stream: its reader's answer resets, or it always does
 abbrev pub is_delta : Row → Demand → Bool
 is_delta row d = resets (answer_for row d.identity.kind).temporality || always_resets d
 
@@ -71,6 +75,7 @@ aggregate_from drained kind (ExplicitBucketHistogram bounds m) = Aggregate.Histo
 aggregate_from drained kind Drop = Aggregate.Sum
 aggregate_from drained kind Default = Aggregate.Sum
 
+-- of a demand
 abbrev pub aggregate_of : Demand → Aggregate
 aggregate_of d = aggregate_from (is_drained d) d.identity.kind d.aggregation
 

@@ -10,6 +10,7 @@ use Rattle.otel_model.specs.Steps.{Step, Run}
 abbrev pub count_in : State → ℕ
 count_in st = sum_by (λ (i : InstrumentState). i.count) st.shared.instruments
 
+-- the sum of the values
 abbrev pub sum_in : State → ℕ
 sum_in st = sum_by (λ (i : InstrumentState). i.sum) st.shared.instruments
 
@@ -17,6 +18,7 @@ sum_in st = sum_by (λ (i : InstrumentState). i.sum) st.shared.instruments
 abbrev pub one_each : Amount → ℕ
 one_each v = 1
 
+-- the 64 bits of the value
 abbrev pub bits_of : Amount → ℕ
 bits_of v = v.bits
 

@@ -14,6 +14,7 @@ use Rattle.otel_model.specs.Machine.{recorded_over, new_state}
 use Rattle.otel_model.specs.Steps.{after, Run}
 use Rattle.otel_model.specs.Accepted.{accepted_for}
 
+-- what holds of each element of a list
 abbrev pub EachOf : {X : Type 0} → (X → Type 0) → List X → Type 0
 EachOf P [] = Unit {0}
 EachOf P (x ∷ xs) = P x × EachOf P xs
@@ -78,6 +79,7 @@ pub record PartIsLawful (live : List LiveHandle) (is : List InstrumentState) (p 
   pub streams : EachOf (IsAccounted p.feeds live is) p.streams
   pub of_events : EachOf (IsOfEvents p.row) p.streams
 
+-- a provider with such handles and readers
 pub record IsLawful (st : State) : Type 0 where
   pub handles : HandlesAreSound st.shared
   pub parts : EachOf (PartIsLawful st.shared.live st.shared.instruments) st.readers
