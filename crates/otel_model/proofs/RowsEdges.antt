@@ -8,6 +8,13 @@ use Rattle.otel_model_stream.specs.Sets.{over_set}
 use Rattle.otel_model_stream.specs.Folds.{Spread}
 use Rattle.otel_model.specs.Calls.{Counter, UpDownCounter, Histogram, ObservableCounter, Gauge, Call, Meter, Build, Record, Bind, RecordBound, Unbind, Collect, Shutdown, UnknownInstrument, UnknownMeter, UnknownHandle, WrongKind, WrongNumber, Content, Reply}
 use Rattle.otel_model.specs.Demands.{Drop, LastValue, ExplicitBucketHistogram, Views, Row, Delta, Cumulative, preferring}
+use Rattle.otel_model.specs.Calls.{Flush, OutOfMemory, Exhausted, AlreadyShutdown, ReaderShutDown, ReadersFailed}
+use Rattle.otel_model.specs.Resources.{empty_resource}
+use Rattle.otel_model.specs.State.{State}
+use Rattle.otel_model.specs.Machine.{new_instrument, new_state}
+use Rattle.otel_model.specs.Steps.{reply_of, after, Step}
+use Rattle.otel_model.specs.Only.{only}
+use Rattle.otel_model.specs.History.{made}
 use Rattle.otel_model.proofs.Rows.{Seen, a, m, about, with_own_bounds, u64, i64, x1, y1, pair, if_named, limited, named, aggregating, but_for, default_of, Shows, replies, one, delta_sum, cumulative_sum, on, add, observe}
 
 abbrev delta : Row
@@ -121,3 +128,37 @@ ignored_observation = refl
 pub meters_after_shutdown : replies [] [] (Meter m ∷ Shutdown ∷ Meter m ∷ Build (Some 0) (about Counter a) 100 ∷ Build (Some 1) (about Counter a) 100 ∷ [])
     ≡ Reply.Meter (Some 0) ∷ Reply.Done ∷ Reply.Meter None ∷ Reply.Instrument 0 ∷ Reply.Refused UnknownMeter ∷ []
 meters_after_shutdown = refl
+
+-- ======== handles, readers that fail, calls that count ========
+-- a provider with one counter, of which this many handles were bound
+abbrev bound_before : ℕ → State
+bound_before n = record {
+  shared = record (new_state empty_resource 0 []).shared { instruments = new_instrument (about Counter a) ∷ []; next = n };
+  readers = [];
+}
+
+pub last_handle : reply_of (bound_before 18446744073709551614) (Bind 0 []) ≡ Reply.Handle 18446744073709551614
+last_handle = refl
+
+pub no_more_handles : reply_of (bound_before 18446744073709551615) (Bind 0 []) ≡ Reply.Refused Exhausted
+no_more_handles = refl
+
+abbrev three : State
+three = new_state empty_resource 0 (delta ∷ delta ∷ delta ∷ [])
+
+-- readers 1 and 2 fail at the shutdown; the provider is shut down, and a second one is refused
+pub row_26 : Step [] three Shutdown (Reply.Refused (ReadersFailed 2 1)) (after [] three Shutdown)
+row_26 = (refl, refl, refl)
+
+pub row_26_second : reply_of (after [] three Shutdown) Shutdown ≡ Reply.Refused AlreadyShutdown
+row_26_second = refl
+
+-- a shutdown that a reader failed counts as made, a flush that one failed does not, nor what was refused
+pub calls_made : made (Shutdown ∷ Flush ∷ add 1 [] ∷ Bind 0 [] ∷ []) (Reply.Refused (ReadersFailed 1 0) ∷ Reply.Refused (ReadersFailed 1 0) ∷ Reply.Done ∷ Reply.Refused OutOfMemory ∷ []) ≡ Shutdown ∷ add 1 [] ∷ []
+calls_made = refl
+
+-- what reader 1 sees: not what was refused for memory, not another reader's collection, and its own as reader 0
+pub calls_left : only 1 (add 1 [] ∷ Bind 0 [] ∷ Collect 0 200 [] ∷ Collect 1 300 [] ∷ Record 9 (u64 1) [] ∷ [])
+    (Reply.Done ∷ Reply.Refused OutOfMemory ∷ Reply.Refused ReaderShutDown ∷ Reply.Refused ReaderShutDown ∷ Reply.Refused UnknownInstrument ∷ [])
+    ≡ add 1 [] ∷ Collect 0 300 [] ∷ Record 9 (u64 1) [] ∷ []
+calls_left = refl
