@@ -1,5 +1,6 @@
 -- Streams that a program names by number.
-use Rattle.std.proofs.Common.{◌≡◌, ℕ, ◌+◌, Bool, true, false, List, [], ◌∷◌, map, refl, ◌∙◌, cond}
+use Rattle.std.proofs.Common.{◌≡◌, ℕ, ◌+◌, Bool, true, false, List, [], ◌∷◌, ◌++◌, map, refl, sym, ◌∙◌, ap, cond, subst}
+use Rattle.std.specs.Prelude.{fold}
 use Rattle.otel_common.specs.declared.attributes.KeyValue.{KeyValue}
 use Rattle.otel_model_stream.specs.Folds.{wrapped, sample_of}
 use Rattle.otel_model_stream.specs.Events.{Event}
@@ -13,6 +14,18 @@ use Rattle.otel_model.specs.Sent.{is_fed, set_for}
 use Rattle.otel_model.specs.Machine.{if_held, stream_after}
 use Rattle.otel_model.proofs.Numbers.{at_all, fed_by_numbers}
 use Rattle.otel_model_laws.specs.Showing.{stream_with, stream_recorded, stream_bound, fed_by, RecordsByNumber, BindsByNumber, UnheldRests}
+use Rattle.otel_model_stream.specs.Totals.{points_total}
+use Rattle.otel_model.specs.Calls.{Observed, RecordBound, Unbind}
+use Rattle.otel_model.specs.Demands.{Demand, has_identity}
+use Rattle.otel_model.specs.Streams.{is_delta, kind_of}
+use Rattle.otel_model.specs.Collections.{shows_differences}
+use Rattle.otel_model.specs.Sent.{observed}
+use Rattle.otel_model.specs.Machine.{points_at, changed_at}
+use Rattle.otel_model.specs.Laws.{AreApart, AreNumbered, names}
+use Rattle.otel_model.proofs.Follow.{run_append, recorded_append}
+use Rattle.otel_model.proofs.Gather.{map_both}
+use Rattle.otel_model_laws.specs.Lawful.{EachOf}
+use Rattle.otel_model_laws.specs.Showing.{IsHeldOnlyBy, HandlesByNumber, CollectsAfterObservations, ObservationsByNumber}
 
 map_alike : {A B : Type 0} (f g : A → B) (xs : List A) → ((x : A) → f x ≡ g x) → map f xs ≡ map g xs
 map_alike f g [] e = refl
@@ -46,3 +59,82 @@ unheld_rests row feeds next h v s e = (
   λ i. record s { machine = through (e i) (sample_of (aggregate_of s.demand) v.amount) s.machine; recorded = if_held (e i) (wrapped (s.recorded + size (aggregate_of s.demand) v.amount)) s.recorded },
   λ i. record s { machine = let_go (e i) h s.machine },
 )
+
+-- ======== handles ========
+-- the same where each stream is the same
+each_alike : {A B : Type 0} (P : A → Type 0) (f g : A → B) (xs : List A) → ((x : A) → P x → f x ≡ g x) → EachOf P xs → map f xs ≡ map g xs
+each_alike P f g [] e a = refl
+each_alike P f g (x ∷ xs) e a = λ i. e x a.0 i ∷ each_alike P f g xs e a.1 i
+
+if_held_only : (f g : Stream → Stream) (b : Bool) (s : Stream) → f s ≡ g s → (b ≡ false → g s ≡ s) → cond b (f s) s ≡ g s
+if_held_only f g true s e r = e
+if_held_only f g false s e r = sym (r refl)
+
+pub handles_by_number : HandlesByNumber
+handles_by_number row feeds next h v ss ks xs k a b only = (
+  fed_by_numbers recorded (λ s. refl) ks xs ss k a b
+      ∙ each_alike (IsHeldOnlyBy h xs) (at_all recorded (λ s. refl) xs) (stream_after row feeds next (RecordBound h v)) ss
+      (λ s o. if_held_only recorded (stream_after row feeds next (RecordBound h v)) (has_identity xs s.demand.identity) s refl (λ e. (unheld_rests row feeds next h v s (o e)).0)) only,
+  fed_by_numbers ended (λ s. refl) ks xs ss k a b
+      ∙ each_alike (IsHeldOnlyBy h xs) (at_all ended (λ s. refl) xs) (stream_after row feeds next (Unbind h)) ss
+      (λ s o. if_held_only ended (stream_after row feeds next (Unbind h)) (has_identity xs s.demand.identity) s refl (λ e. (unheld_rests row feeds next h v s (o e)).1)) only,
+)
+  where
+    recorded : Stream → Stream
+    recorded s = stream_with row (Event.RecordBound h v.amount ∷ []) s
+
+    ended : Stream → Stream
+    ended s = stream_with row (Event.Unbind h ∷ []) s
+
+-- ======== collections ========
+pub collects_after : CollectsAfterObservations
+collects_after row feeds next r now os s = λ i. record s {
+  machine = run_append (aggregate_of s.demand) (kind_of row s.demand) s.demand.limit s.machine (observed feeds s.demand os) (Event.Collect ∷ []) i;
+  since = cond (is_delta row s.demand) now s.since;
+  reported = cond (shows_differences row s.demand) (points_at row feeds os s) s.reported;
+  recorded = recorded_append (aggregate_of s.demand) (kind_of row s.demand) s.demand.limit s.machine s.recorded (observed feeds s.demand os) (Event.Collect ∷ []) i;
+  exported = cond (is_delta row s.demand) (wrapped (s.exported + points_total (points_at row feeds os s))) s.exported;
+}
+
+-- events one after another
+with_more : (row : Row) (es fs : List Event) (s : Stream) → stream_with row fs (stream_with row es s) ≡ stream_with row (es ++ fs) s
+with_more row es fs s = λ i. record s {
+  machine = sym (run_append (aggregate_of s.demand) (kind_of row s.demand) s.demand.limit s.machine es fs) i;
+  recorded = sym (recorded_append (aggregate_of s.demand) (kind_of row s.demand) s.demand.limit s.machine s.recorded es fs) i;
+}
+
+abbrev with_observed : Row → List (List Identity) → List Observed → Stream → Stream
+with_observed row feeds os s = stream_with row (observed feeds s.demand os) s
+
+observed_first : (feeds : List (List Identity)) (d : Demand) (o : Observed) (os : List Observed) → observed feeds d (o ∷ []) ++ observed feeds d os ≡ observed feeds d (o ∷ os)
+observed_first feeds d o os = go (is_fed feeds o.instrument d.identity)
+  where
+    go : (b : Bool) → cond b (Event.Record (set_for d o.attributes) o.value.amount ∷ []) [] ++ observed feeds d os ≡ cond b (Event.Record (set_for d o.attributes) o.value.amount ∷ observed feeds d os) (observed feeds d os)
+    go true = refl
+    go false = refl
+
+same_names : (row : Row) (feeds : List (List Identity)) (os : List Observed) (ss : List Stream) → names (map (with_observed row feeds os) ss) ≡ names ss
+same_names row feeds os [] = refl
+same_names row feeds os (s ∷ ss) = ap (λ l. s.demand.identity ∷ l) (same_names row feeds os ss)
+
+none_observed : (row : Row) (feeds : List (List Identity)) (ss : List Stream) → map (with_observed row feeds []) ss ≡ ss
+none_observed row feeds [] = refl
+none_observed row feeds (s ∷ ss) = ap (λ l. s ∷ l) (none_observed row feeds ss)
+
+one_observed : (row : Row) (feeds : List (List Identity)) (ks : List ℕ) (o : Observed) (ss : List Stream) → AreNumbered (names ss) ks (fed_by feeds o.instrument) → AreApart (fed_by feeds o.instrument) → AreApart (names ss)
+    → fold (λ (ss : List Stream) k. changed_at k (stream_recorded row o.value o.attributes) ss) ss ks ≡ map (with_observed row feeds (o ∷ [])) ss
+one_observed row feeds ks o ss k a b =
+    fed_by_numbers (stream_recorded row o.value o.attributes) (λ s. refl) ks (fed_by feeds o.instrument) ss k a b
+    ∙ map_alike (at_all (stream_recorded row o.value o.attributes) (λ s. refl) (fed_by feeds o.instrument)) (with_observed row feeds (o ∷ [])) ss
+    (λ s. where_fed row s (Event.Record (set_for s.demand o.attributes) o.value.amount) (is_fed feeds o.instrument s.demand.identity))
+
+pub observations_by_number : ObservationsByNumber
+observations_by_number row feeds numbers_of [] ss k a b = sym (none_observed row feeds ss)
+observations_by_number row feeds numbers_of (o ∷ os) ss k a b =
+    let one = one_observed row feeds (numbers_of o.instrument) o ss (k o.instrument) (a o.instrument) b in
+    let same = same_names row feeds (o ∷ []) ss in
+    ap (λ (l : List Stream). fold (λ (ss : List Stream) (o : Observed). fold (λ (ss : List Stream) k. changed_at k (stream_recorded row o.value o.attributes) ss) ss (numbers_of o.instrument)) l os) one
+    ∙ (observations_by_number row feeds numbers_of os (map (with_observed row feeds (o ∷ [])) ss)
+    (λ n. subst (λ ns. AreNumbered ns (numbers_of n) (fed_by feeds n)) (sym same) (k n)) a (subst AreApart (sym same) b)
+    ∙ map_both (with_observed row feeds os) (with_observed row feeds (o ∷ [])) (with_observed row feeds (o ∷ os)) ss
+    (λ s. with_more row (observed feeds s.demand (o ∷ [])) (observed feeds s.demand os) s ∙ ap (λ es. stream_with row es s) (observed_first feeds s.demand o os)))

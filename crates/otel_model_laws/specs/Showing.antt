@@ -1,13 +1,19 @@
 -- What a program that names streams by number owes to be the machine.
-use Rattle.std.specs.Prelude.{◌≡◌, ℕ, List, [], ◌∷◌, map, fold, None, slice_get}
+use Rattle.std.specs.Prelude.{◌≡◌, ℕ, ◌+◌, false, cond, List, [], ◌∷◌, map, fold, None, slice_get}
 use Rattle.otel_common.specs.declared.attributes.KeyValue.{KeyValue}
 use Rattle.otel_model_stream.specs.Events.{Event, held_by}
-use Rattle.otel_model.specs.Calls.{Number, Record, Bind, RecordBound, Unbind, or_else}
-use Rattle.otel_model.specs.Demands.{Identity, Row}
+use Rattle.otel_model_stream.specs.Folds.{wrapped}
+use Rattle.otel_model_stream.specs.Machine.{collected, points}
+use Rattle.otel_model_stream.specs.Totals.{points_total}
+use Rattle.otel_model.specs.Calls.{Number, Observed, Record, Bind, RecordBound, Unbind, Collect, or_else}
+use Rattle.otel_model.specs.Demands.{Identity, Row, has_identity}
+use Rattle.otel_model.specs.Streams.{is_delta, kind_of}
+use Rattle.otel_model.specs.Collections.{shows_differences}
 use Rattle.otel_model.specs.State.{Stream}
-use Rattle.otel_model.specs.Sent.{set_for}
+use Rattle.otel_model.specs.Sent.{set_for, observed}
 use Rattle.otel_model.specs.Machine.{machine_after, recorded_after, changed_at, stream_after}
 use Rattle.otel_model.specs.Laws.{AreApart, AreNumbered, names}
+use Rattle.otel_model_laws.specs.Lawful.{EachOf}
 
 -- a stream after events among which there is no collection
 abbrev pub stream_with : Row → List Event → Stream → Stream
@@ -42,3 +48,37 @@ BindsByNumber = (row : Row) (feeds : List (List Identity)) (next n : ℕ) (l : L
 abbrev pub UnheldRests : Type 0
 UnheldRests = (row : Row) (feeds : List (List Identity)) (next h : ℕ) (v : Number) (s : Stream) → held_by h s.machine.live ≡ None
     → (stream_after row feeds next (RecordBound h v) s ≡ s) × (stream_after row feeds next (Unbind h) s ≡ s)
+
+-- a stream that isn't one of these does not have the handle
+abbrev pub IsHeldOnlyBy : ℕ → List Identity → Stream → Type 0
+IsHeldOnlyBy h xs s = has_identity xs s.demand.identity ≡ false → held_by h s.machine.live ≡ None
+
+-- so to record through a handle, or to end it, in some streams, where no other stream has it
+abbrev pub HandlesByNumber : Type 0
+HandlesByNumber = (row : Row) (feeds : List (List Identity)) (next h : ℕ) (v : Number) (ss : List Stream) (ks : List ℕ) (xs : List Identity)
+    → AreNumbered (names ss) ks xs → AreApart xs → AreApart (names ss) → EachOf (IsHeldOnlyBy h xs) ss
+    → (fold (λ (ss : List Stream) k. changed_at k (stream_with row (Event.RecordBound h v.amount ∷ [])) ss) ss ks ≡ map (stream_after row feeds next (RecordBound h v)) ss)
+    × (fold (λ (ss : List Stream) k. changed_at k (stream_with row (Event.Unbind h ∷ [])) ss) ss ks ≡ map (stream_after row feeds next (Unbind h)) ss)
+
+-- ======== collections ========
+-- a stream after a collection, its observations having been recorded
+abbrev pub stream_collected : Row → ℕ → Stream → Stream
+stream_collected row now s = record s {
+  machine = collected (kind_of row s.demand) s.machine;
+  since = cond (is_delta row s.demand) now s.since;
+  reported = cond (shows_differences row s.demand) (points (kind_of row s.demand) s.machine) s.reported;
+  exported = cond (is_delta row s.demand) (wrapped (s.exported + points_total (points (kind_of row s.demand) s.machine))) s.exported;
+}
+
+-- a collection is its observations, and then the collection itself
+abbrev pub CollectsAfterObservations : Type 0
+CollectsAfterObservations = (row : Row) (feeds : List (List Identity)) (next r now : ℕ) (os : List Observed) (s : Stream)
+    → stream_after row feeds next (Collect r now os) s ≡ stream_collected row now (stream_with row (observed feeds s.demand os) s)
+
+-- to record the observations one after another, each into the streams that its instrument feeds, is to
+-- record them in each stream. `numbers_of` gives the numbers of the streams that an instrument feeds
+abbrev pub ObservationsByNumber : Type 0
+ObservationsByNumber = (row : Row) (feeds : List (List Identity)) (numbers_of : ℕ → List ℕ) (os : List Observed) (ss : List Stream)
+    → ((n : ℕ) → AreNumbered (names ss) (numbers_of n) (fed_by feeds n)) → ((n : ℕ) → AreApart (fed_by feeds n)) → AreApart (names ss)
+    → fold (λ (ss : List Stream) (o : Observed). fold (λ (ss : List Stream) k. changed_at k (stream_recorded row o.value o.attributes) ss) ss (numbers_of o.instrument)) ss os
+    ≡ map (λ (s : Stream). stream_with row (observed feeds s.demand os) s) ss

@@ -6,7 +6,7 @@ ghost use Rattle.otel_model.specs.Resources.{MergesAreCanonical, OthersValuesWin
 ghost use Rattle.otel_model_laws.specs.Books.{EachCallIsBooked, EachRunIsBooked};
 ghost use Rattle.otel_model_laws.specs.Builds.{AlikeFeedTheSame};
 ghost use Rattle.otel_model_laws.specs.Lawful.{EachCallKeepsLawful, EachRunKeepsLawful, IsLawfulAtFirst, LawfulBalances};
-ghost use Rattle.otel_model_laws.specs.Showing.{BindsByNumber, RecordsByNumber, UnheldRests};
+ghost use Rattle.otel_model_laws.specs.Showing.{BindsByNumber, CollectsAfterObservations, HandlesByNumber, ObservationsByNumber, RecordsByNumber, UnheldRests};
 ghost use Rattle.otel_model_laws.specs.Orders.{AreDifferences, BindsInAnyOrder, ObservationsInAnyOrder, RecordsInAnyOrder};
 
 /// In what order attributes are given changes nothing.
@@ -65,4 +65,7 @@ pub fn numbers()
     ensures records { RecordsByNumber }
     ensures binds { BindsByNumber }
     ensures unheld { UnheldRests }
+    ensures handles { HandlesByNumber }
+    ensures observations { ObservationsByNumber }
+    ensures collects { CollectsAfterObservations }
 {}

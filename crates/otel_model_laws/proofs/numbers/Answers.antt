@@ -1,4 +1,4 @@
-use Rattle.otel_model_laws.proofs.Shows.{records_by_number, binds_by_number, unheld_rests}
+use Rattle.otel_model_laws.proofs.Shows.{records_by_number, binds_by_number, unheld_rests, handles_by_number, observations_by_number, collects_after}
 use Rattle.otel_model_laws.proofs.numbers.Goals as goal
 
 pub returns-clause-records : goal.returns-clause-records
@@ -9,3 +9,12 @@ returns-clause-binds c = binds_by_number
 
 pub returns-clause-unheld : goal.returns-clause-unheld
 returns-clause-unheld c = unheld_rests
+
+pub returns-clause-handles : goal.returns-clause-handles
+returns-clause-handles c = handles_by_number
+
+pub returns-clause-observations : goal.returns-clause-observations
+returns-clause-observations c = observations_by_number
+
+pub returns-clause-collects : goal.returns-clause-collects
+returns-clause-collects c = collects_after
