@@ -5,10 +5,4 @@ pub mod Follow
 pub mod Runs
 pub mod Recorded
 pub mod Shown
-pub mod Rows
-pub mod RowsPlaces
-pub mod RowsSums
-pub mod RowsViews
-pub mod RowsChecks
 pub mod Numbers
-pub mod RowsEdges

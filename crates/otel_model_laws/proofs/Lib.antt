@@ -9,3 +9,9 @@ pub mod Apart
 pub mod OfEvents
 pub mod Accepting
 pub mod Shows
+pub mod Rows
+pub mod RowsPlaces
+pub mod RowsSums
+pub mod RowsViews
+pub mod RowsEdges
+pub mod RowsChecks

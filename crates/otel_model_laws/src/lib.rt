@@ -1,4 +1,4 @@
-//! Further laws of the metrics provider's definitions. No working code.
+//! Further laws of the metrics provider's definitions, and its worked rows. No working code.
 #![tactic(auto)]
 
 ghost use Rattle.otel_model.specs.Laws.{AreFeedsApart, AreFeedsStreams, AreStreamsApart, IsAccepted};

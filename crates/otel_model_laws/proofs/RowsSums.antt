@@ -5,7 +5,7 @@ use Rattle.otel_common.specs.Canonical.{canon}
 use Rattle.otel_model_stream.specs.Folds.{Spread}
 use Rattle.otel_model.specs.Calls.{Counter, UpDownCounter, Histogram, ObservableCounter, Gauge, ObservableGauge, About, Call, Meter, Build, Record, Bind, RecordBound, Unbind, Collect, Flush, Shutdown, UnknownHandle, WrongKind, WrongNumber, AlreadyShutdown, ReaderShutDown, UnknownReader, Content, Reply}
 use Rattle.otel_model.specs.Demands.{Row, Delta, Cumulative, LowMemory, preferring, default_bounds}
-use Rattle.otel_model.proofs.Rows.{Seen, a, b, m, scope_named, about, with_own_bounds, u64, i64, x1, Shows, HasMoments, replies, one, delta_sum, cumulative_sum, on, add, observe}
+use Rattle.otel_model_laws.proofs.Rows.{Seen, a, b, m, scope_named, about, with_own_bounds, u64, i64, x1, Shows, HasMoments, replies, one, delta_sum, cumulative_sum, on, add, observe}
 
 abbrev delta : Row
 delta = preferring Delta

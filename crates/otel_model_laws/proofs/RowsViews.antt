@@ -6,7 +6,7 @@ use Rattle.otel_model_stream.specs.Sets.{over_set}
 use Rattle.otel_model_stream.specs.Folds.{Spread}
 use Rattle.otel_model.specs.Calls.{Counter, UpDownCounter, Histogram, ObservableCounter, Call, Build, Record, Collect, Content}
 use Rattle.otel_model.specs.Demands.{Aggregation, Drop, Default, Sum, LastValue, ExplicitBucketHistogram, Views, Row, Delta, Cumulative, preferring}
-use Rattle.otel_model.proofs.Rows.{Seen, a, b, about, with_own_bounds, u64, x1, y1, if_named, limited, named, aggregating, but_for, limit_of, default_of, Shows, one, delta_sum, cumulative_sum, on, add, observe}
+use Rattle.otel_model_laws.proofs.Rows.{Seen, a, b, about, with_own_bounds, u64, x1, y1, if_named, limited, named, aggregating, but_for, limit_of, default_of, Shows, one, delta_sum, cumulative_sum, on, add, observe}
 
 abbrev delta : Row
 delta = preferring Delta

@@ -15,7 +15,7 @@ use Rattle.otel_model.specs.Machine.{new_instrument, new_state}
 use Rattle.otel_model.specs.Steps.{reply_of, after, Step}
 use Rattle.otel_model.specs.Only.{only}
 use Rattle.otel_model.specs.History.{made}
-use Rattle.otel_model.proofs.Rows.{Seen, a, m, about, with_own_bounds, u64, i64, x1, y1, pair, if_named, limited, named, aggregating, but_for, default_of, Shows, replies, one, delta_sum, cumulative_sum, on, add, observe}
+use Rattle.otel_model_laws.proofs.Rows.{Seen, a, m, about, with_own_bounds, u64, i64, x1, y1, pair, if_named, limited, named, aggregating, but_for, default_of, Shows, replies, one, delta_sum, cumulative_sum, on, add, observe}
 
 abbrev delta : Row
 delta = preferring Delta
