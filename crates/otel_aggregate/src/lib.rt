@@ -6,5 +6,8 @@ pub mod aggregator;
 pub mod internal;
 pub mod number;
 pub mod sets;
+pub mod shows;
+mod stream;
+pub mod sum;
 mod table;
 pub mod value_map;
