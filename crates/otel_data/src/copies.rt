@@ -1,4 +1,7 @@
 //! Laws: a copy equals its source, and points are equal exactly if their parts are.
+//!
+//! These functions do nothing. A function whose contract needs the law of a copy or a comparison
+//! calls the one of its type first.
 
 ghost use Rattle.std.specs.Prelude.{◌≡◌, ℕ};
 ghost use Rattle.std.specs.Bool.{Decides};

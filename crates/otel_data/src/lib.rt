@@ -10,3 +10,5 @@ pub mod data;
 pub mod numbers;
 pub mod points;
 pub mod sums;
+#[cfg(test)]
+mod tests;
