@@ -10,4 +10,6 @@ pub mod shows;
 mod stream;
 pub mod sum;
 mod table;
+#[cfg(test)]
+mod tests;
 pub mod value_map;
