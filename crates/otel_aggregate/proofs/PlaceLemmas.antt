@@ -1,9 +1,9 @@
+-- Where a record's entry stands in a table, and what a change there does to the table.
 use Rattle.std.proofs.Common.{ℕ, zero, suc, ◌+◌, ◌<◌, ◌≡◌, List, [], ◌∷◌, ◌++◌, length, map, filter, slice_get, nat_lt, Bool, true, false, cond, ◌||◌, ◌&&◌, Option, Some, None, is_some, option_map, refl, ap, arith, sym, ◌∙◌, true≢false}
 use Rattle.std.specs.List.{IsDistinct, AllByRecursion}
 use Rattle.std.proofs.lemmas.List.Folds.{list_any-append}
 use Rattle.otel_common.specs.declared.attributes.KeyValue.{KeyValue}
-use Rattle.otel_common.specs.Equality.{set_eq}
-use Rattle.otel_common.specs.Equality.{set_eq-Decides}
+use Rattle.otel_common.specs.Equality.{set_eq, set_eq-Decides}
 use Rattle.otel_model_stream.specs.Folds.{Fold}
 use Rattle.otel_model_stream.specs.Sets.{none_set, over_set}
 use Rattle.otel_model_stream.specs.Entries.{Entry, fresh, is_of, has, number_counted, placed, entry_for, on, at_entry}
@@ -114,7 +114,7 @@ has-with_entry_at s f same [] i = refl
 has-with_entry_at s f same (r ∷ rs) zero = ap (λ x. set_eq x s || has s rs) (same r)
 has-with_entry_at s f same (r ∷ rs) (suc i) = ap (λ b. is_of s r || b) (has-with_entry_at s f same rs i)
 
--- a entry more
+-- an entry more
 pub has-push : (s : List KeyValue) (entries : List Entry) (entry : Entry) → has s entries ≡ false → is_of s entry ≡ false → has s (entries ++ entry ∷ []) ≡ false
 has-push s entries entry h e = list_any-append (is_of s) entries (entry ∷ []) ∙ ap (λ b. b || (is_of s entry || false)) h ∙ ap (λ b. b || false) e
 
@@ -140,7 +140,7 @@ count-push (r ∷ rs) entry = by r.counted (count-push rs entry)
 pub over_is_some : set_eq over_set none_set ≡ false
 over_is_some = refl
 
--- where a mention of the set stands
+-- where a record of the set goes once the set has a place
 pub record Placing (limit : ℕ) (zero : Fold) (s : List KeyValue) (entries after : List Entry) (at : Option ℕ) : Type 0 where
   pub state : after ≡ placed limit zero s entries
   pub place : IsPlace after (entry_for s after) at

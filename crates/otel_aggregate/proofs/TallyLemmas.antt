@@ -1,3 +1,4 @@
+-- What a map's calls do to its tallies, as the model's entries.
 use Rattle.std.proofs.Common.{nat_lt, not, ℕ, zero, suc, ◌+◌, ◌≡◌, List, [], ◌∷◌, ◌++◌, length, slice_get, Bool, true, false, cond, Some, None, position, option_map, refl, ap, arith, sym, ◌∙◌}
 use Rattle.std.specs.List.{position_or_len}
 use Rattle.std.proofs.lemmas.List.{map-append}
@@ -9,8 +10,7 @@ use Rattle.indexmap.proofs.CallerLemmas.{insert_entry-new}
 use Rattle.otel_model_stream.specs.Folds.{Fold}
 use Rattle.otel_model_stream.specs.Entries.{Entry}
 use Rattle.otel_common.specs.declared.attributes.KeyValue.{KeyValue}
-use Rattle.otel_common.specs.Equality.{set_eq}
-use Rattle.otel_common.specs.Equality.{set_eq-Decides}
+use Rattle.otel_common.specs.Equality.{set_eq, set_eq-Decides}
 use Rattle.otel_aggregate.specs.Tallies.{entry_of, entries_of, with_entry_at, index_of, sets}
 use Rattle.otel_aggregate.specs.declared.table.Tally.{Tally}
 

@@ -5,8 +5,8 @@
 pub mod aggregator;
 pub mod internal;
 pub mod number;
-pub mod sets;
-pub mod shows;
+mod sets;
+mod shows;
 mod stream;
 pub mod sum;
 mod table;

@@ -47,7 +47,8 @@ impl<T: Number + Drop> Model for Sum<T> {
 }
 
 impl<T: Number + Drop> Sum<T> {
-    /// Sums without records, of a cumulative stream. `now` is the moment of the making.
+    /// Sums without records. `temporality` is the reader's answer, by which the stream is to be
+    /// cumulative, and `now` is the moment of the making.
     pub fn new(
         alloc: Global,
         temporality: Temporality,
@@ -56,7 +57,7 @@ impl<T: Number + Drop> Sum<T> {
         now: u64,
         is_monotonic: bool,
     ) -> Result<Self, Fault>
-        requires { resets_of temporality ≡ false }
+        requires cumulative { resets_of temporality ≡ false }
         ensures made { IfOk result (λ made. made.state ≡ new_stream SumAggregate is_monotonic allow (resets_of temporality) limit now) }
         ensures only_memory { IsOkUnless result Fault.OutOfMemory }
     {
