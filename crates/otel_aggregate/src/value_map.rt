@@ -27,10 +27,15 @@ pub struct ValueMap<A: Aggregator> {
     alloc: Global,
     config: A::InitConfig,
     limit: usize,
+    /// How many tallies the limit counts.
     count: usize,
+    /// The tally of the empty set.
     none: Tally<A>,
+    /// An aggregator that was made in advance for the next new tally.
     unused: Option<A>,
+    /// The set of the overflow entry, to look it up.
     overflow: Items<KeyValue>,
+    /// The same set, made in advance to be the key of the overflow entry.
     spare_key: Option<Items<KeyValue>>,
     tallies: IndexMap<Items<KeyValue>, Tally<A>>,
     /// Where the set of the last call of `prepare` was found, so that the record looks it up only once.
