@@ -1,0 +1,15 @@
+//! The aggregation of records: numbers, aggregators, a bounded map of aggregators by sets of
+//! attributes, and sums over it.
+#![tactic(auto)]
+
+pub mod aggregator;
+pub mod internal;
+pub mod number;
+mod sets;
+mod shows;
+mod stream;
+pub mod sum;
+mod table;
+#[cfg(test)]
+mod tests;
+pub mod value_map;
