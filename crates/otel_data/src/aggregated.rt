@@ -1,0 +1,37 @@
+//! The points of one metric, of any aggregation and number type.
+
+ghost use Rattle.std.specs.Prelude.{◌≡◌};
+
+use crate::sums::Sum;
+
+/// The points of one metric.
+#[derive(Clone, Debug, Drop)]
+pub enum MetricData<T> {
+    Sum(Sum<T>),
+}
+
+impl<T> From<Sum<T>> for MetricData<T> {
+    ghost use Rattle.otel_data.specs.declared.aggregated.MetricData.TheVariants as made;
+
+    ghost from_gives = { λ sum points. points ≡ made.Sum sum };
+
+    fn from(sum: Sum<T>) -> MetricData<T> {
+        MetricData::Sum(sum)
+    }
+}
+
+/// The points of one metric, of either number type.
+#[derive(Clone, Debug, Drop)]
+pub enum AggregatedMetrics {
+    U64(MetricData<u64>),
+}
+
+impl From<MetricData<u64>> for AggregatedMetrics {
+    ghost use Rattle.otel_data.specs.declared.aggregated.AggregatedMetrics.TheVariants as made;
+
+    ghost from_gives = { λ points metrics. metrics ≡ made.U64 points };
+
+    fn from(points: MetricData<u64>) -> AggregatedMetrics {
+        AggregatedMetrics::U64(points)
+    }
+}

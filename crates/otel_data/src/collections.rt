@@ -1,0 +1,138 @@
+//! What one collection gives.
+
+ghost use Rattle.std.specs.Prelude.{◌≡◌, []};
+ghost use Rattle.std.specs.Slice.Iter.{iter_rest};
+
+use crate::aggregated::AggregatedMetrics;
+use otel_common::lists::Items;
+use otel_common::scopes::InstrumentationScope;
+use otel_common::strings::StringValue;
+use std::alloc::Global;
+use std::slice::Iter;
+
+/// A metric of one collection.
+#[derive(Clone, Debug, Drop)]
+pub struct Metric {
+    name: StringValue,
+    description: StringValue,
+    unit: StringValue,
+    content: AggregatedMetrics,
+}
+
+impl Metric {
+    /// A metric of these parts.
+    pub fn new(
+        name: StringValue,
+        description: StringValue,
+        unit: StringValue,
+        content: AggregatedMetrics,
+    ) -> Metric
+        ensures { result ≡ record { name = name; description = description; unit = unit; content = content } }
+    {
+        Metric {
+            name,
+            description,
+            unit,
+            content,
+        }
+    }
+
+    /// The name.
+    pub fn name(&self) -> &str
+        ensures { result.now ≡ self.now.name }
+    {
+        self.name.as_str()
+    }
+
+    /// The description.
+    pub fn description(&self) -> &str
+        ensures { result.now ≡ self.now.description }
+    {
+        self.description.as_str()
+    }
+
+    /// The unit.
+    pub fn unit(&self) -> &str
+        ensures { result.now ≡ self.now.unit }
+    {
+        self.unit.as_str()
+    }
+
+    /// The points.
+    pub fn data(&self) -> &AggregatedMetrics
+        ensures { result.now ≡ self.now.content }
+    {
+        &self.content
+    }
+}
+
+/// The metrics of one scope.
+#[derive(Clone, Debug, Drop)]
+pub struct ScopeMetrics {
+    scope: InstrumentationScope,
+    metrics: Items<Metric>,
+}
+
+impl ScopeMetrics {
+    /// The metrics of a scope.
+    pub fn new(scope: InstrumentationScope, metrics: Items<Metric>) -> ScopeMetrics
+        ensures { result ≡ record { scope = scope; metrics = metrics } }
+    {
+        ScopeMetrics { scope, metrics }
+    }
+
+    /// No metrics, of the scope of the empty name. Takes no memory.
+    pub fn default(alloc: Global) -> ScopeMetrics
+        ensures { result ≡ record { scope = record { name = []; version = None; schema_url = None; attributes = [] }; metrics = [] } }
+    {
+        ScopeMetrics {
+            scope: InstrumentationScope::default(alloc),
+            metrics: Items::from(Vec::new(alloc)),
+        }
+    }
+
+    /// The scope.
+    pub fn scope(&self) -> &InstrumentationScope
+        ensures { result.now ≡ self.now.scope }
+    {
+        &self.scope
+    }
+
+    /// The metrics.
+    pub fn metrics(&self) -> Iter<'_, Metric>
+        ensures { iter_rest result ≡ self.now.metrics }
+    {
+        self.metrics.as_slice().iter()
+    }
+}
+
+/// All that one collection gives.
+#[derive(Clone, Debug, Drop)]
+pub struct ResourceMetrics {
+    scope_metrics: Items<ScopeMetrics>,
+}
+
+impl ResourceMetrics {
+    /// The metrics of these scopes.
+    pub fn new(scope_metrics: Items<ScopeMetrics>) -> ResourceMetrics
+        ensures { result ≡ record { scope_metrics = scope_metrics } }
+    {
+        ResourceMetrics { scope_metrics }
+    }
+
+    /// No metrics. Takes no memory.
+    pub fn default(alloc: Global) -> ResourceMetrics
+        ensures { result ≡ record { scope_metrics = [] } }
+    {
+        ResourceMetrics {
+            scope_metrics: Items::from(Vec::new(alloc)),
+        }
+    }
+
+    /// The scopes that have metrics, each with its metrics.
+    pub fn scope_metrics(&self) -> Iter<'_, ScopeMetrics>
+        ensures { iter_rest result ≡ self.now.scope_metrics }
+    {
+        self.scope_metrics.as_slice().iter()
+    }
+}

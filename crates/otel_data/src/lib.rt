@@ -1,0 +1,11 @@
+//! What a collection gives: metrics with their points, by scope.
+//!
+//! Contracts see each type as the record of what its getters answer.
+#![tactic(auto)]
+
+pub mod aggregated;
+pub mod collections;
+pub mod data;
+pub mod numbers;
+pub mod points;
+pub mod sums;

@@ -1,0 +1,75 @@
+//! The points of a sum.
+
+ghost use Rattle.std.specs.Prelude.{◌≡◌};
+ghost use Rattle.std.specs.Slice.Iter.{iter_rest};
+
+use crate::points::SumDataPoint;
+use otel_common::lists::Items;
+use otel_common::metrics::Temporality;
+use std::slice::Iter;
+
+/// The points of a sum at one collection, with its moments (Metrics data model, "Sums").
+#[derive(Clone, Debug, Drop)]
+pub struct Sum<T> {
+    data_points: Items<SumDataPoint<T>>,
+    start_time: u64,
+    time: u64,
+    temporality: Temporality,
+    is_monotonic: bool,
+}
+
+impl<T> Sum<T> {
+    /// A sum of these parts.
+    pub fn new(
+        data_points: Items<SumDataPoint<T>>,
+        start_time: u64,
+        time: u64,
+        temporality: Temporality,
+        is_monotonic: bool,
+    ) -> Self
+        ensures { result ≡ record { data_points = data_points; start_time = start_time; time = time; temporality = temporality; is_monotonic = is_monotonic } }
+    {
+        Sum {
+            data_points,
+            start_time,
+            time,
+            temporality,
+            is_monotonic,
+        }
+    }
+
+    /// The points.
+    pub fn data_points(&self) -> Iter<'_, SumDataPoint<T>>
+        ensures { iter_rest result ≡ self.now.data_points }
+    {
+        self.data_points.as_slice().iter()
+    }
+
+    /// The moment from which on records are in the points.
+    pub fn start_time(&self) -> u64
+        ensures { result ≡ self.now.start_time }
+    {
+        self.start_time
+    }
+
+    /// The moment of the collection.
+    pub fn time(&self) -> u64
+        ensures { result ≡ self.now.time }
+    {
+        self.time
+    }
+
+    /// How the points relate to those of the collection before.
+    pub fn temporality(&self) -> Temporality
+        ensures { result ≡ self.now.temporality }
+    {
+        self.temporality
+    }
+
+    /// Whether only values of at least 0 are added.
+    pub fn is_monotonic(&self) -> bool
+        ensures { result ≡ self.now.is_monotonic }
+    {
+        self.is_monotonic
+    }
+}
