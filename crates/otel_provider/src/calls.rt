@@ -1,0 +1,73 @@
+//! What a provider is asked and what it answers, as values.
+
+use otel_common::attributes::KeyValue;
+use otel_common::faults::Fault;
+use otel_common::lists::Items;
+use otel_common::scopes::InstrumentationScope;
+use otel_common::strings::StringValue;
+use otel_data::collections::ResourceMetrics;
+use otel_data::numbers::NumberValue;
+use otel_stream::instrument::InstrumentKind;
+
+/// The kind and the number type of an instrument.
+#[derive(Clone, Copy, Debug, PartialEq, Eq, Hash)]
+pub enum InstrumentSort {
+    U64Counter,
+}
+
+/// One call of a provider.
+#[derive(Clone, Debug, Drop)]
+pub enum Call {
+    /// Asks for the meter of a scope.
+    Meter { scope: InstrumentationScope },
+    /// Builds an instrument of a meter; without a meter it ignores its records. `now` is the
+    /// moment of the build, in nanoseconds since 1970.
+    Build {
+        meter: Option<usize>,
+        sort: InstrumentSort,
+        name: StringValue,
+        description: Option<StringValue>,
+        unit: Option<StringValue>,
+        now: u64,
+    },
+    /// Records a value with attributes, in any order, at an instrument.
+    Record {
+        instrument: usize,
+        value: NumberValue,
+        attributes: Items<KeyValue>,
+    },
+    /// Collects what a reader's streams have. `now` is the moment of the collection, in
+    /// nanoseconds since 1970.
+    Collect { reader: usize, now: u64 },
+}
+
+/// What a call is answered.
+#[derive(Debug, Drop)]
+pub enum Reply {
+    /// The number of the meter.
+    Meter(Option<usize>),
+    /// The number of the new instrument.
+    Instrument(usize),
+    /// The call was carried out.
+    Done,
+    /// What was collected.
+    Collected(ResourceMetrics),
+    /// The call was refused and changed nothing.
+    Refused(Fault),
+}
+
+impl InstrumentSort {
+    /// The kind of instrument.
+    pub fn kind(self) -> InstrumentKind {
+        match self {
+            InstrumentSort::U64Counter => InstrumentKind::Counter,
+        }
+    }
+
+    /// Whether its values are signed.
+    pub fn is_signed(self) -> bool {
+        match self {
+            InstrumentSort::U64Counter => false,
+        }
+    }
+}

@@ -1,0 +1,4 @@
+//! The provider: meters, instruments and, for each reader, streams.
+#![tactic(auto)]
+
+pub mod calls;
