@@ -1,1 +1,2 @@
+pub mod Identities
 pub mod Validations

@@ -2,4 +2,6 @@
 #![tactic(auto)]
 
 pub mod calls;
+mod copies;
+pub mod identity;
 pub mod meter;
