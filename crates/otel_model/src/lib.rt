@@ -4,6 +4,7 @@
 
 ghost use Rattle.std.specs.Prelude.{IsTrue, []};
 ghost use Rattle.otel_model.specs.Checks.{rises};
+ghost use Rattle.otel_model.specs.Laws.{IsAsOnlyReader};
 
 /// An empty list of bounds rises.
 pub fn checks()

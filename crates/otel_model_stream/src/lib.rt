@@ -9,5 +9,4 @@ ghost use Rattle.otel_model_stream.specs.Maps.{new_map, evicted_map};
 /// Clearing what has no records changes nothing.
 pub fn clears()
     ensures { (σ : Aggregate) → cleared (empty_of σ) ≡ empty_of σ }
-{
-}
+{}
