@@ -1,9 +1,12 @@
--- The demand of an instrument (Metrics SDK, "View").
-use Rattle.std.specs.Prelude.{ℕ, List, [], Option}
+-- Identities and demands, in the words of the model (Metrics SDK, "View").
+use Rattle.std.specs.Prelude.{◌≡◌, ℕ, Bool, ◌&&◌, List, [], Option, None, refl}
 use Rattle.otel_common.specs.declared.scopes.InstrumentationScope.{InstrumentationScope}
 use Rattle.otel_model.specs.Calls.{Text, lowered, or_else}
+use Rattle.otel_model.specs.Demands as model
+use Rattle.otel_provider.specs.Shown.{kind_of, is_signed}
 use Rattle.otel_provider.specs.declared.calls.InstrumentSort.{InstrumentSort}
 use Rattle.otel_provider.specs.declared.identity.Demand.{Demand}
+use Rattle.otel_provider.specs.declared.identity.Identity.{Identity}
 
 -- what an instrument demands by itself: an absent description or unit is the empty text
 abbrev pub demand_by : InstrumentationScope → InstrumentSort → Text → Option Text → Option Text → Demand
@@ -16,4 +19,24 @@ demand_by scope sort name description unit = record {
     name = lowered name;
   };
   spelling = name;
+}
+
+abbrev pub identity_of : Identity → model.Identity
+identity_of x = record {
+  scope = x.scope;
+  kind = kind_of x.sort;
+  signed = is_signed x.sort;
+  description = x.description;
+  unit = x.unit;
+  name = x.name;
+}
+
+-- a stream has the default aggregation of its kind, a sum, all attributes and the default limit
+abbrev pub demand_of : Demand → model.Demand
+demand_of d = record {
+  identity = identity_of d.identity;
+  spelling = d.spelling;
+  aggregation = model.Aggregation.Sum;
+  allow = None;
+  limit = model.default_limit;
 }

@@ -5,3 +5,4 @@ pub mod calls;
 mod copies;
 pub mod identity;
 pub mod meter;
+pub mod trial;
