@@ -12,13 +12,13 @@ use Rattle.otel_model.specs.Demands as model
 use Rattle.otel_model.specs.State.{Stream, ReaderPart}
 use Rattle.otel_model.specs.Machine as machine
 use Rattle.otel_provider.specs.Identities.{identity_of, demand_of, demand_by}
-use Rattle.otel_provider.specs.Shown.{about, kind_of, is_signed}
+use Rattle.otel_provider.specs.Shown.{about}
 use Rattle.otel_provider.specs.Streams.{Kept, stream_of, new_kept}
 use Rattle.otel_provider.specs.Pipelines.{Piped, Planned, part_of, cumulative_row, named, identity_at, identities, stream_number, plan_by, built, built_by, with_added}
 use Rattle.otel_provider.specs.declared.identity.Demand.{Demand}
 use Rattle.otel_provider.specs.declared.identity.Identity.{Identity}
-use Rattle.otel_provider.specs.declared.calls.InstrumentSort.{InstrumentSort}
-use Rattle.otel_provider.specs.declared.calls.InstrumentSort.TheVariants.{U64Counter}
+use Rattle.otel_provider.specs.declared.sorts.InstrumentSort.{InstrumentSort}
+use Rattle.otel_provider.specs.declared.sorts.InstrumentSort.TheVariants.{U64Counter}
 use Rattle.otel_provider.proofs.Records.{AreNumbers, some_same, identity_at-is}
 
 -- ======== longer lists of streams ========

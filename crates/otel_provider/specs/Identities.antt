@@ -1,10 +1,12 @@
 -- Identities and demands, in the words of the model (Metrics SDK, "View").
 use Rattle.std.specs.Prelude.{◌≡◌, ℕ, Bool, ◌&&◌, List, [], Option, None, refl}
 use Rattle.otel_common.specs.declared.scopes.InstrumentationScope.{InstrumentationScope}
+use Rattle.otel_common.specs.Equality.{bytes_eq}
+use Rattle.otel_common.specs.Scopes.{scope_eq}
 use Rattle.otel_model.specs.Calls.{Text, lowered, or_else}
 use Rattle.otel_model.specs.Demands as model
-use Rattle.otel_provider.specs.Shown.{kind_of, is_signed}
-use Rattle.otel_provider.specs.declared.calls.InstrumentSort.{InstrumentSort}
+use Rattle.otel_provider.specs.Sorts.{kind_of, is_signed, sort_eq}
+use Rattle.otel_provider.specs.declared.sorts.InstrumentSort.{InstrumentSort}
 use Rattle.otel_provider.specs.declared.identity.Demand.{Demand}
 use Rattle.otel_provider.specs.declared.identity.Identity.{Identity}
 
@@ -40,3 +42,7 @@ demand_of d = record {
   allow = None;
   limit = model.default_limit;
 }
+
+-- the test of identities: that of their five parts
+abbrev pub identity_test : Identity → Identity → Bool
+identity_test x y = scope_eq x.scope y.scope && (sort_eq x.sort y.sort && (bytes_eq x.description y.description && (bytes_eq x.unit y.unit && bytes_eq x.name y.name)))

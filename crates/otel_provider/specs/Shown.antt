@@ -23,18 +23,12 @@ use Rattle.otel_model.specs.Calls as model
 use Rattle.otel_model.specs.Resources.{empty_resource}
 use Rattle.otel_provider.specs.declared.calls.Call.{Call}
 use Rattle.otel_provider.specs.declared.calls.Call.TheVariants.{Meter, Build, Record, Collect}
-use Rattle.otel_provider.specs.declared.calls.InstrumentSort.{InstrumentSort}
-use Rattle.otel_provider.specs.declared.calls.InstrumentSort.TheVariants.{U64Counter}
+use Rattle.otel_provider.specs.Sorts.{kind_of, is_signed}
+use Rattle.otel_provider.specs.declared.sorts.InstrumentSort.{InstrumentSort}
 use Rattle.otel_provider.specs.declared.calls.Reply.{Reply}
 use Rattle.otel_provider.specs.declared.calls.Reply.TheVariants as reply
 
 -- ======== calls ========
-abbrev pub kind_of : InstrumentSort → model.InstrumentKind
-kind_of U64Counter = model.InstrumentKind.Counter
-
-abbrev pub is_signed : InstrumentSort → Bool
-is_signed U64Counter = false
-
 abbrev pub number_of : NumberValue → model.Number
 number_of (number.U64 n) = record { signed = false; amount = record { bits = n; wide = pos n } }
 number_of (number.I64 z) = record { signed = true; amount = record { bits = cast_unsigned w64 z; wide = z } }

@@ -4,8 +4,8 @@ ghost use Rattle.std.specs.Prelude.{◌≡◌, [], IfOk, IsOkUnless};
 ghost use Rattle.otel_model.specs.Calls.{lowered, or_else};
 ghost use Rattle.otel_provider.specs.Identities.{demand_by};
 
-use crate::calls::InstrumentSort;
 use crate::copies::{copy_scope, copy_text};
+use crate::sorts::InstrumentSort;
 use otel_common::faults::Fault;
 use otel_common::scopes::InstrumentationScope;
 use otel_common::strings::StringValue;

@@ -5,4 +5,4 @@ pub mod calls;
 mod copies;
 pub mod identity;
 pub mod meter;
-pub mod trial;
+pub mod sorts;
