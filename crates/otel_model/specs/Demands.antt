@@ -105,15 +105,32 @@ resets Cumulative = false
 resets Delta = true
 resets LowMemory = false
 
+-- what a reader of this temporality prefers for a kind
+abbrev pub temporality_preference : InstrumentKind → Temporality → Temporality
+temporality_preference kind Cumulative = Cumulative
+temporality_preference UpDownCounter Delta = Cumulative
+temporality_preference ObservableUpDownCounter Delta = Cumulative
+temporality_preference kind Delta = Delta
+temporality_preference Counter LowMemory = Delta
+temporality_preference Histogram LowMemory = Delta
+temporality_preference kind LowMemory = Cumulative
+
 -- what a reader answers for one kind: the temporality, and perhaps the limit and the aggregation of streams
 pub record Answer : Type 0 where
   pub temporality : Temporality
   pub limit : Option ℕ
   pub aggregation : Option Aggregation
 
--- its answers for the seven kinds, in order of their numbers
+-- its answers for the seven kinds, in the order of `kinds`
 abbrev pub Row : Type 0
 Row = List Answer
+
+abbrev pub kinds : List InstrumentKind
+kinds = Counter ∷ UpDownCounter ∷ Histogram ∷ ObservableCounter ∷ ObservableUpDownCounter ∷ Gauge ∷ ObservableGauge ∷ []
+
+-- the answers of a reader that says its temporality alone
+abbrev pub preferring : Temporality → Row
+preferring temporality = map (λ kind. record { temporality = temporality_preference kind temporality; limit = None; aggregation = None }) kinds
 
 abbrev pub no_answer : Answer
 no_answer = record { temporality = Cumulative; limit = None; aggregation = None }

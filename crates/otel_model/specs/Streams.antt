@@ -1,26 +1,53 @@
 -- What a demand makes of its stream (Metrics SDK, "Aggregation" and "MetricReader").
-use Rattle.std.specs.Prelude.{Bool, true, false, cond, ◌||◌, not, ℤ, List}
+use Rattle.std.specs.Prelude.{Bool, true, false, cond, ◌&&◌, ◌||◌}
 use Rattle.otel_model_stream.specs.Folds.{Aggregate}
 use Rattle.otel_model_stream.specs.Events.{Kind}
 use Rattle.otel_model.specs.Calls.{InstrumentKind, Counter, UpDownCounter, Histogram, ObservableCounter, ObservableUpDownCounter, Gauge, ObservableGauge}
 use Rattle.otel_model.specs.Demands.{Aggregation, Drop, Default, Sum, LastValue, ExplicitBucketHistogram, Row, answer_for, resets, Demand}
 
--- sums of asynchronous counters are of values that were summed before
-abbrev pub is_drained_kind : InstrumentKind → Aggregation → Bool
-is_drained_kind ObservableCounter Sum = true
-is_drained_kind ObservableUpDownCounter Sum = true
-is_drained_kind kind a = false
+abbrev pub is_sum : Aggregation → Bool
+is_sum Drop = false
+is_sum Default = false
+is_sum Sum = true
+is_sum LastValue = false
+is_sum (ExplicitBucketHistogram bounds m) = false
 
+abbrev pub is_last_value : Aggregation → Bool
+is_last_value Drop = false
+is_last_value Default = false
+is_last_value Sum = false
+is_last_value LastValue = true
+is_last_value (ExplicitBucketHistogram bounds m) = false
+
+-- asynchronous counters observe values that were summed before
+abbrev pub observes_sums : InstrumentKind → Bool
+observes_sums Counter = false
+observes_sums UpDownCounter = false
+observes_sums Histogram = false
+observes_sums ObservableCounter = true
+observes_sums ObservableUpDownCounter = true
+observes_sums Gauge = false
+observes_sums ObservableGauge = false
+
+abbrev pub observes_last_values : InstrumentKind → Bool
+observes_last_values Counter = false
+observes_last_values UpDownCounter = false
+observes_last_values Histogram = false
+observes_last_values ObservableCounter = false
+observes_last_values ObservableUpDownCounter = false
+observes_last_values Gauge = false
+observes_last_values ObservableGauge = true
+
+-- a sum of values that were summed before is emptied by each collection
 abbrev pub is_drained : Demand → Bool
-is_drained d = is_drained_kind d.identity.kind d.aggregation
+is_drained d = is_sum d.aggregation && observes_sums d.identity.kind
 
 -- a last value of an asynchronous gauge resets whatever its reader answers
-abbrev pub always_resets : InstrumentKind → Aggregation → Bool
-always_resets ObservableGauge LastValue = true
-always_resets kind a = false
+abbrev pub always_resets : Demand → Bool
+always_resets d = is_last_value d.aggregation && observes_last_values d.identity.kind
 
 abbrev pub is_delta : Row → Demand → Bool
-is_delta row d = resets (answer_for row d.identity.kind).temporality || always_resets d.identity.kind d.aggregation
+is_delta row d = resets (answer_for row d.identity.kind).temporality || always_resets d
 
 -- how a stream's history is cut into windows
 abbrev pub kind_of : Row → Demand → Kind
