@@ -1,4 +1,4 @@
-use Rattle.std.proofs.Common.{ℕ, zero, suc, ◌+◌, ◌<◌, ◌≡◌, List, [], ◌∷◌, ◌++◌, length, map, filter, nat_lt, Bool, true, false, cond, ◌||◌, ◌&&◌, Option, Some, None, is_some, option_map, refl, ap, arith, sym, ◌∙◌, true≢false}
+use Rattle.std.proofs.Common.{ℕ, zero, suc, ◌+◌, ◌<◌, ◌≡◌, List, [], ◌∷◌, ◌++◌, length, map, filter, slice_get, nat_lt, Bool, true, false, cond, ◌||◌, ◌&&◌, Option, Some, None, is_some, option_map, refl, ap, arith, sym, ◌∙◌, true≢false}
 use Rattle.std.specs.List.{IsDistinct, AllByRecursion}
 use Rattle.std.proofs.lemmas.List.Folds.{list_any-append}
 use Rattle.otel_common.specs.declared.attributes.KeyValue.{KeyValue}
@@ -199,3 +199,16 @@ pub at_entry-some : (g : List KeyValue) (f : Entry → Entry) (none : Entry) (en
 at_entry-some g f none entries i is d h =
     let miss : is_of g none ≡ false = ap (λ x. set_eq x g) is ∙ set_eq-flip none_set g ∙ h.0 in
     λ j. record { none = sym (ap (λ b. cond b (f none) none) miss) j; entries = with_entry-on g f entries i d h.1 j }
+
+-- an entry of the set stands where the set is found, since no other has its set
+pub index_of-at : (s : List KeyValue) (entries : List Entry) (i : ℕ) (e : Entry) → IsDistinct set_eq (sets entries) → slice_get entries i ≡ Some e → is_of s e ≡ true → index_of s entries ≡ Some i
+unfolding IsDistinct
+index_of-at s [] i e d at is = absurd (cc)
+index_of-at s (r ∷ rs) zero e d at is =
+    let first : r ≡ e = cc in
+    ap (λ (x : Entry). cond (is_of s x) (Some 0) (option_map suc (index_of s rs))) first ∙ ap (λ b. cond b (Some 0) (option_map suc (index_of s rs))) is
+index_of-at s (r ∷ rs) (suc i) e d at is = by (is_of s r) refl (index_of-at s rs i e d.1 at is)
+  where
+    by : (b : Bool) → is_of s r ≡ b → index_of s rs ≡ Some i → cond b (Some 0) (option_map suc (index_of s rs)) ≡ Some (suc i)
+    by false t rest = ap (option_map suc) rest
+    by true t rest = absurd (true≢false (sym (ap is_some rest) ∙ sym (has-index s rs) ∙ others s r.set rs t d.0))

@@ -73,6 +73,25 @@ pub fn find<A: Aggregator>(
     tallies.get_index_of(set)
 }
 
+/// Where the tally of a set stands, tried first at an index.
+pub fn find_near<A: Aggregator>(
+    tallies: &IndexMap<Items<KeyValue>, Tally<A>>,
+    near: usize,
+    set: &Items<KeyValue>,
+) -> Option<usize>
+    ensures at { result ≡ index_of set.now (entries_of A.meaning tallies.now.entries) }
+    ensures absent { IfNone result (get set_eq tallies.now set.now ≡ None) }
+    ensures within { IfSome result (λ i. i < index_map_len tallies.now) }
+{
+    let _ = tallies.len();
+    if let Some((key, _)) = tallies.get_index(near) {
+        if *key == *set {
+            return Some(near);
+        }
+    }
+    find(tallies, set)
+}
+
 /// Makes an aggregator in advance, where there is none.
 pub fn make_unused<A: Aggregator>(
     unused: &mut Option<A>,

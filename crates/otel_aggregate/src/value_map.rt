@@ -8,7 +8,9 @@ ghost use Rattle.otel_aggregate.specs.Tallies.{IsPlace, copies};
 
 use crate::aggregator::Aggregator;
 use crate::sets::{is_empty_set, overflow_set, set_for};
-use crate::table::{Tally, add, copy_out, find, first_points, make_key, make_unused, touch};
+use crate::table::{
+    Tally, add, copy_out, find, find_near, first_points, make_key, make_unused, touch,
+};
 use indexmap::IndexMap;
 use otel_common::attributes::KeyValue;
 use otel_common::faults::Fault;
@@ -31,6 +33,8 @@ pub struct ValueMap<A: Aggregator> {
     overflow: Items<KeyValue>,
     spare_key: Option<Items<KeyValue>>,
     tallies: IndexMap<Items<KeyValue>, Tally<A>>,
+    /// Where the set of the last call of `prepare` was found, so that the record looks it up only once.
+    near: usize,
 }
 
 impl<A: Aggregator> Model for ValueMap<A> {
@@ -77,6 +81,7 @@ impl<A: Aggregator> ValueMap<A> {
             overflow,
             spare_key: None,
             tallies: IndexMap::new(alloc),
+            near: 0,
         })
     }
 
@@ -93,7 +98,8 @@ impl<A: Aggregator> ValueMap<A> {
         if is_empty_set(set) {
             return Ok(());
         }
-        if find(&self.tallies, set).is_some() {
+        if let Some(at) = find(&self.tallies, set) {
+            self.near = at;
             return Ok(());
         }
         self.tallies.reserve(1)?;
@@ -111,7 +117,7 @@ impl<A: Aggregator> ValueMap<A> {
         if is_empty_set(&set) {
             return None;
         }
-        if let Some(at) = find(&self.tallies, &set) {
+        if let Some(at) = find_near(&self.tallies, self.near, &set) {
             return Some(at);
         }
         let at = self.tallies.len();
