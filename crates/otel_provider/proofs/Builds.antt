@@ -13,8 +13,8 @@ use Rattle.otel_model.specs.State.{Stream, ReaderPart}
 use Rattle.otel_model.specs.Machine as machine
 use Rattle.otel_provider.specs.Identities.{identity_of, demand_of, demand_by}
 use Rattle.otel_provider.specs.Shown.{about}
-use Rattle.otel_provider.specs.Streams.{Kept, stream_of, new_kept}
-use Rattle.otel_provider.specs.Pipelines.{Piped, Planned, part_of, cumulative_row, named, identity_at, identities, stream_number, plan_by, built, built_by, with_added}
+use Rattle.otel_provider.specs.Streams.{cumulative_row, Kept, stream_of, new_kept}
+use Rattle.otel_provider.specs.Pipelines.{Piped, Planned, part_of, named, identity_at, identities, stream_number, plan_by, built, built_by, with_added}
 use Rattle.otel_provider.specs.declared.identity.Demand.{Demand}
 use Rattle.otel_provider.specs.declared.identity.Identity.{Identity}
 use Rattle.otel_provider.specs.declared.sorts.InstrumentSort.{InstrumentSort}

@@ -1,3 +1,5 @@
 pub mod Builds
 pub mod Commits
+pub mod IdentityLemmas
+pub mod Metrics
 pub mod Records

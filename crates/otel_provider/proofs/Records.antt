@@ -16,8 +16,8 @@ use Rattle.otel_model.specs.Sent.{is_fed}
 use Rattle.otel_model.specs.Machine.{changed_at, stream_after, part_sent}
 use Rattle.otel_provider.specs.Identities.{identity_of}
 use Rattle.otel_provider.specs.Sorts.{kind_of, is_signed}
-use Rattle.otel_provider.specs.Streams.{Kept, stream_of, with_record, committed, committed_by, amount, settled}
-use Rattle.otel_provider.specs.Pipelines.{Piped, part_of, cumulative_row, named, identity_at, fed_by, committed_each}
+use Rattle.otel_provider.specs.Streams.{cumulative_row, Kept, stream_of, with_record, committed, committed_by, amount, settled}
+use Rattle.otel_provider.specs.Pipelines.{Piped, part_of, named, identity_at, fed_by, committed_each}
 use Rattle.otel_provider.specs.declared.sorts.InstrumentSort.{InstrumentSort}
 use Rattle.otel_provider.specs.declared.sorts.InstrumentSort.TheVariants.{U64Counter}
 use Rattle.otel_provider.proofs.Commits.{mapped_from, fold-changed}

@@ -1,12 +1,12 @@
 -- One reader's streams, as the provider keeps them and as the model's part of a reader.
-use Rattle.std.specs.Prelude.{◌≡◌, ◌<◌, ℕ, zero, suc, ◌+◌, ◌==◌, Bool, cond, List, [], ◌∷◌, ◌++◌, map, fold, length, replicate, All, Option, None, Some, slice_get, position}
+use Rattle.std.specs.Prelude.{◌≡◌, ◌<◌, ℕ, zero, suc, ◌+◌, ◌==◌, Bool, cond, List, [], ◌∷◌, ◌++◌, map, fold, length, All, Option, None, Some, slice_get, position}
 use Rattle.std.specs.List.{list_any}
 use Rattle.otel_model.specs.Calls.{or_else}
 use Rattle.otel_model.specs.Demands as model
 use Rattle.otel_model.specs.State.{ReaderPart}
 use Rattle.otel_model.specs.Machine.{changed_at}
 use Rattle.otel_provider.specs.Identities.{identity_of, demand_of}
-use Rattle.otel_provider.specs.Streams.{Kept, stream_of, new_kept, committed}
+use Rattle.otel_provider.specs.Streams.{cumulative_row, Kept, stream_of, new_kept, committed}
 use Rattle.otel_provider.specs.declared.identity.Demand.{Demand}
 use Rattle.otel_provider.specs.declared.identity.Identity.{Identity}
 
@@ -20,10 +20,6 @@ pub record Piped : Type 0 where
   pub streams : List Kept
   pub feeds : List (List ℕ)
   pub plan : Option Planned
-
--- a reader that answers `Cumulative` for every kind
-abbrev pub cumulative_row : model.Row
-cumulative_row = replicate 7 model.no_answer
 
 abbrev pub identities : List Kept → List Identity
 identities streams = map (λ k. k.demand.identity) streams

@@ -1,13 +1,32 @@
 -- One stream of a reader, as the provider keeps it and as the model's stream.
-use Rattle.std.specs.Prelude.{ℕ, pos, ◌+◌, Bool, List, [], Option, None, Some}
+use Rattle.std.specs.Prelude.{ℕ, pos, ◌+◌, Bool, true, false, cond, replicate, List, [], Option, None, Some}
 use Rattle.otel_common.specs.declared.attributes.KeyValue.{KeyValue}
 use Rattle.otel_model_stream.specs.Sets.{AttributeSet, set_of}
 use Rattle.otel_model_stream.specs.Folds.{Aggregate, Amount, Total, empty_of, sample_of, wrapped}
-use Rattle.otel_model_stream.specs.Entries.{Table, new_table, place, recorded_at}
+use Rattle.otel_model_stream.specs.Entries.{Table, new_table, place, recorded_at, points}
+use Rattle.otel_aggregate.specs.Streams.{StreamState}
 use Rattle.otel_model.specs.Demands.{default_limit}
+use Rattle.otel_model.specs.Calls as model_calls
+use Rattle.otel_model.specs.Collections.{metric, has_points}
+use Rattle.otel_model.specs.Demands as model_demands
 use Rattle.otel_model.specs.State as model
 use Rattle.otel_provider.specs.Identities.{demand_of}
 use Rattle.otel_provider.specs.declared.identity.Demand.{Demand}
+
+-- a reader that answers `Cumulative` for every kind
+abbrev pub cumulative_row : model_demands.Row
+cumulative_row = replicate 7 model_demands.no_answer
+
+-- the sums of a stream with these entries and this start
+abbrev pub default_sums : Table → ℕ → StreamState
+default_sums table start = record {
+  map_state = record { limit = default_limit; empty = empty_of Aggregate.Sum; table = table };
+  aggregate = Aggregate.Sum;
+  is_monotonic = true;
+  allow = None;
+  resets = false;
+  start = start;
+}
 
 -- what a stream keeps: its demand, its entries, its start, the total of its records, and the set of the
 -- record that is being made
@@ -63,3 +82,10 @@ settled k = with_staged None k
 
 abbrev pub staged_set : List KeyValue → AttributeSet
 staged_set attributes = set_of None attributes
+
+-- what a collection at a moment gives of the stream, if it has points
+abbrev pub if_points : model_calls.Metric → Option model_calls.Metric
+if_points m = cond (has_points m) (Some m) None
+
+abbrev pub shown_metric : ℕ → Kept → model_calls.Metric
+shown_metric now k = metric cumulative_row now k.since [] (demand_of k.demand) (points true k.table)

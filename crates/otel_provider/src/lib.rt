@@ -6,3 +6,4 @@ mod copies;
 pub mod identity;
 pub mod meter;
 pub mod sorts;
+mod stream;
