@@ -5,20 +5,21 @@ use Rattle.std.specs.List.{list_any, position_or_len}
 use Rattle.std.proofs.lemmas.Bool.Decides.{nat_tests}
 use Rattle.std.specs.Option.{option_map}
 use Rattle.std.proofs.lemmas.Bool.{cases_Bool, true≢false}
-use Rattle.std.proofs.lemmas.List.{map-append, length-append}
+use Rattle.std.proofs.lemmas.List.{map-append, length-map}
 use Rattle.otel_common.specs.declared.scopes.InstrumentationScope.{InstrumentationScope}
 use Rattle.otel_model.specs.Calls.{or_else, About}
 use Rattle.otel_model.specs.Demands as model
 use Rattle.otel_model.specs.State.{Stream, ReaderPart}
 use Rattle.otel_model.specs.Machine as machine
-use Rattle.otel_provider.specs.Identities.{identity_of, demand_of, demand_by}
+use Rattle.otel_provider.specs.Identities.{identity_test, identity_of, demand_of, demand_by}
 use Rattle.otel_provider.specs.Shown.{about}
 use Rattle.otel_provider.specs.Streams.{cumulative_row, Kept, stream_of, new_kept}
-use Rattle.otel_provider.specs.Pipelines.{Piped, Planned, part_of, named, identity_at, identities, stream_number, plan_by, built, built_by, with_added}
+use Rattle.otel_provider.specs.Pipelines.{Piped, Planned, part_of, named, identity_at, stream_identities, stream_number, plan_by, planned, built, built_by, with_added}
 use Rattle.otel_provider.specs.declared.identity.Demand.{Demand}
 use Rattle.otel_provider.specs.declared.identity.Identity.{Identity}
 use Rattle.otel_provider.specs.declared.sorts.InstrumentSort.{InstrumentSort}
 use Rattle.otel_provider.specs.declared.sorts.InstrumentSort.TheVariants.{U64Counter}
+use Rattle.otel_provider.proofs.IdentityLemmas.{sound, test-same}
 use Rattle.otel_provider.proofs.Records.{AreNumbers, some_same, identity_at-is}
 
 -- ======== longer lists of streams ========
@@ -71,10 +72,6 @@ demand-is scope U64Counter name (Some description) None = refl
 demand-is scope U64Counter name (Some description) (Some unit) = refl
 
 -- ======== what is known ========
--- the test of identities that the code makes is the model's
-abbrev pub IsTest : (Identity → Identity → Bool) → Type 0
-IsTest same = (x y : Identity) → model.identity_eq (identity_of y) (identity_of x) ≡ same x y
-
 -- the place of the first that passes, by cases on the list
 pub position-cons : {X : Type 0} (p : X → Bool) (x : X) (xs : List X) → position p (x ∷ xs) ≡ cond (p x) (Some 0) (option_map suc (position p xs))
 position-cons p x xs = by (p x)
@@ -87,37 +84,37 @@ position-cons p x xs = by (p x)
     by true = grind (arith, nat_tests)
     by false = later (position_or_len p xs) (length xs) (nat_lt (position_or_len p xs) (length xs)) refl
 
-some_or : (b : Bool) (o : Option ℕ) → is_some (cond b (Some 0) (option_map suc o)) ≡ (b || is_some o)
+pub some_or : (b : Bool) (o : Option ℕ) → is_some (cond b (Some 0) (option_map suc o)) ≡ (b || is_some o)
 some_or true o = refl
 some_or false None = refl
 some_or false (Some n) = refl
 
-pub known : (same : Identity → Identity → Bool) → IsTest same → (x : Identity) (ks : List Kept) → model.is_known (fates ks) (identity_of x) ≡ is_some (stream_number same x ks)
-known same test x [] = refl
-known same test x (k ∷ ks) =
-    (λ i. test x k.demand.identity i || known same test x ks i)
-    ∙ sym (ap is_some (position-cons (same x) k.demand.identity (identities ks)) ∙ some_or (same x k.demand.identity) (stream_number same x ks))
+pub known : (x : Identity) (ks : List Kept) → model.is_known (fates ks) (identity_of x) ≡ is_some (stream_number x (stream_identities ks))
+known x [] = refl
+known x (k ∷ ks) =
+    (λ i. test-same x k.demand.identity i || known x ks i)
+    ∙ sym (ap is_some (position-cons (identity_test x) k.demand.identity (stream_identities ks)) ∙ some_or (identity_test x k.demand.identity) (stream_number x (stream_identities ks)))
 
 -- a stream of this number has the identity
-pub record IsStreamOf (same : Identity → Identity → Bool) (x : Identity) (ks : List Kept) (n : ℕ) : Type 0 where
+pub record IsStreamOf (x : Identity) (ks : List Kept) (n : ℕ) : Type 0 where
   pub kept : Kept
   pub at : slice_get ks n ≡ Some kept
-  pub passes : same x kept.demand.identity ≡ true
+  pub passes : identity_test x kept.demand.identity ≡ true
 
-next_stream : (same : Identity → Identity → Bool) (x : Identity) (k : Kept) (ks : List Kept) (b : Bool) (o : Option ℕ) (n : ℕ) → same x k.demand.identity ≡ b
-    → ((m : ℕ) → o ≡ Some m → IsStreamOf same x ks m) → cond b (Some 0) (option_map suc o) ≡ Some n → IsStreamOf same x (k ∷ ks) n
-next_stream same x k ks true o zero t rest e = record { kept = k; at = refl; passes = t }
-next_stream same x k ks true o (suc n) t rest e = absurd (cc)
-next_stream same x k ks false None n t rest e = absurd (cc)
-next_stream same x k ks false (Some m) n t rest e =
+next_stream : (x : Identity) (k : Kept) (ks : List Kept) (b : Bool) (o : Option ℕ) (n : ℕ) → identity_test x k.demand.identity ≡ b
+    → ((m : ℕ) → o ≡ Some m → IsStreamOf x ks m) → cond b (Some 0) (option_map suc o) ≡ Some n → IsStreamOf x (k ∷ ks) n
+next_stream x k ks true o zero t rest e = record { kept = k; at = refl; passes = t }
+next_stream x k ks true o (suc n) t rest e = absurd (cc)
+next_stream x k ks false None n t rest e = absurd (cc)
+next_stream x k ks false (Some m) n t rest e =
     let q : suc m ≡ n = cc in
     let r = rest m refl in
-    subst (IsStreamOf same x (k ∷ ks)) q (record { kept = r.kept; at = r.at; passes = r.passes })
+    subst (IsStreamOf x (k ∷ ks)) q (record { kept = r.kept; at = r.at; passes = r.passes })
 
-pub found : (same : Identity → Identity → Bool) (x : Identity) (ks : List Kept) (n : ℕ) → stream_number same x ks ≡ Some n → IsStreamOf same x ks n
-found same x [] n e = absurd (cc)
-found same x (k ∷ ks) n e =
-    next_stream same x k ks (same x k.demand.identity) (stream_number same x ks) n refl (λ m q. found same x ks m q) (sym (position-cons (same x) k.demand.identity (identities ks)) ∙ e)
+pub found : (x : Identity) (ks : List Kept) (n : ℕ) → stream_number x (stream_identities ks) ≡ Some n → IsStreamOf x ks n
+found x [] n e = absurd (cc)
+found x (k ∷ ks) n e =
+    next_stream x k ks (identity_test x k.demand.identity) (stream_number x (stream_identities ks)) n refl (λ m q. found x ks m q) (sym (position-cons (identity_test x) k.demand.identity (stream_identities ks)) ∙ e)
 
 -- ======== a build that demands one stream ========
 -- what one demand leaves of a reader's part, as its identity is known or not
@@ -142,8 +139,7 @@ enter_keeps : (ks : List Kept) (d : Demand) (x : model.Identity) (b : Bool) → 
 enter_keeps ks d x true = keeps ks x
 enter_keeps ks d x false = keeps_more ks d x
 
-module _ (same : Identity → Identity → Bool) (test : IsTest same) (sound : (x y : Identity) → same x y ≡ true → identity_of y ≡ identity_of x)
-    (now : ℕ) (demand : Demand) (p : Piped) (numbers : AreAllNumbers p.feeds p.streams) where
+module _ (now : ℕ) (demand : Demand) (p : Piped) (numbers : AreAllNumbers p.feeds p.streams) where
   abbrev part : ReaderPart
   part = part_of p
 
@@ -158,19 +154,25 @@ module _ (same : Identity → Identity → Bool) (test : IsTest same) (sound : (
       }
   demand_kept b e = one_demand now part d b e refl (enter_keeps p.streams demand d.identity (model.is_known part.fates d.identity))
 
-  as_planned : (o : Option ℕ) → stream_number same demand.identity p.streams ≡ o → part_of (built_by (Some (plan_by o demand now p.streams)) p) ≡ machine.with_feeds (d ∷ []) (machine.demanded now part d)
+  abbrev count : ℕ
+  count = length (stream_identities p.streams)
+
+  last-is : slice_get (p.streams ++ new_kept demand now ∷ []) count ≡ Some (new_kept demand now)
+  last-is = rw (length-map {A = Kept} {B = Identity}) (get-last p.streams (new_kept demand now))
+
+  as_planned : (o : Option ℕ) → stream_number demand.identity (stream_identities p.streams) ≡ o → part_of (built_by (Some (plan_by o demand now count)) p) ≡ machine.with_feeds (d ∷ []) (machine.demanded now part d)
   as_planned None e =
       (λ i. record {
         row = cumulative_row;
         fates = map-append (λ (k : Kept). demand_of k.demand) p.streams (new_kept demand now ∷ []) i;
         streams = (map-append stream_of p.streams (new_kept demand now ∷ []) ∙ ap (λ s. map stream_of p.streams ++ s ∷ []) (new-is demand now demand.identity.sort refl)) i;
-        feeds = (map-append (named (p.streams ++ new_kept demand now ∷ [])) p.feeds ((length p.streams ∷ []) ∷ [])
+        feeds = (map-append (named (p.streams ++ new_kept demand now ∷ [])) p.feeds ((count ∷ []) ∷ [])
           ∙ λ j. all_named-front p.streams (new_kept demand now) p.feeds numbers j
-              ++ (ap (λ xs. xs ++ []) (identity_at-is (p.streams ++ new_kept demand now ∷ []) (length p.streams) (new_kept demand now) (get-last p.streams (new_kept demand now))) j) ∷ []) i;
+              ++ (ap (λ xs. xs ++ []) (identity_at-is (p.streams ++ new_kept demand now ∷ []) count (new_kept demand now) last-is) j) ∷ []) i;
       })
-      ∙ sym (demand_kept false (known same test demand.identity p.streams ∙ ap is_some e))
+      ∙ sym (demand_kept false (known demand.identity p.streams ∙ ap is_some e))
   as_planned (Some n) e =
-      let f = found same demand.identity p.streams n e in
+      let f = found demand.identity p.streams n e in
       (λ i. record {
         row = cumulative_row;
         fates = part.fates;
@@ -178,17 +180,16 @@ module _ (same : Identity → Identity → Bool) (test : IsTest same) (sound : (
         feeds = (map-append (named p.streams) p.feeds ((n ∷ []) ∷ [])
           ∙ λ j. part.feeds ++ (ap (λ xs. xs ++ []) (identity_at-is p.streams n f.kept f.at ∙ ap (λ x. x ∷ []) (sound demand.identity f.kept.demand.identity f.passes)) j) ∷ []) i;
       })
-      ∙ sym (demand_kept true (known same test demand.identity p.streams ∙ ap is_some e))
+      ∙ sym (demand_kept true (known demand.identity p.streams ∙ ap is_some e))
 
 -- a good build on a meter
-pub built-good : (same : Identity → Identity → Bool) → IsTest same → ((x y : Identity) → same x y ≡ true → identity_of y ≡ identity_of x)
-    → (now : ℕ) (scope : InstrumentationScope) (sort : InstrumentSort) (name : List ℕ) (description unit : Option (List ℕ)) (p : Piped) → AreAllNumbers p.feeds p.streams
+pub built-good : (now : ℕ) (scope : InstrumentationScope) (sort : InstrumentSort) (name : List ℕ) (description unit : Option (List ℕ)) (p : Piped) → AreAllNumbers p.feeds p.streams
     → model.is_good (about sort name description unit) ≡ true
-    → p.plan ≡ Some (plan_by (stream_number same (demand_by scope sort name description unit).identity p.streams) (demand_by scope sort name description unit) now p.streams)
+    → p.plan ≡ Some (planned (Some (demand_by scope sort name description unit)) now p.streams)
     → part_of (built p) ≡ machine.built [] (Some scope) (about sort name description unit) now (part_of p)
-built-good same test sound now scope sort name description unit p numbers good plan =
+built-good now scope sort name description unit p numbers good plan =
     ap (λ o. part_of (built_by o p)) plan
-    ∙ as_planned same test sound now (demand_by scope sort name description unit) p numbers (stream_number same (demand_by scope sort name description unit).identity p.streams) refl
+    ∙ as_planned now (demand_by scope sort name description unit) p numbers (stream_number (demand_by scope sort name description unit).identity (stream_identities p.streams)) refl
     ∙ sym (ap (λ ds. machine.with_feeds ds (fold (machine.demanded now) (part_of p) ds)) demands)
   where
     demands : machine.build_demands [] (part_of p) (Some scope) (about sort name description unit) ≡ demand_of (demand_by scope sort name description unit) ∷ []
@@ -196,16 +197,16 @@ built-good same test sound now scope sort name description unit p numbers good p
 
 -- a build that demands nothing: without a meter, or of a bad name or unit
 nothing_built : (scope : Option InstrumentationScope) (a : About) (now : ℕ) (p : Piped) → machine.build_demands [] (part_of p) scope a ≡ []
-    → p.plan ≡ Some (record { feeds = []; added = None }) → part_of (built p) ≡ machine.built [] scope a now (part_of p)
+    → p.plan ≡ Some (planned None now p.streams) → part_of (built p) ≡ machine.built [] scope a now (part_of p)
 nothing_built scope a now p none plan =
     ap (λ o. part_of (built_by o p)) plan
     ∙ (λ i. record { row = cumulative_row; fates = (part_of p).fates; streams = (part_of p).streams; feeds = map-append (named p.streams) p.feeds ([] ∷ []) i })
     ∙ sym (ap (λ ds. machine.with_feeds ds (fold (machine.demanded now) (part_of p) ds)) none)
 
 pub built-bad : (scope : Option InstrumentationScope) (a : About) (now : ℕ) (p : Piped) → model.is_good a ≡ false
-    → p.plan ≡ Some (record { feeds = []; added = None }) → part_of (built p) ≡ machine.built [] scope a now (part_of p)
+    → p.plan ≡ Some (planned None now p.streams) → part_of (built p) ≡ machine.built [] scope a now (part_of p)
 built-bad None a now p bad plan = nothing_built None a now p refl plan
 built-bad (Some scope) a now p bad plan = nothing_built (Some scope) a now p (rw bad refl) plan
 
-pub built-without : (a : About) (now : ℕ) (p : Piped) → p.plan ≡ Some (record { feeds = []; added = None }) → part_of (built p) ≡ machine.built [] None a now (part_of p)
+pub built-without : (a : About) (now : ℕ) (p : Piped) → p.plan ≡ Some (planned None now p.streams) → part_of (built p) ≡ machine.built [] None a now (part_of p)
 built-without a now p plan = nothing_built None a now p refl plan

@@ -1,28 +1,32 @@
 -- One reader's streams, as the provider keeps them and as the model's part of a reader.
-use Rattle.std.specs.Prelude.{◌≡◌, ◌<◌, ℕ, zero, suc, ◌+◌, ◌==◌, Bool, cond, List, [], ◌∷◌, ◌++◌, map, fold, length, All, Option, None, Some, slice_get, position}
+use Rattle.std.specs.Prelude.{◌≡◌, ◌<◌, ℕ, zero, suc, ◌+◌, ◌==◌, Bool, cond, List, [], ◌∷◌, ◌++◌, map, fold, length, All, IsTrue, Option, None, Some, slice_get, position}
 use Rattle.std.specs.List.{list_any}
+use Rattle.otel_model_stream.specs.Sets.{AttributeSet}
 use Rattle.otel_model.specs.Calls.{or_else}
 use Rattle.otel_model.specs.Demands as model
 use Rattle.otel_model.specs.State.{ReaderPart}
 use Rattle.otel_model.specs.Machine.{changed_at}
-use Rattle.otel_provider.specs.Identities.{identity_of, demand_of}
-use Rattle.otel_provider.specs.Streams.{cumulative_row, Kept, stream_of, new_kept, committed}
+use Rattle.otel_provider.specs.Identities.{identity_of, identity_test, demand_of}
+use Rattle.otel_provider.specs.Streams.{cumulative_row, Kept, stream_of, new_kept, committed, settled}
 use Rattle.otel_provider.specs.declared.identity.Demand.{Demand}
 use Rattle.otel_provider.specs.declared.identity.Identity.{Identity}
 
 -- what a build is going to do: the numbers of the streams that the instrument will feed, and the new stream
+-- with its identity
 pub record Planned : Type 0 where
   pub feeds : List ℕ
-  pub added : Option Kept
+  pub added : Option (Identity × Kept)
 
--- a reader's streams in order of making, for each instrument the numbers of those that it feeds, and what is planned
+-- a reader's streams in order of making, for each instrument the numbers of those that it feeds, what is
+-- planned, and whether there is room for a stream and an instrument more
 pub record Piped : Type 0 where
   pub streams : List Kept
   pub feeds : List (List ℕ)
   pub plan : Option Planned
+  pub room : Bool
 
-abbrev pub identities : List Kept → List Identity
-identities streams = map (λ k. k.demand.identity) streams
+abbrev pub stream_identities : List Kept → List Identity
+stream_identities streams = map (λ k. k.demand.identity) streams
 
 -- the identities of the streams of these numbers
 abbrev pub identity_at : List Kept → ℕ → List model.Identity
@@ -52,22 +56,54 @@ fed_by instrument p = or_else (slice_get p.feeds instrument) []
 abbrev pub committed_each : ℕ → List ℕ → List Kept → List Kept
 committed_each value ns streams = fold (λ ss n. changed_at n (committed value) ss) streams ns
 
-abbrev pub with_added : Option Kept → List Kept → List Kept
+-- each of these numbers is that of a stream
+abbrev pub AreNumbers : List Kept → List ℕ → Type 0
+AreNumbers streams ns = All (λ n. n < length streams) ns
+
+-- these streams are ready for a record of the set
+abbrev pub IsStaged : AttributeSet → Option Kept → Type 0
+IsStaged s None = Unit {0}
+IsStaged s (Some k) = k.staged ≡ Some s
+
+abbrev pub AreStaged : AttributeSet → List Kept → List ℕ → Type 0
+AreStaged s streams ns = All (λ n. IsStaged s (slice_get streams n)) ns
+
+-- but for the sets of the record that is being made
+abbrev pub all_settled : List Kept → List Kept
+all_settled streams = map settled streams
+
+abbrev pub with_added : Option (Identity × Kept) → List Kept → List Kept
 with_added None streams = streams
-with_added (Some k) streams = streams ++ k ∷ []
+with_added (Some added) streams = streams ++ added.1 ∷ []
 
 abbrev pub built_by : Option Planned → Piped → Piped
 built_by None p = p
-built_by (Some plan) p = record { streams = with_added plan.added p.streams; feeds = p.feeds ++ plan.feeds ∷ []; plan = None }
+built_by (Some plan) p = record { streams = with_added plan.added p.streams; feeds = p.feeds ++ plan.feeds ∷ []; plan = None; room = p.room }
 
 -- what was planned, carried out
 abbrev pub built : Piped → Piped
 built p = built_by p.plan p
 
--- the number of the stream of an identity, by a test of identities
-abbrev pub stream_number : (Identity → Identity → Bool) → Identity → List Kept → Option ℕ
-stream_number same x streams = position (same x) (identities streams)
+-- the number of the stream of an identity
+abbrev pub stream_number : Identity → List Identity → Option ℕ
+stream_number x keys = position (identity_test x) keys
 
-abbrev pub plan_by : Option ℕ → Demand → ℕ → List Kept → Planned
-plan_by None demand now streams = record { feeds = length streams ∷ []; added = Some (new_kept demand now) }
-plan_by (Some n) demand now streams = record { feeds = n ∷ []; added = None }
+abbrev pub plan_by : Option ℕ → Demand → ℕ → ℕ → Planned
+plan_by None demand now count = record { feeds = count ∷ []; added = Some (demand.identity, new_kept demand now) }
+plan_by (Some n) demand now count = record { feeds = n ∷ []; added = None }
+
+-- what a build that demands this, or nothing, plans, where there are streams of these identities: the
+-- instrument feeds the stream of the identity, which is new if there was none
+abbrev pub planned_from : Option Demand → ℕ → List Identity → Planned
+planned_from None now keys = record { feeds = []; added = None }
+planned_from (Some demand) now keys = plan_by (stream_number demand.identity keys) demand now (length keys)
+
+abbrev pub planned : Option Demand → ℕ → List Kept → Planned
+planned demand now streams = planned_from demand now (stream_identities streams)
+
+-- there is a plan, and room to carry it out
+pub record IsPlanned (p : Piped) : Type 0 where
+  pub demand : Option Demand
+  pub now : ℕ
+  pub plan : p.plan ≡ Some (planned demand now p.streams)
+  pub room : IsTrue p.room

@@ -6,4 +6,6 @@ mod copies;
 pub mod identity;
 pub mod meter;
 pub mod sorts;
+mod pipeline;
 mod stream;
+mod streams;

@@ -1,0 +1,33 @@
+-- What records leave of a reader's streams: their identities, and so their number.
+use Rattle.std.proofs.Common.{◌≡◌, ℕ, ◌<◌, List, [], ◌∷◌, map, length, Option, Some, None, refl, sym, ◌∙◌, ap, arith, zero, suc, fold}
+use Rattle.std.specs.Prelude.{All}
+use Rattle.std.proofs.lemmas.List.{length-map}
+use Rattle.otel_model_stream.specs.Sets.{AttributeSet}
+use Rattle.otel_model.specs.Machine.{changed_at}
+use Rattle.otel_provider.specs.Pipelines.{AreNumbers, all_settled, committed_each, stream_identities}
+use Rattle.otel_provider.specs.Streams.{Kept, settled, committed, committed_by}
+use Rattle.otel_provider.specs.declared.identity.Identity.{Identity}
+
+pub identities-settled : (ks : List Kept) → stream_identities (all_settled ks) ≡ stream_identities ks
+identities-settled [] = refl
+identities-settled (k ∷ ks) = ap (λ xs. k.demand.identity ∷ xs) (identities-settled ks)
+
+identity-committed : (value : ℕ) (o : Option AttributeSet) (k : Kept) → (committed_by o value k).demand.identity ≡ k.demand.identity
+identity-committed value None k = refl
+identity-committed value (Some s) k = refl
+
+identities-changed : (value n : ℕ) (ks : List Kept) → stream_identities (changed_at n (committed value) ks) ≡ stream_identities ks
+identities-changed value n [] = refl
+identities-changed value zero (k ∷ ks) = ap (λ x. x ∷ stream_identities ks) (identity-committed value k.staged k)
+identities-changed value (suc n) (k ∷ ks) = ap (λ xs. k.demand.identity ∷ xs) (identities-changed value n ks)
+
+pub identities-committed : (value : ℕ) (ns : List ℕ) (ks : List Kept) → stream_identities (committed_each value ns ks) ≡ stream_identities ks
+identities-committed value [] ks = refl
+identities-committed value (n ∷ ns) ks = identities-committed value ns (changed_at n (committed value) ks) ∙ identities-changed value n ks
+
+pub length-from : (a b : List Kept) → stream_identities a ≡ stream_identities b → length a ≡ length b
+length-from a b e = omega (arith, ap length e, length-map {A = Kept} {B = Identity})
+
+-- numbers of as many streams
+pub numbers-kept : (a b : List Kept) (feeds : List (List ℕ)) → length a ≡ length b → All (AreNumbers a) feeds → All (AreNumbers b) feeds
+numbers-kept a b feeds e all k d h k' d' h' = let q = all k d h k' d' h' in omega arith
