@@ -2,6 +2,7 @@ pub mod Builds
 pub mod Commits
 pub mod IdentityLemmas
 pub mod Metrics
+pub mod Outcomes
 pub mod PipelineLemmas
 pub mod PlanLemmas
 pub mod Records

@@ -1,5 +1,5 @@
 -- What records leave of a reader's streams: their identities, and so their number.
-use Rattle.std.proofs.Common.{◌≡◌, ℕ, ◌<◌, List, [], ◌∷◌, map, length, Option, Some, None, refl, sym, ◌∙◌, ap, arith, zero, suc, fold}
+use Rattle.std.proofs.Common.{Bool, true, ◌&&◌, ◌≡◌, ℕ, ◌<◌, List, [], ◌∷◌, map, length, Option, Some, None, refl, sym, ◌∙◌, ap, arith, zero, suc, fold}
 use Rattle.std.specs.Prelude.{All}
 use Rattle.std.proofs.lemmas.List.{length-map}
 use Rattle.otel_model_stream.specs.Sets.{AttributeSet}
@@ -31,3 +31,6 @@ length-from a b e = omega (arith, ap length e, length-map {A = Kept} {B = Identi
 -- numbers of as many streams
 pub numbers-kept : (a b : List Kept) (feeds : List (List ℕ)) → length a ≡ length b → All (AreNumbers a) feeds → All (AreNumbers b) feeds
 numbers-kept a b feeds e all k d h k' d' h' = let q = all k d h k' d' h' in omega arith
+
+pub all_true : (a b c : Bool) → a ≡ true → b ≡ true → c ≡ true → (a && (b && c)) ≡ true
+all_true a b c p q r = λ i. p i && (q i && r i)

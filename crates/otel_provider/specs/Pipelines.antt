@@ -1,13 +1,14 @@
 -- One reader's streams, as the provider keeps them and as the model's part of a reader.
 use Rattle.std.specs.Prelude.{◌≡◌, ◌<◌, ℕ, zero, suc, ◌+◌, ◌==◌, Bool, cond, List, [], ◌∷◌, ◌++◌, map, fold, length, All, IsTrue, Option, None, Some, slice_get, position}
-use Rattle.std.specs.List.{list_any}
+use Rattle.std.specs.List.{IsDistinct}
+use Rattle.otel_common.specs.declared.attributes.KeyValue.{KeyValue}
 use Rattle.otel_model_stream.specs.Sets.{AttributeSet}
 use Rattle.otel_model.specs.Calls.{or_else}
 use Rattle.otel_model.specs.Demands as model
 use Rattle.otel_model.specs.State.{ReaderPart}
 use Rattle.otel_model.specs.Machine.{changed_at}
 use Rattle.otel_provider.specs.Identities.{identity_of, identity_test, demand_of}
-use Rattle.otel_provider.specs.Streams.{cumulative_row, Kept, stream_of, new_kept, committed, settled}
+use Rattle.otel_provider.specs.Streams.{cumulative_row, Kept, stream_of, new_kept, committed, settled, staged_set}
 use Rattle.otel_provider.specs.declared.identity.Demand.{Demand}
 use Rattle.otel_provider.specs.declared.identity.Identity.{Identity}
 
@@ -107,3 +108,23 @@ pub record IsPlanned (p : Piped) : Type 0 where
   pub now : ℕ
   pub plan : p.plan ≡ Some (planned demand now p.streams)
   pub room : IsTrue p.room
+
+-- the streams have identities of their own, and the instruments feed streams that are there
+pub record IsLawful (p : Piped) : Type 0 where
+  pub apart : IsDistinct identity_test (stream_identities p.streams)
+  pub numbers : All (AreNumbers p.streams) p.feeds
+
+-- ready for a build that demands this, or nothing
+pub record IsReadyFor (demand : Option Demand) (now : ℕ) (p : Piped) : Type 0 where
+  pub lawful : IsLawful p
+  pub plan : p.plan ≡ Some (planned demand now p.streams)
+  pub room : IsTrue p.room
+
+-- ready for a record of these attributes at the instrument
+pub record IsStagedFor (instrument : ℕ) (attributes : List KeyValue) (p : Piped) : Type 0 where
+  pub lawful : IsLawful p
+  pub staged : AreStaged (staged_set attributes) p.streams (fed_by instrument p)
+
+-- the record is made in the streams that the instrument feeds
+abbrev pub recorded : ℕ → ℕ → Piped → ReaderPart
+recorded instrument value p = part_of (record p { streams = committed_each value (fed_by instrument p) p.streams })

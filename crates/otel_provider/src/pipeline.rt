@@ -6,9 +6,8 @@ ghost use Rattle.std.specs.List.{list_any};
 ghost use Rattle.std.specs.Option.{option_map};
 ghost use Rattle.indexmap.specs.IndexSet.{spare};
 ghost use Rattle.otel_provider.specs.Identities.{identity_test};
-ghost use Rattle.otel_provider.specs.Pipelines.{planned, planned_from, built, IsPlanned, fed_by, all_settled, AreStaged, committed_each};
+ghost use Rattle.otel_provider.specs.Pipelines.{planned_from, built, IsPlanned, IsReadyFor, IsStagedFor, fed_by, all_settled, committed_each};
 ghost use Rattle.otel_provider.specs.Plans.{planned_of};
-ghost use Rattle.otel_provider.specs.Streams.{staged_set};
 
 use crate::identity::{Demand, Identity};
 use crate::stream::Stream;
@@ -149,8 +148,7 @@ impl Pipeline {
     pub(crate) fn plan(&mut self, demand: Option<&Demand>, now: u64) -> Result<(), Fault>
         ensures streams { self.new.streams ≡ self.old.streams }
         ensures feeds { self.new.feeds ≡ self.old.feeds }
-        ensures plan { OnOk result (self.new.plan ≡ Some (planned (option_map (λ d. d.now) demand.entry) now self.old.streams)) }
-        ensures room { OnOk result (IsTrue self.new.room) }
+        ensures ready { OnOk result (IsReadyFor (option_map (λ d. d.now) demand.entry) now self.new) }
         ensures only_memory { IsOkUnless result Fault.OutOfMemory }
     {
         let plan = make_plan(self.alloc, &self.identities, demand, now)?;
@@ -183,10 +181,11 @@ impl Pipeline {
     pub(crate) fn stage(&mut self, instrument: usize, attributes: &[KeyValue]) -> Result<(), Fault>
         ensures same { all_settled self.new.streams ≡ all_settled self.old.streams }
         ensures feeds { self.new.feeds ≡ self.old.feeds }
-        ensures staged { OnOk result (AreStaged (staged_set attributes.now) self.new.streams (fed_by instrument self.new)) }
+        ensures staged { OnOk result (IsStagedFor instrument attributes.now self.new) }
         ensures free { attributes.now ≡ [] → IsOk result }
         ensures only_memory { IsOkUnless result Fault.OutOfMemory }
     {
+        let _ = self.identities.len();
         stage_each(&mut self.streams, streams_fed(&self.feeds, instrument), attributes)
     }
 
