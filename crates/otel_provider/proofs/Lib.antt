@@ -6,4 +6,5 @@ pub mod Outcomes
 pub mod PipelineLemmas
 pub mod PlanLemmas
 pub mod Records
+pub mod Shows
 pub mod Writes

@@ -1,4 +1,6 @@
+pub mod Collections
 pub mod Identities
+pub mod Instruments
 pub mod Pipelines
 pub mod Plans
 pub mod Shown

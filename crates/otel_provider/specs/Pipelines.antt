@@ -41,13 +41,17 @@ abbrev pub named : List Kept → List ℕ → List model.Identity
 named streams [] = []
 named streams (n ∷ ns) = identity_at streams n ++ named streams ns
 
-abbrev pub part_of : Piped → ReaderPart
-part_of p = record {
+-- the model's part of a reader with these streams, which the instruments feed by these numbers
+abbrev pub part_by : List Kept → List (List ℕ) → ReaderPart
+part_by streams feeds = record {
   row = cumulative_row;
-  fates = map (λ k. demand_of k.demand) p.streams;
-  streams = map stream_of p.streams;
-  feeds = map (named p.streams) p.feeds;
+  fates = map (λ k. demand_of k.demand) streams;
+  streams = map stream_of streams;
+  feeds = map (named streams) feeds;
 }
+
+abbrev pub part_of : Piped → ReaderPart
+part_of p = part_by p.streams p.feeds
 
 -- the numbers of the streams that an instrument feeds
 abbrev pub fed_by : ℕ → Piped → List ℕ
@@ -127,4 +131,4 @@ pub record IsStagedFor (instrument : ℕ) (attributes : List KeyValue) (p : Pipe
 
 -- the record is made in the streams that the instrument feeds
 abbrev pub recorded : ℕ → ℕ → Piped → ReaderPart
-recorded instrument value p = part_of (record p { streams = committed_each value (fed_by instrument p) p.streams })
+recorded instrument value p = part_by (committed_each value (fed_by instrument p) p.streams) p.feeds

@@ -5,10 +5,13 @@ ghost use Rattle.otel_model.specs.Calls.{or_else};
 ghost use Rattle.std.specs.List.{list_any};
 ghost use Rattle.std.specs.Option.{option_map};
 ghost use Rattle.indexmap.specs.IndexSet.{spare};
+ghost use Rattle.otel_provider.specs.Collections.{scopes_shown};
 ghost use Rattle.otel_provider.specs.Identities.{identity_test};
-ghost use Rattle.otel_provider.specs.Pipelines.{planned_from, built, IsPlanned, IsReadyFor, IsStagedFor, fed_by, all_settled, committed_each};
+ghost use Rattle.otel_provider.specs.Pipelines.{part_of, planned_from, built, IsPlanned, IsReadyFor, IsStagedFor, recorded};
 ghost use Rattle.otel_provider.specs.Plans.{planned_of};
+ghost use Rattle.otel_provider.specs.Shown.{collection_of};
 
+use crate::collecting::scopes_of;
 use crate::identity::{Demand, Identity};
 use crate::stream::Stream;
 use crate::streams::{commit_each, stage_each};
@@ -16,6 +19,8 @@ use indexmap::IndexSet;
 use otel_common::attributes::KeyValue;
 use otel_common::faults::Fault;
 use otel_common::lists::Items;
+use otel_common::scopes::InstrumentationScope;
+use otel_data::collections::ResourceMetrics;
 use std::alloc::Global;
 use std::marker::Model;
 
@@ -146,8 +151,7 @@ impl Pipeline {
 
     /// Gets ready for a build that demands this, or nothing. What the reader has stays as it was.
     pub(crate) fn plan(&mut self, demand: Option<&Demand>, now: u64) -> Result<(), Fault>
-        ensures streams { self.new.streams ≡ self.old.streams }
-        ensures feeds { self.new.feeds ≡ self.old.feeds }
+        ensures same { part_of self.new ≡ part_of self.old }
         ensures ready { OnOk result (IsReadyFor (option_map (λ d. d.now) demand.entry) now self.new) }
         ensures only_memory { IsOkUnless result Fault.OutOfMemory }
     {
@@ -162,8 +166,7 @@ impl Pipeline {
     /// Carries out what was planned.
     pub(crate) fn build(&mut self)
         requires { IsPlanned self.old }
-        ensures streams { self.new.streams ≡ (built self.old).streams }
-        ensures feeds { self.new.feeds ≡ (built self.old).feeds }
+        ensures { part_of self.new ≡ part_of (built self.old) }
     {
         let Some(plan) = self.plan.take() else {
             return;
@@ -179,8 +182,7 @@ impl Pipeline {
 
     /// Gets the streams that the instrument feeds ready for a record.
     pub(crate) fn stage(&mut self, instrument: usize, attributes: &[KeyValue]) -> Result<(), Fault>
-        ensures same { all_settled self.new.streams ≡ all_settled self.old.streams }
-        ensures feeds { self.new.feeds ≡ self.old.feeds }
+        ensures same { part_of self.new ≡ part_of self.old }
         ensures staged { OnOk result (IsStagedFor instrument attributes.now self.new) }
         ensures free { attributes.now ≡ [] → IsOk result }
         ensures only_memory { IsOkUnless result Fault.OutOfMemory }
@@ -191,9 +193,21 @@ impl Pipeline {
 
     /// Makes the record in the streams that the instrument feeds.
     pub(crate) fn commit(&mut self, instrument: usize, value: u64)
-        ensures streams { self.new.streams ≡ committed_each value (fed_by instrument self.old) self.old.streams }
-        ensures feeds { self.new.feeds ≡ self.old.feeds }
+        ensures { part_of self.new ≡ recorded instrument value self.old }
     {
         commit_each(&mut self.streams, streams_fed(&self.feeds, instrument), value);
+    }
+
+    /// What a collection at a moment gives, by the scopes of these meters.
+    pub(crate) fn collect(
+        &self,
+        meters: &IndexSet<InstrumentationScope>,
+        now: u64,
+    ) -> Result<ResourceMetrics, Fault>
+        ensures collection { IfOk result (λ c. (collection_of c).scopes ≡ scopes_shown now self.now.streams meters.now.keys) }
+        ensures only_memory { IsOkUnless result Fault.OutOfMemory }
+    {
+        let scopes = scopes_of(self.alloc, &self.streams, meters, now)?;
+        Ok(ResourceMetrics::new(scopes))
     }
 }
