@@ -4,6 +4,7 @@ pub mod IdentityLemmas
 pub mod Metrics
 pub mod Outcomes
 pub mod PipelineLemmas
+pub mod PipelinesLemmas
 pub mod PlanLemmas
 pub mod Records
 pub mod Shows

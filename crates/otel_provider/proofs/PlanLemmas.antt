@@ -5,7 +5,7 @@ use Rattle.std.specs.List.{list_any}
 use Rattle.std.proofs.lemmas.List.{length-map, map-append, length-append}
 use Rattle.std.proofs.lemmas.List.Elements.{All-push, All-cons, All-weaker}
 use Rattle.otel_provider.specs.Identities.{identity_test}
-use Rattle.otel_provider.specs.Pipelines.{Planned, planned_from, plan_by, stream_number, stream_identities, AreNumbers}
+use Rattle.otel_provider.specs.Pipelines.{part_by, part_of, built, with_added, Planned, planned_from, plan_by, stream_number, stream_identities, AreNumbers}
 use Rattle.otel_provider.specs.Streams.{Kept, new_kept}
 use Rattle.otel_provider.specs.Plans.{planned_of}
 use Rattle.otel_provider.specs.declared.pipeline.Plan.{Plan}
@@ -96,3 +96,10 @@ pub taken-is : (o : Option Plan) (plan : Plan) (made : Planned) (added : Option 
 taken-is o plan made added held took e =
     some_planned made (record { feeds = plan.feeds; added = added })
       (sym held ∙ (ap (option_map planned_of) (sym took) ∙ λ i. Some (record { feeds = plan.feeds; added = e i })))
+
+-- carrying out a plan with a new stream
+pub built-from : (streams : List Kept) (feeds : List (List ℕ)) (o : Option Plan) (room : Bool) (plan : Plan) (added : Identity × Kept) → Some plan ≡ o → plan.added ≡ Some added
+    → part_by (streams ++ added.1 ∷ []) (feeds ++ plan.feeds ∷ []) ≡ part_of (built (record { streams = streams; feeds = feeds; plan = option_map planned_of o; room = room }))
+built-from streams feeds o room plan added took e =
+    ap (λ a. part_by (with_added a streams) (feeds ++ plan.feeds ∷ [])) (sym e)
+    ∙ ap (λ (q : Option Plan). part_of (built (record { streams = streams; feeds = feeds; plan = option_map planned_of q; room = room }))) took

@@ -3,7 +3,8 @@ use Rattle.std.specs.Option.{option_map}
 use Rattle.otel_provider.specs.Pipelines.{planned_from, stream_identities, Planned, AreNumbers}
 use Rattle.otel_provider.specs.Streams.{Kept}
 use Rattle.otel_provider.specs.Plans.{planned_of}
-use Rattle.otel_provider.proofs.PlanLemmas.{taken-is, planned-new, planned-old, numbers-push, numbers-more, identities-push, IsNew}
+use Rattle.otel_provider.proofs.PipelineLemmas.{part-same}
+use Rattle.otel_provider.proofs.PlanLemmas.{built-from, taken-is, planned-new, planned-old, numbers-push, numbers-more, identities-push, IsNew}
 use Rattle.otel_provider.proofs.pipeline.Pipeline.build.Goals as goal
 
 -- a new stream has the key that is added, and the instrument feeds it
@@ -23,3 +24,11 @@ add_key-requires-clause-absent c =
     let new : IsNew c.in-Some-added.identity c.in-Some-added.stream c.in-Some.plan.feeds (stream_identities c.self.inside.streams.items) =
       planned-new c.requires.demand c.requires.now (stream_identities c.self.inside.streams.items) _ _ _ (taken-is c.self.inside.plan c.in-Some.plan _ _ held c.in-Some.ensures.value c.in-Some-added.is) in
     rw c.self.invariant.0 new.absent
+
+-- what is carried out is what was planned
+pub returns : goal.returns
+returns c =
+    let streams = c.self.inside.streams.items in
+    rw (← c.self.view_is)
+      (part-same _ _ _ _ c.push_reserved-2.ensures.items c.push_reserved.ensures.items
+        ∙ built-from streams c.self.inside.feeds.items c.self.inside.plan _ c.in-Some.plan (c.in-Some-added.identity, c.in-Some-added.stream) c.in-Some.ensures.value c.in-Some-added.is)

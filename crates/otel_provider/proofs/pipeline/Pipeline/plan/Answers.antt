@@ -6,7 +6,7 @@ use Rattle.indexmap.specs.IndexSet.{spare}
 use Rattle.otel_provider.specs.Identities.{identity_test}
 use Rattle.otel_provider.specs.Pipelines.{stream_identities, planned_from, planned}
 use Rattle.otel_provider.specs.declared.identity.Identity.{Identity}
-use Rattle.otel_provider.proofs.PipelineLemmas.{all_true, numbers-kept}
+use Rattle.otel_provider.proofs.PipelineLemmas.{part-same, all_true, numbers-kept}
 use Rattle.otel_provider.proofs.pipeline.Pipeline.plan.Goals as goal
 
 -- room is made, and what is planned is read off the keys, which are the identities of the streams
@@ -28,3 +28,9 @@ returns-clause-ready c =
       plan = ap Some (c.in_ok-plan.ensures.plan ∙ ap (planned_from _ c.args.now) are);
       room = all_true _ _ _ (lt-ltb _ _ key_fits) (lt-ltb _ _ stream_fits) (lt-ltb _ _ feeds_fit);
     }
+
+pub returns-in_err-reserve-3-clause-same : goal.returns-in_err-reserve-3-clause-same
+returns-in_err-reserve-3-clause-same c = rw (← c.self.view_is) (part-same _ _ _ _ c.reserve-2.ensures.items c.reserve-3.ensures.items)
+
+pub returns-clause-same : goal.returns-clause-same
+returns-clause-same c = rw (← c.self.view_is) (part-same _ _ _ _ c.reserve-2.ensures.items c.reserve-3.ensures.items)
