@@ -8,4 +8,5 @@ pub mod PipelinesLemmas
 pub mod PlanLemmas
 pub mod Records
 pub mod Shows
+pub mod StepLemmas
 pub mod Writes

@@ -5,5 +5,6 @@ pub mod Pipelines
 pub mod Plans
 pub mod Shown
 pub mod Sorts
+pub mod States
 pub mod Streams
 pub mod Validations
