@@ -146,4 +146,13 @@ impl Core {
             },
         }
     }
+
+    pub(crate) fn run(&mut self, alloc: Global, calls: &[Call]) -> Result<Vec<Reply>, Fault> {
+        let mut replies = Vec::with_capacity(alloc, calls.len())?;
+        for call in calls {
+            let reply = self.step(call);
+            replies.push_reserved(reply);
+        }
+        Ok(replies)
+    }
 }

@@ -57,10 +57,6 @@ impl SdkMeterProvider {
     ///
     /// Room for the replies is made first, so where this answers `OutOfMemory` no call was made.
     pub fn run(&mut self, alloc: Global, calls: &[Call]) -> Result<Vec<Reply>, Fault> {
-        let mut replies = Vec::with_capacity(alloc, calls.len())?;
-        for call in calls {
-            replies.push_reserved(self.core.step(call));
-        }
-        Ok(replies)
+        self.core.run(alloc, calls)
     }
 }

@@ -1,6 +1,6 @@
 use Rattle.std.proofs.Common.{◌≡◌, ◌≤◌, length, vec_len}
 use Rattle.std.specs.Prelude.{vec_capacity}
-use Rattle.otel_provider.proofs.provider.SdkMeterProvider.run.Given as goal
+use Rattle.otel_provider.proofs.core.Core.run.Given as goal
 
 -- a reply to each call so far, and room for the others
 abbrev pub invariant-loop-call : goal.invariant-loop-call
