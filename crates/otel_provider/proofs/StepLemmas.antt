@@ -1,5 +1,5 @@
 -- Calls that the provider carries out are the model's.
-use Rattle.std.proofs.Common.{◌≡◌, ℕ, zero, suc, ◌+◌, ◌<◌, ◌==◌, Bool, true, false, cond, not, ◌||◌, List, [], ◌∷◌, ◌++◌, map, fold, length, Option, Some, None, slice_get, refl, sym, ◌∙◌, ap, subst, arith, ⊎_elim, true≢false, option_map, eqb-true}
+use Rattle.std.proofs.Common.{◌≡◌, ℕ, zero, suc, ◌+◌, ◌<◌, ◌==◌, Bool, true, false, cond, not, ◌||◌, List, [], ◌∷◌, ◌++◌, map, fold, length, take, drop, Option, Some, None, slice_get, refl, sym, ◌∙◌, ap, subst, arith, ⊎_elim, true≢false, option_map, eqb-true}
 use Rattle.std.specs.Prelude.{All, slice_index_or, pos, IsTrue}
 use Rattle.std.specs.List.{list_any, position_or_len, IsDistinct, AllByRecursion}
 use Rattle.std.proofs.lemmas.Bool.{cases_Bool}
@@ -14,12 +14,14 @@ use Rattle.otel_model.specs.Calls as model
 use Rattle.otel_model.specs.Demands as demands
 use Rattle.otel_model.specs.State.{Stream, ReaderPart, InstrumentState}
 use Rattle.otel_model.specs.Sent.{has_scope}
-use Rattle.otel_model.specs.Steps.{number_from}
+use Rattle.otel_model.specs.Steps.{number_from, reply_by, after_by}
+use Rattle.otel_model.specs.Refusals.{meter_refusal, record_refusal}
+use Rattle.otel_common.specs.declared.faults.Fault.{Fault}
 use Rattle.otel_model.specs.Machine as machine
 use Rattle.otel_model.proofs.Gather.{identity_eq_true, identity_eq_self}
 use Rattle.otel_provider.specs.Identities.{identity_of, identity_test, demand_of, demand_by}
 use Rattle.otel_provider.specs.Shown.{about}
-use Rattle.otel_provider.specs.States.{wanted}
+use Rattle.otel_provider.specs.States.{wanted, IsMade, IsFault, IsNoMeter, state_of, shared_of}
 use Rattle.otel_provider.specs.Streams.{cumulative_row, Kept, stream_of, committed, committed_by, amount, staged_set}
 use Rattle.otel_provider.specs.Pipelines.{Piped, part_of, part_by, named, identity_at, built, planned, recorded, fed_by, committed_each, stream_identities, AreNumbers, AreStaged, IsStaged, IsLawful, IsReadyFor, IsStagedFor}
 use Rattle.otel_provider.specs.declared.identity.Demand.{Demand}
@@ -218,3 +220,37 @@ pub wanted-some : (o : Option InstrumentationScope) (scope : InstrumentationScop
     → demands.is_good (about sort name description unit) ≡ true → d ≡ demand_by scope sort name description unit → Some d ≡ wanted o sort name description unit
 wanted-some o scope sort name description unit d e good made =
     ap (λ x. Some x) made ∙ sym (ap (λ s. wanted s sort name description unit) e ∙ ap (λ b. cond b (Some (demand_by scope sort name description unit)) None) good)
+
+-- ======== lent readers ========
+-- what was lent whole comes back whole
+pub lent_back : {X : Type 0} (n : ℕ) (ys zs : List X) → n ≡ length ys → take n (ys ++ zs) ≡ ys
+lent_back zero [] zs e = refl
+lent_back zero (y ∷ ys) zs e = absurd (omega arith)
+lent_back (suc n) [] zs e = absurd (omega arith)
+lent_back (suc n) (y ∷ ys) zs e = ap (λ xs. y ∷ xs) (lent_back n ys zs (omega arith))
+
+pub ready_wanted : (a b : Option Demand) (now : ℕ) (ps : List Piped) → a ≡ b → All (IsReadyFor a now) ps → All (IsReadyFor b now) ps
+ready_wanted a b now ps e all = subst (λ d. All (IsReadyFor d now) ps) e all
+
+-- ======== whole calls ========
+-- a build of a meter that isn't there
+pub no_meter-fault : (meters : List InstrumentationScope) (instruments : List InstrumentState) (meter : Option ℕ) (f : Fault) → IsNoMeter meters meter f → IsFault (meter_refusal (shared_of meters instruments) meter) f
+no_meter-fault meters instruments meter f none =
+    let P : Fault → Type 0 = λ g. IsFault (meter_refusal (shared_of meters instruments) meter) g in
+    subst P (sym none.is) (none.unknown instruments)
+
+-- a record that is accepted
+pub record-made : (meters : List InstrumentationScope) (instruments more : List InstrumentState) (ps : List Piped) (readers : List ReaderPart) (n bits : ℕ) (v : model.Number) (l : List KeyValue)
+    → v ≡ record { signed = false; amount = amount bits } → record_refusal (slice_get instruments n) v.signed ≡ None
+    → more ≡ machine.changed_at n (machine.accepted (amount bits)) instruments
+    → readers ≡ map (machine.part_sent 0 (model.Call.Record n (record { signed = false; amount = amount bits }) l)) (map part_of ps)
+    → IsMade (state_of meters instruments ps) (model.Call.Record n v l) model.Reply.Done (record { shared = shared_of meters more; readers = readers })
+record-made meters instruments more ps readers n bits v l is fits accepted sent = record {
+    answer = sym (ap (λ o. reply_by o model.Reply.Done) fits);
+    state =
+      (λ i. record {
+        shared = shared_of meters ((accepted ∙ ap (λ (w : model.Number). machine.changed_at n (machine.accepted w.amount) instruments) (sym is)) i);
+        readers = (sent ∙ ap (λ (w : model.Number). map (machine.part_sent 0 (model.Call.Record n w l)) (map part_of ps)) (sym is)) i;
+      })
+      ∙ sym (ap (λ o. after_by o (state_of meters instruments ps) (machine.accepted_after [] (state_of meters instruments ps) (model.Call.Record n v l))) fits);
+  }

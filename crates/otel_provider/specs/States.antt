@@ -6,7 +6,7 @@ use Rattle.otel_common.specs.declared.scopes.InstrumentationScope.{Instrumentati
 use Rattle.otel_model.specs.Calls as model
 use Rattle.otel_model.specs.Demands.{is_good}
 use Rattle.otel_model.specs.Resources.{empty_resource}
-use Rattle.otel_model.specs.State.{InstrumentState, Shared, State}
+use Rattle.otel_model.specs.State.{InstrumentState, Shared, ReaderPart, State}
 use Rattle.otel_model.specs.Machine as machine
 use Rattle.otel_model.specs.Refusals.{refusal, meter_refusal, record_refusal}
 use Rattle.otel_model.specs.Sent.{scope_of}
@@ -56,11 +56,15 @@ IsNamed fault.UnknownInstrument = Unit {0}
 IsNamed fault.UnknownReader = Unit {0}
 IsNamed fault.WrongNumber = Unit {0}
 
--- what a build leaves: an instrument more, and at each reader the streams that its demand makes
+-- what a build of this demand leaves of the readers: what the model's leaves for any instrument that demands it
+abbrev pub AreBuilt : Option Demand → ℕ → List ReaderPart → List ReaderPart → Type 0
+AreBuilt demand now old new = (scope : Option InstrumentationScope) (sort : InstrumentSort) (name : List ℕ) (description unit : Option (List ℕ))
+    → demand ≡ wanted scope sort name description unit → new ≡ map (machine.built [] scope (about sort name description unit) now) old
+
+-- an instrument more, and at each reader the streams that its demand makes
 pub record IsBuilt (demand : Option Demand) (sort : InstrumentSort) (now : ℕ) (old new : State) : Type 0 where
   pub shared : new.shared ≡ record old.shared { instruments = old.shared.instruments ++ new_state sort ∷ [] }
-  pub readers : (scope : Option InstrumentationScope) (name : List ℕ) (description unit : Option (List ℕ)) → demand ≡ wanted scope sort name description unit
-    → new.readers ≡ map (machine.built [] scope (about sort name description unit) now) old.readers
+  pub readers : AreBuilt demand now old.readers new.readers
 
 -- the scope that a build's meter has among these
 pub record IsScopeOf (meters : List InstrumentationScope) (meter : Option ℕ) (scope : Option InstrumentationScope) : Type 0 where

@@ -19,7 +19,7 @@ use crate::identity::Demand;
 use crate::instrument::Instrument;
 use crate::meter::{validate_instrument_name, validate_instrument_unit};
 use crate::pipeline::Pipeline;
-use crate::pipelines::{build_all, commit_all, plan_all, stage_all};
+use crate::pipelines::{build_or_none, record_or_none};
 use crate::sorts::InstrumentSort;
 use indexmap::IndexSet;
 use otel_common::attributes::KeyValue;
@@ -100,7 +100,8 @@ fn demand_for(
 
 /// The value's bits, where it has the number type of the instrument.
 fn value_for(instruments: &[Instrument], instrument: usize, value: NumberValue) -> Result<u64, Fault>
-    ensures { MatchResult result (IsValueFor instruments.now instrument value) (IsFault (record_refusal (slice_get instruments.now instrument) (number_of value).signed)) }
+    ensures value { MatchResult result (IsValueFor instruments.now instrument value) (IsFault (record_refusal (slice_get instruments.now instrument) (number_of value).signed)) }
+    ensures named { IfErr result IsNamed }
 {
     match instruments.get(instrument) {
         Some(found) => found.bits_of(value),
@@ -156,8 +157,7 @@ impl Core {
         ensures only_memory { IsOkUnless result Fault.OutOfMemory }
     {
         self.instruments.reserve(1)?;
-        plan_all(&mut self.pipelines, demand, now)?;
-        build_all(&mut self.pipelines);
+        build_or_none(&mut self.pipelines, demand, now)?;
         let number = self.instruments.len();
         self.instruments.push_reserved(Instrument::new(sort));
         Ok(number)
@@ -196,8 +196,7 @@ impl Core {
             Ok(value) => value,
             Err(fault) => return Err(fault),
         };
-        stage_all(&mut self.pipelines, instrument, attributes)?;
-        commit_all(&mut self.pipelines, instrument, value);
+        record_or_none(&mut self.pipelines, instrument, value, attributes)?;
         self.instruments[instrument].accept(value);
         Ok(())
     }

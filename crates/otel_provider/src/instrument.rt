@@ -1,11 +1,11 @@
 //! Instruments, as the provider keeps them.
 
-ghost use Rattle.std.specs.Prelude.{◌≡◌, Some, None, OnOk, MatchResult};
+ghost use Rattle.std.specs.Prelude.{◌≡◌, Some, None, OnOk, IfErr, MatchResult};
 ghost use Rattle.otel_model.specs.Machine.{accepted};
 ghost use Rattle.otel_model.specs.Refusals.{record_refusal};
 ghost use Rattle.otel_provider.specs.Instruments.{new_state};
 ghost use Rattle.otel_provider.specs.Shown.{number_of};
-ghost use Rattle.otel_provider.specs.States.{IsFault, IsNumber};
+ghost use Rattle.otel_provider.specs.States.{IsFault, IsNamed, IsNumber};
 ghost use Rattle.otel_provider.specs.Streams.{amount};
 
 use crate::sorts::InstrumentSort;
@@ -45,6 +45,7 @@ impl Instrument {
     /// The bits of a value, if it has the instrument's number type.
     pub(crate) fn bits_of(&self, value: NumberValue) -> Result<u64, Fault>
         ensures number { MatchResult result (IsNumber value) (IsFault (record_refusal (Some self.now) (number_of value).signed)) }
+        ensures named { IfErr result IsNamed }
         ensures fits { OnOk result (record_refusal (Some self.now) (number_of value).signed ≡ None) }
     {
         match (self.sort, value) {
