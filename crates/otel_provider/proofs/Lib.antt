@@ -9,6 +9,7 @@ pub mod PipelinesLemmas
 pub mod PlanLemmas
 pub mod Records
 pub mod Refused
+pub mod Runs
 pub mod Shows
 pub mod StepLemmas
 pub mod Writes

@@ -1,13 +1,13 @@
 //! The state of a provider: all of it that is no boxed object.
 
-ghost use Rattle.std.specs.Prelude.{◌≡◌, ◌++◌, ◌∷◌, [], ℕ, List, Option, length, slice_get, Some, OnOk, OnErr, IfOk, IfErr, IsOkUnless, MatchResult};
+ghost use Rattle.std.specs.Prelude.{◌≡◌, ◌++◌, ◌∷◌, [], ℕ, List, Option, length, map, slice_get, Some, OnOk, OnErr, IfOk, IfErr, IsOkUnless, MatchResult};
 ghost use Rattle.std.specs.Option.{option_map};
 ghost use Rattle.otel_model.specs.Calls as model;
 ghost use Rattle.otel_model.specs.Demands.{is_good};
 ghost use Rattle.otel_model.specs.Machine.{new_state, new_part};
 ghost use Rattle.otel_model.specs.Refusals.{record_refusal};
 ghost use Rattle.otel_model.specs.Resources.{empty_resource};
-ghost use Rattle.otel_model.specs.Steps.{Step};
+ghost use Rattle.otel_model.specs.Steps.{Step, Run};
 ghost use Rattle.otel_provider.specs.Shown.{about, number_of, call_of, reply_of, collection_of};
 ghost use Rattle.otel_provider.specs.States.{IsMade, IsFault, IsFaultOf, IsNamed, IsBuilt, IsScopeOf, IsNoMeter, IsValueFor, wanted};
 ghost use Rattle.otel_provider.specs.declared.sorts.InstrumentSort.{InstrumentSort};
@@ -273,7 +273,11 @@ impl Core {
     }
 
     /// A list of calls, one after another, with the reply to each.
-    pub(crate) fn run(&mut self, alloc: Global, calls: &[Call]) -> Result<Vec<Reply>, Fault> {
+    pub(crate) fn run(&mut self, alloc: Global, calls: &[Call]) -> Result<Vec<Reply>, Fault>
+        ensures run { IfOk result (λ replies. Run [] self.old (map call_of calls.now) (map reply_of replies.items) self.new) }
+        ensures unmade { OnErr result (self.new ≡ self.old) }
+        ensures only_memory { IsOkUnless result Fault.OutOfMemory }
+    {
         let mut replies = Vec::with_capacity(alloc, calls.len())?;
         for call in calls {
             let reply = self.step(call);
