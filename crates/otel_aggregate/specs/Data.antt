@@ -8,11 +8,11 @@ use Rattle.otel_model_stream.specs.Folds.{Fold, Total, Last, Spreads}
 use Rattle.otel_model_stream.specs.Entries.{Point}
 use Rattle.otel_aggregate.specs.Streams.{StreamState, points_now}
 
--- the bits of a sum, of a last value, or of a histogram's sum
+-- the bits of a sum or of a last value
 abbrev pub bits_of : Fold → ℕ
 bits_of (Total n) = n
 bits_of (Last n) = n
-bits_of (Spreads s) = s.sum
+bits_of (Spreads s) = 0
 
 abbrev pub temporality_of : StreamState → Temporality
 temporality_of a = cond a.resets Delta Cumulative

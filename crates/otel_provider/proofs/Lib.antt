@@ -1,0 +1,15 @@
+pub mod Builds
+pub mod Collects
+pub mod Commits
+pub mod IdentityLemmas
+pub mod Metrics
+pub mod Outcomes
+pub mod PipelineLemmas
+pub mod PipelinesLemmas
+pub mod PlanLemmas
+pub mod Records
+pub mod Refused
+pub mod Runs
+pub mod Shows
+pub mod StepLemmas
+pub mod Writes

@@ -1,0 +1,7 @@
+//! Kinds of instruments, and readers.
+#![tactic(auto)]
+
+pub mod boxed;
+pub mod instrument;
+pub mod manual_reader;
+pub mod reader;
