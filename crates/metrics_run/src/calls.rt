@@ -1,0 +1,103 @@
+//! The lines of a script that are calls.
+
+use crate::attributes::attributes_of;
+use crate::numbers::{index, unsigned, value};
+use crate::refusals::Refusal;
+use crate::texts::text_of_word;
+use otel_common::scopes::InstrumentationScope;
+use otel_common::strings::StringValue;
+use otel_provider::calls::{Call, InstrumentSort};
+use std::alloc::Global;
+
+/// The call that the words of a line ask for.
+pub fn call_of(alloc: Global, words: &[&str]) -> Result<Call, Refusal> {
+    match words {
+        ["meter", name] => meter_call(alloc, name, None),
+        ["meter", name, version] => meter_call(alloc, name, Some(version)),
+        ["build", meter, sort, name, now, options @ ..] => {
+            let meter = meter_of(meter)?;
+            let sort = sort_of(sort)?;
+            let name = text_of_word(alloc, name)?;
+            let now = unsigned(now)?;
+            let Options { description, unit } = options_of(alloc, options)?;
+            Ok(Call::Build {
+                meter,
+                sort,
+                name: name.into(),
+                description,
+                unit,
+                now,
+            })
+        }
+        ["record", instrument, number, attributes] => Ok(Call::Record {
+            instrument: index(instrument)?,
+            value: value(number)?,
+            attributes: attributes_of(alloc, attributes)?.into(),
+        }),
+        ["collect", reader, now] => Ok(Call::Collect {
+            reader: index(reader)?,
+            now: unsigned(now)?,
+        }),
+        _ => Err(Refusal::BadCommand),
+    }
+}
+
+/// Asks for the meter of a name and, if one is given, a version.
+fn meter_call(alloc: Global, name: &str, version: Option<&str>) -> Result<Call, Refusal> {
+    let builder = InstrumentationScope::builder(alloc, text_of_word(alloc, name)?);
+    let builder = match version {
+        Some(version) => builder.with_version(text_of_word(alloc, version)?),
+        None => builder,
+    };
+    Ok(Call::Meter {
+        scope: builder.build()?,
+    })
+}
+
+/// The number of a meter, or `none`.
+fn meter_of(word: &str) -> Result<Option<usize>, Refusal> {
+    match word {
+        "none" => Ok(None),
+        _ => Ok(Some(index(word)?)),
+    }
+}
+
+/// The sort of an instrument, by the name of its builder.
+fn sort_of(word: &str) -> Result<InstrumentSort, Refusal> {
+    match word {
+        "u64_counter" => Ok(InstrumentSort::U64Counter),
+        _ => Err(Refusal::BadCommand),
+    }
+}
+
+/// What a `build` line may add about its instrument.
+#[derive(Drop)]
+struct Options {
+    description: Option<StringValue>,
+    unit: Option<StringValue>,
+}
+
+/// The options of a `build` line, each given at most once.
+fn options_of(alloc: Global, words: &[&str]) -> Result<Options, Refusal> {
+    let mut options = Options {
+        description: None,
+        unit: None,
+    };
+    for word in words {
+        match word.split_once('=') {
+            Some(("description", text)) => set_once(alloc, &mut options.description, text)?,
+            Some(("unit", text)) => set_once(alloc, &mut options.unit, text)?,
+            _ => return Err(Refusal::BadCommand),
+        }
+    }
+    Ok(options)
+}
+
+/// Sets an option that wasn't given before.
+fn set_once(alloc: Global, option: &mut Option<StringValue>, word: &str) -> Result<(), Refusal> {
+    if option.is_some() {
+        return Err(Refusal::BadCommand);
+    }
+    *option = Some(text_of_word(alloc, word)?.into());
+    Ok(())
+}
