@@ -1,3 +1,5 @@
+pub mod Attributes
 pub mod Failures
+pub mod Numbers
 pub mod Refusals
 pub mod Texts

@@ -1,5 +1,8 @@
 //! Attributes of a script.
 
+ghost use Rattle.std.specs.Prelude.{◌≡◌, IfOk, codes, if◌then◌else◌};
+ghost use Rattle.metrics_run.specs.Attributes.{IsAttributeWord, IsValueWord};
+
 use crate::numbers::signed;
 use crate::refusals::Refusal;
 use crate::texts::unescaped;
@@ -20,7 +23,9 @@ pub fn attributes_of(alloc: Global, word: &str) -> Result<Vec<KeyValue>, Refusal
 }
 
 /// A key and a value, with the pair's first `=` between them.
-fn attribute_of(alloc: Global, pair: &str) -> Result<KeyValue, Refusal> {
+fn attribute_of(alloc: Global, pair: &str) -> Result<KeyValue, Refusal>
+    ensures { IfOk result (IsAttributeWord pair.now) }
+{
     let Some((key, value)) = pair.split_once('=') else {
         return Err(Refusal::BadCommand);
     };
@@ -31,7 +36,9 @@ fn attribute_of(alloc: Global, pair: &str) -> Result<KeyValue, Refusal> {
 }
 
 /// A truth value, a signed number or a text.
-fn value_of(alloc: Global, word: &str) -> Result<Value, Refusal> {
+fn value_of(alloc: Global, word: &str) -> Result<Value, Refusal>
+    ensures { IfOk result (IsValueWord word.now) }
+{
     let Some((kind, rest)) = word.split_once(':') else {
         return Err(Refusal::BadCommand);
     };
@@ -44,7 +51,9 @@ fn value_of(alloc: Global, word: &str) -> Result<Value, Refusal> {
 }
 
 /// `true` or `false`.
-fn truth_of(word: &str) -> Result<bool, Refusal> {
+fn truth_of(word: &str) -> Result<bool, Refusal>
+    ensures { IfOk result (λ truth. word.now ≡ (if truth then codes "true" else codes "false")) }
+{
     match word {
         "true" => Ok(true),
         "false" => Ok(false),

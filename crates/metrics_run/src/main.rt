@@ -9,6 +9,8 @@ mod printing;
 mod refusals;
 mod script;
 mod scripts;
+#[cfg(test)]
+mod tests;
 mod texts;
 
 use script::script;

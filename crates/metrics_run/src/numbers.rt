@@ -1,16 +1,18 @@
 //! Numbers of a script.
 
+ghost use Rattle.std.specs.Prelude.{OkIff, IsOkUnless};
+ghost use Rattle.std.specs.Str.Parse.{digits_value, signed_digits_value};
+ghost use Rattle.metrics_run.specs.Numbers.{IsUnsigned, IsSigned};
+
 use crate::refusals::Refusal;
 use otel_data::numbers::NumberValue;
 
-/// One or more decimal digits; leading zeros are allowed.
-fn is_run_of_digits(word: &str) -> bool {
-    !word.is_empty() && word.bytes().all(|byte| byte.is_ascii_digit())
-}
-
 /// A number without a sign.
-pub fn unsigned(word: &str) -> Result<u64, Refusal> {
-    if !is_run_of_digits(word) {
+pub fn unsigned(word: &str) -> Result<u64, Refusal>
+    ensures number { OkIff result (IsUnsigned word.now) (digits_value 10 word.now) }
+    ensures refused { IsOkUnless result Refusal.BadCommand }
+{
+    if word.starts_with('+') {
         return Err(Refusal::BadCommand);
     }
     match word.parse::<u64>() {
@@ -20,8 +22,11 @@ pub fn unsigned(word: &str) -> Result<u64, Refusal> {
 }
 
 /// A number with an optional minus.
-pub fn signed(word: &str) -> Result<i64, Refusal> {
-    if !is_run_of_digits(word.strip_prefix('-').unwrap_or(word)) {
+pub fn signed(word: &str) -> Result<i64, Refusal>
+    ensures number { OkIff result (IsSigned word.now) (signed_digits_value 10 word.now) }
+    ensures refused { IsOkUnless result Refusal.BadCommand }
+{
+    if word.starts_with('+') {
         return Err(Refusal::BadCommand);
     }
     match word.parse::<i64>() {
@@ -31,17 +36,23 @@ pub fn signed(word: &str) -> Result<i64, Refusal> {
 }
 
 /// The number of a meter, an instrument or a reader.
-pub fn index(word: &str) -> Result<usize, Refusal> {
-    Ok(unsigned(word)? as usize)
+pub fn index(word: &str) -> Result<usize, Refusal>
+    ensures number { OkIff result (IsUnsigned word.now) (digits_value 10 word.now) }
+    ensures refused { IsOkUnless result Refusal.BadCommand }
+{
+    match unsigned(word) {
+        Ok(number) => Ok(number as usize),
+        Err(refusal) => Err(refusal),
+    }
 }
 
 /// A value: `u:` and a number without a sign, or `i:` and one with an optional minus.
-pub fn value(word: &str) -> Result<NumberValue, Refusal> {
-    if let Some(digits) = word.strip_prefix("u:") {
-        return Ok(NumberValue::U64(unsigned(digits)?));
-    }
-    match word.strip_prefix("i:") {
-        Some(digits) => Ok(NumberValue::I64(signed(digits)?)),
-        None => Err(Refusal::BadCommand),
+pub fn value(word: &str) -> Result<NumberValue, Refusal>
+    ensures { IsOkUnless result Refusal.BadCommand }
+{
+    match word.split_once(':') {
+        Some(("u", digits)) => Ok(NumberValue::U64(unsigned(digits)?)),
+        Some(("i", digits)) => Ok(NumberValue::I64(signed(digits)?)),
+        _ => Err(Refusal::BadCommand),
     }
 }

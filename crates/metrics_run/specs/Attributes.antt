@@ -1,0 +1,24 @@
+-- The attributes of a script.
+use Rattle.std.specs.Prelude.{◌≡◌, ◌==◌, ◌<◌, ℕ, Bool, ◌++◌, List, length, codes, if◌then◌else◌}
+use Rattle.std.specs.List.{position_or_len, before_first, after_first}
+use Rattle.std.specs.Str.Parse.{signed_digits_value}
+use Rattle.otel_common.specs.declared.attributes.KeyValue.{KeyValue}
+use Rattle.otel_common.specs.declared.attributes.Value.{Value}
+use Rattle.otel_common.specs.declared.attributes.Value.TheVariants as value
+use Rattle.percent_encoding.specs.Percent.{percent_decode}
+use Rattle.metrics_run.specs.Numbers.{IsSigned}
+
+-- `=`
+abbrev pub is_equals_sign : ℕ → Bool
+is_equals_sign byte = byte == 61
+
+-- `b:` and a truth value, `i:` and a signed number, or `s:` and a text with escapes; a script has no arrays
+abbrev pub IsValueWord : List ℕ → Value → Type 0
+IsValueWord word (value.Bool truth) = word ≡ (if truth then codes "b:true" else codes "b:false")
+IsValueWord word (value.I64 number) = (digits : List ℕ) × (word ≡ codes "i:" ++ digits) × IsSigned digits × (number ≡ signed_digits_value 10 digits)
+IsValueWord word (value.String text) = (escaped : List ℕ) × (word ≡ codes "s:" ++ escaped) × (text ≡ percent_decode escaped)
+IsValueWord word (value.Array _) = ⊥
+
+-- the text before the first `=` is the key, with escapes, and the rest is the value
+abbrev pub IsAttributeWord : List ℕ → KeyValue → Type 0
+IsAttributeWord word attribute = (position_or_len is_equals_sign word < length word) × (attribute.key ≡ percent_decode (before_first is_equals_sign word)) × IsValueWord (after_first is_equals_sign word) attribute.value
