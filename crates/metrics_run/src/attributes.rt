@@ -1,7 +1,7 @@
 //! Attributes of a script.
 
 ghost use Rattle.std.specs.Prelude.{◌≡◌, IfOk, codes, if◌then◌else◌};
-ghost use Rattle.metrics_run.specs.Attributes.{IsAttributeWord, IsValueWord};
+ghost use Rattle.metrics_run.specs.Attributes.{IsAttributeWord, IsValueWord, ReadsAttributes};
 
 use crate::numbers::signed;
 use crate::refusals::Refusal;
@@ -11,7 +11,9 @@ use otel_common::keys::Key;
 use std::alloc::Global;
 
 /// The attributes of a word: `-` for none, else pairs with commas between them.
-pub fn attributes_of(alloc: Global, word: &str) -> Result<Vec<KeyValue>, Refusal> {
+pub fn attributes_of(alloc: Global, word: &str) -> Result<Vec<KeyValue>, Refusal>
+    ensures { IfOk result (λ attributes. ReadsAttributes word.now attributes.items) }
+{
     let mut attributes = Vec::new(alloc);
     if word == "-" {
         return Ok(attributes);

@@ -1,8 +1,8 @@
 //! Numbers of a script.
 
-ghost use Rattle.std.specs.Prelude.{OkIff, IsOkUnless};
+ghost use Rattle.std.specs.Prelude.{OkIff, IfOk, IsOkUnless};
 ghost use Rattle.std.specs.Str.Parse.{digits_value, signed_digits_value};
-ghost use Rattle.metrics_run.specs.Numbers.{IsUnsigned, IsSigned};
+ghost use Rattle.metrics_run.specs.Numbers.{IsUnsigned, IsSigned, IsNumberWord};
 
 use crate::refusals::Refusal;
 use otel_data::numbers::NumberValue;
@@ -48,7 +48,8 @@ pub fn index(word: &str) -> Result<usize, Refusal>
 
 /// A value: `u:` and a number without a sign, or `i:` and one with an optional minus.
 pub fn value(word: &str) -> Result<NumberValue, Refusal>
-    ensures { IsOkUnless result Refusal.BadCommand }
+    ensures number { IfOk result (IsNumberWord word.now) }
+    ensures refused { IsOkUnless result Refusal.BadCommand }
 {
     match word.split_once(':') {
         Some(("u", digits)) => Ok(NumberValue::U64(unsigned(digits)?)),
