@@ -1,4 +1,5 @@
 pub mod Attributes
+pub mod Calls
 pub mod Failures
 pub mod Numbers
 pub mod Refusals

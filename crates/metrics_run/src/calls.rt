@@ -1,5 +1,10 @@
 //! The lines of a script that are calls.
 
+ghost use Rattle.std.specs.Prelude.{◌≡◌, None, [], codes, IfOk, OnOk};
+ghost use Rattle.std.specs.Option.{option_map};
+ghost use Rattle.metrics_run.specs.Calls.{IsMeterWord};
+ghost use Rattle.metrics_run.specs.Texts.{text_of_word};
+
 use crate::attributes::attributes_of;
 use crate::numbers::{index, unsigned, value};
 use crate::refusals::Refusal;
@@ -12,8 +17,12 @@ use std::alloc::Global;
 /// The call that the words of a line ask for.
 pub fn call_of(alloc: Global, words: &[&str]) -> Result<Call, Refusal> {
     match words {
-        ["meter", name] => meter_call(alloc, name, None),
-        ["meter", name, version] => meter_call(alloc, name, Some(version)),
+        ["meter", name] => Ok(Call::Meter {
+            scope: scope_of(alloc, name, None)?,
+        }),
+        ["meter", name, version] => Ok(Call::Meter {
+            scope: scope_of(alloc, name, Some(version))?,
+        }),
         ["build", meter, sort, name, now, options @ ..] => {
             let meter = meter_of(meter)?;
             let sort = sort_of(sort)?;
@@ -42,20 +51,26 @@ pub fn call_of(alloc: Global, words: &[&str]) -> Result<Call, Refusal> {
     }
 }
 
-/// Asks for the meter of a name and, if one is given, a version.
-fn meter_call(alloc: Global, name: &str, version: Option<&str>) -> Result<Call, Refusal> {
+/// The scope of a name and, if one is given, a version.
+fn scope_of(
+    alloc: Global,
+    name: &str,
+    version: Option<&str>,
+) -> Result<InstrumentationScope, Refusal>
+    ensures { IfOk result (λ scope. scope ≡ record { name = text_of_word name.now; version = option_map (λ word. text_of_word word.now) version.entry; schema_url = None; attributes = [] }) }
+{
     let builder = InstrumentationScope::builder(alloc, text_of_word(alloc, name)?);
     let builder = match version {
         Some(version) => builder.with_version(text_of_word(alloc, version)?),
         None => builder,
     };
-    Ok(Call::Meter {
-        scope: builder.build()?,
-    })
+    Ok(builder.build()?)
 }
 
 /// The number of a meter, or `none`.
-fn meter_of(word: &str) -> Result<Option<usize>, Refusal> {
+fn meter_of(word: &str) -> Result<Option<usize>, Refusal>
+    ensures { IfOk result (IsMeterWord word.now) }
+{
     match word {
         "none" => Ok(None),
         _ => Ok(Some(index(word)?)),
@@ -63,7 +78,9 @@ fn meter_of(word: &str) -> Result<Option<usize>, Refusal> {
 }
 
 /// The sort of an instrument, by the name of its builder.
-fn sort_of(word: &str) -> Result<InstrumentSort, Refusal> {
+fn sort_of(word: &str) -> Result<InstrumentSort, Refusal>
+    ensures { OnOk result (word.now ≡ codes "u64_counter") }
+{
     match word {
         "u64_counter" => Ok(InstrumentSort::U64Counter),
         _ => Err(Refusal::BadCommand),
