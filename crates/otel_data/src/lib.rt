@@ -5,6 +5,7 @@
 
 pub mod aggregated;
 pub mod collections;
+pub mod copies;
 pub mod data;
 pub mod numbers;
 pub mod points;

@@ -1,1 +1,15 @@
 pub mod Checks
+pub mod Resources
+pub mod Calls
+pub mod Demands
+pub mod Streams
+pub mod Collections
+pub mod State
+pub mod Refusals
+pub mod Sent
+pub mod Machine
+pub mod Steps
+pub mod Only
+pub mod History
+pub mod Totals
+pub mod Laws

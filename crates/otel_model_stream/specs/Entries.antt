@@ -5,6 +5,7 @@ use Rattle.std.specs.List.{list_any}
 use Rattle.otel_common.specs.Equality.{set_eq}
 use Rattle.otel_model_stream.specs.Sets.{AttributeSet, none_set, over_set}
 use Rattle.otel_model_stream.specs.Folds.{Fold, Sample, recorded, cleared}
+pub use Rattle.otel_model_stream.specs.Events.{Point}
 
 -- what is kept for a set: whether the limit counts it, whether it was updated since its making or
 -- the last reset, the fold of the records since then, and how many live handles it has
@@ -83,10 +84,6 @@ evicted m = record { none = reset m.none; entries = map reset (filter stays m.en
 
 abbrev pub drained : Table → Table
 drained m = record { none = reset m.none; entries = [] }
-
--- a point: its set, and the fold of its records
-abbrev pub Point : Type 0
-Point = AttributeSet × Fold
 
 abbrev pub shown : Entry → Point
 shown e = (e.set, e.fold)

@@ -1,4 +1,9 @@
 pub mod Sets
 pub mod Folds
+pub mod Events
 pub mod Entries
 pub mod Maps
+pub mod Machine
+pub mod Windows
+pub mod Totals
+pub mod Laws

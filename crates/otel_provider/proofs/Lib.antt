@@ -1,0 +1,12 @@
+pub mod Builds
+pub mod Commits
+pub mod IdentityLemmas
+pub mod Metrics
+pub mod Outcomes
+pub mod PipelineLemmas
+pub mod PipelinesLemmas
+pub mod PlanLemmas
+pub mod Records
+pub mod Shows
+pub mod StepLemmas
+pub mod Writes

@@ -1,0 +1,10 @@
+pub mod Collections
+pub mod Identities
+pub mod Instruments
+pub mod Pipelines
+pub mod Plans
+pub mod Shown
+pub mod Sorts
+pub mod States
+pub mod Streams
+pub mod Validations

@@ -1,5 +1,6 @@
 //! What a provider is asked and what it answers, as values.
 
+use crate::sorts::InstrumentSort;
 use otel_common::attributes::KeyValue;
 use otel_common::faults::Fault;
 use otel_common::lists::Items;
@@ -7,13 +8,6 @@ use otel_common::scopes::InstrumentationScope;
 use otel_common::strings::StringValue;
 use otel_data::collections::ResourceMetrics;
 use otel_data::numbers::NumberValue;
-use otel_stream::instrument::InstrumentKind;
-
-/// The kind and the number type of an instrument.
-#[derive(Clone, Copy, Debug, PartialEq, Eq, Hash)]
-pub enum InstrumentSort {
-    U64Counter,
-}
 
 /// One call of a provider.
 #[derive(Clone, Debug, Drop)]
@@ -54,20 +48,4 @@ pub enum Reply {
     Collected(ResourceMetrics),
     /// The call was refused and changed nothing.
     Refused(Fault),
-}
-
-impl InstrumentSort {
-    /// The kind of instrument.
-    pub fn kind(self) -> InstrumentKind {
-        match self {
-            InstrumentSort::U64Counter => InstrumentKind::Counter,
-        }
-    }
-
-    /// Whether its values are signed.
-    pub fn is_signed(self) -> bool {
-        match self {
-            InstrumentSort::U64Counter => false,
-        }
-    }
 }

@@ -2,3 +2,15 @@
 #![tactic(auto)]
 
 pub mod calls;
+mod collecting;
+mod copies;
+mod core;
+pub mod identity;
+mod instrument;
+pub mod meter;
+pub mod sorts;
+mod pipeline;
+mod pipelines;
+pub mod provider;
+mod stream;
+mod streams;

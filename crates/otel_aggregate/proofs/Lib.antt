@@ -1,0 +1,4 @@
+pub mod Empty
+pub mod FoldLaws
+pub mod TallyLemmas
+pub mod PlaceLemmas

@@ -1,0 +1,104 @@
+//! What is kept of the records of one set of attributes.
+
+ghost use Rattle.std.specs.Prelude.{◌≡◌, List, [], ◌∷◌, ◌++◌, IfOk, refl};
+ghost use Rattle.otel_model_stream.specs.Folds.{Sample, Fold, Total, recorded, cleared, folded};
+
+use crate::number::Number;
+use std::alloc::{AllocError, Global};
+
+/// What is kept of a list of records, one record after the other.
+pub trait Aggregator: Drop {
+    /// What one is made with.
+    type InitConfig: Drop;
+
+    /// A record.
+    type PreComputedValue: Copy;
+
+    /// What the records so far come to.
+    ghost meaning: { Self → Fold };
+
+    /// What no records come to.
+    ghost empty: { Self.InitConfig → Fold };
+
+    /// The model's record.
+    ghost sample: { Self.PreComputedValue → Sample };
+
+    /// One with no records.
+    fn create(alloc: Global, config: &Self::InitConfig) -> Result<Self, AllocError>
+        ensures { IfOk result (λ made. meaning made ≡ empty config.now) };
+
+    /// Takes in one more record.
+    fn update(&mut self, value: Self::PreComputedValue)
+        ensures { meaning self.new ≡ recorded (meaning self.old) (sample value) };
+
+    /// One of the same records.
+    fn copy(&self, alloc: Global) -> Result<Self, AllocError>
+        ensures { IfOk result (λ made. meaning made ≡ meaning self.now) };
+
+    /// Forgets all records.
+    fn reset(&mut self)
+        ensures { meaning self.new ≡ cleared (meaning self.old) };
+
+    /// Forgetting where there are no records changes nothing.
+    ghost cleared_empty: { (config : Self.InitConfig) → cleared (empty config) ≡ empty config };
+}
+
+/// Adds up the records.
+#[derive(Drop)]
+pub struct Increment<T> {
+    pub value: T,
+}
+
+impl<T: Number + Drop> Aggregator for Increment<T> {
+    type InitConfig = ();
+
+    type PreComputedValue = T;
+
+    ghost meaning = { λ sum. Total (T.bits sum.value) };
+
+    ghost empty = { λ _. Total 0 };
+
+    ghost sample = { λ value. record { bits = T.bits value; wide = T.wide value; bucket = 0 } };
+
+    ghost cleared_empty = { λ _. refl };
+
+    fn create(_alloc: Global, _config: &()) -> Result<Increment<T>, AllocError> {
+        Ok(Increment { value: T::zero() })
+    }
+
+    fn update(&mut self, value: T) {
+        self.value = self.value.add(value);
+    }
+
+    fn copy(&self, _alloc: Global) -> Result<Increment<T>, AllocError> {
+        Ok(Increment { value: self.value })
+    }
+
+    fn reset(&mut self) {
+        self.value = T::zero();
+    }
+}
+
+/// The law that an aggregator as it is made has the meaning of no records.
+pub fn create_fold<A: Aggregator>(alloc: Global, config: &A::InitConfig) -> Result<A, AllocError>
+    ensures { IfOk result (λ made. A.meaning made ≡ folded (A.empty config.now) []) }
+{
+    A::create(alloc, config)
+}
+
+/// The law that, where an aggregator's meaning is the fold of some records, an update makes it the
+/// fold of these and one more at their end.
+pub fn update_fold<A: Aggregator>(aggregator: &mut A, value: A::PreComputedValue)
+    ensures { (config : A.InitConfig) (samples : List Sample) → A.meaning aggregator.old ≡ folded (A.empty config) samples
+        → A.meaning aggregator.new ≡ folded (A.empty config) (samples ++ A.sample value ∷ []) }
+{
+    aggregator.update(value);
+}
+
+/// The law that, where an aggregator's meaning is the fold of some records, a reset makes it that of none.
+pub fn reset_fold<A: Aggregator>(aggregator: &mut A)
+    ensures { (config : A.InitConfig) (samples : List Sample) → A.meaning aggregator.old ≡ folded (A.empty config) samples
+        → A.meaning aggregator.new ≡ folded (A.empty config) [] }
+{
+    aggregator.reset();
+}

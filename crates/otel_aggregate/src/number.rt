@@ -1,0 +1,77 @@
+//! Numbers of 64 bits.
+
+ghost use Rattle.std.specs.Prelude.{◌≡◌, ℕ, ℤ, pos, int_lt, ◌+◌, ◌-◌, ◌%◌, ◌^◌};
+
+/// A number of 64 bits.
+pub trait Number: Copy {
+    /// The 64 bits.
+    ghost bits: { Self → ℕ };
+
+    /// The value as a whole number.
+    ghost wide: { Self → ℤ };
+
+    /// The number of these bits.
+    ghost of_bits: { ℕ → Self };
+
+    /// The law that the bits tell the number.
+    fn told_by_bits(self)
+        ensures { of_bits (bits self) ≡ self };
+
+    /// Zero.
+    fn zero() -> Self
+        ensures { bits result ≡ 0 };
+
+    /// The sum modulo 2^64.
+    fn add(self, other: Self) -> Self
+        ensures { bits result ≡ (bits self + bits other) % 2 ^ 64 };
+
+    /// The difference modulo 2^64.
+    fn subtract(self, other: Self) -> Self
+        ensures { bits result ≡ (bits self + (2 ^ 64 - bits other)) % 2 ^ 64 };
+
+    /// Whether this number is less than the other.
+    fn is_less(self, other: Self) -> bool
+        ensures { result ≡ int_lt (wide self) (wide other) };
+
+    /// The 64 bits.
+    fn bits(self) -> u64
+        ensures { result ≡ bits self };
+
+    /// The value as a whole number.
+    fn wide(self) -> i128
+        ensures { result ≡ wide self };
+}
+
+impl Number for u64 {
+    ghost bits = { λ n. n };
+
+    ghost wide = { pos };
+
+    ghost of_bits = { λ n. n };
+
+    fn told_by_bits(self) {}
+
+    fn zero() -> u64 {
+        0
+    }
+
+    fn add(self, other: u64) -> u64 {
+        self.wrapping_add(other)
+    }
+
+    fn subtract(self, other: u64) -> u64 {
+        self.wrapping_sub(other)
+    }
+
+    fn is_less(self, other: u64) -> bool {
+        self < other
+    }
+
+    fn bits(self) -> u64 {
+        self
+    }
+
+    fn wide(self) -> i128 {
+        self as i128
+    }
+}

@@ -1,0 +1,160 @@
+//! Tallies by set, in order of making.
+
+ghost use Rattle.std.specs.Prelude.{◌≡◌, IfOk, IsOk, is_some, true, IsOkUnless, ◌<◌, ◌∷◌, [], ◌++◌, None, OnOk, IfNone, IfSome, map, filter, ◌||◌};
+ghost use Rattle.std.specs.List.{IsDistinct};
+ghost use Rattle.indexmap.specs.IndexMap.{index_map_len, spare, get};
+ghost use Rattle.otel_common.specs.Equality.{set_eq};
+ghost use Rattle.otel_model_stream.specs.Sets.{none_set, over_set};
+ghost use Rattle.otel_model_stream.specs.Entries.{fresh, write, shown};
+ghost use Rattle.otel_aggregate.specs.Tallies.{entries_of, entry_of, copies, with_entry_at, index_of, sets};
+
+use crate::aggregator::Aggregator;
+use crate::sets::{copy_set, overflow_set};
+use indexmap::IndexMap;
+use otel_common::attributes::KeyValue;
+use otel_common::faults::Fault;
+use otel_common::lists::Items;
+use std::alloc::Global;
+
+/// What is kept for a set: its aggregator, whether the limit counts it, and whether it was updated
+/// since its making.
+#[derive(Drop)]
+pub struct Tally<A> {
+    pub aggregator: A,
+    pub counted: bool,
+    pub updated: bool,
+}
+
+/// Takes a record into the tally at an index.
+pub fn touch<A: Aggregator>(
+    tallies: &mut IndexMap<Items<KeyValue>, Tally<A>>,
+    at: usize,
+    value: A::PreComputedValue,
+)
+    requires { at < index_map_len tallies.old }
+    ensures entries { entries_of A.meaning tallies.new.entries ≡ with_entry_at at (write (A.sample value)) (entries_of A.meaning tallies.old.entries) }
+    ensures room { spare tallies.new ≡ spare tallies.old }
+    ensures unique { IsDistinct set_eq (sets (entries_of A.meaning tallies.old.entries)) }
+{
+    let _ = tallies.len();
+    let (_, tally) = tallies.pair_mut(at);
+    tally.aggregator.update(value);
+    tally.updated = true;
+}
+
+/// Adds the tally of a set that has none.
+pub fn add<A: Aggregator>(
+    tallies: &mut IndexMap<Items<KeyValue>, Tally<A>>,
+    set: Items<KeyValue>,
+    counted: bool,
+    aggregator: A,
+)
+    requires absent { get set_eq tallies.old set ≡ None }
+    requires room { 0 < spare tallies.old }
+    ensures entries { entries_of A.meaning tallies.new.entries ≡ entries_of A.meaning tallies.old.entries ++ fresh (A.meaning aggregator) set counted ∷ [] }
+{
+    let tally = Tally {
+        aggregator,
+        counted,
+        updated: false,
+    };
+    tallies.insert(set, tally).unwrap();
+}
+
+/// Where the tally of a set stands.
+pub fn find<A: Aggregator>(
+    tallies: &IndexMap<Items<KeyValue>, Tally<A>>,
+    set: &Items<KeyValue>,
+) -> Option<usize>
+    ensures at { result ≡ index_of set.now (entries_of A.meaning tallies.now.entries) }
+    ensures absent { IfNone result (get set_eq tallies.now set.now ≡ None) }
+    ensures within { IfSome result (λ i. i < index_map_len tallies.now) }
+{
+    tallies.get_index_of(set)
+}
+
+/// Where the tally of a set stands, tried first at an index.
+pub fn find_near<A: Aggregator>(
+    tallies: &IndexMap<Items<KeyValue>, Tally<A>>,
+    near: usize,
+    set: &Items<KeyValue>,
+) -> Option<usize>
+    ensures at { result ≡ index_of set.now (entries_of A.meaning tallies.now.entries) }
+    ensures absent { IfNone result (get set_eq tallies.now set.now ≡ None) }
+    ensures within { IfSome result (λ i. i < index_map_len tallies.now) }
+{
+    let _ = tallies.len();
+    if let Some((key, _)) = tallies.get_index(near) {
+        if *key == *set {
+            return Some(near);
+        }
+    }
+    find(tallies, set)
+}
+
+/// Makes an aggregator in advance, where there is none.
+pub fn make_unused<A: Aggregator>(
+    unused: &mut Option<A>,
+    alloc: Global,
+    config: &A::InitConfig,
+) -> Result<(), Fault>
+    requires { IfSome unused.old (λ made. A.meaning made ≡ A.empty config.now) }
+    ensures empty { IfSome unused.new (λ made. A.meaning made ≡ A.empty config.now) }
+    ensures made { OnOk result (is_some unused.new ≡ true) }
+    ensures succeeds { is_some unused.old ≡ true → IsOk result }
+    ensures only_memory { IsOkUnless result Fault.OutOfMemory }
+{
+    if unused.is_some() {
+        return Ok(());
+    }
+    *unused = Some(A::create(alloc, config)?);
+    Ok(())
+}
+
+/// Makes the set of the overflow entry in advance, where there is none.
+pub fn make_key(key: &mut Option<Items<KeyValue>>, alloc: Global) -> Result<(), Fault>
+    requires { IfSome key.old (λ made. made ≡ over_set) }
+    ensures over { IfSome key.new (λ made. made ≡ over_set) }
+    ensures made { OnOk result (is_some key.new ≡ true) }
+    ensures succeeds { is_some key.old ≡ true → IsOk result }
+    ensures only_memory { IsOkUnless result Fault.OutOfMemory }
+{
+    if key.is_some() {
+        return Ok(());
+    }
+    *key = Some(overflow_set(alloc)?);
+    Ok(())
+}
+
+/// The point of the empty set, if it was updated.
+pub fn first_points<A: Aggregator>(
+    alloc: Global,
+    none: &Tally<A>,
+) -> Result<Vec<(Items<KeyValue>, A)>, Fault>
+    ensures points { IfOk result (λ given. copies A.meaning given.items ≡ map shown (filter (λ entry. entry.updated) (entry_of A.meaning (none_set, none.now) ∷ []))) }
+    ensures only_memory { IsOkUnless result Fault.OutOfMemory }
+{
+    let mut points = Vec::new(alloc);
+    if !none.updated {
+        return Ok(points);
+    }
+    let set = Items::from(Vec::new(alloc));
+    points.push((set, none.aggregator.copy(alloc)?))?;
+    Ok(points)
+}
+
+/// Adds the points of all tallies, in order.
+pub fn copy_out<A: Aggregator>(
+    alloc: Global,
+    tallies: &IndexMap<Items<KeyValue>, Tally<A>>,
+    points: &mut Vec<(Items<KeyValue>, A)>,
+) -> Result<(), Fault>
+    ensures points { OnOk result (copies A.meaning points.new.items ≡ copies A.meaning points.old.items ++ map shown (filter (λ entry. true || entry.updated) (entries_of A.meaning tallies.now.entries))) }
+    ensures only_memory { IsOkUnless result Fault.OutOfMemory }
+{
+    points.reserve(tallies.len())?;
+    for (set, tally) in tallies.iter() {
+        points.push((copy_set(set)?, tally.aggregator.copy(alloc)?))?;
+    }
+    Ok(())
+}

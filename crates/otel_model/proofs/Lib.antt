@@ -1,0 +1,9 @@
+pub mod StreamFacts
+pub mod Single
+pub mod Gather
+pub mod Follow
+pub mod Runs
+pub mod Recorded
+pub mod Shown
+pub mod Rows
+pub mod RowsPlaces

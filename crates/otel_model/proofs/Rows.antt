@@ -1,0 +1,138 @@
+-- What the worked rows are written in: instruments, values, sets, views and readers, and what is seen of collections.
+use Rattle.std.specs.Prelude.{◌≡◌, ℕ, ◌+◌, ℤ, pos, Bool, true, false, cond, List, [], ◌∷◌, ◌++◌, map, Option, Some, None, codes}
+use Rattle.otel_common.specs.Equality.{bytes_eq}
+use Rattle.otel_common.specs.declared.attributes.KeyValue.{KeyValue}
+use Rattle.otel_common.specs.declared.attributes.Value.TheVariants as value
+use Rattle.otel_common.specs.declared.scopes.InstrumentationScope.{InstrumentationScope}
+use Rattle.otel_model_stream.specs.Sets.{AttributeSet, AllowList}
+use Rattle.otel_model_stream.specs.Folds.{Amount, Spread}
+use Rattle.otel_model.specs.Resources.{empty_resource}
+use Rattle.otel_model.specs.Calls.{Text, InstrumentKind, kind_number, Number, About, Observed, Call, Meter, Build, Record, Collect, Content, Metric, ScopeMetrics, Collection, Reply}
+use Rattle.otel_model.specs.Demands.{Aggregation, Instrument, StreamSpec, View, Views, Answer, Row, nothing_said}
+use Rattle.otel_model.specs.State.{State}
+use Rattle.otel_model.specs.Machine.{changed_at, new_state}
+use Rattle.otel_model.specs.Steps.{replies_of}
+use Rattle.otel_model.specs.History.{collections_of, given, made}
+
+-- ======== instruments and values ========
+abbrev pub a : Text
+a = 97 ∷ []
+
+abbrev pub b : Text
+b = 98 ∷ []
+
+abbrev pub scope_named : Text → InstrumentationScope
+scope_named name = record { name = name; version = None; schema_url = None; attributes = [] }
+
+abbrev pub m : InstrumentationScope
+m = scope_named (109 ∷ [])
+
+abbrev pub about : InstrumentKind → Text → About
+about kind name = record { kind = kind; signed = false; name = name; description = None; unit = None; bounds = None }
+
+abbrev pub with_own_bounds : List ℤ → About → About
+with_own_bounds bounds i = record i { bounds = Some bounds }
+
+abbrev pub u64 : ℕ → Number
+u64 n = record { signed = false; amount = record { bits = n; wide = pos n } }
+
+abbrev pub i64 : ℕ → ℤ → Number
+i64 bits wide = record { signed = true; amount = record { bits = bits; wide = wide } }
+
+-- ======== sets ========
+abbrev pub is_1 : ℕ → List KeyValue
+is_1 key = record { key = key ∷ []; value = value.I64 (pos 1) } ∷ []
+
+abbrev pub x1 : List KeyValue
+x1 = is_1 120
+
+abbrev pub y1 : List KeyValue
+y1 = is_1 121
+
+abbrev pub z1 : List KeyValue
+z1 = is_1 122
+
+abbrev pub pair : ℕ → ℕ → KeyValue
+pair key n = record { key = key ∷ []; value = value.I64 (pos n) }
+
+-- ======== views ========
+-- for instruments of this name
+abbrev pub if_named : Text → StreamSpec → View
+if_named name spec i = cond (bytes_eq name i.name) (Some spec) None
+
+abbrev pub limited : ℕ → StreamSpec
+limited n = record nothing_said { limit = Some n }
+
+abbrev pub named : Text → StreamSpec
+named name = record nothing_said { name = Some name }
+
+abbrev pub aggregating : Aggregation → StreamSpec
+aggregating aggregation = record nothing_said { aggregation = Some aggregation }
+
+-- ======== readers ========
+abbrev pub but_for : InstrumentKind → (Answer → Answer) → Row → Row
+but_for kind f row = changed_at (kind_number kind) f row
+
+abbrev pub limit_of : ℕ → Answer → Answer
+limit_of n answer = record answer { limit = Some n }
+
+abbrev pub default_of : Aggregation → Answer → Answer
+default_of aggregation answer = record answer { aggregation = Some aggregation }
+
+-- ======== what is seen ========
+-- a metric's name and its points
+abbrev pub Seen : Type 0
+Seen = List (Text × Content)
+
+abbrev pub flat : {X : Type 0} → List (List X) → List X
+flat [] = []
+flat (x ∷ xs) = x ++ flat xs
+
+abbrev pub seen_metric : Metric → Text × Content
+seen_metric x = (x.name, x.content)
+
+abbrev pub seen : Collection → Seen
+seen c = flat (map (λ (s : ScopeMetrics). map seen_metric s.metrics) c.scopes)
+
+-- the replies of the machine, and the calls that count by them
+abbrev pub replies : Views → List Row → List Call → List Reply
+replies views rows calls = replies_of views (new_state empty_resource 0 rows) calls
+
+-- reader r's collections by the machine
+abbrev pub by_machine : Views → List Row → ℕ → List Call → List Collection
+by_machine views rows r calls = given r calls (replies views rows calls)
+
+-- and as they are read off the calls
+abbrev pub by_windows : Views → List Row → ℕ → Row → List Call → List Collection
+by_windows views rows r row calls = collections_of views empty_resource row r (made calls (replies views rows calls))
+
+-- both show this of reader r, whose answers are `row`
+abbrev pub Shows : Views → List Row → ℕ → Row → List Call → List Seen → Type 0
+Shows views rows r row calls collections = (map seen (by_machine views rows r calls) ≡ collections) × (map seen (by_windows views rows r row calls) ≡ collections)
+
+-- start and time of each metric
+abbrev pub moments : Collection → List (ℕ × ℕ)
+moments c = flat (map (λ (s : ScopeMetrics). map (λ (x : Metric). let p : ℕ × ℕ = (x.start, x.time) in p) s.metrics) c.scopes)
+
+abbrev pub HasMoments : Views → List Row → ℕ → Row → List Call → List (List (ℕ × ℕ)) → Type 0
+HasMoments views rows r row calls times = (map moments (by_machine views rows r calls) ≡ times) × (map moments (by_windows views rows r row calls) ≡ times)
+
+-- one metric
+abbrev pub one : Text → Content → Seen
+one name content = (name, content) ∷ []
+
+abbrev pub delta_sum : List (AttributeSet × ℕ) → Content
+delta_sum points = Content.Sum true true points
+
+abbrev pub cumulative_sum : List (AttributeSet × ℕ) → Content
+cumulative_sum points = Content.Sum false true points
+
+-- calls on one meter and one instrument
+abbrev pub on : About → List Call → List Call
+on i calls = Meter m ∷ Build (Some 0) i 100 ∷ calls
+
+abbrev pub add : ℕ → List KeyValue → Call
+add n attributes = Record 0 (u64 n) attributes
+
+abbrev pub observe : ℕ → ℕ → List KeyValue → Observed
+observe instrument n attributes = record { instrument = instrument; value = u64 n; attributes = attributes }

@@ -1,0 +1,135 @@
+-- The calls of a provider and their replies, as plain data.
+use Rattle.std.specs.Prelude.{ℕ, ◌+◌, nat_eq, ℤ, Bool, true, false, cond, List, [], ◌∷◌, map, Option, Some, None}
+use Rattle.otel_common.specs.declared.attributes.KeyValue.{KeyValue}
+use Rattle.otel_common.specs.declared.scopes.InstrumentationScope.{InstrumentationScope}
+use Rattle.otel_model_stream.specs.Folds.{Amount, Spread}
+use Rattle.otel_model_stream.specs.Sets.{AttributeSet}
+use Rattle.otel_model.specs.Checks.{is_within}
+use Rattle.otel_model.specs.Resources.{Resource}
+
+-- the bytes of a text
+abbrev pub Text : Type 0
+Text = List ℕ
+
+-- a text with its ASCII letters lowered
+abbrev pub lowered : Text → Text
+lowered t = map (λ b. cond (is_within 65 90 b) (b + 32) b) t
+
+-- what an option holds, or else the value given
+abbrev pub or_else : {X : Type 0} → Option X → X → X
+or_else None d = d
+or_else (Some x) d = x
+
+-- ======== instruments ========
+pub data InstrumentKind : Type 0 where
+  Counter : InstrumentKind
+  UpDownCounter : InstrumentKind
+  Histogram : InstrumentKind
+  ObservableCounter : InstrumentKind
+  ObservableUpDownCounter : InstrumentKind
+  Gauge : InstrumentKind
+  ObservableGauge : InstrumentKind
+
+abbrev pub kind_number : InstrumentKind → ℕ
+kind_number Counter = 0
+kind_number UpDownCounter = 1
+kind_number Histogram = 2
+kind_number ObservableCounter = 3
+kind_number ObservableUpDownCounter = 4
+kind_number Gauge = 5
+kind_number ObservableGauge = 6
+
+abbrev pub kind_eq : InstrumentKind → InstrumentKind → Bool
+kind_eq a b = nat_eq (kind_number a) (kind_number b)
+
+abbrev pub is_observable : InstrumentKind → Bool
+is_observable Counter = false
+is_observable UpDownCounter = false
+is_observable Histogram = false
+is_observable ObservableCounter = true
+is_observable ObservableUpDownCounter = true
+is_observable Gauge = false
+is_observable ObservableGauge = true
+
+-- a value with its type: signed is `i64`, else `u64`
+pub record Number : Type 0 where
+  pub signed : Bool
+  pub amount : Amount
+
+-- what a build says of its instrument
+pub record About : Type 0 where
+  pub kind : InstrumentKind
+  pub signed : Bool
+  pub name : Text
+  pub description : Option Text
+  pub unit : Option Text
+  pub bounds : Option (List ℤ)
+
+-- an observation of an observable instrument
+pub record Observed : Type 0 where
+  pub instrument : ℕ
+  pub value : Number
+  pub attributes : List KeyValue
+
+-- ======== calls ========
+-- meters, instruments and readers are named by number, handles by the number that their bind gave
+pub data Call : Type 0 where
+  Meter : (scope : InstrumentationScope) → Call
+  Build : (meter : Option ℕ) (about : About) (now : ℕ) → Call
+  Record : (instrument : ℕ) (value : Number) (attributes : List KeyValue) → Call
+  Bind : (instrument : ℕ) (attributes : List KeyValue) → Call
+  RecordBound : (handle : ℕ) (value : Number) → Call
+  Unbind : (handle : ℕ) → Call
+  Collect : (reader : ℕ) (now : ℕ) (observations : List Observed) → Call
+  Flush : Call
+  Shutdown : Call
+
+-- ======== replies ========
+-- why a call is refused
+pub data Fault : Type 0 where
+  OutOfMemory : Fault
+  UnknownMeter : Fault
+  UnknownInstrument : Fault
+  UnknownHandle : Fault
+  UnknownReader : Fault
+  WrongNumber : Fault
+  WrongKind : Fault
+  AlreadyShutdown : Fault
+  ReaderShutDown : Fault
+  ReadersFailed : (failed : ℕ) (first : ℕ) → Fault
+  Exhausted : Fault
+  LedgerFull : Fault
+  UseWorker : Fault
+  WorkersMissing : Fault
+
+-- the points of a metric: a set of attributes, and the 64 bits of its value or the totals of its histogram
+pub data Content : Type 0 where
+  Gauge : (points : List (AttributeSet × ℕ)) → Content
+  Sum : (is_delta : Bool) (is_monotonic : Bool) (points : List (AttributeSet × ℕ)) → Content
+  Histogram : (is_delta : Bool) (bounds : List ℤ) (points : List (AttributeSet × Spread)) → Content
+
+-- a stream's part of a collection
+pub record Metric : Type 0 where
+  pub name : Text
+  pub description : Text
+  pub unit : Text
+  pub signed : Bool
+  pub content : Content
+  pub start : ℕ
+  pub time : ℕ
+
+pub record ScopeMetrics : Type 0 where
+  pub scope : InstrumentationScope
+  pub metrics : List Metric
+
+pub record Collection : Type 0 where
+  pub resource : Resource
+  pub scopes : List ScopeMetrics
+
+pub data Reply : Type 0 where
+  Meter : (number : Option ℕ) → Reply
+  Instrument : (number : ℕ) → Reply
+  Handle : (number : ℕ) → Reply
+  Done : Reply
+  Collected : (collection : Collection) → Reply
+  Refused : (fault : Fault) → Reply

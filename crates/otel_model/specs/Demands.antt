@@ -1,0 +1,282 @@
+-- What a build demands of a reader, and the fate of what is demanded (Metrics SDK, "View" and "MetricReader").
+use Rattle.std.specs.Prelude.{ℕ, ◌==◌, nat_lt, ℤ, neg_ℤ, pos, Bool, true, false, cond, ◌&&◌, ◌||◌, not, is_none, List, [], ◌∷◌, ◌++◌, map, filter, Option, Some, None, slice_get}
+use Rattle.std.specs.Bool.{beq}
+use Rattle.std.specs.List.{list_any}
+use Rattle.otel_common.specs.Equality.{bytes_eq}
+use Rattle.otel_common.specs.Scopes.{scope_eq}
+use Rattle.otel_common.specs.declared.scopes.InstrumentationScope.{InstrumentationScope}
+use Rattle.otel_model_stream.specs.Sets.{AllowList}
+use Rattle.otel_model.specs.Checks.{is_good_name, optional_unit_fault, rises}
+use Rattle.otel_model.specs.Calls.{Text, lowered, or_else, InstrumentKind, Counter, UpDownCounter, Histogram, ObservableCounter, ObservableUpDownCounter, Gauge, ObservableGauge, kind_number, kind_eq, About}
+
+-- ======== identities ========
+-- what makes a stream of a reader the same stream
+pub record Identity : Type 0 where
+  pub scope : InstrumentationScope
+  pub kind : InstrumentKind
+  pub signed : Bool
+  pub description : Text
+  pub unit : Text
+  pub name : Text
+
+abbrev pub identity_eq : Identity → Identity → Bool
+identity_eq a b = scope_eq a.scope b.scope && (kind_eq a.kind b.kind && (beq a.signed b.signed && (bytes_eq a.description b.description && (bytes_eq a.unit b.unit && bytes_eq a.name b.name))))
+
+-- ======== aggregations ========
+pub data Aggregation : Type 0 where
+  Drop : Aggregation
+  Default : Aggregation
+  Sum : Aggregation
+  LastValue : Aggregation
+  ExplicitBucketHistogram : (boundaries : List ℤ) (record_min_max : Bool) → Aggregation
+
+abbrev pub is_drop : Aggregation → Bool
+is_drop Drop = true
+is_drop Default = false
+is_drop Sum = false
+is_drop LastValue = false
+is_drop (ExplicitBucketHistogram bounds m) = false
+
+-- whether the aggregation can be used with the kind
+abbrev pub fits : InstrumentKind → Aggregation → Bool
+fits kind Drop = true
+fits kind Default = true
+fits kind (ExplicitBucketHistogram bounds m) = true
+fits Gauge Sum = false
+fits ObservableGauge Sum = false
+fits kind Sum = true
+fits Gauge LastValue = true
+fits ObservableGauge LastValue = true
+fits kind LastValue = false
+
+abbrev pub is_valid : Aggregation → Bool
+is_valid Drop = true
+is_valid Default = true
+is_valid Sum = true
+is_valid LastValue = true
+is_valid (ExplicitBucketHistogram bounds m) = rises bounds
+
+abbrev pub default_bounds : List ℤ
+default_bounds = pos 0 ∷ pos 5 ∷ pos 10 ∷ pos 25 ∷ pos 50 ∷ pos 75 ∷ pos 100 ∷ pos 250 ∷ pos 500 ∷ pos 750 ∷ pos 1000 ∷ pos 2500 ∷ pos 5000 ∷ pos 7500 ∷ pos 10000 ∷ []
+
+-- the default aggregation of a kind
+abbrev pub kind_default : InstrumentKind → Aggregation
+kind_default Counter = Sum
+kind_default UpDownCounter = Sum
+kind_default Histogram = ExplicitBucketHistogram default_bounds true
+kind_default ObservableCounter = Sum
+kind_default ObservableUpDownCounter = Sum
+kind_default Gauge = LastValue
+kind_default ObservableGauge = LastValue
+
+-- ======== views and readers ========
+-- an instrument as views see it
+pub record Instrument : Type 0 where
+  pub name : Text
+  pub description : Text
+  pub kind : InstrumentKind
+  pub unit : Text
+  pub scope : InstrumentationScope
+
+-- what a view answers; what it lacks is the instrument's
+pub record StreamSpec : Type 0 where
+  pub name : Option Text
+  pub description : Option Text
+  pub unit : Option Text
+  pub aggregation : Option Aggregation
+  pub allow : AllowList
+  pub limit : Option ℕ
+
+-- a view: a function of the instrument
+abbrev pub View : Type 0
+View = Instrument → Option StreamSpec
+
+abbrev pub Views : Type 0
+Views = List View
+
+pub data Temporality : Type 0 where
+  Cumulative : Temporality
+  Delta : Temporality
+  LowMemory : Temporality
+
+-- only `Delta` resets
+abbrev pub resets : Temporality → Bool
+resets Cumulative = false
+resets Delta = true
+resets LowMemory = false
+
+-- what a reader of this temporality prefers for a kind
+abbrev pub temporality_preference : InstrumentKind → Temporality → Temporality
+temporality_preference kind Cumulative = Cumulative
+temporality_preference UpDownCounter Delta = Cumulative
+temporality_preference ObservableUpDownCounter Delta = Cumulative
+temporality_preference kind Delta = Delta
+temporality_preference Counter LowMemory = Delta
+temporality_preference Histogram LowMemory = Delta
+temporality_preference kind LowMemory = Cumulative
+
+-- what a reader answers for one kind: the temporality, and perhaps the limit and the aggregation of streams
+pub record Answer : Type 0 where
+  pub temporality : Temporality
+  pub limit : Option ℕ
+  pub aggregation : Option Aggregation
+
+-- its answers for the seven kinds, in the order of `kinds`
+abbrev pub Row : Type 0
+Row = List Answer
+
+abbrev pub kinds : List InstrumentKind
+kinds = Counter ∷ UpDownCounter ∷ Histogram ∷ ObservableCounter ∷ ObservableUpDownCounter ∷ Gauge ∷ ObservableGauge ∷ []
+
+-- the answers of a reader that says its temporality alone
+abbrev pub preferring : Temporality → Row
+preferring temporality = map (λ kind. record { temporality = temporality_preference kind temporality; limit = None; aggregation = None }) kinds
+
+abbrev pub no_answer : Answer
+no_answer = record { temporality = Cumulative; limit = None; aggregation = None }
+
+abbrev pub answer_for : Row → InstrumentKind → Answer
+answer_for row kind = or_else (slice_get row (kind_number kind)) no_answer
+
+-- ======== demands ========
+-- a stream that is demanded of a reader
+pub record Demand : Type 0 where
+  pub identity : Identity
+  pub spelling : Text
+  pub aggregation : Aggregation
+  pub allow : AllowList
+  pub limit : ℕ
+
+-- the default of a reader: its answer where that can be used, else the kind's
+abbrev pub default_from : InstrumentKind → Option Aggregation → Aggregation
+default_from kind None = kind_default kind
+default_from kind (Some Default) = kind_default kind
+default_from kind (Some a) = cond (is_valid a && fits kind a) a (kind_default kind)
+
+abbrev pub reader_default : Row → InstrumentKind → Aggregation
+reader_default row kind = default_from kind (answer_for row kind).aggregation
+
+-- a histogram with the instrument's own bounds, if it has some
+abbrev pub with_bounds : Option (List ℤ) → Aggregation → Aggregation
+with_bounds (Some own) (ExplicitBucketHistogram bounds m) = ExplicitBucketHistogram own m
+with_bounds own a = a
+
+-- only a histogram's own bounds are looked at
+abbrev pub with_own : InstrumentKind → Option (List ℤ) → Aggregation → Aggregation
+with_own Histogram own a = with_bounds own a
+with_own kind own a = a
+
+-- the aggregation of a demand: what the view gives, where it isn't `Default`; for `Default` the reader's
+-- default; where none is given that default with the histogram's own bounds
+abbrev pub resolved : Row → About → Option Aggregation → Aggregation
+resolved row about None = with_own about.kind about.bounds (reader_default row about.kind)
+resolved row about (Some Default) = reader_default row about.kind
+resolved row about (Some a) = a
+
+-- an absent description or unit of an instrument is the empty text
+abbrev pub description_of : About → Text
+description_of about = or_else about.description []
+
+abbrev pub unit_of : About → Text
+unit_of about = or_else about.unit []
+
+abbrev pub instrument_of : InstrumentationScope → About → Instrument
+instrument_of scope about = record { name = about.name; description = description_of about; kind = about.kind; unit = unit_of about; scope = scope }
+
+-- the limit of a stream of which neither the view nor the reader says one
+abbrev pub default_limit : ℕ
+default_limit = 2000
+
+-- what a view's answer demands of a reader
+abbrev pub demand_of : Row → InstrumentationScope → About → StreamSpec → Demand
+demand_of row scope about s = record {
+  identity = record {
+    scope = scope;
+    kind = about.kind;
+    signed = about.signed;
+    description = or_else s.description (description_of about);
+    unit = or_else s.unit (unit_of about);
+    name = lowered (or_else s.name about.name);
+  };
+  spelling = or_else s.name about.name;
+  aggregation = resolved row about s.aggregation;
+  allow = s.allow;
+  limit = or_else s.limit (or_else (answer_for row about.kind).limit default_limit);
+}
+
+abbrev pub nothing_said : StreamSpec
+nothing_said = record { name = None; description = None; unit = None; aggregation = None; allow = None; limit = None }
+
+-- the instrument's own default demand
+abbrev pub own_demand : Row → InstrumentationScope → About → Demand
+own_demand row scope about = demand_of row scope about nothing_said
+
+abbrev pub add_answer : Row → InstrumentationScope → About → Option StreamSpec → List Demand → List Demand
+add_answer row scope about None ds = ds
+add_answer row scope about (Some s) ds = demand_of row scope about s ∷ ds
+
+-- each view that answers gives, in order, one demand
+abbrev pub view_demands : Views → Row → InstrumentationScope → About → List Demand
+view_demands [] row scope about = []
+view_demands (view ∷ views) row scope about = add_answer row scope about (view (instrument_of scope about)) (view_demands views row scope about)
+
+abbrev pub is_compatible : Demand → Bool
+is_compatible d = fits d.identity.kind d.aggregation
+
+-- ======== fates ========
+-- the fate of an identity: its first demand in the list
+abbrev pub fate_of : List Demand → Identity → Option Demand
+fate_of [] x = None
+fate_of (d ∷ ds) x = cond (identity_eq d.identity x) (Some d) (fate_of ds x)
+
+abbrev pub is_drop_fate : Option Demand → Bool
+is_drop_fate None = false
+is_drop_fate (Some d) = is_drop d.aggregation
+
+abbrev pub is_dropped : List Demand → Identity → Bool
+is_dropped ds x = is_drop_fate (fate_of ds x)
+
+abbrev pub is_known : List Demand → Identity → Bool
+is_known ds x = list_any (λ d. identity_eq d.identity x) ds
+
+abbrev pub is_empty : List Demand → Bool
+is_empty [] = true
+is_empty (d ∷ ds) = false
+
+-- the own default is demanded if no view answered, or if one demand was incompatible and each compatible
+-- one's fate is `Drop`
+abbrev pub needs_own : (Identity → Bool) → List Demand → Bool
+needs_own dropped ds = is_empty ds || (list_any (λ d. not (is_compatible d)) ds && not (list_any (λ d. not (dropped d.identity)) (filter is_compatible ds)))
+
+-- the compatible demands of views and the own default. `dropped` tells which identities have fate `Drop`
+-- once the demands given are made
+abbrev pub demands_with : (List Demand → Identity → Bool) → Views → Row → InstrumentationScope → About → List Demand
+demands_with dropped views row scope about =
+    filter is_compatible (view_demands views row scope about)
+    ++ cond (needs_own (dropped (filter is_compatible (view_demands views row scope about))) (view_demands views row scope about)) (own_demand row scope about ∷ []) []
+
+-- bounds are looked at for a histogram alone
+abbrev pub are_good_bounds : InstrumentKind → Option (List ℤ) → Bool
+are_good_bounds Histogram (Some bounds) = rises bounds
+are_good_bounds kind bounds = true
+
+-- a good name, unit and bounds
+abbrev pub is_good : About → Bool
+is_good about = is_good_name about.name && (is_none (optional_unit_fault about.unit) && are_good_bounds about.kind about.bounds)
+
+-- the compatible demands of a build: none without a meter, or with a bad name, unit or bounds
+abbrev pub demands_on : (List Demand → Identity → Bool) → Views → Row → Option InstrumentationScope → About → List Demand
+demands_on dropped views row None about = []
+demands_on dropped views row (Some scope) about = cond (is_good about) (demands_with dropped views row scope about) []
+
+abbrev pub has_identity : List Identity → Identity → Bool
+has_identity xs x = list_any (λ y. identity_eq y x) xs
+
+-- the distinct identities, in order of first occurrence, without those of `seen`
+abbrev pub each_once : List Identity → List Identity → List Identity
+each_once seen [] = []
+each_once seen (x ∷ xs) = cond (has_identity seen x) (each_once seen xs) (x ∷ each_once (x ∷ seen) xs)
+
+-- the streams that an instrument with these compatible demands feeds, each once
+abbrev pub fed : (Identity → Bool) → List Demand → List Identity
+fed dropped ds = filter (λ x. not (dropped x)) (each_once [] (map (λ (d : Demand). d.identity) ds))

@@ -1,0 +1,269 @@
+-- What was made, read off the calls alone: meters, builds, demands, streams, and the history of each stream.
+-- No table, no entry, no counter is kept.
+use Rattle.std.specs.Prelude.{ℕ, ◌==◌, Bool, true, false, cond, ◌&&◌, not, List, [], ◌∷◌, ◌++◌, map, filter, length, Option, Some, None}
+use Rattle.std.specs.List.{list_any}
+use Rattle.otel_common.specs.declared.scopes.InstrumentationScope.{InstrumentationScope}
+use Rattle.otel_model_stream.specs.Events.{Event, Point}
+use Rattle.otel_model_stream.specs.Windows.{Window, opening, window, points_of}
+use Rattle.otel_model.specs.Resources.{Resource}
+use Rattle.otel_model.specs.Calls.{About, Observed, Call, Meter, Build, Record, Bind, RecordBound, Unbind, Collect, Flush, Shutdown, Fault, OutOfMemory, UnknownMeter, UnknownInstrument, UnknownHandle, UnknownReader, WrongNumber, WrongKind, AlreadyShutdown, ReaderShutDown, ReadersFailed, Exhausted, LedgerFull, UseWorker, WorkersMissing, Reply, Collection}
+use Rattle.otel_model.specs.Demands.{Identity, Demand, Views, Row, is_known, is_dropped, is_drop, demands_on, fed}
+use Rattle.otel_model.specs.Streams.{is_delta, kind_of, aggregate_of}
+use Rattle.otel_model.specs.Collections.{ScopedMetric, metric, collection}
+use Rattle.otel_model.specs.Sent.{has_scope, scope_of, observed, sent}
+
+-- ======== the calls that count ========
+abbrev pub is_shutdown : Call → Bool
+is_shutdown (Meter scope) = false
+is_shutdown (Build meter about now) = false
+is_shutdown (Record n v l) = false
+is_shutdown (Bind n l) = false
+is_shutdown (RecordBound h v) = false
+is_shutdown (Unbind h) = false
+is_shutdown (Collect r now os) = false
+is_shutdown Flush = false
+is_shutdown Shutdown = true
+
+-- whether readers failed
+abbrev pub is_failed : Fault → Bool
+is_failed OutOfMemory = false
+is_failed UnknownMeter = false
+is_failed UnknownInstrument = false
+is_failed UnknownHandle = false
+is_failed UnknownReader = false
+is_failed WrongNumber = false
+is_failed WrongKind = false
+is_failed AlreadyShutdown = false
+is_failed ReaderShutDown = false
+is_failed (ReadersFailed failed first) = true
+is_failed Exhausted = false
+is_failed LedgerFull = false
+is_failed UseWorker = false
+is_failed WorkersMissing = false
+
+abbrev pub counts : Call → Reply → Bool
+counts call (Reply.Meter n) = true
+counts call (Reply.Instrument n) = true
+counts call (Reply.Handle n) = true
+counts call Reply.Done = true
+counts call (Reply.Collected c) = true
+counts call (Reply.Refused f) = is_shutdown call && is_failed f
+
+-- those that were not refused, and a shutdown that a reader failed
+abbrev pub made : List Call → List Reply → List Call
+made [] replies = []
+made (call ∷ calls) [] = []
+made (call ∷ calls) (reply ∷ replies) = cond (counts call reply) (call ∷ made calls replies) (made calls replies)
+
+-- what the elements give one after another, each seen with those before it
+abbrev pub gather : {Y X : Type 0} → (List Y → Y → List X) → List Y → List Y → List X
+gather f before [] = []
+gather f before (y ∷ ys) = f before y ++ gather f (before ++ y ∷ []) ys
+
+-- ======== meters, builds, handles ========
+abbrev pub is_bind : Call → Bool
+is_bind (Meter scope) = false
+is_bind (Build meter about now) = false
+is_bind (Record n v l) = false
+is_bind (Bind n l) = true
+is_bind (RecordBound h v) = false
+is_bind (Unbind h) = false
+is_bind (Collect r now os) = false
+is_bind Flush = false
+is_bind Shutdown = false
+
+-- whether the provider was shut down
+abbrev pub is_shut : List Call → Bool
+is_shut calls = list_any is_shutdown calls
+
+-- how many handles were bound
+abbrev pub binds_in : List Call → ℕ
+binds_in calls = length (filter is_bind calls)
+
+-- the scopes asked for before the shutdown
+abbrev pub scope_asked : List Call → Call → List InstrumentationScope
+scope_asked before (Meter scope) = cond (is_shut before) [] (scope ∷ [])
+scope_asked before (Build meter about now) = []
+scope_asked before (Record n v l) = []
+scope_asked before (Bind n l) = []
+scope_asked before (RecordBound h v) = []
+scope_asked before (Unbind h) = []
+scope_asked before (Collect r now os) = []
+scope_asked before Flush = []
+scope_asked before Shutdown = []
+
+abbrev pub new_scope : List InstrumentationScope → InstrumentationScope → List InstrumentationScope
+new_scope before scope = cond (has_scope scope before) [] (scope ∷ [])
+
+-- the meters: these scopes, each once
+abbrev pub meters_in : List Call → List InstrumentationScope
+meters_in calls = gather new_scope [] (gather scope_asked [] calls)
+
+-- an instrument as a build made it: its meter's scope, none for the meter `None`
+pub record Built : Type 0 where
+  pub scope : Option InstrumentationScope
+  pub about : About
+
+-- the instruments that were built
+abbrev pub build_in : List Call → Call → List Built
+build_in before (Meter scope) = []
+build_in before (Build meter about now) = record { scope = scope_of (meters_in before) meter; about = about } ∷ []
+build_in before (Record n v l) = []
+build_in before (Bind n l) = []
+build_in before (RecordBound h v) = []
+build_in before (Unbind h) = []
+build_in before (Collect r now os) = []
+build_in before Flush = []
+build_in before Shutdown = []
+
+abbrev pub builds_in : List Call → List Built
+builds_in calls = gather build_in [] calls
+
+-- ======== demands, streams, feeding ========
+-- the compatible demands of a build after the demands `earlier`
+abbrev pub demands_after : Views → Row → List Demand → Built → List Demand
+demands_after views row earlier i = demands_on (λ ds. is_dropped (earlier ++ ds)) views row i.scope i.about
+
+-- the compatible demands of a list of builds, after those of earlier builds
+abbrev pub demands_of : Views → Row → List Demand → List Built → List Demand
+demands_of views row earlier [] = earlier
+demands_of views row earlier (i ∷ is) = demands_of views row (earlier ++ demands_after views row earlier i) is
+
+-- the first demand of each identity, in order
+abbrev pub new_demand : List Demand → Demand → List Demand
+new_demand before d = cond (is_known before d.identity) [] (d ∷ [])
+
+abbrev pub firsts : List Demand → List Demand
+firsts ds = gather new_demand [] ds
+
+-- the streams of a list of builds: the first demands that do not drop
+abbrev pub streams_of : Views → Row → List Built → List Demand
+streams_of views row is = filter (λ d. not (is_drop d.aggregation)) (firsts (demands_of views row [] is))
+
+-- for each build the identities of the streams that its instrument feeds
+abbrev pub feeds_of : Views → Row → List Demand → List Built → List (List Identity)
+feeds_of views row earlier [] = []
+feeds_of views row earlier (i ∷ is) =
+    fed (is_dropped (earlier ++ demands_after views row earlier i)) (demands_after views row earlier i)
+    ∷ feeds_of views row (earlier ++ demands_after views row earlier i) is
+
+-- ======== the history of a stream ========
+-- whether a call concerns reader r
+abbrev pub concerns : ℕ → Call → Bool
+concerns r (Meter scope) = true
+concerns r (Build meter about now) = true
+concerns r (Record n v l) = true
+concerns r (Bind n l) = true
+concerns r (RecordBound h v) = true
+concerns r (Unbind h) = true
+concerns r (Collect q now os) = q == r
+concerns r Flush = true
+concerns r Shutdown = true
+
+-- from its making on, the stream of d at reader r gets what the calls send to it: records and binds through the instruments that feed it,
+-- records and unbinds through handles, and the reader's collections, each after its observations
+abbrev pub events_at : Views → Row → ℕ → Demand → List Call → Call → List Event
+events_at views row r d before call =
+    cond (is_known (demands_of views row [] (builds_in before)) d.identity)
+    (cond (concerns r call) (sent (feeds_of views row [] (builds_in before)) (binds_in before) d call) []) []
+
+abbrev pub history : Views → Row → ℕ → Demand → List Call → List Event
+history views row r d calls = gather (events_at views row r d) [] calls
+
+-- the window in which a history ends
+abbrev pub window_of : Row → Demand → List Event → Window
+window_of row d es = window (kind_of row d) d.limit opening es
+
+-- the points of that window
+abbrev pub window_points : Row → Demand → List Event → List Point
+window_points row d es = points_of (aggregate_of d) (kind_of row d) d.limit (window_of row d es)
+
+-- the points that a collection shows of a stream
+abbrev pub shown_by : Views → Row → ℕ → Demand → List Call → Call → List (List Point)
+shown_by views row r d before (Meter scope) = []
+shown_by views row r d before (Build meter about now) = []
+shown_by views row r d before (Record n v l) = []
+shown_by views row r d before (Bind n l) = []
+shown_by views row r d before (RecordBound h v) = []
+shown_by views row r d before (Unbind h) = []
+shown_by views row r d before (Collect q now os) = window_points row d (history views row r d before ++ observed (feeds_of views row [] (builds_in before)) d os) ∷ []
+shown_by views row r d before Flush = []
+shown_by views row r d before Shutdown = []
+
+abbrev pub shown_at : Views → Row → ℕ → Demand → List Call → Call → List (List Point)
+shown_at views row r d before call = cond (is_known (demands_of views row [] (builds_in before)) d.identity) (cond (concerns r call) (shown_by views row r d before call) []) []
+
+-- the points of the stream of d in each of reader r's collections
+abbrev pub shown_points : Views → Row → ℕ → Demand → List Call → List (List Point)
+shown_points views row r d calls = gather (shown_at views row r d) [] calls
+
+-- the last element, or else the one given
+abbrev pub last_or : {X : Type 0} → X → List X → X
+last_or x [] = x
+last_or x (y ∷ ys) = last_or y ys
+
+-- the moments of the builds up to its making and, of a delta stream, of the reader's collections since
+abbrev pub moment_at : Views → Row → ℕ → Demand → List Call → Call → List ℕ
+moment_at views row r d before (Meter scope) = []
+moment_at views row r d before (Build meter about now) = cond (is_known (demands_of views row [] (builds_in before)) d.identity) [] (now ∷ [])
+moment_at views row r d before (Record n v l) = []
+moment_at views row r d before (Bind n l) = []
+moment_at views row r d before (RecordBound h v) = []
+moment_at views row r d before (Unbind h) = []
+moment_at views row r d before (Collect q now os) = cond (is_known (demands_of views row [] (builds_in before)) d.identity) (cond (q == r) (cond (is_delta row d) (now ∷ []) []) []) []
+moment_at views row r d before Flush = []
+moment_at views row r d before Shutdown = []
+
+-- its start: the last of these moments
+abbrev pub start_of : Views → Row → ℕ → Demand → List Call → ℕ
+start_of views row r d calls = last_or 0 (gather (moment_at views row r d) [] calls)
+
+-- what the reader's collection before showed of it
+abbrev pub reported_of : Views → Row → ℕ → Demand → List Call → List Point
+reported_of views row r d calls = last_or [] (shown_points views row r d calls)
+
+-- ======== collections ========
+-- the collection that reader r makes after these calls, with its observations
+abbrev pub collection_of : Views → Resource → Row → ℕ → List Call → ℕ → List Observed → Collection
+collection_of views resource row r before now os = collection resource (meters_in before)
+    (map (λ (d : Demand). (d.identity.scope, metric row now (start_of views row r d before) (reported_of views row r d before) d (window_points row d (history views row r d before ++ observed (feeds_of views row [] (builds_in before)) d os)))) (streams_of views row (builds_in before)))
+
+abbrev pub made_by : Views → Resource → Row → ℕ → List Call → Call → List Collection
+made_by views resource row r before (Meter scope) = []
+made_by views resource row r before (Build meter about now) = []
+made_by views resource row r before (Record n v l) = []
+made_by views resource row r before (Bind n l) = []
+made_by views resource row r before (RecordBound h v) = []
+made_by views resource row r before (Unbind h) = []
+made_by views resource row r before (Collect q now os) = cond (q == r) (collection_of views resource row r before now os ∷ []) []
+made_by views resource row r before Flush = []
+made_by views resource row r before Shutdown = []
+
+-- the collections of reader r in a list of calls that were made
+abbrev pub collections_of : Views → Resource → Row → ℕ → List Call → List Collection
+collections_of views resource row r calls = gather (made_by views resource row r) [] calls
+
+-- the collections that reader r was given
+abbrev pub shown_in : Reply → List Collection
+shown_in (Reply.Meter n) = []
+shown_in (Reply.Instrument n) = []
+shown_in (Reply.Handle n) = []
+shown_in Reply.Done = []
+shown_in (Reply.Collected c) = c ∷ []
+shown_in (Reply.Refused f) = []
+
+abbrev pub collected_by : ℕ → Call → Reply → List Collection
+collected_by r (Meter scope) reply = []
+collected_by r (Build meter about now) reply = []
+collected_by r (Record n v l) reply = []
+collected_by r (Bind n l) reply = []
+collected_by r (RecordBound h v) reply = []
+collected_by r (Unbind h) reply = []
+collected_by r (Collect q now os) reply = cond (q == r) (shown_in reply) []
+collected_by r Flush reply = []
+collected_by r Shutdown reply = []
+
+abbrev pub given : ℕ → List Call → List Reply → List Collection
+given r [] replies = []
+given r (call ∷ calls) [] = []
+given r (call ∷ calls) (reply ∷ replies) = collected_by r call reply ++ given r calls replies

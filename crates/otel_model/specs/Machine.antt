@@ -1,0 +1,179 @@
+-- The machine of a provider: what each call leaves of what is shared, and of each reader's part.
+use Rattle.std.specs.Prelude.{ℕ, zero, suc, ◌+◌, ◌==◌, Bool, true, false, cond, List, [], ◌∷◌, ◌++◌, map, fold, length, Option, Some, None}
+use Rattle.otel_common.specs.declared.scopes.InstrumentationScope.{InstrumentationScope}
+use Rattle.otel_model_stream.specs.Sets.{AttributeSet}
+use Rattle.otel_model_stream.specs.Folds.{Aggregate, Amount, wrapped}
+use Rattle.otel_model_stream.specs.Events.{Event, Kind, Point, held_by}
+use Rattle.otel_model_stream.specs.Machine.{Machine, begin, step, run, points}
+use Rattle.otel_model_stream.specs.Totals.{size, points_total}
+use Rattle.otel_model.specs.Resources.{Resource}
+use Rattle.otel_model.specs.Calls.{About, Observed, Call, Meter, Build, Record, Bind, RecordBound, Unbind, Collect, Flush, Shutdown}
+use Rattle.otel_model.specs.Demands.{Identity, Views, Row, Demand, is_known, is_dropped, is_drop, demands_on, fed}
+use Rattle.otel_model.specs.Streams.{is_delta, kind_of, aggregate_of}
+use Rattle.otel_model.specs.Collections.{shows_differences}
+use Rattle.otel_model.specs.State.{InstrumentState, LiveHandle, Shared, Stream, ReaderPart, State}
+use Rattle.otel_model.specs.Refusals.{instrument_held}
+use Rattle.otel_model.specs.Sent.{has_scope, scope_of, observed, sent}
+
+-- ======== what is shared ========
+-- the same scope gives the same meter
+abbrev pub with_meter : InstrumentationScope → List InstrumentationScope → List InstrumentationScope
+with_meter scope ms = cond (has_scope scope ms) ms (ms ++ scope ∷ [])
+
+abbrev pub new_instrument : About → InstrumentState
+new_instrument about = record { kind = about.kind; signed = about.signed; count = 0; sum = 0 }
+
+-- one record more; also an instrument that ignores its records accepts them
+abbrev pub accepted : Amount → InstrumentState → InstrumentState
+accepted v i = record i { count = wrapped (i.count + 1); sum = wrapped (i.sum + v.bits) }
+
+abbrev pub changed_at : {X : Type 0} → ℕ → (X → X) → List X → List X
+changed_at n f [] = []
+changed_at zero f (x ∷ xs) = f x ∷ xs
+changed_at (suc n) f (x ∷ xs) = x ∷ changed_at n f xs
+
+abbrev pub accepted_by : Option ℕ → Amount → List InstrumentState → List InstrumentState
+accepted_by None v is = is
+accepted_by (Some n) v is = changed_at n (accepted v) is
+
+abbrev pub without_handle : ℕ → List LiveHandle → List LiveHandle
+without_handle h [] = []
+without_handle h (p ∷ ps) = cond (p.0 == h) ps (p ∷ without_handle h ps)
+
+-- after a shutdown there are no new meters
+abbrev pub shared_after : Shared → Call → Shared
+shared_after s (Meter scope) = record s { meters = cond s.shut s.meters (with_meter scope s.meters) }
+shared_after s (Build meter about now) = record s { instruments = s.instruments ++ new_instrument about ∷ [] }
+shared_after s (Record n v l) = record s { instruments = changed_at n (accepted v.amount) s.instruments }
+shared_after s (Bind n l) = record s { live = s.live ++ (s.next, n) ∷ []; next = s.next + 1 }
+shared_after s (RecordBound h v) = record s { instruments = accepted_by (instrument_held h s.live) v.amount s.instruments }
+shared_after s (Unbind h) = record s { live = without_handle h s.live }
+shared_after s (Collect r now os) = s
+shared_after s Flush = s
+shared_after s Shutdown = record s { shut = true }
+
+-- ======== a stream ========
+abbrev pub machine_after : Row → Demand → List Event → Machine → Machine
+machine_after row d es m = run (aggregate_of d) (kind_of row d) d.limit m es
+
+-- what a stream shows at a collection, once the observations are in
+abbrev pub points_at : Row → List (List Identity) → List Observed → Stream → List Point
+points_at row feeds os s = points (kind_of row s.demand) (machine_after row s.demand (observed feeds s.demand os) s.machine)
+
+-- a collection of a delta stream makes its moment the new start
+abbrev pub since_after : Row → Demand → Call → ℕ → ℕ
+since_after row d (Meter scope) since = since
+since_after row d (Build meter about now) since = since
+since_after row d (Record n v l) since = since
+since_after row d (Bind n l) since = since
+since_after row d (RecordBound h v) since = since
+since_after row d (Unbind h) since = since
+since_after row d (Collect r now os) since = cond (is_delta row d) now since
+since_after row d Flush since = since
+since_after row d Shutdown since = since
+
+-- what the last collection showed of a stream whose differences are shown
+abbrev pub reported_after : Row → List (List Identity) → Call → Stream → List Point
+reported_after row feeds (Meter scope) s = s.reported
+reported_after row feeds (Build meter about now) s = s.reported
+reported_after row feeds (Record n v l) s = s.reported
+reported_after row feeds (Bind n l) s = s.reported
+reported_after row feeds (RecordBound h v) s = s.reported
+reported_after row feeds (Unbind h) s = s.reported
+reported_after row feeds (Collect r now os) s = cond (shows_differences row s.demand) (points_at row feeds os s) s.reported
+reported_after row feeds Flush s = s.reported
+reported_after row feeds Shutdown s = s.reported
+
+abbrev pub if_held : Option AttributeSet → ℕ → ℕ → ℕ
+if_held None more total = total
+if_held (Some g) more total = more
+
+-- the total of what was recorded, one event more
+abbrev pub recorded_with : Aggregate → Machine → ℕ → Event → ℕ
+recorded_with σ m total (Event.Record s v) = wrapped (total + size σ v)
+recorded_with σ m total (Event.Bind h s) = total
+recorded_with σ m total (Event.RecordBound h v) = if_held (held_by h m.live) (wrapped (total + size σ v)) total
+recorded_with σ m total (Event.Unbind h) = total
+recorded_with σ m total Event.Collect = total
+
+abbrev pub recorded_over : Aggregate → Kind → ℕ → Machine → ℕ → List Event → ℕ
+recorded_over σ kind limit m total [] = total
+recorded_over σ kind limit m total (e ∷ es) = recorded_over σ kind limit (step σ kind limit m e) (recorded_with σ m total e) es
+
+abbrev pub recorded_after : Row → List Event → Stream → ℕ
+recorded_after row es s = recorded_over (aggregate_of s.demand) (kind_of row s.demand) s.demand.limit s.machine s.recorded es
+
+-- the total of all points that the collections of a delta stream showed
+abbrev pub exported_after : Row → List (List Identity) → Call → Stream → ℕ
+exported_after row feeds (Meter scope) s = s.exported
+exported_after row feeds (Build meter about now) s = s.exported
+exported_after row feeds (Record n v l) s = s.exported
+exported_after row feeds (Bind n l) s = s.exported
+exported_after row feeds (RecordBound h v) s = s.exported
+exported_after row feeds (Unbind h) s = s.exported
+exported_after row feeds (Collect r now os) s = cond (is_delta row s.demand) (wrapped (s.exported + points_total (points_at row feeds os s))) s.exported
+exported_after row feeds Flush s = s.exported
+exported_after row feeds Shutdown s = s.exported
+
+abbrev pub stream_after : Row → List (List Identity) → ℕ → Call → Stream → Stream
+stream_after row feeds next call s = record {
+  demand = s.demand;
+  machine = machine_after row s.demand (sent feeds next s.demand call) s.machine;
+  since = since_after row s.demand call s.since;
+  reported = reported_after row feeds call s;
+  recorded = recorded_after row (sent feeds next s.demand call) s;
+  exported = exported_after row feeds call s;
+}
+
+-- ======== a build ========
+abbrev pub new_stream : ℕ → Demand → Stream
+new_stream now d = record { demand = d; machine = begin (aggregate_of d); since = now; reported = []; recorded = 0; exported = 0 }
+
+-- the table of fates keeps the first demand of each identity
+abbrev pub enter : List Demand → Demand → List Demand
+enter fates d = cond (is_known fates d.identity) fates (fates ++ d ∷ [])
+
+-- a first demand makes a stream, unless it drops
+abbrev pub make : ℕ → List Demand → List Stream → Demand → List Stream
+make now fates ss d = cond (is_known fates d.identity) ss (ss ++ cond (is_drop d.aggregation) [] (new_stream now d ∷ []))
+
+abbrev pub demanded : ℕ → ReaderPart → Demand → ReaderPart
+demanded now p d = record p { fates = enter p.fates d; streams = make now p.fates p.streams d }
+
+-- the demands of a build, of which the table of fates tells what was dropped
+abbrev pub build_demands : Views → ReaderPart → Option InstrumentationScope → About → List Demand
+build_demands views p scope about = demands_on (λ ds. is_dropped (fold enter p.fates ds)) views p.row scope about
+
+abbrev pub with_feeds : List Demand → ReaderPart → ReaderPart
+with_feeds ds p = record p { feeds = p.feeds ++ fed (is_dropped p.fates) ds ∷ [] }
+
+abbrev pub built : Views → Option InstrumentationScope → About → ℕ → ReaderPart → ReaderPart
+built views scope about now p = with_feeds (build_demands views p scope about) (fold (demanded now) p (build_demands views p scope about))
+
+-- ======== all readers: each by itself, and a collection its reader alone ========
+abbrev pub part_sent : ℕ → Call → ReaderPart → ReaderPart
+part_sent next call p = record p { streams = map (stream_after p.row p.feeds next call) p.streams }
+
+abbrev pub readers_after : Views → Shared → Call → List ReaderPart → List ReaderPart
+readers_after views s (Meter scope) ps = ps
+readers_after views s (Build meter about now) ps = map (built views (scope_of s.meters meter) about now) ps
+readers_after views s (Record n v l) ps = map (part_sent s.next (Record n v l)) ps
+readers_after views s (Bind n l) ps = map (part_sent s.next (Bind n l)) ps
+readers_after views s (RecordBound h v) ps = map (part_sent s.next (RecordBound h v)) ps
+readers_after views s (Unbind h) ps = map (part_sent s.next (Unbind h)) ps
+readers_after views s (Collect r now os) ps = changed_at r (part_sent s.next (Collect r now os)) ps
+readers_after views s Flush ps = ps
+readers_after views s Shutdown ps = ps
+
+abbrev pub accepted_after : Views → State → Call → State
+accepted_after views st call = record { shared = shared_after st.shared call; readers = readers_after views st.shared call st.readers }
+
+-- ======== a provider as it is built ========
+abbrev pub new_part : Row → ReaderPart
+new_part row = record { row = row; fates = []; streams = []; feeds = [] }
+
+abbrev pub new_state : Resource → ℕ → List Row → State
+new_state resource identity rows = record {
+  shared = record { resource = resource; identity = identity; meters = []; instruments = []; live = []; next = 0; shut = false };
+  readers = map new_part rows;
+}

@@ -1,0 +1,17 @@
+pub mod Sets
+pub mod Lists
+pub mod Places
+pub mod Clearing
+pub mod FoldLaws
+pub mod Buckets
+pub mod Build
+pub mod Goals
+pub mod Steps
+pub mod Moves
+pub mod Sound
+pub mod Whole
+pub mod Tidy
+pub mod Weights
+pub mod Totals
+pub mod Conserved
+pub mod Rows

@@ -1,0 +1,192 @@
+-- Worked rows, computed on the windows and on the machine.
+use Rattle.std.proofs.Common.{◌≡◌, ℕ, ℤ, List, [], ◌∷◌, map, Bool, true, false, Option, Some, None, refl, replicate, ◌++◌, cond, sym, ap, ◌∙◌, true≢false}
+use Rattle.std.specs.Prelude.{codes, pos, negsuc}
+use Rattle.std.specs.Ordering.{eq_by_cmp}
+use Rattle.std.specs.Cmp.{Equal-is}
+use Rattle.otel_common.specs.Canonical.{canon, key_cmp}
+use Rattle.otel_common.specs.Equality.{bytes_eq}
+use Rattle.otel_common.proofs.CanonLaws.{key_cmp-IsAntisymmetric, canon-unique}
+use Rattle.otel_common.specs.declared.attributes.KeyValue.{KeyValue}
+use Rattle.otel_common.specs.declared.attributes.Value.TheVariants as value
+use Rattle.otel_model_stream.specs.Sets.{AttributeSet, none_set, over_set, kept, set_of}
+use Rattle.otel_model_stream.specs.Folds.{Aggregate, Sum, LastValue, Histogram, Amount, Total, Last, Spreads}
+use Rattle.otel_model_stream.specs.Events.{Event, Record, Bind, RecordBound, Unbind, Collect, Kind, Delta, Cumulative, Point}
+use Rattle.otel_model_stream.specs.Machine.{begin, answers}
+use Rattle.otel_model_stream.specs.Windows.{opening, collections}
+
+-- ======== the words of the rows ========
+abbrev pair : List ℕ → ℕ → KeyValue
+pair key n = record { key = key; value = value.I64 (pos n) }
+
+abbrev x1 : AttributeSet
+x1 = pair (codes "x") 1 ∷ []
+
+abbrev y1 : AttributeSet
+y1 = pair (codes "y") 1 ∷ []
+
+abbrev z1 : AttributeSet
+z1 = pair (codes "z") 1 ∷ []
+
+abbrev k_v : AttributeSet
+k_v = record { key = codes "k"; value = value.String (codes "v") } ∷ []
+
+abbrev amount : ℕ → Amount
+amount n = record { bits = n; wide = pos n }
+
+-- a record of this many, and those of these values without attributes
+abbrev add : AttributeSet → ℕ → Event
+add s n = Record s (amount n)
+
+abbrev values : List ℕ → List Event
+values ns = map (add none_set) ns
+
+-- a point of a sum
+abbrev sum : AttributeSet → ℕ → Point
+sum s n = (s, Total n)
+
+-- a point of a histogram with min and max
+abbrev spread : AttributeSet → (count total : ℕ) (least greatest : Option ℤ) (counts : List ℕ) → Point
+spread s count total least greatest counts =
+    (s, Spreads (record { has_min_max = true; has_sum = true; count = count; sum = total; least = least; greatest = greatest; counts = counts }))
+
+abbrev bounds : List ℕ → List ℤ
+bounds ns = map pos ns
+
+abbrev default_bounds : List ℤ
+default_bounds = bounds (0 ∷ 5 ∷ 10 ∷ 25 ∷ 50 ∷ 75 ∷ 100 ∷ 250 ∷ 500 ∷ 750 ∷ 1000 ∷ 2500 ∷ 5000 ∷ 7500 ∷ 10000 ∷ [])
+
+-- both sides give these points, one list for each collection
+abbrev AreShown : Aggregate → Kind → ℕ → List Event → List (List Point) → Type 0
+AreShown σ kind limit events points = (collections σ kind limit opening events ≡ points) × (answers σ kind limit (begin σ) events ≡ points)
+
+-- ======== histograms ========
+pub row_1 : AreShown (Histogram (bounds (1 ∷ 3 ∷ 6 ∷ [])) true true) Cumulative 2000 (values (1 ∷ 2 ∷ 3 ∷ 4 ∷ 5 ∷ 6 ∷ 7 ∷ 8 ∷ 9 ∷ 10 ∷ []) ++ Collect ∷ [])
+    ((spread none_set 10 55 (Some (pos 1)) (Some (pos 10)) (1 ∷ 2 ∷ 3 ∷ 4 ∷ []) ∷ []) ∷ [])
+row_1 = (refl, refl)
+
+pub row_2 : AreShown (Histogram default_bounds true true) Cumulative 2000 (values (0 ∷ 5 ∷ 6 ∷ 10001 ∷ []) ++ Collect ∷ [])
+    ((spread none_set 4 10012 (Some (pos 0)) (Some (pos 10001)) (1 ∷ 1 ∷ 1 ∷ 0 ∷ 0 ∷ 0 ∷ 0 ∷ 0 ∷ 0 ∷ 0 ∷ 0 ∷ 0 ∷ 0 ∷ 0 ∷ 0 ∷ 1 ∷ []) ∷ []) ∷ [])
+row_2 = (refl, refl)
+
+pub row_9 : AreShown (Histogram default_bounds true true) Cumulative 2000 (Bind 0 k_v ∷ Collect ∷ [])
+    ((spread k_v 0 0 None None (replicate 16 0) ∷ []) ∷ [])
+row_9 = (refl, refl)
+
+pub row_38 : AreShown (Histogram (bounds (9223372036854775807 ∷ [])) true true) Cumulative 2000 (values (18446744073709551615 ∷ 9223372036854775807 ∷ []) ++ Collect ∷ [])
+    ((spread none_set 2 9223372036854775806 (Some (pos 9223372036854775807)) (Some (pos 18446744073709551615)) (1 ∷ 1 ∷ []) ∷ []) ∷ [])
+row_38 = (refl, refl)
+
+-- the bounds -5 and 0
+pub row_39 : AreShown (Histogram (negsuc 4 ∷ pos 0 ∷ []) true true) Cumulative 2000 (values (0 ∷ []) ++ Collect ∷ [])
+    ((spread none_set 1 0 (Some (pos 0)) (Some (pos 0)) (0 ∷ 1 ∷ 0 ∷ []) ∷ []) ∷ [])
+row_39 = (refl, refl)
+
+pub row_39_without_bounds : AreShown (Histogram [] true true) Cumulative 2000 (values (7 ∷ []) ++ Collect ∷ [])
+    ((spread none_set 1 7 (Some (pos 7)) (Some (pos 7)) [] ∷ []) ∷ [])
+row_39_without_bounds = (refl, refl)
+
+-- ======== places ========
+pub row_3 : AreShown Sum Delta 2 (add x1 1 ∷ add y1 2 ∷ add z1 4 ∷ add x1 8 ∷ Collect ∷ [])
+    ((sum x1 9 ∷ sum y1 2 ∷ sum over_set 4 ∷ []) ∷ [])
+row_3 = (refl, refl)
+
+pub row_4 : AreShown Sum Delta 1 (add x1 1 ∷ Collect ∷ add y1 2 ∷ Collect ∷ add y1 4 ∷ Collect ∷ [])
+    ((sum x1 1 ∷ []) ∷ (sum over_set 2 ∷ []) ∷ (sum y1 4 ∷ []) ∷ [])
+row_4 = (refl, refl)
+
+pub row_7 : AreShown Sum Delta 1 (add over_set 1 ∷ add x1 2 ∷ Collect ∷ Collect ∷ add x1 5 ∷ Collect ∷ [])
+    ((sum over_set 3 ∷ []) ∷ [] ∷ (sum over_set 5 ∷ []) ∷ [])
+row_7 = (refl, refl)
+
+pub row_8 : AreShown Sum Delta 1 (add x1 1 ∷ Bind 0 y1 ∷ Collect ∷ Collect ∷ add y1 2 ∷ RecordBound 0 (amount 4) ∷ Collect ∷ [])
+    ((sum x1 1 ∷ []) ∷ [] ∷ (sum over_set 4 ∷ sum y1 2 ∷ []) ∷ [])
+row_8 = (refl, refl)
+
+pub row_22 : AreShown Sum Delta 1 (add none_set 1 ∷ add x1 2 ∷ add y1 4 ∷ Collect ∷ [])
+    ((sum none_set 1 ∷ sum x1 2 ∷ sum over_set 4 ∷ []) ∷ [])
+row_22 = (refl, refl)
+
+pub row_34 : AreShown Sum Delta 2 (add over_set 1 ∷ add x1 2 ∷ add y1 4 ∷ Collect ∷ Collect ∷ add y1 8 ∷ add z1 16 ∷ Collect ∷ [])
+    ((sum over_set 5 ∷ sum x1 2 ∷ []) ∷ [] ∷ (sum over_set 16 ∷ sum y1 8 ∷ []) ∷ [])
+row_34 = (refl, refl)
+
+pub row_35 : AreShown Sum Delta 1 (add x1 1 ∷ add y1 2 ∷ add over_set 4 ∷ Collect ∷ Collect ∷ add over_set 8 ∷ add z1 16 ∷ Collect ∷ [])
+    ((sum x1 1 ∷ sum over_set 6 ∷ []) ∷ [] ∷ (sum over_set 8 ∷ sum z1 16 ∷ []) ∷ [])
+row_35 = (refl, refl)
+
+-- the overflow key with another value
+abbrev no_overflow : AttributeSet
+no_overflow = record { key = codes "otel.metric.overflow"; value = value.Bool false } ∷ []
+
+pub row_36 : AreShown Sum Delta 1 (add no_overflow 1 ∷ add x1 2 ∷ Collect ∷ [])
+    ((sum no_overflow 1 ∷ sum over_set 2 ∷ []) ∷ [])
+row_36 = (refl, refl)
+
+-- ======== values ========
+-- the bits of -9223372036854775808
+pub row_13 : AreShown Sum Cumulative 2000 (values (9223372036854775807 ∷ 1 ∷ []) ++ Collect ∷ [])
+    ((sum none_set 9223372036854775808 ∷ []) ∷ [])
+row_13 = (refl, refl)
+
+-- the last value through a handle
+pub row_27 : AreShown LastValue Cumulative 2000 (Bind 0 k_v ∷ RecordBound 0 (amount 7) ∷ RecordBound 0 (amount 42) ∷ Collect ∷ Unbind 0 ∷ Unbind 0 ∷ [])
+    (((k_v, Last 42) ∷ []) ∷ [])
+row_27 = (refl, refl)
+
+-- ======== attributes ========
+abbrev a : ℕ → KeyValue
+a n = pair (codes "a") n
+
+abbrev b : ℕ → KeyValue
+b n = pair (codes "b") n
+
+abbrev a2_b1 : AttributeSet
+a2_b1 = a 2 ∷ b 1 ∷ []
+
+-- no key is both
+apart : (q : List ℕ) → eq_by_cmp key_cmp q (codes "a") ≡ true → eq_by_cmp key_cmp q (codes "b") ≡ true → ⊥
+apart q e f =
+    let at_a : q ≡ codes "a" = key_cmp-IsAntisymmetric q (codes "a") ((Equal-is (key_cmp q (codes "a"))).0 e) in
+    let at_b : q ≡ codes "b" = key_cmp-IsAntisymmetric q (codes "b") ((Equal-is (key_cmp q (codes "b"))).0 f) in
+    absurd (true≢false (ap (bytes_eq (codes "a")) (sym at_a ∙ at_b)))
+
+turned : {A : Type 0} (c d : Bool) (x y z : A) → (c ≡ true → d ≡ true → ⊥) → cond c x (cond d y z) ≡ cond d y (cond c x z)
+turned true true x y z h = absurd (h refl refl)
+turned true false x y z h = refl
+turned false d x y z h = refl
+
+doubled : {A : Type 0} (c : Bool) (x y z : A) → cond c x z ≡ cond c x (cond c y z)
+doubled true x y z = refl
+doubled false x y z = refl
+
+pub row_10_in_order : set_of None (a 2 ∷ b 1 ∷ []) ≡ a2_b1
+row_10_in_order = sym (canon-unique (a 2 ∷ b 1 ∷ []) a2_b1 tt (λ q. refl))
+
+pub row_10_turned : set_of None (b 1 ∷ a 2 ∷ []) ≡ a2_b1
+row_10_turned = sym (canon-unique (b 1 ∷ a 2 ∷ []) a2_b1 tt (λ q. turned (eq_by_cmp key_cmp q (codes "a")) (eq_by_cmp key_cmp q (codes "b")) _ _ _ (apart q)))
+
+pub row_10_doubled : set_of None (a 2 ∷ a 9 ∷ b 1 ∷ []) ≡ a2_b1
+row_10_doubled = sym (canon-unique (a 2 ∷ a 9 ∷ b 1 ∷ []) a2_b1 tt (λ q. doubled (eq_by_cmp key_cmp q (codes "a")) _ _ _))
+
+abbrev three : AttributeSet → AttributeSet → AttributeSet → List Event
+three p q r = add p 1 ∷ add q 2 ∷ add r 4 ∷ Collect ∷ []
+
+pub row_10 : AreShown Sum Cumulative 2000 (three (set_of None (b 1 ∷ a 2 ∷ [])) (set_of None (a 2 ∷ b 1 ∷ [])) (set_of None (a 2 ∷ a 9 ∷ b 1 ∷ [])))
+    ((sum a2_b1 7 ∷ []) ∷ [])
+row_10 = (
+  λ i. collections Sum Cumulative 2000 opening (three (row_10_turned i) (row_10_in_order i) (row_10_doubled i)),
+  λ i. answers Sum Cumulative 2000 (begin Sum) (three (row_10_turned i) (row_10_in_order i) (row_10_doubled i)),
+)
+
+-- an empty allow-list keeps nothing
+none_kept : (l : AttributeSet) → kept (Some []) l ≡ [] → set_of (Some []) l ≡ none_set
+none_kept l e = ap canon e ∙ sym (canon-unique [] [] tt (λ q. refl))
+
+abbrev two : AttributeSet → AttributeSet → List Event
+two p q = add p 1 ∷ add q 2 ∷ Collect ∷ []
+
+pub row_24 : AreShown Sum Cumulative 2000 (two (set_of (Some []) x1) (set_of (Some []) y1)) ((sum none_set 3 ∷ []) ∷ [])
+row_24 = (
+  λ i. collections Sum Cumulative 2000 opening (two (none_kept x1 refl i) (none_kept y1 refl i)),
+  λ i. answers Sum Cumulative 2000 (begin Sum) (two (none_kept x1 refl i) (none_kept y1 refl i)),
+)

@@ -1,0 +1,30 @@
+-- What a collection gives of one reader's streams, scope by scope.
+use Rattle.std.specs.Prelude.{ℕ, Bool, true, false, cond, ◌&&◌, List, [], ◌∷◌, ◌++◌, map, filter}
+use Rattle.otel_common.specs.Scopes.{scope_eq}
+use Rattle.otel_common.specs.declared.scopes.InstrumentationScope.{InstrumentationScope}
+use Rattle.otel_model.specs.Calls as model
+use Rattle.otel_model.specs.Collections.{ScopedMetric, in_scope, has_points, has_metrics}
+use Rattle.otel_provider.specs.Streams.{Kept, shown_metric}
+
+-- the metric of a stream, with its scope
+abbrev pub scoped : ℕ → Kept → ScopedMetric
+scoped now k = (k.demand.identity.scope, shown_metric now k)
+
+-- the metrics of a scope that have points
+abbrev pub shown_in : InstrumentationScope → ℕ → List Kept → List model.Metric
+shown_in scope now streams = (in_scope (map (scoped now) streams) scope).metrics
+
+abbrev pub if_shown : Bool → model.Metric → List model.Metric
+if_shown true m = m ∷ []
+if_shown false m = []
+
+-- the metric of one stream, if it is of the scope and has points
+abbrev pub shown_one : InstrumentationScope → ℕ → Kept → List model.Metric
+shown_one scope now k = if_shown (scope_eq k.demand.identity.scope scope && has_points (shown_metric now k)) (shown_metric now k)
+
+abbrev pub scope_shown : ℕ → List Kept → InstrumentationScope → model.ScopeMetrics
+scope_shown now streams scope = in_scope (map (scoped now) streams) scope
+
+-- the scopes that have metrics
+abbrev pub scopes_shown : ℕ → List Kept → List InstrumentationScope → List model.ScopeMetrics
+scopes_shown now streams meters = filter has_metrics (map (scope_shown now streams) meters)

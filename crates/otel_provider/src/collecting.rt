@@ -1,0 +1,88 @@
+//! What a collection gives of one reader's streams.
+
+ghost use Rattle.std.specs.Prelude.{◌≡◌, ◌++◌, [], ◌∷◌, map, OnOk, IfOk, IsOkUnless};
+ghost use Rattle.otel_provider.specs.Collections.{shown_one, shown_in, scopes_shown};
+ghost use Rattle.otel_provider.specs.Shown.{metric_of, scope_metrics_of};
+
+use crate::copies::copy_scope;
+use crate::stream::Stream;
+use indexmap::IndexSet;
+use otel_common::faults::Fault;
+use otel_common::lists::Items;
+use otel_common::scopes::InstrumentationScope;
+use otel_data::collections::{Metric, ScopeMetrics};
+use std::alloc::Global;
+
+/// Adds the metric of a stream, if the stream is of the scope and has points.
+fn push_metric(
+    alloc: Global,
+    metrics: &mut Vec<Metric>,
+    stream: &Stream,
+    scope: &InstrumentationScope,
+    now: u64,
+) -> Result<(), Fault>
+    ensures metrics { OnOk result (map metric_of metrics.new.items ≡ map metric_of metrics.old.items ++ shown_one scope.now now stream.now) }
+    ensures only_memory { IsOkUnless result Fault.OutOfMemory }
+{
+    if stream.demand().identity.scope != *scope {
+        return Ok(());
+    }
+    if let Some(metric) = stream.metric(alloc, now)? {
+        metrics.push(metric)?;
+    }
+    Ok(())
+}
+
+/// The metrics of a scope that have points.
+pub(crate) fn metrics_of(
+    alloc: Global,
+    streams: &[Stream],
+    scope: &InstrumentationScope,
+    now: u64,
+) -> Result<Vec<Metric>, Fault>
+    ensures metrics { IfOk result (λ metrics. map metric_of metrics.items ≡ shown_in scope.now now streams.now) }
+    ensures only_memory { IsOkUnless result Fault.OutOfMemory }
+{
+    let mut metrics = Vec::new(alloc);
+    for stream in streams {
+        push_metric(alloc, &mut metrics, stream, scope, now)?;
+    }
+    Ok(metrics)
+}
+
+/// Adds the metrics of a scope, if it has some.
+fn push_scope(
+    alloc: Global,
+    scopes: &mut Vec<ScopeMetrics>,
+    streams: &[Stream],
+    scope: &InstrumentationScope,
+    now: u64,
+) -> Result<(), Fault>
+    ensures scopes { OnOk result (map scope_metrics_of scopes.new.items ≡ map scope_metrics_of scopes.old.items ++ scopes_shown now streams.now (scope.now ∷ [])) }
+    ensures only_memory { IsOkUnless result Fault.OutOfMemory }
+{
+    let metrics = metrics_of(alloc, streams, scope, now)?;
+    if metrics.is_empty() {
+        return Ok(());
+    }
+    let scope = copy_scope(scope)?;
+    scopes.push(ScopeMetrics::new(scope, Items::from(metrics)))?;
+    Ok(())
+}
+
+/// The scopes that have metrics, in order of their meters.
+pub(crate) fn scopes_of(
+    alloc: Global,
+    streams: &[Stream],
+    meters: &IndexSet<InstrumentationScope>,
+    now: u64,
+) -> Result<Items<ScopeMetrics>, Fault>
+    ensures scopes { IfOk result (λ scopes. map scope_metrics_of scopes ≡ scopes_shown now streams.now meters.now.keys) }
+    ensures only_memory { IsOkUnless result Fault.OutOfMemory }
+{
+    let mut scopes = Vec::new(alloc);
+    for scope in meters.iter() {
+        push_scope(alloc, &mut scopes, streams, scope, now)?;
+    }
+    Ok(Items::from(scopes))
+}

@@ -1,0 +1,19 @@
+//! Copies, each equal to its source.
+
+ghost use Rattle.std.specs.Prelude.{◌≡◌, IfOk};
+
+use otel_common::scopes::InstrumentationScope;
+use otel_common::strings::StringValue;
+use std::alloc::AllocError;
+
+pub(crate) fn copy_text(text: &StringValue) -> Result<StringValue, AllocError>
+    ensures { IfOk result (λ c. c ≡ text.now) }
+{
+    text.clone()
+}
+
+pub(crate) fn copy_scope(scope: &InstrumentationScope) -> Result<InstrumentationScope, AllocError>
+    ensures { IfOk result (λ c. c ≡ scope.now) }
+{
+    scope.clone()
+}

@@ -1,0 +1,54 @@
+//! Instruments, as the provider keeps them.
+
+ghost use Rattle.std.specs.Prelude.{◌≡◌, pos};
+ghost use Rattle.otel_model.specs.Machine.{accepted};
+ghost use Rattle.otel_provider.specs.Instruments.{new_state};
+ghost use Rattle.otel_provider.specs.Streams.{amount};
+
+use crate::sorts::InstrumentSort;
+use std::marker::Model;
+
+/// An instrument, and the number and the sum of the records that it accepted, both modulo 2^64.
+#[derive(Drop)]
+pub(crate) struct Instrument {
+    sort: InstrumentSort,
+    count: u64,
+    sum: u64,
+}
+
+impl Model for Instrument {
+    ghost use Rattle.otel_model.specs.State.{InstrumentState};
+    ghost use Rattle.otel_provider.specs.Sorts.{kind_of, is_signed};
+
+    ghost Value = { InstrumentState };
+
+    ghost view = { λ i. record { kind = kind_of i.sort; signed = is_signed i.sort; count = i.count; sum = i.sum } };
+}
+
+impl Instrument {
+    /// An instrument that accepted nothing yet.
+    pub(crate) fn new(sort: InstrumentSort) -> Instrument
+        ensures { result ≡ new_state sort }
+    {
+        Instrument {
+            sort,
+            count: 0,
+            sum: 0,
+        }
+    }
+
+    /// Whether its values are `i64`.
+    pub(crate) fn is_signed(&self) -> bool
+        ensures { result ≡ self.now.signed }
+    {
+        self.sort.is_signed()
+    }
+
+    /// Counts a record.
+    pub(crate) fn accept(&mut self, value: u64)
+        ensures { self.new ≡ accepted (amount value) self.old }
+    {
+        self.count = self.count.wrapping_add(1);
+        self.sum = self.sum.wrapping_add(value);
+    }
+}

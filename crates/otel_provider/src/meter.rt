@@ -1,0 +1,93 @@
+//! The checks of an instrument's name and unit.
+
+ghost use Rattle.std.specs.Prelude.{◌≡◌, not, nat_lt};
+ghost use Rattle.std.specs.List.{list_any};
+ghost use Rattle.std.specs.Option.{option_map};
+ghost use Rattle.otel_model.specs.Checks.{name_fault, name_fault_text, optional_unit_fault, unit_fault_text, starts_badly, is_name_byte};
+ghost use Rattle.otel_provider.specs.Validations.{IsAnswer};
+
+use otel_common::metrics::MetricError;
+
+const NAME_EMPTY: &str = "name must be non-empty";
+const NAME_LENGTH: &str = "name must be less than 256 characters";
+const NAME_FIRST: &str = "name must start with an alphabetic character";
+const NAME_CHARACTER: &str = "characters in name must be ASCII and belong to the alphanumeric characters, '_', '.', '-' and '/'";
+const UNIT_LENGTH: &str = "unit must be less than 64 characters";
+const UNIT_CHARACTER: &str = "characters in unit must be ASCII";
+
+/// The greatest length of a name, in bytes.
+const NAME_MAX: usize = 255;
+
+/// The greatest length of a unit, in bytes.
+const UNIT_MAX: usize = 63;
+
+fn is_name_character(byte: u8) -> bool
+    ensures { result ≡ is_name_byte byte }
+{
+    byte.is_ascii_alphanumeric() || matches!(byte, b'_' | b'.' | b'-' | b'/')
+}
+
+/// Whether the first byte is there and no ASCII letter.
+fn starts_with_no_letter(bytes: &[u8]) -> bool
+    ensures { result ≡ starts_badly bytes.now }
+{
+    match bytes {
+        [] => false,
+        [first, ..] => !first.is_ascii_alphabetic(),
+    }
+}
+
+fn has_other_character(bytes: &[u8]) -> bool
+    ensures { result ≡ list_any (λ b. not (is_name_byte b)) bytes.now }
+{
+    bytes.iter().any(|byte| !is_name_character(*byte))
+}
+
+fn has_other_than_ascii(bytes: &[u8]) -> bool
+    ensures { result ≡ list_any (λ b. nat_lt 127 b) bytes.now }
+{
+    bytes.iter().any(|byte| *byte > 127)
+}
+
+/// Tells whether a name is good: 1 to 255 bytes, of which the first is an ASCII letter and the others
+/// ASCII letters, digits, `_`, `.`, `-` or `/` (Metrics API, "Instrument name syntax").
+///
+/// The first check that fails gives the error. Takes no memory.
+pub fn validate_instrument_name(name: &str) -> Result<(), MetricError>
+    ensures { IsAnswer (option_map name_fault_text (name_fault name.now)) result }
+{
+    let bytes = name.as_bytes();
+    if bytes.is_empty() {
+        return Err(MetricError::InvalidInstrumentConfiguration(NAME_EMPTY));
+    }
+    if bytes.len() > NAME_MAX {
+        return Err(MetricError::InvalidInstrumentConfiguration(NAME_LENGTH));
+    }
+    if starts_with_no_letter(bytes) {
+        return Err(MetricError::InvalidInstrumentConfiguration(NAME_FIRST));
+    }
+    if has_other_character(bytes) {
+        return Err(MetricError::InvalidInstrumentConfiguration(NAME_CHARACTER));
+    }
+    Ok(())
+}
+
+/// Tells whether a unit is good: at most 63 bytes, all ASCII. No unit is a good one
+/// (Metrics API, "Instrument unit").
+///
+/// The first check that fails gives the error. Takes no memory.
+pub fn validate_instrument_unit(unit: Option<&str>) -> Result<(), MetricError>
+    ensures { IsAnswer (option_map unit_fault_text (optional_unit_fault (option_map (λ u. u.now) unit.entry))) result }
+{
+    let Some(unit) = unit else {
+        return Ok(());
+    };
+    let bytes = unit.as_bytes();
+    if bytes.len() > UNIT_MAX {
+        return Err(MetricError::InvalidInstrumentConfiguration(UNIT_LENGTH));
+    }
+    if has_other_than_ascii(bytes) {
+        return Err(MetricError::InvalidInstrumentConfiguration(UNIT_CHARACTER));
+    }
+    Ok(())
+}

@@ -1,0 +1,116 @@
+//! One stream of one reader.
+
+ghost use Rattle.std.specs.Prelude.{◌≡◌, [], Some, IfOk, IsOk, OnOk, IsOkUnless};
+ghost use Rattle.std.specs.Option.{option_map};
+ghost use Rattle.otel_provider.specs.Shown.{metric_of};
+ghost use Rattle.otel_provider.specs.Streams.{new_kept, staged_set, settled, committed, shown_metric, if_points};
+
+use crate::copies::copy_text;
+use crate::identity::Demand;
+use otel_aggregate::sum::Sum;
+use otel_common::attributes::KeyValue;
+use otel_common::faults::Fault;
+use otel_common::lists::Items;
+use otel_common::metrics::Temporality;
+use otel_data::aggregated::{AggregatedMetrics, MetricData};
+use otel_data::collections::Metric;
+use std::alloc::Global;
+use std::marker::Model;
+
+/// The limit of a stream of which nobody says one.
+const DEFAULT_LIMIT: usize = 2000;
+
+/// A stream: what was demanded, and its sums so far.
+#[derive(Drop)]
+pub(crate) struct Stream {
+    demand: Demand,
+    sum: Sum<u64>,
+    /// The set of the record that is being made, for which the sums have room.
+    staged: Option<Items<KeyValue>>,
+    /// The sum of all records, modulo 2^64.
+    recorded: u64,
+}
+
+impl Model for Stream {
+    ghost use Rattle.std.specs.Prelude.{◌≡◌, IfSome, IsTrue};
+    ghost use Rattle.otel_aggregate.specs.Streams.{has_room};
+    ghost use Rattle.otel_provider.specs.Streams.{Kept, default_sums};
+
+    ghost Value = { Kept };
+
+    ghost view = { λ s. record {
+      demand = s.demand;
+      table = s.sum.state.map_state.table;
+      since = s.sum.state.start;
+      recorded = s.recorded;
+      staged = s.staged;
+    } };
+
+    ghost invariant = { λ s. (s.sum.state ≡ default_sums s.sum.state.map_state.table s.sum.state.start)
+        × IfSome s.staged (λ set. IsTrue (has_room set s.sum)) };
+}
+
+impl Stream {
+    /// A stream with no records, made at a moment.
+    pub(crate) fn new(alloc: Global, demand: Demand, now: u64) -> Result<Stream, Fault>
+        ensures made { IfOk result (λ s. s ≡ new_kept demand now) }
+        ensures only_memory { IsOkUnless result Fault.OutOfMemory }
+    {
+        let sum = Sum::new(alloc, Temporality::Cumulative, None, DEFAULT_LIMIT, now, true)?;
+        Ok(Stream {
+            demand,
+            sum,
+            staged: None,
+            recorded: 0,
+        })
+    }
+
+    /// What was demanded.
+    pub(crate) fn demand(&self) -> &Demand
+        ensures { result.now ≡ self.now.demand }
+    {
+        &self.demand
+    }
+
+    /// Gets ready for a record of these attributes. What the stream shows stays as it was.
+    pub(crate) fn stage(&mut self, attributes: &[KeyValue]) -> Result<(), Fault>
+        ensures same { settled self.new ≡ settled self.old }
+        ensures staged { OnOk result (self.new.staged ≡ Some (staged_set attributes.now)) }
+        ensures free { attributes.now ≡ [] → IsOk result }
+        ensures only_memory { IsOkUnless result Fault.OutOfMemory }
+    {
+        let set = self.sum.set_for(attributes)?;
+        self.staged = None;
+        self.sum.prepare(&set)?;
+        self.staged = Some(set);
+        Ok(())
+    }
+
+    /// Makes the record that the stream got ready for, if there is one.
+    pub(crate) fn commit(&mut self, value: u64)
+        ensures { self.new ≡ committed value self.old }
+    {
+        if let Some(set) = self.staged.take() {
+            self.recorded = self.recorded.wrapping_add(value);
+            self.sum.measure_ready(value, set);
+        }
+    }
+
+    /// What a collection at a moment gives of the stream, if it has points.
+    pub(crate) fn metric(&self, alloc: Global, now: u64) -> Result<Option<Metric>, Fault>
+        ensures metric { IfOk result (λ m. option_map metric_of m ≡ if_points (shown_metric now self.now)) }
+        ensures only_memory { IsOkUnless result Fault.OutOfMemory }
+    {
+        let sum = self.sum.points(alloc, now)?;
+        if sum.data_points().len() == 0 {
+            return Ok(None);
+        }
+        let identity = &self.demand.identity;
+        Ok(Some(Metric::new(
+            copy_text(&self.demand.spelling)?,
+            copy_text(&identity.description)?,
+            copy_text(&identity.unit)?,
+            AggregatedMetrics::from(MetricData::from(sum)),
+        )))
+    }
+}
