@@ -11,7 +11,8 @@ use crate::refusals::Refusal;
 use crate::texts::text_of_word;
 use otel_common::scopes::InstrumentationScope;
 use otel_common::strings::StringValue;
-use otel_provider::calls::{Call, InstrumentSort};
+use otel_provider::calls::Call;
+use otel_provider::sorts::InstrumentSort;
 use std::alloc::Global;
 
 /// The call that the words of a line ask for.

@@ -4,6 +4,7 @@ use crate::failures::Failure;
 use crate::printing::write_reply;
 use crate::scripts::{Script, script_of};
 use otel_provider::calls::Reply;
+use otel_provider::provider::SdkMeterProvider;
 use std::alloc::Global;
 use std::io::{BufWriter, ErrorKind, Read, Write};
 
@@ -33,9 +34,12 @@ fn run_script<R: Read + Drop, W: Write + Drop>(
 ) -> Result<(), Failure> {
     let bytes = read_all(alloc, input)?;
     let Script { reader, calls } = script_of(alloc, bytes.as_slice())?;
-    let _ = reader;
-    let replies: Vec<Reply> = Vec::new(alloc);
-    let _ = calls;
+    let mut builder = SdkMeterProvider::builder(alloc);
+    if let Some(reader) = reader {
+        builder = builder.with_reader(Box::new(alloc, reader)?)?;
+    }
+    let mut provider = builder.build()?;
+    let replies = provider.run(alloc, calls.as_slice())?;
     write_replies(alloc, output, replies.as_slice())
 }
 

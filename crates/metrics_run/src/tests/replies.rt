@@ -155,3 +155,36 @@ fn no_reader(rt: HostRuntime) -> Result<(), Fail> {
         "meter 0\ninstrument 0\nok\nrefused 5 unknown reader\n",
     )
 }
+
+/// A unit and a description are parts of what an instrument is; what isn't given is the empty text.
+#[test]
+fn options(rt: HostRuntime) -> Result<(), Fail> {
+    assert_prints(
+        &rt,
+        rt.alloc(),
+        b"reader cumulative\n\
+          go\n\
+          meter app\n\
+          build 0 u64_counter a 1\n\
+          build 0 u64_counter a 2 unit=%73 description=x%20y\n\
+          build 0 u64_counter a 3 description=x%20y unit=s\n\
+          build 0 u64_counter a 4 unit=- description=\n\
+          record 0 u:1 -\n\
+          record 1 u:2 -\n\
+          record 2 u:4 -\n\
+          record 3 u:8 -\n\
+          collect 0 9\n",
+        "meter 0\n\
+         instrument 0\n\
+         instrument 1\n\
+         instrument 2\n\
+         instrument 3\n\
+         ok\n\
+         ok\n\
+         ok\n\
+         ok\n\
+         collected 2\n\
+         point app a sum cumulative monotonic 1 9 - 9\n\
+         point app a sum cumulative monotonic 2 9 - 6\n",
+    )
+}
