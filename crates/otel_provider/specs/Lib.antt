@@ -3,6 +3,7 @@ pub mod Identities
 pub mod Instruments
 pub mod Pipelines
 pub mod Plans
+pub mod Providers
 pub mod Shown
 pub mod Sorts
 pub mod States

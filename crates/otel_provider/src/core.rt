@@ -1,5 +1,10 @@
 //! The state of a provider: all of it that is no boxed object.
 
+ghost use Rattle.std.specs.Prelude.{◌≡◌, ◌++◌, ◌∷◌, [], true, Some, None, OnOk, OnErr, IfOk, IfErr, IsOkUnless};
+ghost use Rattle.otel_model.specs.Machine.{new_state, new_part};
+ghost use Rattle.otel_model.specs.Resources.{empty_resource};
+ghost use Rattle.otel_provider.specs.Streams.{cumulative_row};
+
 use crate::calls::{Call, Reply};
 use crate::copies::copy_scope;
 use crate::identity::Demand;
@@ -17,6 +22,7 @@ use otel_common::strings::StringValue;
 use otel_data::collections::ResourceMetrics;
 use otel_data::numbers::NumberValue;
 use std::alloc::Global;
+use std::marker::Model;
 
 /// What a build says of its instrument.
 pub(crate) struct About<'a> {
@@ -33,6 +39,15 @@ pub struct Core {
     meters: IndexSet<InstrumentationScope>,
     instruments: Vec<Instrument>,
     pipelines: Vec<Pipeline>,
+}
+
+impl Model for Core {
+    ghost use Rattle.otel_model.specs.State.{State};
+    ghost use Rattle.otel_provider.specs.States.{state_of};
+
+    ghost Value = { State };
+
+    ghost view = { λ c. state_of c.meters.keys c.instruments.items c.pipelines.items };
 }
 
 fn is_good(name: &StringValue, unit: &Option<StringValue>) -> bool {
@@ -58,7 +73,10 @@ fn scope_of(
 }
 
 impl Core {
-    pub(crate) fn new(alloc: Global) -> Core {
+    /// No meters, no instruments, no readers.
+    pub(crate) fn new(alloc: Global) -> Core
+        ensures { result ≡ new_state empty_resource 0 [] }
+    {
         Core {
             alloc,
             meters: IndexSet::new(alloc),
@@ -67,7 +85,11 @@ impl Core {
         }
     }
 
-    pub(crate) fn add_reader(&mut self) -> Result<(), Fault> {
+    /// One reader more, which answers `Cumulative` for every kind.
+    pub(crate) fn add_reader(&mut self) -> Result<(), Fault>
+        ensures ok { OnOk result (self.new ≡ record self.old { readers = self.old.readers ++ new_part cumulative_row ∷ [] }) }
+        ensures only_memory { IsOkUnless result Fault.OutOfMemory }
+    {
         self.pipelines.push(Pipeline::new(self.alloc))?;
         Ok(())
     }

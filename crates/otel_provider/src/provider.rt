@@ -1,5 +1,13 @@
 //! The provider and its builder.
 
+ghost use Rattle.std.specs.Prelude.{◌≡◌, ◌∷◌, [], IfOk, IsOkAnd, IsOkUnless};
+ghost use Rattle.otel_common.specs.declared.metrics.Temporality.TheVariants.{Cumulative};
+ghost use Rattle.otel_stream.specs.declared.instrument.InstrumentKind.{InstrumentKind};
+ghost use Rattle.otel_model.specs.Machine.{new_state, new_part};
+ghost use Rattle.otel_model.specs.Resources.{empty_resource};
+ghost use Rattle.otel_provider.specs.Providers.{state_of, state_of_builder};
+ghost use Rattle.otel_provider.specs.Streams.{cumulative_row};
+
 use crate::calls::{Call, Reply};
 use crate::core::Core;
 use otel_common::faults::Fault;
@@ -22,8 +30,15 @@ pub struct SdkMeterProvider {
 }
 
 impl MeterProviderBuilder {
-    /// Adds a reader.
-    pub fn with_reader(self, reader: Box<dyn MetricReader>) -> Result<Self, Fault> {
+    /// Adds the reader. For now a provider has at most one, which answers `Cumulative` for every kind.
+    ///
+    /// Refused only for want of memory; then the builder is given up.
+    pub fn with_reader(self, reader: Box<dyn MetricReader>) -> Result<Self, Fault>
+        requires first { (state_of_builder self).readers ≡ [] }
+        requires cumulative { (kind : InstrumentKind) → ⟦<Box<dyn MetricReader> as MetricReader>⟧.preference reader kind ≡ Cumulative }
+        ensures state { IfOk result (λ b. state_of_builder b ≡ record (state_of_builder self) { readers = new_part cumulative_row ∷ [] }) }
+        ensures only_memory { IsOkUnless result Fault.OutOfMemory }
+    {
         let MeterProviderBuilder { core, readers } = self;
         let mut core = core;
         let mut readers = readers;
@@ -32,16 +47,20 @@ impl MeterProviderBuilder {
         Ok(MeterProviderBuilder { core, readers })
     }
 
-    /// The provider.
-    pub fn build(self) -> Result<SdkMeterProvider, Fault> {
+    /// The provider. Takes no memory.
+    pub fn build(self) -> Result<SdkMeterProvider, Fault>
+        ensures state { IsOkAnd result (λ p. state_of p ≡ state_of_builder self) }
+    {
         let MeterProviderBuilder { core, readers } = self;
         Ok(SdkMeterProvider { core, readers })
     }
 }
 
 impl SdkMeterProvider {
-    /// A builder of a provider without readers.
-    pub fn builder(alloc: Global) -> MeterProviderBuilder {
+    /// A builder of a provider without readers. Takes no memory.
+    pub fn builder(alloc: Global) -> MeterProviderBuilder
+        ensures { state_of_builder result ≡ new_state empty_resource 0 [] }
+    {
         MeterProviderBuilder {
             core: Core::new(alloc),
             readers: Vec::new(alloc),
