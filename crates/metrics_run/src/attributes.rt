@@ -1,0 +1,64 @@
+//! Attributes of a script.
+
+ghost use Rattle.std.specs.Prelude.{◌≡◌, IfOk, codes, if◌then◌else◌};
+ghost use Rattle.metrics_run.specs.Attributes.{IsAttributeWord, IsValueWord, ReadsAttributes};
+
+use crate::numbers::signed;
+use crate::refusals::Refusal;
+use crate::texts::unescaped;
+use otel_common::attributes::{KeyValue, Value};
+use otel_common::keys::Key;
+use std::alloc::Global;
+
+/// The attributes of a word: `-` for none, else pairs with commas between them.
+pub fn attributes_of(alloc: Global, word: &str) -> Result<Vec<KeyValue>, Refusal>
+    ensures { IfOk result (λ attributes. ReadsAttributes word.now attributes.items) }
+{
+    let mut attributes = Vec::new(alloc);
+    if word == "-" {
+        return Ok(attributes);
+    }
+    for pair in word.split(',') {
+        attributes.push(attribute_of(alloc, pair)?)?;
+    }
+    Ok(attributes)
+}
+
+/// A key and a value, with the pair's first `=` between them.
+fn attribute_of(alloc: Global, pair: &str) -> Result<KeyValue, Refusal>
+    ensures { IfOk result (IsAttributeWord pair.now) }
+{
+    let Some((key, value)) = pair.split_once('=') else {
+        return Err(Refusal::BadCommand);
+    };
+    let key = unescaped(alloc, key)?;
+    let key = Key::new(alloc, key.as_str())?;
+    let value = value_of(alloc, value)?;
+    Ok(KeyValue::new(key, value))
+}
+
+/// A truth value, a signed number or a text.
+fn value_of(alloc: Global, word: &str) -> Result<Value, Refusal>
+    ensures { IfOk result (IsValueWord word.now) }
+{
+    let Some((kind, rest)) = word.split_once(':') else {
+        return Err(Refusal::BadCommand);
+    };
+    match kind {
+        "b" => Ok(Value::Bool(truth_of(rest)?)),
+        "i" => Ok(Value::I64(signed(rest)?)),
+        "s" => Ok(Value::String(unescaped(alloc, rest)?.into())),
+        _ => Err(Refusal::BadCommand),
+    }
+}
+
+/// `true` or `false`.
+fn truth_of(word: &str) -> Result<bool, Refusal>
+    ensures { IfOk result (λ truth. word.now ≡ (if truth then codes "true" else codes "false")) }
+{
+    match word {
+        "true" => Ok(true),
+        "false" => Ok(false),
+        _ => Err(Refusal::BadCommand),
+    }
+}

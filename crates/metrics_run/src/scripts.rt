@@ -1,0 +1,99 @@
+//! A whole script: what stands before `go`, and the calls after it.
+
+use crate::calls::call_of;
+use crate::failures::Failure;
+use crate::refusals::Refusal;
+use otel_provider::calls::Call;
+use otel_stream::manual_reader::ManualReader;
+use std::alloc::{AllocError, Global};
+
+/// What a script asks for: the provider's reader, if it has one, and the calls.
+#[derive(Drop)]
+pub struct Script {
+    pub reader: Option<ManualReader>,
+    pub calls: Vec<Call>,
+}
+
+/// A script that is read line by line.
+#[derive(Drop)]
+struct Reading {
+    script: Script,
+    /// Whether the line `go` was there.
+    is_started: bool,
+}
+
+/// The script that these bytes are, or the number of its first bad line.
+///
+/// A script without `go` is bad at the line after its last.
+pub fn script_of(alloc: Global, input: &[u8]) -> Result<Script, Failure> {
+    let mut reading = Reading {
+        script: Script {
+            reader: None,
+            calls: Vec::new(alloc),
+        },
+        is_started: false,
+    };
+    let mut number = 1u64;
+    for line in input.split_inclusive(|byte| *byte == b'\n') {
+        match reading.add_line(alloc, without_end(line)) {
+            Ok(()) => number = number.saturating_add(1),
+            Err(Refusal::BadCommand) => return Err(Failure::BadLine(number)),
+            Err(Refusal::OutOfMemory) => return Err(Failure::OutOfMemory),
+        }
+    }
+    if !reading.is_started {
+        return Err(Failure::BadLine(number));
+    }
+    Ok(reading.script)
+}
+
+/// The line without the byte that ends it.
+fn without_end(line: &[u8]) -> &[u8] {
+    line.strip_suffix(b"\n").unwrap_or(line)
+}
+
+/// Whether the line says nothing: it has spaces alone, or begins with `#`.
+fn is_skipped(line: &[u8]) -> bool {
+    line.first() == Some(&b'#') || line.iter().all(|byte| *byte == b' ')
+}
+
+/// The words of a line, which stand between runs of spaces.
+fn words_of(alloc: Global, line: &str) -> Result<Vec<&str>, AllocError> {
+    line.split(' ')
+        .filter(|word| !word.is_empty())
+        .collect(alloc)
+}
+
+impl Reading {
+    /// Takes in the next line.
+    fn add_line(&mut self, alloc: Global, line: &[u8]) -> Result<(), Refusal> {
+        if is_skipped(line) {
+            return Ok(());
+        }
+        let Ok(line) = str::from_utf8(line) else {
+            return Err(Refusal::BadCommand);
+        };
+        let words = words_of(alloc, line)?;
+        if self.is_started {
+            let call = call_of(alloc, words.as_slice())?;
+            self.script.calls.push(call)?;
+            return Ok(());
+        }
+        self.set_up(words.as_slice())
+    }
+
+    /// Takes in the words of a line before `go`, or of `go` itself.
+    fn set_up(&mut self, words: &[&str]) -> Result<(), Refusal> {
+        match words {
+            ["reader", "cumulative"] if self.script.reader.is_none() => {
+                self.script.reader = Some(ManualReader::default());
+                Ok(())
+            }
+            ["go"] => {
+                self.is_started = true;
+                Ok(())
+            }
+            _ => Err(Refusal::BadCommand),
+        }
+    }
+}

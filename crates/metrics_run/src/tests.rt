@@ -1,0 +1,53 @@
+//! Tests of the whole program over memory.
+
+use crate::script::script;
+use std::alloc::Global;
+use std::process::Abort;
+use std::test::Fail;
+
+mod failing;
+mod lines;
+mod replies;
+
+/// What the program wrote, and the status that it answered.
+#[derive(Drop)]
+struct Outcome {
+    status: u8,
+    output: Vec<u8>,
+    errors: Vec<u8>,
+}
+
+/// Runs the program on this input.
+fn outcome_of(alloc: Global, input: &[u8]) -> Outcome {
+    let mut output = Vec::new(alloc);
+    let mut errors = Vec::new(alloc);
+    let status = script(alloc, input, &mut output, &mut errors);
+    Outcome {
+        status,
+        output,
+        errors,
+    }
+}
+
+/// Asserts that the program runs this script and prints these lines.
+fn assert_prints(rt: &impl Abort, alloc: Global, input: &[u8], lines: &str) -> Result<(), Fail> {
+    let outcome = outcome_of(alloc, input);
+    assert_eq!(rt; str::from_utf8(outcome.errors.as_slice())?, "");
+    assert_eq!(rt; str::from_utf8(outcome.output.as_slice())?, lines);
+    assert_eq!(rt; outcome.status, 0);
+    Ok(())
+}
+
+/// Asserts that this line is the first bad one, and that nothing is run.
+fn assert_is_bad(rt: &impl Abort, alloc: Global, input: &[u8], line: u64) -> Result<(), Fail> {
+    let outcome = outcome_of(alloc, input);
+    let message = format!(in alloc; "line {line}: bad command\n")?;
+    assert_eq!(rt;
+        str::from_utf8(outcome.errors.as_slice())?,
+        message.as_str(),
+        "{input:?}"
+    );
+    assert!(rt; outcome.output.is_empty());
+    assert_eq!(rt; outcome.status, 2);
+    Ok(())
+}

@@ -1,0 +1,120 @@
+//! Which lines are bad.
+
+use super::assert_is_bad;
+use std::test::Fail;
+
+/// A script with these lines before `go`, and its first bad line.
+#[test]
+fn before_go(rt: HostRuntime) -> Result<(), Fail> {
+    let scripts: [(&[u8], u64); 14] = [
+        (b"", 1),
+        (b"\n", 2),
+        (b"# \xff\n   \n#go", 4),
+        (b"reader cumulative", 2),
+        (b"reader cumulative\ngone", 2),
+        (b"reader cumulative\nreader cumulative\ngo", 2),
+        (b"reader delta\ngone", 1),
+        (b"reader Cumulative\ngo", 1),
+        (b"reader cumulative cumulative\ngo", 1),
+        (b"view requests name=hits\ngo", 1),
+        (b"meter app\ngo", 1),
+        (b"go\r\n", 1),
+        (b" # a comment\ngo", 1),
+        (b"go\ngo\n", 2),
+    ];
+    for (script, line) in scripts {
+        assert_is_bad(&rt, rt.alloc(), script, line)?;
+    }
+    Ok(())
+}
+
+/// Lines after `go` with too many or too few words, or with a word that isn't there yet.
+#[test]
+fn commands(rt: HostRuntime) -> Result<(), Fail> {
+    let lines = [
+        "reader cumulative",
+        "meter",
+        "meter a b c",
+        "meters a",
+        "build 0 u64_counter a",
+        "build 0 u64_counter a 1 2",
+        "build 0 i64_gauge a 1",
+        "build 0 u64_counter a 1 bounds=",
+        "build 0 u64_counter a 1 unit",
+        "build 0 u64_counter a 1 unit=s unit=s",
+        "build 0 u64_counter a 1 description=%80",
+        "build -1 u64_counter a 1",
+        "record 0 u:1",
+        "record 0 u:1 - -",
+        "collect 0",
+        "collect 0 -1",
+        "flush",
+        "meter %ff",
+    ];
+    for line in lines {
+        let script = format!(in rt.alloc(); "go\n#\n{line}\ngo\n")?;
+        assert_is_bad(&rt, rt.alloc(), script.as_bytes(), 3)?;
+    }
+    Ok(())
+}
+
+/// Numbers that are none, or that are out of range.
+#[test]
+fn numbers(rt: HostRuntime) -> Result<(), Fail> {
+    let lines = [
+        "record 0 1 -",
+        "record 0 f:1 -",
+        "record 0 u: -",
+        "record 0 u:-0 -",
+        "record 0 u:+1 -",
+        "record 0 u:18446744073709551616 -",
+        "record 0 i: -",
+        "record 0 i:- -",
+        "record 0 i:--1 -",
+        "record 0 i:+1 -",
+        "record 0 i:9223372036854775808 -",
+        "record 0 i:-9223372036854775809 -",
+        "record 18446744073709551616 u:1 -",
+        "record +0 u:1 -",
+        "collect 0 18446744073709551616",
+        "collect 0 0x1",
+    ];
+    for line in lines {
+        let script = format!(in rt.alloc(); "go\n{line}\n")?;
+        assert_is_bad(&rt, rt.alloc(), script.as_bytes(), 2)?;
+    }
+    Ok(())
+}
+
+/// Attributes that are none.
+#[test]
+fn attributes(rt: HostRuntime) -> Result<(), Fail> {
+    let words = [
+        "a",
+        "a=",
+        "a=1",
+        "a=i:",
+        "a=i:1,",
+        ",a=i:1",
+        "a=i:1,,b=i:1",
+        "-,a=i:1",
+        "a=u:1",
+        "a=b:yes",
+        "a=b:True",
+        "a=s",
+        "a=s:%ff",
+        "%ff=s:",
+    ];
+    for word in words {
+        let script = format!(in rt.alloc(); "go\nrecord 0 u:1 {word}")?;
+        assert_is_bad(&rt, rt.alloc(), script.as_bytes(), 2)?;
+    }
+    Ok(())
+}
+
+/// A line that isn't skipped has to be UTF-8.
+#[test]
+fn not_utf8(rt: HostRuntime) -> Result<(), Fail> {
+    assert_is_bad(&rt, rt.alloc(), b"go\nmeter \xff\n", 2)?;
+    assert_is_bad(&rt, rt.alloc(), b"\xff\ngo\n", 1)
+}

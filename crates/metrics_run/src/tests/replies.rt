@@ -1,0 +1,190 @@
+//! What the program prints.
+
+use super::assert_prints;
+use std::test::Fail;
+
+/// One meter, one counter, two records of one set of attributes.
+#[test]
+fn script_s1(rt: HostRuntime) -> Result<(), Fail> {
+    assert_prints(
+        &rt,
+        rt.alloc(),
+        b"reader cumulative\n\
+          go\n\
+          meter app\n\
+          build 0 u64_counter requests 100\n\
+          record 0 u:3 b=s:y,a=i:1\n\
+          record 0 u:4 a=i:1,b=s:y\n\
+          collect 0 200\n",
+        "meter 0\n\
+         instrument 0\n\
+         ok\n\
+         ok\n\
+         collected 1\n\
+         point app requests sum cumulative monotonic 100 200 a=i:1,b=s:y 7\n",
+    )
+}
+
+/// Escapes and the special word of names; three meters, since an absent version is no empty one.
+#[test]
+fn texts(rt: HostRuntime) -> Result<(), Fail> {
+    assert_prints(
+        &rt,
+        rt.alloc(),
+        b"reader cumulative\n\
+          go\n\
+          meter -\n\
+          meter %2D\n\
+          meter a%2C%20b%zz\r\n\
+          meter -\n\
+          meter - -\n\
+          build 0 u64_counter a 1\n\
+          build 1 u64_counter a 2\n\
+          build 2 u64_counter a 3 unit= description=-\n\
+          record 0 u:1 -\n\
+          record 1 u:1 -\n\
+          record 2 u:1 -\n\
+          collect 0 9\n",
+        "meter 0\n\
+         meter 1\n\
+         meter 2\n\
+         meter 0\n\
+         meter 3\n\
+         instrument 0\n\
+         instrument 1\n\
+         instrument 2\n\
+         ok\n\
+         ok\n\
+         ok\n\
+         collected 3\n\
+         point - a sum cumulative monotonic 1 9 - 1\n\
+         point %2D a sum cumulative monotonic 2 9 - 1\n\
+         point a%2C%20b%25zz%0D a sum cumulative monotonic 3 9 - 1\n",
+    )
+}
+
+/// Attributes as they are read, in the order of their keys.
+#[test]
+fn attributes(rt: HostRuntime) -> Result<(), Fail> {
+    assert_prints(
+        &rt,
+        rt.alloc(),
+        b"reader cumulative\n\
+          go\n\
+          meter app\n\
+          build 0 u64_counter a 1\n\
+          record 0 u:1 =s:,-=s:-,a=s:x=y,b=b:true,c=b:false\n\
+          record 0 u:2 z=i:-0,y=i:-9223372036854775808,y=s:lost\n\
+          record 0 u:3 %c3%A9=s:%7e%2c%3D,~=s:%25!%7f\n\
+          collect 0 2\n",
+        "meter 0\n\
+         instrument 0\n\
+         ok\n\
+         ok\n\
+         ok\n\
+         collected 3\n\
+         point app a sum cumulative monotonic 1 2 =s:,-=s:-,a=s:x%3Dy,b=b:true,c=b:false 1\n\
+         point app a sum cumulative monotonic 1 2 y=i:-9223372036854775808,z=i:0 2\n\
+         point app a sum cumulative monotonic 1 2 ~=s:%25!%7F,%C3%A9=s:~%2C%3D 3\n",
+    )
+}
+
+/// Numbers at their ends, with leading zeros, and words between runs of spaces.
+#[test]
+fn numbers(rt: HostRuntime) -> Result<(), Fail> {
+    assert_prints(
+        &rt,
+        rt.alloc(),
+        b"#\xff\n\
+          reader   cumulative \n\
+          \n\
+          go\n\
+          meter app 1\n\
+          build 00 u64_counter a 0000000000000000000000000000000000000000007\n\
+          \x20 record  0  u:18446744073709551615  -\n\
+          record 0 u:3 -\n\
+          collect 0 18446744073709551615",
+        "meter 0\n\
+         instrument 0\n\
+         ok\n\
+         ok\n\
+         collected 1\n\
+         point app a sum cumulative monotonic 7 18446744073709551615 - 2\n",
+    )
+}
+
+/// What is refused changes nothing, and the status stays 0.
+#[test]
+fn refused_calls(rt: HostRuntime) -> Result<(), Fail> {
+    assert_prints(
+        &rt,
+        rt.alloc(),
+        b"reader cumulative\n\
+          go\n\
+          meter app\n\
+          build 1 u64_counter a 1\n\
+          build 0 u64_counter a 1\n\
+          build none u64_counter a 1\n\
+          record 0 i:1 -\n\
+          record 1 i:-1 -\n\
+          record 1 u:1 -\n\
+          record 18446744073709551615 u:1 -\n\
+          collect 0 2\n\
+          collect 1 2\n",
+        "meter 0\n\
+         refused 2 unknown meter\n\
+         instrument 0\n\
+         instrument 1\n\
+         refused 6 wrong number type\n\
+         refused 6 wrong number type\n\
+         ok\n\
+         refused 3 unknown instrument\n\
+         collected 0\n\
+         refused 5 unknown reader\n",
+    )
+}
+
+/// A provider without readers.
+#[test]
+fn no_reader(rt: HostRuntime) -> Result<(), Fail> {
+    assert_prints(&rt, rt.alloc(), b"go", "")?;
+    assert_prints(
+        &rt,
+        rt.alloc(),
+        b"go\nmeter app\nbuild 0 u64_counter a 1\nrecord 0 u:1 -\ncollect 0 2\n",
+        "meter 0\ninstrument 0\nok\nrefused 5 unknown reader\n",
+    )
+}
+
+/// A unit and a description are parts of what an instrument is; what isn't given is the empty text.
+#[test]
+fn options(rt: HostRuntime) -> Result<(), Fail> {
+    assert_prints(
+        &rt,
+        rt.alloc(),
+        b"reader cumulative\n\
+          go\n\
+          meter app\n\
+          build 0 u64_counter a 1\n\
+          build 0 u64_counter a 2 unit=%73 description=x%20y\n\
+          build 0 u64_counter a 3 description=x%20y unit=s\n\
+          build 0 u64_counter a 4 unit=- description=\n\
+          record 0 u:1 -\n\
+          record 1 u:2 -\n\
+          record 2 u:4 -\n\
+          record 3 u:8 -\n\
+          collect 0 9\n",
+        "meter 0\n\
+         instrument 0\n\
+         instrument 1\n\
+         instrument 2\n\
+         instrument 3\n\
+         ok\n\
+         ok\n\
+         ok\n\
+         ok\n\
+         collected 2\n\
+         point app a sum cumulative monotonic 1 9 - 9\n\
+         point app a sum cumulative monotonic 2 9 - 6\n",
+    )
+}
