@@ -74,8 +74,8 @@ both_decide false b p q f g = (λ h. absurd (true≢false (sym h)), λ r. p.1 (g
 pub key_value_eq-Decides : (x y : KeyValue) → Decides (key_value_eq x y) (x ≡ y)
 key_value_eq-Decides x y =
     both_decide (bytes_eq x.key y.key) (value_eq x.value y.value) (bytes_decides x.key y.key) (value_eq-Decides x.value y.value)
-      (λ k v i. record { key = k i; value = v i })
-      (λ e. (ap (λ p. p.key) e, ap (λ p. p.value) e))
+    (λ k v i. record { key = k i; value = v i })
+    (λ e. (ap (λ p. p.key) e, ap (λ p. p.value) e))
 
 -- sets of attributes, pair for pair
 abbrev pub set_eq : List KeyValue → List KeyValue → Bool

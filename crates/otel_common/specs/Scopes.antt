@@ -19,8 +19,8 @@ option_eq-Decides (Some x) (Some y) = (λ h. ap (λ z. Some z) ((bytes_decides x
 pub scope_eq-Decides : (x y : InstrumentationScope) → Decides (scope_eq x y) (x ≡ y)
 scope_eq-Decides x y =
     both_decide _ _ (bytes_decides x.name y.name)
-      (both_decide _ _ (option_eq-Decides x.version y.version)
-        (both_decide _ _ (option_eq-Decides x.schema_url y.schema_url) (set_eq-Decides x.attributes y.attributes) (λ u a. (u, a)) (λ p. p))
-        (λ v r. (v, r)) (λ p. p))
-      (λ n r i. record { name = n i; version = r.0 i; schema_url = r.1.0 i; attributes = r.1.1 i })
-      (λ e. (ap (λ s. s.name) e, (ap (λ s. s.version) e, (ap (λ s. s.schema_url) e, ap (λ s. s.attributes) e))))
+    (both_decide _ _ (option_eq-Decides x.version y.version)
+    (both_decide _ _ (option_eq-Decides x.schema_url y.schema_url) (set_eq-Decides x.attributes y.attributes) (λ u a. (u, a)) (λ p. p))
+    (λ v r. (v, r)) (λ p. p))
+    (λ n r i. record { name = n i; version = r.0 i; schema_url = r.1.0 i; attributes = r.1.1 i })
+    (λ e. (ap (λ s. s.name) e, (ap (λ s. s.version) e, (ap (λ s. s.schema_url) e, ap (λ s. s.attributes) e))))

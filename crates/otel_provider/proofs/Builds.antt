@@ -120,17 +120,17 @@ found x (k ∷ ks) n e =
 -- what one demand leaves of a reader's part, as its identity is known or not
 one_demand : (now : ℕ) (p : ReaderPart) (d : model.Demand) (b : Bool) → model.is_known p.fates d.identity ≡ b → model.is_drop d.aggregation ≡ false → model.is_dropped (machine.enter p.fates d) d.identity ≡ false
     → machine.with_feeds (d ∷ []) (machine.demanded now p d) ≡ record {
-        row = p.row;
-        fates = cond b p.fates (p.fates ++ d ∷ []);
-        streams = cond b p.streams (p.streams ++ machine.new_stream now d ∷ []);
-        feeds = p.feeds ++ (d.identity ∷ []) ∷ [];
-      }
+      row = p.row;
+      fates = cond b p.fates (p.fates ++ d ∷ []);
+      streams = cond b p.streams (p.streams ++ machine.new_stream now d ∷ []);
+      feeds = p.feeds ++ (d.identity ∷ []) ∷ [];
+    }
 one_demand now p d b e a r = λ i. record {
-    row = p.row;
-    fates = cond (e i) p.fates (p.fates ++ d ∷ []);
-    streams = cond (e i) p.streams (p.streams ++ cond (a i) [] (machine.new_stream now d ∷ []));
-    feeds = p.feeds ++ (cond (not (r i)) (d.identity ∷ []) []) ∷ [];
-  }
+  row = p.row;
+  fates = cond (e i) p.fates (p.fates ++ d ∷ []);
+  streams = cond (e i) p.streams (p.streams ++ cond (a i) [] (machine.new_stream now d ∷ []));
+  feeds = p.feeds ++ (cond (not (r i)) (d.identity ∷ []) []) ∷ [];
+}
 
 new-is : (demand : Demand) (now : ℕ) (sort : InstrumentSort) → demand.identity.sort ≡ sort → stream_of (new_kept demand now) ≡ machine.new_stream now (demand_of demand)
 new-is demand now U64Counter e = rw e refl
@@ -147,11 +147,11 @@ module _ (now : ℕ) (demand : Demand) (p : Piped) (numbers : AreAllNumbers p.fe
   d = demand_of demand
 
   demand_kept : (b : Bool) → model.is_known part.fates d.identity ≡ b → machine.with_feeds (d ∷ []) (machine.demanded now part d) ≡ record {
-        row = cumulative_row;
-        fates = cond b part.fates (part.fates ++ d ∷ []);
-        streams = cond b part.streams (part.streams ++ machine.new_stream now d ∷ []);
-        feeds = part.feeds ++ (d.identity ∷ []) ∷ [];
-      }
+    row = cumulative_row;
+    fates = cond b part.fates (part.fates ++ d ∷ []);
+    streams = cond b part.streams (part.streams ++ machine.new_stream now d ∷ []);
+    feeds = part.feeds ++ (d.identity ∷ []) ∷ [];
+  }
   demand_kept b e = one_demand now part d b e refl (enter_keeps p.streams demand d.identity (model.is_known part.fates d.identity))
 
   abbrev count : ℕ
@@ -167,8 +167,8 @@ module _ (now : ℕ) (demand : Demand) (p : Piped) (numbers : AreAllNumbers p.fe
         fates = map-append (λ (k : Kept). demand_of k.demand) p.streams (new_kept demand now ∷ []) i;
         streams = (map-append stream_of p.streams (new_kept demand now ∷ []) ∙ ap (λ s. map stream_of p.streams ++ s ∷ []) (new-is demand now demand.identity.sort refl)) i;
         feeds = (map-append (named (p.streams ++ new_kept demand now ∷ [])) p.feeds ((count ∷ []) ∷ [])
-          ∙ λ j. all_named-front p.streams (new_kept demand now) p.feeds numbers j
-              ++ (ap (λ xs. xs ++ []) (identity_at-is (p.streams ++ new_kept demand now ∷ []) count (new_kept demand now) last-is) j) ∷ []) i;
+            ∙ λ j. all_named-front p.streams (new_kept demand now) p.feeds numbers j
+            ++ (ap (λ xs. xs ++ []) (identity_at-is (p.streams ++ new_kept demand now ∷ []) count (new_kept demand now) last-is) j) ∷ []) i;
       })
       ∙ sym (demand_kept false (known demand.identity p.streams ∙ ap is_some e))
   as_planned (Some n) e =
@@ -178,7 +178,7 @@ module _ (now : ℕ) (demand : Demand) (p : Piped) (numbers : AreAllNumbers p.fe
         fates = part.fates;
         streams = part.streams;
         feeds = (map-append (named p.streams) p.feeds ((n ∷ []) ∷ [])
-          ∙ λ j. part.feeds ++ (ap (λ xs. xs ++ []) (identity_at-is p.streams n f.kept f.at ∙ ap (λ x. x ∷ []) (sound demand.identity f.kept.demand.identity f.passes)) j) ∷ []) i;
+            ∙ λ j. part.feeds ++ (ap (λ xs. xs ++ []) (identity_at-is p.streams n f.kept f.at ∙ ap (λ x. x ∷ []) (sound demand.identity f.kept.demand.identity f.passes)) j) ∷ []) i;
       })
       ∙ sym (demand_kept true (known demand.identity p.streams ∙ ap is_some e))
 

@@ -33,9 +33,9 @@ metrics_are now feeds (k ∷ ks) = λ i. (k.demand.identity.scope, metric_by now
 pub collected-is : (meters : List InstrumentationScope) (instruments : List InstrumentState) (now : ℕ) (p : Piped) (c : model.Collection)
     → c.resource ≡ empty_resource → c.scopes ≡ scopes_shown now p.streams meters → c ≡ collect_from (shared_of meters instruments) now [] (part_of p)
 collected-is meters instruments now p c r e = λ i. record {
-    resource = r i;
-    scopes = (e ∙ ap (λ (ms : List ScopedMetric). filter has_metrics (map (in_scope ms) meters)) (sym (metrics_are now (map (named p.streams) p.feeds) p.streams))) i;
-  }
+  resource = r i;
+  scopes = (e ∙ ap (λ (ms : List ScopedMetric). filter has_metrics (map (in_scope ms) meters)) (sym (metrics_are now (map (named p.streams) p.feeds) p.streams))) i;
+}
 
 kept_by : (next r now : ℕ) (feeds : List (List Identity)) (k : Kept) (sort : InstrumentSort) → k.demand.identity.sort ≡ sort
     → stream_after cumulative_row feeds next (model.Call.Collect r now []) (stream_of k) ≡ stream_of k
@@ -73,9 +73,9 @@ collection-made meters instruments ps r now p c at res e =
     let found : slice_get (map part_of ps) r ≡ Some (part_of p) = slice_get-map part_of ps r ∙ ap (option_map part_of) at in
     record {
       answer = ap model.Reply.Collected (collected-is meters instruments now p c res e)
-        ∙ sym (λ i. reply_by (cond (known i) None (Some model.Fault.UnknownReader)) (collect_reply (shared_of meters instruments) now [] (found i)));
+          ∙ sym (λ i. reply_by (cond (known i) None (Some model.Fault.UnknownReader)) (collect_reply (shared_of meters instruments) now [] (found i)));
       state = (λ i. record { shared = shared_of meters instruments; readers = sym (collecting-keeps 0 r now r ps) i })
-        ∙ sym (λ i. after_by (cond (known i) None (Some model.Fault.UnknownReader)) (state_of meters instruments ps) (accepted_after [] (state_of meters instruments ps) (model.Call.Collect r now [])));
+          ∙ sym (λ i. after_by (cond (known i) None (Some model.Fault.UnknownReader)) (state_of meters instruments ps) (accepted_after [] (state_of meters instruments ps) (model.Call.Collect r now [])));
     }
 
 -- of one that isn't

@@ -15,13 +15,13 @@ use Rattle.otel_provider.specs.declared.sorts.InstrumentSort.TheVariants.{U64Cou
 pub identity_test-Decides : (x y : Identity) → Decides (identity_test x y) (x ≡ y)
 identity_test-Decides x y =
     both_decide _ _ (scope_eq-Decides x.scope y.scope)
-      (both_decide _ _ (sort_eq-Decides x.sort y.sort)
-        (both_decide _ _ (bytes_decides x.description y.description)
-          (both_decide _ _ (bytes_decides x.unit y.unit) (bytes_decides x.name y.name) (λ u n. (u, n)) (λ p. p))
-          (λ d r. (d, r)) (λ p. p))
-        (λ s r. (s, r)) (λ p. p))
-      (λ c r i. record { scope = c i; sort = r.0 i; description = r.1.0 i; unit = r.1.1.0 i; name = r.1.1.1 i })
-      (λ e. (ap (λ (z : Identity). z.scope) e, (ap (λ (z : Identity). z.sort) e, (ap (λ (z : Identity). z.description) e, (ap (λ (z : Identity). z.unit) e, ap (λ (z : Identity). z.name) e)))))
+    (both_decide _ _ (sort_eq-Decides x.sort y.sort)
+    (both_decide _ _ (bytes_decides x.description y.description)
+    (both_decide _ _ (bytes_decides x.unit y.unit) (bytes_decides x.name y.name) (λ u n. (u, n)) (λ p. p))
+    (λ d r. (d, r)) (λ p. p))
+    (λ s r. (s, r)) (λ p. p))
+    (λ c r i. record { scope = c i; sort = r.0 i; description = r.1.0 i; unit = r.1.1.0 i; name = r.1.1.1 i })
+    (λ e. (ap (λ (z : Identity). z.scope) e, (ap (λ (z : Identity). z.sort) e, (ap (λ (z : Identity). z.description) e, (ap (λ (z : Identity). z.unit) e, ap (λ (z : Identity). z.name) e)))))
 
 same_sort : (a b : InstrumentSort) → a ≡ b
 same_sort U64Counter U64Counter = refl
@@ -29,12 +29,12 @@ same_sort U64Counter U64Counter = refl
 -- what the model sees of an identity tells it
 pub identity_of-tells : (x y : Identity) → identity_of x ≡ identity_of y → x ≡ y
 identity_of-tells x y e = λ i. record {
-    scope = ap (λ (z : model.Identity). z.scope) e i;
-    sort = same_sort x.sort y.sort i;
-    description = ap (λ (z : model.Identity). z.description) e i;
-    unit = ap (λ (z : model.Identity). z.unit) e i;
-    name = ap (λ (z : model.Identity). z.name) e i;
-  }
+  scope = ap (λ (z : model.Identity). z.scope) e i;
+  sort = same_sort x.sort y.sort i;
+  description = ap (λ (z : model.Identity). z.description) e i;
+  unit = ap (λ (z : model.Identity). z.unit) e i;
+  name = ap (λ (z : model.Identity). z.name) e i;
+}
 
 pub sound : (x y : Identity) → identity_test x y ≡ true → identity_of y ≡ identity_of x
 sound x y t = ap identity_of (sym ((identity_test-Decides x y).0 t))

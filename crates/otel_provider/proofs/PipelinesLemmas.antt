@@ -20,12 +20,12 @@ within-any (p ∷ ps) (suc i) d e h = within-any ps i d e (omega arith)
 -- one reader more
 pub done-more : (g : Piped → ReaderPart) (old new : List Piped) (i : ℕ) (d p : Piped) → i < length new → part_of p ≡ g (get_or new i d) → IsDoneUpto g old new i → IsDoneUpto g old (set new i p) (i + 1)
 done-more g old new i d p h made so_far = record {
-    long = omega (arith, length-set {A = Piped}, so_far.long);
-    done = below_more _ _
+  long = omega (arith, length-set {A = Piped}, so_far.long);
+  done = below_more _ _
       (λ k l e. let other : k ≢ i = omega arith in rw get_or-set_other (so_far.done k l e))
       (λ e. rw get_or-set_same (made ∙ ap g (so_far.rest i (omega arith) d ∙ within-any old i d e (omega (arith, so_far.long)))));
-    rest = λ k l e. let other : k ≢ i = omega arith in rw get_or-set_other (so_far.rest k (omega arith) e);
-  }
+  rest = λ k l e. let other : k ≢ i = omega arith in rw get_or-set_other (so_far.rest k (omega arith) e);
+}
 
 agree : (g : Piped → ReaderPart) (old new : List Piped) → length new ≡ length old → ((k : ℕ) → k < length old → (d : Piped) → part_of (get_or new k d) ≡ g (get_or old k d)) → map part_of new ≡ map g old
 agree g [] [] e h = refl

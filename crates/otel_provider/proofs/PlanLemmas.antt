@@ -95,7 +95,7 @@ some_planned a b e = cc
 pub taken-is : (o : Option Plan) (plan : Plan) (made : Planned) (added : Option (Identity × Kept)) → option_map planned_of o ≡ Some made → Some plan ≡ o → plan.added ≡ added → made ≡ record { feeds = plan.feeds; added = added }
 taken-is o plan made added held took e =
     some_planned made (record { feeds = plan.feeds; added = added })
-      (sym held ∙ (ap (option_map planned_of) (sym took) ∙ λ i. Some (record { feeds = plan.feeds; added = e i })))
+    (sym held ∙ (ap (option_map planned_of) (sym took) ∙ λ i. Some (record { feeds = plan.feeds; added = e i })))
 
 -- carrying out a plan with a new stream
 pub built-from : (streams : List Kept) (feeds : List (List ℕ)) (o : Option Plan) (room : Bool) (plan : Plan) (added : Identity × Kept) → Some plan ≡ o → plan.added ≡ Some added

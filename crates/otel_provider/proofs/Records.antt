@@ -75,9 +75,9 @@ named-has self ks apart (n ∷ ns) all i k e =
   where
     same : model.identity_eq (identity_of (all.0.0).demand.identity) (identity_of k.demand.identity) ≡ (n == i)
     same = ⊎_elim
-      (λ t. t ∙ sym (eq-eqb n i (apart n i all.0.0 k all.0.1 e t)))
-      (λ f. f ∙ sym (ne_eqb n i (λ q. true≢false (sym (ap (λ (m : Kept). model.identity_eq (identity_of m.demand.identity) (identity_of k.demand.identity)) (some_same _ _ (sym (all.0.1) ∙ ap (slice_get ks) q ∙ e)) ∙ self (identity_of k.demand.identity)) ∙ f))))
-      (cases_Bool (model.identity_eq (identity_of (all.0.0).demand.identity) (identity_of k.demand.identity)))
+        (λ t. t ∙ sym (eq-eqb n i (apart n i all.0.0 k all.0.1 e t)))
+        (λ f. f ∙ sym (ne_eqb n i (λ q. true≢false (sym (ap (λ (m : Kept). model.identity_eq (identity_of m.demand.identity) (identity_of k.demand.identity)) (some_same _ _ (sym (all.0.1) ∙ ap (slice_get ks) q ∙ e)) ∙ self (identity_of k.demand.identity)) ∙ f))))
+        (cases_Bool (model.identity_eq (identity_of (all.0.0).demand.identity) (identity_of k.demand.identity)))
 
 fed-named : (ks : List Kept) (feeds : List (List ℕ)) (n : ℕ) → or_else (slice_get (map (named ks) feeds) n) [] ≡ named ks (or_else (slice_get feeds n) [])
 fed-named ks feeds n = ap (λ o. or_else o []) (slice_get-map (named ks) feeds n) ∙ cases (slice_get feeds n)
@@ -114,7 +114,7 @@ module _ (self : IsReflexive) (all : List Kept) (apart : AreApart all) (feeds : 
   rest_sent i [] at = refl
   rest_sent i (k ∷ ks) at =
       λ p. one_sent i k (ap (slice_get all) (omega arith) ∙ at 0 k refl) (has_number i ns) refl p
-        ∷ rest_sent (suc i) ks (λ j m e. ap (slice_get all) (omega arith) ∙ at (suc j) m e) p
+      ∷ rest_sent (suc i) ks (λ j m e. ap (slice_get all) (omega arith) ∙ at (suc j) m e) p
 
   pub all_sent : map after (map stream_of all) ≡ map stream_of (committed_each value ns all)
   all_sent = rest_sent 0 all (λ j k e. ap (slice_get all) (omega arith) ∙ e) ∙ ap (map stream_of) (sym (fold-changed (committed value) (committed-twice value) ns all))

@@ -172,9 +172,9 @@ apart_by (z ∷ xs) distinct (suc i) (suc j) x y p q e = ap suc (apart_by xs dis
 pub are_apart : (ks : List Kept) → IsDistinct identity_test (stream_identities ks) → records.AreApart ks
 are_apart ks distinct i j a b p q t =
     apart_by (stream_identities ks) distinct i j a.demand.identity b.demand.identity
-      (slice_get-map (λ (k : Kept). k.demand.identity) ks i ∙ ap (option_map (λ (k : Kept). k.demand.identity)) p)
-      (slice_get-map (λ (k : Kept). k.demand.identity) ks j ∙ ap (option_map (λ (k : Kept). k.demand.identity)) q)
-      (identity_of-tells a.demand.identity b.demand.identity (identity_eq_true (identity_of a.demand.identity) (identity_of b.demand.identity) t))
+    (slice_get-map (λ (k : Kept). k.demand.identity) ks i ∙ ap (option_map (λ (k : Kept). k.demand.identity)) p)
+    (slice_get-map (λ (k : Kept). k.demand.identity) ks j ∙ ap (option_map (λ (k : Kept). k.demand.identity)) q)
+    (identity_of-tells a.demand.identity b.demand.identity (identity_eq_true (identity_of a.demand.identity) (identity_of b.demand.identity) t))
 
 -- a stream that is ready is ready by its number
 staged-get : (s : AttributeSet) (o : Option Kept) (k : Kept) → o ≡ Some k → IsStaged s o → k.staged ≡ Some s
@@ -246,11 +246,11 @@ pub record-made : (meters : List InstrumentationScope) (instruments more : List 
     → readers ≡ map (machine.part_sent 0 (model.Call.Record n (record { signed = false; amount = amount bits }) l)) (map part_of ps)
     → IsMade (state_of meters instruments ps) (model.Call.Record n v l) model.Reply.Done (record { shared = shared_of meters more; readers = readers })
 record-made meters instruments more ps readers n bits v l is fits accepted sent = record {
-    answer = sym (ap (λ o. reply_by o model.Reply.Done) fits);
-    state =
+  answer = sym (ap (λ o. reply_by o model.Reply.Done) fits);
+  state =
       (λ i. record {
         shared = shared_of meters ((accepted ∙ ap (λ (w : model.Number). machine.changed_at n (machine.accepted w.amount) instruments) (sym is)) i);
         readers = (sent ∙ ap (λ (w : model.Number). map (machine.part_sent 0 (model.Call.Record n w l)) (map part_of ps)) (sym is)) i;
       })
       ∙ sym (ap (λ o. after_by o (state_of meters instruments ps) (machine.accepted_after [] (state_of meters instruments ps) (model.Call.Record n v l))) fits);
-  }
+}

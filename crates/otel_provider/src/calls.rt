@@ -13,7 +13,9 @@ use otel_data::numbers::NumberValue;
 #[derive(Clone, Debug, Drop)]
 pub enum Call {
     /// Asks for the meter of a scope.
-    Meter { scope: InstrumentationScope },
+    Meter {
+        scope: InstrumentationScope,
+    },
     /// Builds an instrument of a meter; without a meter it ignores its records. `now` is the
     /// moment of the build, in nanoseconds since 1970.
     Build {
@@ -32,7 +34,10 @@ pub enum Call {
     },
     /// Collects what a reader's streams have. `now` is the moment of the collection, in
     /// nanoseconds since 1970.
-    Collect { reader: usize, now: u64 },
+    Collect {
+        reader: usize,
+        now: u64,
+    },
 }
 
 /// What a call is answered.

@@ -99,7 +99,11 @@ fn demand_for(
 }
 
 /// The value's bits, where it has the number type of the instrument.
-fn value_for(instruments: &[Instrument], instrument: usize, value: NumberValue) -> Result<u64, Fault>
+fn value_for(
+    instruments: &[Instrument],
+    instrument: usize,
+    value: NumberValue,
+) -> Result<u64, Fault>
     ensures value { MatchResult result (IsValueFor instruments.now instrument value) (IsFault (record_refusal (slice_get instruments.now instrument) (number_of value).signed)) }
     ensures named { IfErr result IsNamed }
 {
@@ -150,7 +154,12 @@ impl Core {
     }
 
     /// Makes an instrument that demands this, or nothing, at all readers or at none.
-    fn make(&mut self, demand: Option<&Demand>, sort: InstrumentSort, now: u64) -> Result<usize, Fault>
+    fn make(
+        &mut self,
+        demand: Option<&Demand>,
+        sort: InstrumentSort,
+        now: u64,
+    ) -> Result<usize, Fault>
         ensures number { IfOk result (λ n. n ≡ length self.old.shared.instruments) }
         ensures ok { OnOk result (IsBuilt (option_map (λ d. d.now) demand.entry) sort now self.old self.new) }
         ensures err { OnErr result (self.new ≡ self.old) }
@@ -186,7 +195,12 @@ impl Core {
     }
 
     /// Records a value with attributes at an instrument, in all the streams that it feeds or in none.
-    fn record(&mut self, instrument: usize, value: NumberValue, attributes: &[KeyValue]) -> Result<(), Fault>
+    fn record(
+        &mut self,
+        instrument: usize,
+        value: NumberValue,
+        attributes: &[KeyValue],
+    ) -> Result<(), Fault>
         ensures ok { OnOk result (IsMade self.old (model.Call.Record instrument (number_of value) attributes.now) model.Reply.Done self.new) }
         ensures err { OnErr result (self.new ≡ self.old) }
         ensures fault { IfErr result (IsFaultOf self.old (model.Call.Record instrument (number_of value) attributes.now)) }
@@ -238,7 +252,12 @@ impl Core {
         }
     }
 
-    fn step_record(&mut self, instrument: usize, value: NumberValue, attributes: &[KeyValue]) -> Reply
+    fn step_record(
+        &mut self,
+        instrument: usize,
+        value: NumberValue,
+        attributes: &[KeyValue],
+    ) -> Reply
         ensures { Step [] self.old (model.Call.Record instrument (number_of value) attributes.now) (reply_of result) self.new }
     {
         match self.record(instrument, value, attributes) {
@@ -262,12 +281,19 @@ impl Core {
     {
         match call {
             Call::Meter { scope } => self.step_meter(scope),
-            Call::Build { meter, sort, name, description, unit, now } => {
-                self.step_build(*meter, *sort, name, description, unit, *now)
-            }
-            Call::Record { instrument, value, attributes } => {
-                self.step_record(*instrument, *value, attributes.as_slice())
-            }
+            Call::Build {
+                meter,
+                sort,
+                name,
+                description,
+                unit,
+                now,
+            } => { self.step_build(*meter, *sort, name, description, unit, *now) }
+            Call::Record {
+                instrument,
+                value,
+                attributes,
+            } => { self.step_record(*instrument, *value, attributes.as_slice()) }
             Call::Collect { reader, now } => self.step_collect(*reader, *now),
         }
     }

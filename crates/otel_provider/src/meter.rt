@@ -9,10 +9,16 @@ ghost use Rattle.otel_provider.specs.Validations.{IsAnswer};
 use otel_common::metrics::MetricError;
 
 const NAME_EMPTY: &str = "name must be non-empty";
+
 const NAME_LENGTH: &str = "name must be less than 256 characters";
+
 const NAME_FIRST: &str = "name must start with an alphabetic character";
-const NAME_CHARACTER: &str = "characters in name must be ASCII and belong to the alphanumeric characters, '_', '.', '-' and '/'";
+
+const NAME_CHARACTER: &str =
+    "characters in name must be ASCII and belong to the alphanumeric characters, '_', '.', '-' and '/'";
+
 const UNIT_LENGTH: &str = "unit must be less than 64 characters";
+
 const UNIT_CHARACTER: &str = "characters in unit must be ASCII";
 
 /// The greatest length of a name, in bytes.

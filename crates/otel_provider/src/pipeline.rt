@@ -188,14 +188,22 @@ impl Pipeline {
         ensures only_memory { IsOkUnless result Fault.OutOfMemory }
     {
         let _ = self.identities.len();
-        stage_each(&mut self.streams, streams_fed(&self.feeds, instrument), attributes)
+        stage_each(
+            &mut self.streams,
+            streams_fed(&self.feeds, instrument),
+            attributes,
+        )
     }
 
     /// Makes the record in the streams that the instrument feeds.
     pub(crate) fn commit(&mut self, instrument: usize, value: u64)
         ensures { part_of self.new ≡ recorded instrument value self.old }
     {
-        commit_each(&mut self.streams, streams_fed(&self.feeds, instrument), value);
+        commit_each(
+            &mut self.streams,
+            streams_fed(&self.feeds, instrument),
+            value,
+        );
     }
 
     /// What a collection at a moment gives, by the scopes of these meters.

@@ -14,11 +14,7 @@ use otel_common::attributes::KeyValue;
 use otel_common::faults::Fault;
 
 /// Gets all readers ready for a build that demands this, or nothing. What they have stays as it was.
-fn plan_all(
-    pipelines: &mut [Pipeline],
-    demand: Option<&Demand>,
-    now: u64,
-) -> Result<(), Fault>
+fn plan_all(pipelines: &mut [Pipeline], demand: Option<&Demand>, now: u64) -> Result<(), Fault>
     ensures same { map part_of pipelines.new ≡ map part_of pipelines.old }
     ensures ready { OnOk result (All (IsReadyFor (option_map (λ d. d.now) demand.entry) now) pipelines.new) }
     ensures only_memory { IsOkUnless result Fault.OutOfMemory }

@@ -56,7 +56,14 @@ impl Stream {
         ensures made { IfOk result (λ s. s ≡ new_kept demand now) }
         ensures only_memory { IsOkUnless result Fault.OutOfMemory }
     {
-        let sum = Sum::new(alloc, Temporality::Cumulative, None, DEFAULT_LIMIT, now, true)?;
+        let sum = Sum::new(
+            alloc,
+            Temporality::Cumulative,
+            None,
+            DEFAULT_LIMIT,
+            now,
+            true,
+        )?;
         Ok(Stream {
             demand,
             sum,

@@ -11,9 +11,9 @@ returns-in_err-plan-clause-same c =
 
 pub loop-i-preserved : goal.loop-i-preserved
 loop-i-preserved c = record {
-    same = seen_same part_of c.loop-i.pipelines c.loop-i.i c.index-pipelines-i.result (get_or c.loop-i.pipelines c.loop-i.i c.index-pipelines-i.result) c.plan.new.self refl c.plan.ensures.same ∙ c.loop-i.invariant.same;
-    ready = AllWithin-more_set c.loop-i.pipelines c.loop-i.i c.plan.new.self (omega arith) (IsReadyFor (option_map (λ d. d.now) c.args.demand) c.args.now) c.loop-i.invariant.ready c.in_ok-plan.ensures.ready;
-  }
+  same = seen_same part_of c.loop-i.pipelines c.loop-i.i c.index-pipelines-i.result (get_or c.loop-i.pipelines c.loop-i.i c.index-pipelines-i.result) c.plan.new.self refl c.plan.ensures.same ∙ c.loop-i.invariant.same;
+  ready = AllWithin-more_set c.loop-i.pipelines c.loop-i.i c.plan.new.self (omega arith) (IsReadyFor (option_map (λ d. d.now) c.args.demand) c.args.now) c.loop-i.invariant.ready c.in_ok-plan.ensures.ready;
+}
 
 pub returns-clause-ready : goal.returns-clause-ready
 returns-clause-ready c = λ k d h. c.loop-i.invariant.ready k d (omega arith) (omega arith)

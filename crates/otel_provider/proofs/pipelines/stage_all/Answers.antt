@@ -11,9 +11,9 @@ returns-in_err-stage-clause-same c =
 
 pub loop-i-preserved : goal.loop-i-preserved
 loop-i-preserved c = record {
-    same = seen_same part_of c.loop-i.pipelines c.loop-i.i c.index-pipelines-i.result (get_or c.loop-i.pipelines c.loop-i.i c.index-pipelines-i.result) c.stage.new.self refl c.stage.ensures.same ∙ c.loop-i.invariant.same;
-    staged = AllWithin-more_set c.loop-i.pipelines c.loop-i.i c.stage.new.self (omega arith) (IsStagedFor c.args.instrument c.args.attributes.now) c.loop-i.invariant.staged c.in_ok-stage.ensures.staged;
-  }
+  same = seen_same part_of c.loop-i.pipelines c.loop-i.i c.index-pipelines-i.result (get_or c.loop-i.pipelines c.loop-i.i c.index-pipelines-i.result) c.stage.new.self refl c.stage.ensures.same ∙ c.loop-i.invariant.same;
+  staged = AllWithin-more_set c.loop-i.pipelines c.loop-i.i c.stage.new.self (omega arith) (IsStagedFor c.args.instrument c.args.attributes.now) c.loop-i.invariant.staged c.in_ok-stage.ensures.staged;
+}
 
 pub returns-clause-staged : goal.returns-clause-staged
 returns-clause-staged c = λ k d h. c.loop-i.invariant.staged k d (omega arith) (omega arith)

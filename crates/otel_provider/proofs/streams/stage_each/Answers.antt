@@ -22,8 +22,8 @@ loop-k-preserved c =
     record {
       same = seen_same settled c.loop-k.streams.items k c.index_mut.result.now c.index_mut.result.now c.stage.new.self c.index_mut.ensures.value c.stage.ensures.same ∙ c.loop-k.invariant.same;
       staged = below_more _ _
-        (λ j h. staged-set (staged_set c.args.attributes.now) c.loop-k.streams.items k (get_or c.args.feeds.now j 0) c.stage.new.self staged (c.loop-k.invariant.staged j h))
-        (staged-set_same (staged_set c.args.attributes.now) c.loop-k.streams.items k c.stage.new.self inside staged);
+          (λ j h. staged-set (staged_set c.args.attributes.now) c.loop-k.streams.items k (get_or c.args.feeds.now j 0) c.stage.new.self staged (c.loop-k.invariant.staged j h))
+          (staged-set_same (staged_set c.args.attributes.now) c.loop-k.streams.items k c.stage.new.self inside staged);
     }
 
 pub returns-clause-staged : goal.returns-clause-staged

@@ -14,6 +14,6 @@ returns-clause-ok c =
     rw (← c.self.view_is) (record {
       shared = ap (shared_of c.self.inside.meters.keys) (c.push_reserved.ensures.items ∙ λ i. c.reserve.ensures.items i ++ c.new.ensures i ∷ []);
       readers = λ scope sort name description unit e.
-        ap (map part_of) (lent_back c.self.inside.pipelines.len new _ (omega arith))
-        ∙ (c.in_ok-build_or_none.ensures.ok scope sort name description unit e ∙ ap (λ ps. map (built [] scope (about sort name description unit) c.args.now) (map part_of ps)) c.deref_mut.ensures.value);
+          ap (map part_of) (lent_back c.self.inside.pipelines.len new _ (omega arith))
+          ∙ (c.in_ok-build_or_none.ensures.ok scope sort name description unit e ∙ ap (λ ps. map (built [] scope (about sort name description unit) c.args.now) (map part_of ps)) c.deref_mut.ensures.value);
     })

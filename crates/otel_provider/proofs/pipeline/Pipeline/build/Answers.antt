@@ -13,16 +13,17 @@ invariant_of-self-2 c =
     let held : option_map planned_of c.self.inside.plan ≡ Some (planned_from c.requires.demand c.requires.now (stream_identities c.self.inside.streams.items)) = rw (← c.self.view_is) at c.requires.plan in
     let ks : List Kept = c.self.inside.streams.items in
     let new : IsNew c.in-Some-added.identity c.in-Some-added.stream c.in-Some.plan.feeds (stream_identities ks) =
-      planned-new c.requires.demand c.requires.now (stream_identities ks) _ _ _ (taken-is c.self.inside.plan c.in-Some.plan _ _ held c.in-Some.ensures.value c.in-Some-added.is) in
-    rw (c.add_key.ensures, c.push_reserved.ensures.items, c.push_reserved-2.ensures.items)
-      ( (λ i. c.self.invariant.0 i ++ new.key i ∷ []) ∙ sym (identities-push ks c.in-Some-added.stream)
-      , numbers-push ks c.in-Some-added.stream c.self.inside.feeds.items c.in-Some.plan.feeds c.self.invariant.1 new.feeds )
+    planned-new c.requires.demand c.requires.now (stream_identities ks) _ _ _ (taken-is c.self.inside.plan c.in-Some.plan _ _ held c.in-Some.ensures.value c.in-Some-added.is) in
+    rw (c.add_key.ensures, c.push_reserved.ensures.items, c.push_reserved-2.ensures.items) (
+      (λ i. c.self.invariant.0 i ++ new.key i ∷ []) ∙ sym (identities-push ks c.in-Some-added.stream),
+      numbers-push ks c.in-Some-added.stream c.self.inside.feeds.items c.in-Some.plan.feeds c.self.invariant.1 new.feeds,
+    )
 
 pub add_key-requires-clause-absent : goal.add_key-requires-clause-absent
 add_key-requires-clause-absent c =
     let held : option_map planned_of c.self.inside.plan ≡ Some (planned_from c.requires.demand c.requires.now (stream_identities c.self.inside.streams.items)) = rw (← c.self.view_is) at c.requires.plan in
     let new : IsNew c.in-Some-added.identity c.in-Some-added.stream c.in-Some.plan.feeds (stream_identities c.self.inside.streams.items) =
-      planned-new c.requires.demand c.requires.now (stream_identities c.self.inside.streams.items) _ _ _ (taken-is c.self.inside.plan c.in-Some.plan _ _ held c.in-Some.ensures.value c.in-Some-added.is) in
+    planned-new c.requires.demand c.requires.now (stream_identities c.self.inside.streams.items) _ _ _ (taken-is c.self.inside.plan c.in-Some.plan _ _ held c.in-Some.ensures.value c.in-Some-added.is) in
     rw c.self.invariant.0 new.absent
 
 -- what is carried out is what was planned
@@ -30,5 +31,5 @@ pub returns : goal.returns
 returns c =
     let streams = c.self.inside.streams.items in
     rw (← c.self.view_is)
-      (part-same _ _ _ _ c.push_reserved-2.ensures.items c.push_reserved.ensures.items
-        ∙ built-from streams c.self.inside.feeds.items c.self.inside.plan _ c.in-Some.plan (c.in-Some-added.identity, c.in-Some-added.stream) c.in-Some.ensures.value c.in-Some-added.is)
+    (part-same _ _ _ _ c.push_reserved-2.ensures.items c.push_reserved.ensures.items
+    ∙ built-from streams c.self.inside.feeds.items c.self.inside.plan _ c.in-Some.plan (c.in-Some-added.identity, c.in-Some-added.stream) c.in-Some.ensures.value c.in-Some-added.is)
