@@ -25,8 +25,12 @@ use Rattle.otel_model.specs.Accepted.{accepted_for}
 abbrev pub IsRun : Views → Resource → ℕ → List Row → List Call → List Reply → State → Type 0
 IsRun views resource identity rows calls replies new = Run views (new_state resource identity rows) calls replies new
 
--- what holds of each reader after each run
-abbrev pub OfEachReader : (Views → Resource → List Call → List Reply → State → ℕ → Row → ReaderPart → Type 0) → Type 0
+-- what can be said of a reader after calls and replies
+abbrev pub OfReader : Type 1
+OfReader = Views → Resource → List Call → List Reply → State → ℕ → Row → ReaderPart → Type 0
+
+-- it holds of each reader after each run
+abbrev pub OfEachReader : OfReader → Type 0
 OfEachReader P = (views : Views) (resource : Resource) (identity : ℕ) (rows : List Row) (calls : List Call) (replies : List Reply) (new : State)
     → IsRun views resource identity rows calls replies new
     → (r : ℕ) (row : Row) (part : ReaderPart) → slice_get rows r ≡ Some row → slice_get new.readers r ≡ Some part
@@ -35,11 +39,16 @@ OfEachReader P = (views : Views) (resource : Resource) (identity : ℕ) (rows : 
 -- ======== each reader as the only one ========
 -- the replies to its collections, and the others that remain, are those of a provider with that reader alone,
 -- over the calls that are left, where memory is never refused
+abbrev pub IsAnsweredAsOnly : Views → Resource → ℕ → List Call → List Reply → ℕ → Row → Type 0
+IsAnsweredAsOnly views resource identity calls replies r row =
+    replies_left r calls replies ≡ without_asking (only r calls replies) (replies_of views (new_state resource identity (row ∷ [])) (only r calls replies))
+
+-- so is each reader after each run
 abbrev pub IsAsOnlyReader : Type 0
 IsAsOnlyReader = (views : Views) (resource : Resource) (identity : ℕ) (rows : List Row) (calls : List Call) (replies : List Reply) (new : State)
     → IsRun views resource identity rows calls replies new
     → (r : ℕ) (row : Row) → slice_get rows r ≡ Some row
-    → replies_left r calls replies ≡ without_asking (only r calls replies) (replies_of views (new_state resource identity (row ∷ [])) (only r calls replies))
+    → IsAnsweredAsOnly views resource identity calls replies r row
 
 -- so from any state of a provider
 abbrev pub IsAsOnlyReaderFromAny : Type 0
@@ -63,14 +72,22 @@ AreNumbered ns (k ∷ ks) (x ∷ xs) = (slice_get ns k ≡ Some x) × AreNumbere
 
 -- ======== streams, places, collections ========
 -- each reader's streams are the first demands, that do not drop, of the builds made
+abbrev pub HasStreamsOfBuilds : OfReader
+HasStreamsOfBuilds views resource calls replies new r row part =
+    map (λ (s : Stream). s.demand) part.streams ≡ streams_of views row (builds_in (made calls replies))
+
+-- after each run
 abbrev pub AreStreamsOfBuilds : Type 0
-AreStreamsOfBuilds = OfEachReader (λ views resource calls replies new r row part.
-    map (λ (s : Stream). s.demand) part.streams ≡ streams_of views row (builds_in (made calls replies)))
+AreStreamsOfBuilds = OfEachReader HasStreamsOfBuilds
 
 -- each instrument feeds the streams of its compatible demands, each once
+abbrev pub HasFeedsOfBuilds : OfReader
+HasFeedsOfBuilds views resource calls replies new r row part =
+    part.feeds ≡ feeds_of views row [] (builds_in (made calls replies))
+
+-- after each run
 abbrev pub AreFeedsOfBuilds : Type 0
-AreFeedsOfBuilds = OfEachReader (λ views resource calls replies new r row part.
-    part.feeds ≡ feeds_of views row [] (builds_in (made calls replies)))
+AreFeedsOfBuilds = OfEachReader HasFeedsOfBuilds
 
 -- the identities of a reader's streams are apart
 abbrev pub AreStreamsApart : Type 0
@@ -88,56 +105,88 @@ AreFeedsStreams = OfEachReader (λ views resource calls replies new r row part.
     (n : ℕ) (x : Identity) → is_fed part.feeds n x ≡ true → has_identity (names part.streams) x ≡ true)
 
 -- the entries of each stream are the places of its window so far, in order
-abbrev pub ArePlacesOfHistories : Type 0
-ArePlacesOfHistories = OfEachReader (λ views resource calls replies new r row part.
+abbrev pub HasPlacesOfHistories : OfReader
+HasPlacesOfHistories views resource calls replies new r row part =
     map (λ (s : Stream). map (λ (e : Entry). e.set) s.machine.table.entries) part.streams
-    ≡ map (λ (d : Demand). places_of d.limit (window_after views row r d (made calls replies))) (streams_of views row (builds_in (made calls replies))))
+    ≡ map (λ (d : Demand). places_of d.limit (window_after views row r d (made calls replies))) (streams_of views row (builds_in (made calls replies)))
+
+-- after each run
+abbrev pub ArePlacesOfHistories : Type 0
+ArePlacesOfHistories = OfEachReader HasPlacesOfHistories
 
 -- the places of a window that count
 abbrev pub counted_places : ℕ → Window → List AttributeSet
 counted_places limit w = counted (uncounted_of limit w) (places_of limit w)
 
 -- and the counted ones are those that the window counts
-abbrev pub AreCountedOfHistories : Type 0
-AreCountedOfHistories = OfEachReader (λ views resource calls replies new r row part.
+abbrev pub HasCountedOfHistories : OfReader
+HasCountedOfHistories views resource calls replies new r row part =
     map (λ (s : Stream). map (λ (e : Entry). e.set) (filter (λ (e : Entry). e.counted) s.machine.table.entries)) part.streams
-    ≡ map (λ (d : Demand). counted_places d.limit (window_after views row r d (made calls replies))) (streams_of views row (builds_in (made calls replies))))
+    ≡ map (λ (d : Demand). counted_places d.limit (window_after views row r d (made calls replies))) (streams_of views row (builds_in (made calls replies)))
+
+-- after each run
+abbrev pub AreCountedOfHistories : Type 0
+AreCountedOfHistories = OfEachReader HasCountedOfHistories
 
 -- each collection has the resource, scopes, headings, moments and points that are read off the calls
+abbrev pub IsGivenCollections : Views → Resource → ℕ → List Call → List Reply → ℕ → Row → Type 0
+IsGivenCollections views resource identity calls replies r row = given r calls replies ≡ collections_of views resource row r (made calls replies)
+
+-- by each reader of each run
 abbrev pub AreCollectionsOfHistories : Type 0
 AreCollectionsOfHistories = (views : Views) (resource : Resource) (identity : ℕ) (rows : List Row) (calls : List Call) (replies : List Reply) (new : State)
     → IsRun views resource identity rows calls replies new
     → (r : ℕ) (row : Row) → slice_get rows r ≡ Some row
-    → given r calls replies ≡ collections_of views resource row r (made calls replies)
+    → IsGivenCollections views resource identity calls replies r row
 
 -- ======== conservation ========
--- what holds of each stream of each reader after each run
-abbrev pub OfEachStream : (Views → List Call → List Reply → State → ℕ → Row → ReaderPart → Stream → Type 0) → Type 0
+-- what can be said of a stream of a reader after calls and replies
+abbrev pub OfStream : Type 1
+OfStream = Views → List Call → List Reply → State → ℕ → Row → ReaderPart → Stream → Type 0
+
+-- it holds of each stream of each reader after each run
+abbrev pub OfEachStream : OfStream → Type 0
 OfEachStream P = OfEachReader (λ views resource calls replies new r row part.
     (j : ℕ) (s : Stream) → slice_get part.streams j ≡ Some s → P views calls replies new r row part s)
 
 -- the totals that a stream keeps are those of its history, modulo 2^64
+abbrev pub HasRecordedTotal : OfStream
+HasRecordedTotal views calls replies new r row part s =
+    s.recorded ≡ wrapped (recorded_in views row r s.demand (made calls replies))
+
+-- after each run
 abbrev pub IsRecordedTotal : Type 0
-IsRecordedTotal = OfEachStream (λ views calls replies new r row part s.
-    s.recorded ≡ wrapped (recorded_in views row r s.demand (made calls replies)))
+IsRecordedTotal = OfEachStream HasRecordedTotal
 
 -- and what it exported
+abbrev pub HasExportedTotal : OfStream
+HasExportedTotal views calls replies new r row part s =
+    s.exported ≡ wrapped (exported_in views row r s.demand (made calls replies))
+
+-- after each run
 abbrev pub IsExportedTotal : Type 0
-IsExportedTotal = OfEachStream (λ views calls replies new r row part s.
-    s.exported ≡ wrapped (exported_in views row r s.demand (made calls replies)))
+IsExportedTotal = OfEachStream HasExportedTotal
 
 -- what a stream recorded is what it exported and what is pending, modulo 2^64. A sum counts values, a
 -- histogram records, a last value nothing
-abbrev pub IsConserved : Type 0
-IsConserved = OfEachStream (λ views calls replies new r row part s.
+abbrev pub Conserves : OfStream
+Conserves views calls replies new r row part s =
     is_drained s.demand ≡ false
-    → s.recorded ≡ wrapped (s.exported + points_total (points (kind_of row s.demand) s.machine)))
+    → s.recorded ≡ wrapped (s.exported + points_total (points (kind_of row s.demand) s.machine))
+
+-- after each run
+abbrev pub IsConserved : Type 0
+IsConserved = OfEachStream Conserves
 
 -- what a synchronous stream recorded is what the instruments that feed it accepted
-abbrev pub IsAccepted : Type 0
-IsAccepted = OfEachStream (λ views calls replies new r row part s.
+abbrev pub HasAccepted : OfStream
+HasAccepted views calls replies new r row part s =
     is_observable s.demand.identity.kind ≡ false
-    → s.recorded ≡ wrapped (accepted_for (aggregate_of s.demand) s.demand.identity part.feeds new.shared.instruments))
+    → s.recorded ≡ wrapped (accepted_for (aggregate_of s.demand) s.demand.identity part.feeds new.shared.instruments)
+
+-- after each run
+abbrev pub IsAccepted : Type 0
+IsAccepted = OfEachStream HasAccepted
 
 -- at each collection of a cumulative stream what was recorded so far is the total of its points. `events`
 -- are the observations of the collection

@@ -1,6 +1,7 @@
 pub mod Builds
 pub mod Collects
 pub mod Commits
+pub mod Headlines
 pub mod IdentityLemmas
 pub mod Metrics
 pub mod Outcomes

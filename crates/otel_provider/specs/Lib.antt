@@ -1,4 +1,5 @@
 pub mod Collections
+pub mod Headline
 pub mod Identities
 pub mod Instruments
 pub mod Pipelines

@@ -1,11 +1,15 @@
 //! The provider and its builder.
 
-ghost use Rattle.std.specs.Prelude.{◌≡◌, ◌∷◌, [], IfOk, IsOkAnd, IsOkUnless};
+ghost use Rattle.std.specs.Prelude.{◌≡◌, ◌∷◌, [], map, IfOk, OnErr, IsOkAnd, IsOkUnless};
 ghost use Rattle.otel_common.specs.declared.metrics.Temporality.TheVariants.{Cumulative};
 ghost use Rattle.otel_stream.specs.declared.instrument.InstrumentKind.{InstrumentKind};
+ghost use Rattle.otel_model.specs.Laws.{HasStreamsOfBuilds, HasFeedsOfBuilds, HasPlacesOfHistories, HasCountedOfHistories, IsGivenCollections, IsAnsweredAsOnly, HasRecordedTotal, HasExportedTotal, Conserves, HasAccepted};
 ghost use Rattle.otel_model.specs.Machine.{new_state, new_part};
 ghost use Rattle.otel_model.specs.Resources.{empty_resource};
+ghost use Rattle.otel_model.specs.Steps.{Step, Run};
+ghost use Rattle.otel_provider.specs.Headline.{OfReaders, OfStreams, OfAnswers};
 ghost use Rattle.otel_provider.specs.Providers.{state_of, state_of_builder};
+ghost use Rattle.otel_provider.specs.Shown.{call_of, reply_of};
 ghost use Rattle.otel_provider.specs.Streams.{cumulative_row};
 
 use crate::calls::{Call, Reply};
@@ -68,14 +72,30 @@ impl SdkMeterProvider {
     }
 
     /// One call.
-    pub fn step(&mut self, call: &Call) -> Reply {
+    pub fn step(&mut self, call: &Call) -> Reply
+        ensures step { Step [] (state_of self.old) (call_of call.now) (reply_of result) (state_of self.new) }
+    {
         self.core.step(call)
     }
 
     /// A list of calls, one after another, with the reply to each.
     ///
     /// Room for the replies is made first, so where this answers `OutOfMemory` no call was made.
-    pub fn run(&mut self, alloc: Global, calls: &[Call]) -> Result<Vec<Reply>, Fault> {
+    pub fn run(&mut self, alloc: Global, calls: &[Call]) -> Result<Vec<Reply>, Fault>
+        ensures run { IfOk result (λ replies. Run [] (state_of self.old) (map call_of calls.now) (map reply_of replies.items) (state_of self.new)) }
+        ensures unmade { OnErr result (state_of self.new ≡ state_of self.old) }
+        ensures only_memory { IsOkUnless result Fault.OutOfMemory }
+        ensures streams { IfOk result (λ replies. OfReaders HasStreamsOfBuilds (state_of self.old) calls.now replies.items (state_of self.new)) }
+        ensures feeds { IfOk result (λ replies. OfReaders HasFeedsOfBuilds (state_of self.old) calls.now replies.items (state_of self.new)) }
+        ensures places { IfOk result (λ replies. OfReaders HasPlacesOfHistories (state_of self.old) calls.now replies.items (state_of self.new)) }
+        ensures counted { IfOk result (λ replies. OfReaders HasCountedOfHistories (state_of self.old) calls.now replies.items (state_of self.new)) }
+        ensures collections { IfOk result (λ replies. OfAnswers IsGivenCollections (state_of self.old) calls.now replies.items) }
+        ensures only_reader { IfOk result (λ replies. OfAnswers IsAnsweredAsOnly (state_of self.old) calls.now replies.items) }
+        ensures recorded { IfOk result (λ replies. OfStreams HasRecordedTotal (state_of self.old) calls.now replies.items (state_of self.new)) }
+        ensures exported { IfOk result (λ replies. OfStreams HasExportedTotal (state_of self.old) calls.now replies.items (state_of self.new)) }
+        ensures conserved { IfOk result (λ replies. OfStreams Conserves (state_of self.old) calls.now replies.items (state_of self.new)) }
+        ensures accepted { IfOk result (λ replies. OfStreams HasAccepted (state_of self.old) calls.now replies.items (state_of self.new)) }
+    {
         self.core.run(alloc, calls)
     }
 }
