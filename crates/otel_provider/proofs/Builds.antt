@@ -1,26 +1,25 @@
 -- What a build leaves of a reader's streams is what the model's build leaves.
-use Rattle.std.proofs.Common.{◌≡◌, ℕ, zero, suc, ◌+◌, ◌<◌, ◌==◌, Bool, true, false, cond, not, ◌||◌, List, [], ◌∷◌, ◌++◌, map, fold, length, Option, Some, None, slice_get, refl, sym, ◌∙◌, ap, subst, arith, ⊎_elim, inl, inr}
-use Rattle.std.specs.Prelude.{filter, is_some, nat_lt, position}
-use Rattle.std.specs.List.{list_any, position_or_len}
+use Rattle.std.proofs.Common.{◌≡◌, ℕ, zero, suc, ◌+◌, Bool, true, false, cond, not, ◌||◌, List, [], ◌∷◌, ◌++◌, map, fold, length, Option, Some, None, slice_get, refl, sym, ◌∙◌, ap, subst, arith}
+use Rattle.std.specs.Prelude.{is_some, nat_lt, position}
+use Rattle.std.specs.List.{position_or_len}
 use Rattle.std.proofs.lemmas.Bool.Decides.{nat_tests}
 use Rattle.std.specs.Option.{option_map}
-use Rattle.std.proofs.lemmas.Bool.{cases_Bool, true≢false}
 use Rattle.std.proofs.lemmas.List.{map-append, length-map}
 use Rattle.otel_common.specs.declared.scopes.InstrumentationScope.{InstrumentationScope}
-use Rattle.otel_model.specs.Calls.{or_else, About}
+use Rattle.otel_model.specs.Calls.{About}
 use Rattle.otel_model.specs.Demands as model
-use Rattle.otel_model.specs.State.{Stream, ReaderPart}
+use Rattle.otel_model.specs.State.{ReaderPart}
 use Rattle.otel_model.specs.Machine as machine
 use Rattle.otel_provider.specs.Identities.{identity_test, identity_of, demand_of, demand_by}
 use Rattle.otel_provider.specs.Shown.{about}
 use Rattle.otel_provider.specs.Streams.{cumulative_row, Kept, stream_of, new_kept}
-use Rattle.otel_provider.specs.Pipelines.{Piped, Planned, part_of, named, identity_at, stream_identities, stream_number, plan_by, planned, built, built_by, with_added}
+use Rattle.otel_provider.specs.Pipelines.{Piped, part_of, named, stream_identities, stream_number, plan_by, planned, built, built_by}
 use Rattle.otel_provider.specs.declared.identity.Demand.{Demand}
 use Rattle.otel_provider.specs.declared.identity.Identity.{Identity}
 use Rattle.otel_provider.specs.declared.sorts.InstrumentSort.{InstrumentSort}
 use Rattle.otel_provider.specs.declared.sorts.InstrumentSort.TheVariants.{U64Counter}
 use Rattle.otel_provider.proofs.IdentityLemmas.{sound, test-same}
-use Rattle.otel_provider.proofs.Records.{AreNumbers, some_same, identity_at-is}
+use Rattle.otel_provider.proofs.Records.{AreNumbers, identity_at-is}
 
 -- ======== longer lists of streams ========
 get-front : (ks : List Kept) (k : Kept) (n : ℕ) (m : Kept) → slice_get ks n ≡ Some m → slice_get (ks ++ k ∷ []) n ≡ Some m

@@ -1,5 +1,5 @@
 -- Collections that the provider makes are the model's, and change nothing.
-use Rattle.std.proofs.Common.{◌≡◌, ◌<◌, ◌≤◌, ℕ, zero, suc, Bool, true, false, cond, List, [], ◌∷◌, map, length, slice_get, nat_lt, Option, Some, None, option_map, refl, sym, ◌∙◌, ap, arith}
+use Rattle.std.proofs.Common.{◌≡◌, ◌<◌, ◌≤◌, ℕ, zero, suc, true, false, cond, List, [], ◌∷◌, map, length, slice_get, nat_lt, Some, None, option_map, refl, sym, ◌∙◌, ap, arith}
 use Rattle.std.proofs.lemmas.Bool.{lt-ltb, le-ltb}
 use Rattle.std.proofs.lemmas.List.{length-map}
 use Rattle.std.proofs.lemmas.Option.{slice_get-map}
@@ -11,10 +11,10 @@ use Rattle.otel_model.specs.Demands.{Identity}
 use Rattle.otel_model.specs.Machine.{changed_at, part_sent, points_at, stream_after, accepted_after}
 use Rattle.otel_model.specs.Refusals.{refusal}
 use Rattle.otel_model.specs.Resources.{empty_resource}
-use Rattle.otel_model.specs.State.{InstrumentState, Stream, ReaderPart}
+use Rattle.otel_model.specs.State.{InstrumentState, Stream}
 use Rattle.otel_model.specs.Steps.{collect_from, collect_reply, reply_by, after_by}
 use Rattle.otel_provider.specs.Collections.{scoped, scopes_shown}
-use Rattle.otel_provider.specs.Pipelines.{Piped, part_of, part_by, named}
+use Rattle.otel_provider.specs.Pipelines.{Piped, part_of, named}
 use Rattle.otel_provider.specs.States.{shared_of, state_of, IsMade}
 use Rattle.otel_provider.specs.Streams.{cumulative_row, Kept, stream_of, shown_metric}
 use Rattle.otel_provider.specs.declared.sorts.InstrumentSort.{InstrumentSort}

@@ -3,7 +3,6 @@ use Rattle.std.proofs.Common.{◌≡◌, ℕ, List, [], map, Some, slice_get, su
 use Rattle.otel_model.specs.Calls as model
 use Rattle.otel_model.specs.Demands.{Row, Views}
 use Rattle.otel_model.specs.Laws.{OfReader, OfStream, OfEachReader, OfEachStream, IsRun}
-use Rattle.otel_model.specs.Machine.{new_state}
 use Rattle.otel_model.specs.Resources.{Resource}
 use Rattle.otel_model.specs.State.{State}
 use Rattle.otel_model.specs.Steps.{Run}

@@ -1,5 +1,5 @@
 -- The test of identities that the code makes decides equality, as the model's does.
-use Rattle.std.proofs.Common.{◌≡◌, ℕ, Bool, true, false, ◌&&◌, List, refl, sym, ◌∙◌, ap, true≢false}
+use Rattle.std.proofs.Common.{◌≡◌, Bool, true, false, refl, sym, ◌∙◌, ap}
 use Rattle.std.specs.Bool.{Decides}
 use Rattle.std.specs.Cmp.Lexicographic.{bytes_decides}
 use Rattle.otel_common.specs.Equality.{both_decide}

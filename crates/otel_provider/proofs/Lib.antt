@@ -3,10 +3,12 @@ pub mod Collects
 pub mod Commits
 pub mod Headlines
 pub mod IdentityLemmas
+pub mod Lawful
 pub mod Metrics
 pub mod Outcomes
 pub mod PipelineLemmas
 pub mod PipelinesLemmas
+pub mod Pipes
 pub mod PlanLemmas
 pub mod Records
 pub mod Refused

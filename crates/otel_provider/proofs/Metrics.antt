@@ -1,6 +1,5 @@
 -- What a stream gives to a collection is the model's metric.
-use Rattle.std.proofs.Common.{◌≡◌, ℕ, zero, suc, ◌<◌, Bool, true, false, cond, List, [], ◌∷◌, map, length, Option, Some, None, nat_lt, refl, sym, ◌∙◌, ap, arith}
-use Rattle.std.proofs.lemmas.Bool.{lt-ltb}
+use Rattle.std.proofs.Common.{◌≡◌, ℕ, true, cond, List, [], ◌∷◌, map, length, Some, None, nat_lt, refl, sym, ◌∙◌, ap}
 use Rattle.std.proofs.lemmas.List.{length-map}
 use Rattle.otel_data.specs.declared.aggregated.AggregatedMetrics.TheVariants as metrics
 use Rattle.otel_data.specs.declared.aggregated.MetricData.TheVariants as data_of

@@ -1,12 +1,12 @@
 -- What records leave of a reader's streams: their identities, and so their number.
-use Rattle.std.proofs.Common.{Bool, true, ◌&&◌, ◌≡◌, ℕ, ◌<◌, List, [], ◌∷◌, ◌++◌, map, length, Option, Some, None, refl, sym, ◌∙◌, ap, arith, zero, suc, fold}
+use Rattle.std.proofs.Common.{Bool, true, ◌&&◌, ◌≡◌, ℕ, List, [], ◌∷◌, ◌++◌, map, length, Option, Some, None, refl, ◌∙◌, ap, arith, zero, suc}
 use Rattle.std.specs.Prelude.{All}
 use Rattle.std.proofs.lemmas.List.{length-map}
 use Rattle.otel_model_stream.specs.Sets.{AttributeSet}
 use Rattle.otel_model.specs.Machine.{changed_at}
 use Rattle.otel_provider.specs.Identities.{demand_of}
 use Rattle.otel_provider.specs.Pipelines.{AreNumbers, all_settled, committed_each, stream_identities, part_by, named, identity_at}
-use Rattle.otel_provider.specs.Streams.{cumulative_row, Kept, settled, stream_of, committed, committed_by}
+use Rattle.otel_provider.specs.Streams.{cumulative_row, Kept, stream_of, committed, committed_by}
 use Rattle.otel_provider.specs.declared.identity.Identity.{Identity}
 
 pub identities-settled : (ks : List Kept) → stream_identities (all_settled ks) ≡ stream_identities ks

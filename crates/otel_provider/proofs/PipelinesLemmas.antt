@@ -1,5 +1,5 @@
 -- Readers that are changed one after another.
-use Rattle.std.proofs.Common.{◌≡◌, ◌≢◌, ℕ, zero, suc, ◌+◌, ◌<◌, ◌≤◌, List, [], ◌∷◌, map, length, get_or, set, refl, sym, ◌∙◌, ap, arith, length-set, get_or-set_other, get_or-set_same, below_more}
+use Rattle.std.proofs.Common.{◌≡◌, ◌≢◌, ℕ, zero, suc, ◌+◌, ◌<◌, ◌≤◌, List, [], ◌∷◌, map, length, get_or, set, refl, ◌∙◌, ap, arith, length-set, get_or-set_other, get_or-set_same, below_more}
 use Rattle.otel_model.specs.State.{ReaderPart}
 use Rattle.otel_provider.specs.Pipelines.{Piped, part_of}
 

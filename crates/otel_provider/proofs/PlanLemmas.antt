@@ -1,9 +1,9 @@
 -- What a plan says of the streams that are there.
-use Rattle.std.proofs.Common.{◌≡◌, ℕ, zero, suc, ◌<◌, ◌+◌, Bool, true, false, cond, ◌||◌, List, [], ◌∷◌, ◌++◌, map, length, Option, Some, None, slice_get, position, is_some, refl, sym, ◌∙◌, ap, subst, arith, option_map}
-use Rattle.std.specs.Prelude.{All, slice_index_or}
+use Rattle.std.proofs.Common.{◌≡◌, ℕ, zero, suc, ◌<◌, Bool, true, false, cond, ◌||◌, List, [], ◌∷◌, ◌++◌, length, Option, Some, None, position, is_some, refl, sym, ◌∙◌, ap, subst, arith, option_map}
+use Rattle.std.specs.Prelude.{All}
 use Rattle.std.specs.List.{list_any}
 use Rattle.std.proofs.lemmas.List.{length-map, map-append, length-append}
-use Rattle.std.proofs.lemmas.List.Elements.{All-push, All-cons, All-weaker}
+use Rattle.std.proofs.lemmas.List.Elements.{All-push}
 use Rattle.otel_provider.specs.Identities.{identity_test}
 use Rattle.otel_provider.specs.Pipelines.{part_by, part_of, built, with_added, Planned, planned_from, plan_by, stream_number, stream_identities, AreNumbers}
 use Rattle.otel_provider.specs.Streams.{Kept, new_kept}

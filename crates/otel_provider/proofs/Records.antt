@@ -1,23 +1,20 @@
 -- A record that the provider makes in the streams that an instrument feeds is the model's record.
-use Rattle.std.proofs.Common.{◌≡◌, ℕ, zero, suc, ◌+◌, ◌<◌, ◌==◌, Bool, true, false, cond, ◌||◌, List, [], ◌∷◌, ◌++◌, map, fold, length, Option, Some, None, slice_get, refl, sym, ◌∙◌, ap, subst, arith, eqb-true, eq-eqb, ne_eqb, inl, inr}
-use Rattle.std.specs.List.{list_any}
+use Rattle.std.proofs.Common.{◌≡◌, ℕ, suc, ◌+◌, ◌==◌, Bool, true, false, cond, ◌||◌, List, [], ◌∷◌, ◌++◌, map, Option, Some, None, slice_get, refl, sym, ◌∙◌, ap, arith, eq-eqb, ne_eqb}
 use Rattle.std.specs.Option.{option_map}
 use Rattle.std.proofs.Common.{⊎_elim}
 use Rattle.std.proofs.lemmas.Option.{slice_get-map}
-use Rattle.std.specs.Prelude.{All, pos}
 use Rattle.std.proofs.lemmas.Bool.{cases_Bool, true≢false}
 use Rattle.otel_common.specs.declared.attributes.KeyValue.{KeyValue}
 use Rattle.otel_model_stream.specs.Sets.{AttributeSet, set_of}
 use Rattle.otel_model_stream.specs.Totals.{has_number}
 use Rattle.otel_model.specs.Calls.{or_else, Number, Record as RecordCall}
 use Rattle.otel_model.specs.Demands as model
-use Rattle.otel_model.specs.State.{Stream, ReaderPart}
+use Rattle.otel_model.specs.State.{Stream}
 use Rattle.otel_model.specs.Sent.{is_fed}
-use Rattle.otel_model.specs.Machine.{changed_at, stream_after, part_sent}
+use Rattle.otel_model.specs.Machine.{stream_after}
 use Rattle.otel_provider.specs.Identities.{identity_of}
-use Rattle.otel_provider.specs.Sorts.{kind_of, is_signed}
-use Rattle.otel_provider.specs.Streams.{cumulative_row, Kept, stream_of, with_record, committed, committed_by, amount, settled}
-use Rattle.otel_provider.specs.Pipelines.{Piped, part_of, named, identity_at, fed_by, committed_each}
+use Rattle.otel_provider.specs.Streams.{cumulative_row, Kept, stream_of, with_record, committed, committed_by, amount}
+use Rattle.otel_provider.specs.Pipelines.{named, identity_at, committed_each}
 use Rattle.otel_provider.specs.declared.sorts.InstrumentSort.{InstrumentSort}
 use Rattle.otel_provider.specs.declared.sorts.InstrumentSort.TheVariants.{U64Counter}
 use Rattle.otel_provider.proofs.Commits.{mapped_from, fold-changed}

@@ -1,5 +1,5 @@
 -- Calls that are refused are the model's refusals.
-use Rattle.std.proofs.Common.{◌≡◌, ℕ, true, length, List, [], ◌∷◌, Option, Some, None, refl, sym, ap}
+use Rattle.std.proofs.Common.{◌≡◌, ℕ, length, List, [], ◌∷◌, Some, refl, sym, ap}
 use Rattle.std.specs.Prelude.{IsTrue}
 use Rattle.otel_common.specs.declared.attributes.KeyValue.{KeyValue}
 use Rattle.otel_common.specs.declared.faults.Fault.{Fault}

@@ -1,11 +1,10 @@
 -- Collections, one stream or one scope more.
 use Rattle.std.proofs.Common.{◌≡◌, ℕ, zero, suc, ◌+◌, ◌<◌, Bool, true, false, cond, ◌&&◌, List, [], ◌∷◌, ◌++◌, map, length, get_or, drop, refl, sym, ◌∙◌, ap, arith, append_assoc, add-one}
-use Rattle.std.specs.Prelude.{filter}
 use Rattle.otel_common.specs.Scopes.{scope_eq}
 use Rattle.otel_common.specs.declared.scopes.InstrumentationScope.{InstrumentationScope}
 use Rattle.otel_model.specs.Calls as model
-use Rattle.otel_model.specs.Collections.{ScopedMetric, has_points, has_metrics}
-use Rattle.otel_provider.specs.Collections.{scoped, shown_in, shown_one, if_shown, scope_shown, scopes_shown}
+use Rattle.otel_model.specs.Collections.{ScopedMetric, has_points}
+use Rattle.otel_provider.specs.Collections.{scoped, shown_in, shown_one, if_shown}
 use Rattle.otel_provider.specs.Streams.{Kept, shown_metric}
 
 shown_first : (b : Bool) (m : ScopedMetric) (ms : List ScopedMetric) → map (λ (m : ScopedMetric). m.1) (cond b (m ∷ ms) ms) ≡ if_shown b m.1 ++ map (λ (m : ScopedMetric). m.1) ms

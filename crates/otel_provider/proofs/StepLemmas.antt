@@ -1,18 +1,16 @@
 -- Calls that the provider carries out are the model's.
-use Rattle.std.proofs.Common.{◌≡◌, ℕ, zero, suc, ◌+◌, ◌<◌, ◌==◌, Bool, true, false, cond, not, ◌||◌, List, [], ◌∷◌, ◌++◌, map, fold, length, take, drop, Option, Some, None, slice_get, refl, sym, ◌∙◌, ap, subst, arith, ⊎_elim, true≢false, option_map, eqb-true}
-use Rattle.std.specs.Prelude.{All, slice_index_or, pos, IsTrue}
+use Rattle.std.proofs.Common.{◌≡◌, ℕ, zero, suc, ◌+◌, ◌<◌, ◌==◌, Bool, true, false, cond, not, ◌||◌, List, [], ◌∷◌, ◌++◌, map, length, take, Option, Some, None, slice_get, refl, sym, ◌∙◌, ap, subst, arith, true≢false, option_map, eqb-true}
+use Rattle.std.specs.Prelude.{All}
 use Rattle.std.specs.List.{list_any, position_or_len, IsDistinct, AllByRecursion}
-use Rattle.std.proofs.lemmas.Bool.{cases_Bool}
 use Rattle.std.proofs.lemmas.Option.{slice_get-map}
-use Rattle.std.proofs.lemmas.List.{length-map}
 use Rattle.otel_common.specs.Scopes.{scope_eq, scope_eq-Decides}
 use Rattle.otel_common.specs.declared.attributes.KeyValue.{KeyValue}
 use Rattle.otel_common.specs.declared.scopes.InstrumentationScope.{InstrumentationScope}
-use Rattle.otel_model_stream.specs.Sets.{AttributeSet, set_of}
+use Rattle.otel_model_stream.specs.Sets.{AttributeSet}
 use Rattle.otel_model_stream.specs.Totals.{has_number}
 use Rattle.otel_model.specs.Calls as model
 use Rattle.otel_model.specs.Demands as demands
-use Rattle.otel_model.specs.State.{Stream, ReaderPart, InstrumentState}
+use Rattle.otel_model.specs.State.{ReaderPart, InstrumentState}
 use Rattle.otel_model.specs.Sent.{has_scope}
 use Rattle.otel_model.specs.Steps.{number_from, reply_by, after_by}
 use Rattle.otel_model.specs.Refusals.{meter_refusal, record_refusal}
@@ -22,12 +20,11 @@ use Rattle.otel_model.proofs.Gather.{identity_eq_true, identity_eq_self}
 use Rattle.otel_provider.specs.Identities.{identity_of, identity_test, demand_of, demand_by}
 use Rattle.otel_provider.specs.Shown.{about}
 use Rattle.otel_provider.specs.States.{wanted, IsMade, IsFault, IsNoMeter, state_of, shared_of}
-use Rattle.otel_provider.specs.Streams.{cumulative_row, Kept, stream_of, committed, committed_by, amount, staged_set}
-use Rattle.otel_provider.specs.Pipelines.{Piped, part_of, part_by, named, identity_at, built, planned, recorded, fed_by, committed_each, stream_identities, AreNumbers, AreStaged, IsStaged, IsLawful, IsReadyFor, IsStagedFor}
+use Rattle.otel_provider.specs.Streams.{cumulative_row, Kept, committed, committed_by, amount, staged_set}
+use Rattle.otel_provider.specs.Pipelines.{Piped, part_of, named, identity_at, built, planned, recorded, fed_by, committed_each, stream_identities, AreNumbers, AreStaged, IsStaged, IsReadyFor, IsStagedFor}
 use Rattle.otel_provider.specs.declared.identity.Demand.{Demand}
 use Rattle.otel_provider.specs.declared.identity.Identity.{Identity}
 use Rattle.otel_provider.specs.declared.sorts.InstrumentSort.{InstrumentSort}
-use Rattle.otel_provider.specs.declared.sorts.InstrumentSort.TheVariants.{U64Counter}
 use Rattle.otel_provider.proofs.Builds.{AreAllNumbers, built-good, built-bad, built-without}
 use Rattle.otel_provider.proofs.IdentityLemmas.{identity_test-Decides, identity_of-tells}
 use Rattle.otel_provider.proofs.Records as records

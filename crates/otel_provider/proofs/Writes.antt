@@ -1,6 +1,5 @@
 -- Lists in which one element after another is written.
-use Rattle.std.proofs.Common.{◌≡◌, ℕ, ◌+◌, ◌≤◌, ◌<◌, List, [], ◌∷◌, ◌++◌, length, get_or, set, map, fold, drop, take, refl, arith, sym, ◌∙◌, ap, suc, zero, add-one, subst, Option, Some, None, slice_get}
-use Rattle.std.proofs.lemmas.List.{length-map, map-set}
+use Rattle.std.proofs.Common.{◌≡◌, ℕ, ◌+◌, ◌<◌, List, [], ◌∷◌, length, get_or, set, map, fold, drop, refl, arith, sym, ◌∙◌, ap, suc, zero, add-one, Some, slice_get}
 use Rattle.otel_model.specs.Machine.{changed_at}
 use Rattle.otel_model_stream.specs.Sets.{AttributeSet}
 use Rattle.otel_provider.specs.Pipelines.{IsStaged}

@@ -1,5 +1,5 @@
 -- Identities and demands, in the words of the model (Metrics SDK, "View").
-use Rattle.std.specs.Prelude.{◌≡◌, ℕ, Bool, ◌&&◌, List, [], Option, None, refl}
+use Rattle.std.specs.Prelude.{Bool, ◌&&◌, [], Option, None}
 use Rattle.otel_common.specs.declared.scopes.InstrumentationScope.{InstrumentationScope}
 use Rattle.otel_common.specs.Equality.{bytes_eq}
 use Rattle.otel_common.specs.Scopes.{scope_eq}

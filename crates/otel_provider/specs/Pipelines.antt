@@ -1,5 +1,5 @@
 -- One reader's streams, as the provider keeps them and as the model's part of a reader.
-use Rattle.std.specs.Prelude.{◌≡◌, ◌<◌, ℕ, zero, suc, ◌+◌, ◌==◌, Bool, cond, List, [], ◌∷◌, ◌++◌, map, fold, length, All, IsTrue, Option, None, Some, slice_get, position}
+use Rattle.std.specs.Prelude.{◌≡◌, ◌<◌, ℕ, Bool, List, [], ◌∷◌, ◌++◌, map, fold, length, All, IsTrue, Option, None, Some, slice_get, position}
 use Rattle.std.specs.List.{IsDistinct}
 use Rattle.otel_common.specs.declared.attributes.KeyValue.{KeyValue}
 use Rattle.otel_model_stream.specs.Sets.{AttributeSet}

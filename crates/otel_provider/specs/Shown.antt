@@ -1,14 +1,12 @@
 -- What calls and replies are in the words of the model, by cases.
-use Rattle.std.specs.Prelude.{ℕ, ℤ, pos, Bool, true, false, cond, List, [], ◌∷◌, map, Option, Some, None}
+use Rattle.std.specs.Prelude.{ℕ, pos, Bool, true, false, List, [], map, Option, None}
 use Rattle.std.specs.Int.{cast_unsigned, w64}
 use Rattle.otel_common.specs.declared.faults.Fault.{Fault}
 use Rattle.otel_common.specs.declared.faults.Fault.TheVariants as fault
 use Rattle.otel_common.specs.declared.metrics.Temporality.{Temporality}
 use Rattle.otel_common.specs.declared.metrics.Temporality.TheVariants.{Cumulative, Delta, LowMemory}
-use Rattle.otel_common.specs.declared.scopes.InstrumentationScope.{InstrumentationScope}
 use Rattle.otel_data.specs.declared.aggregated.AggregatedMetrics.{AggregatedMetrics}
 use Rattle.otel_data.specs.declared.aggregated.AggregatedMetrics.TheVariants as metrics
-use Rattle.otel_data.specs.declared.aggregated.MetricData.{MetricData}
 use Rattle.otel_data.specs.declared.aggregated.MetricData.TheVariants as points
 use Rattle.otel_data.specs.declared.collections.Metric.{Metric}
 use Rattle.otel_data.specs.declared.collections.ResourceMetrics.{ResourceMetrics}
@@ -16,8 +14,6 @@ use Rattle.otel_data.specs.declared.collections.ScopeMetrics.{ScopeMetrics}
 use Rattle.otel_data.specs.declared.numbers.NumberValue.{NumberValue}
 use Rattle.otel_data.specs.declared.numbers.NumberValue.TheVariants as number
 use Rattle.otel_data.specs.declared.points.SumDataPoint.{SumDataPoint}
-use Rattle.otel_data.specs.declared.sums.Sum.{Sum}
-use Rattle.otel_model_stream.specs.Folds.{Amount}
 use Rattle.otel_model_stream.specs.Sets.{AttributeSet}
 use Rattle.otel_model.specs.Calls as model
 use Rattle.otel_model.specs.Resources.{empty_resource}

@@ -1,8 +1,8 @@
 -- One stream of a reader, as the provider keeps it and as the model's stream.
-use Rattle.std.specs.Prelude.{ℕ, pos, ◌+◌, Bool, true, false, cond, replicate, List, [], Option, None, Some}
+use Rattle.std.specs.Prelude.{ℕ, pos, ◌+◌, true, false, cond, replicate, List, [], Option, None, Some}
 use Rattle.otel_common.specs.declared.attributes.KeyValue.{KeyValue}
 use Rattle.otel_model_stream.specs.Sets.{AttributeSet, set_of}
-use Rattle.otel_model_stream.specs.Folds.{Aggregate, Amount, Total, empty_of, sample_of, wrapped}
+use Rattle.otel_model_stream.specs.Folds.{Aggregate, Amount, empty_of, sample_of, wrapped}
 use Rattle.otel_model_stream.specs.Entries.{Table, new_table, place, recorded_at, points}
 use Rattle.otel_aggregate.specs.Streams.{StreamState}
 use Rattle.otel_model.specs.Demands.{default_limit}

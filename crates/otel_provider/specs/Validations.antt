@@ -1,5 +1,5 @@
 -- What a check answers.
-use Rattle.std.specs.Prelude.{◌≡◌, ℕ, List, Option, None, Some, Result, Ok, Err, MatchResult}
+use Rattle.std.specs.Prelude.{◌≡◌, ℕ, List, Option, None, Some, Result, Ok, Err}
 use Rattle.otel_common.specs.declared.metrics.MetricError.{MetricError}
 use Rattle.otel_common.specs.declared.metrics.MetricError.TheVariants.{InvalidInstrumentConfiguration}
 

@@ -1,16 +1,17 @@
 //! The provider: meters, instruments and, for each reader, streams.
 #![tactic(auto)]
 
+mod balanced;
 pub mod calls;
 mod collecting;
 mod copies;
-mod core;
 pub mod identity;
 mod instrument;
 pub mod meter;
 mod pipeline;
 mod pipelines;
 pub mod provider;
+mod provider_core;
 pub mod sorts;
 mod stream;
 mod streams;

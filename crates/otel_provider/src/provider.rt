@@ -1,27 +1,28 @@
 //! The provider and its builder.
 
-ghost use Rattle.std.specs.Prelude.{◌≡◌, ◌∷◌, [], map, IfOk, OnErr, IsOkAnd, IsOkUnless};
+ghost use Rattle.std.specs.Prelude.{◌≡◌, ◌++◌, ◌∷◌, [], map, IfOk, OnErr, IsOkUnless};
 ghost use Rattle.otel_common.specs.declared.metrics.Temporality.TheVariants.{Cumulative};
 ghost use Rattle.otel_stream.specs.declared.instrument.InstrumentKind.{InstrumentKind};
 ghost use Rattle.otel_model.specs.Laws.{HasStreamsOfBuilds, HasFeedsOfBuilds, HasPlacesOfHistories, HasCountedOfHistories, IsGivenCollections, IsAnsweredAsOnly, HasRecordedTotal, HasExportedTotal, Conserves, HasAccepted};
-ghost use Rattle.otel_model.specs.Machine.{new_state, new_part};
+ghost use Rattle.otel_model.specs.Machine.{new_state};
 ghost use Rattle.otel_model.specs.Resources.{empty_resource};
 ghost use Rattle.otel_model.specs.Steps.{Step, Run};
+ghost use Rattle.otel_model_laws.specs.Lawful.{Balances};
 ghost use Rattle.otel_provider.specs.Headline.{OfReaders, OfStreams, OfAnswers};
-ghost use Rattle.otel_provider.specs.Providers.{state_of, state_of_builder};
+ghost use Rattle.otel_provider.specs.Providers.{state_of, rows_of};
 ghost use Rattle.otel_provider.specs.Shown.{call_of, reply_of};
 ghost use Rattle.otel_provider.specs.Streams.{cumulative_row};
 
+use crate::balanced::BalancedCore;
 use crate::calls::{Call, Reply};
-use crate::core::Core;
 use otel_common::faults::Fault;
 use otel_stream::reader::MetricReader;
 use std::alloc::Global;
 
-/// Makes a provider.
+/// Makes a provider: it collects the readers (Metrics SDK, "MeterProvider Creation").
 #[derive(Drop)]
 pub struct MeterProviderBuilder {
-    core: Core,
+    alloc: Global,
     readers: Vec<Box<dyn MetricReader>>,
 }
 
@@ -29,7 +30,7 @@ pub struct MeterProviderBuilder {
 /// (Metrics SDK, "MeterProvider").
 #[derive(Drop)]
 pub struct SdkMeterProvider {
-    core: Core,
+    core: BalancedCore,
     readers: Vec<Box<dyn MetricReader>>,
 }
 
@@ -38,24 +39,26 @@ impl MeterProviderBuilder {
     ///
     /// Refused only for want of memory; then the builder is given up.
     pub fn with_reader(self, reader: Box<dyn MetricReader>) -> Result<Self, Fault>
-        requires first { (state_of_builder self).readers ≡ [] }
+        requires first { rows_of self ≡ [] }
         requires cumulative { (kind : InstrumentKind) → ⟦<Box<dyn MetricReader> as MetricReader>⟧.preference reader kind ≡ Cumulative }
-        ensures state { IfOk result (λ b. state_of_builder b ≡ record (state_of_builder self) { readers = new_part cumulative_row ∷ [] }) }
+        ensures rows { IfOk result (λ b. rows_of b ≡ rows_of self ++ cumulative_row ∷ []) }
         ensures only_memory { IsOkUnless result Fault.OutOfMemory }
     {
-        let MeterProviderBuilder { core, readers } = self;
-        let mut core = core;
+        let MeterProviderBuilder { alloc, readers } = self;
         let mut readers = readers;
         readers.push(reader)?;
-        core.add_reader()?;
-        Ok(MeterProviderBuilder { core, readers })
+        Ok(MeterProviderBuilder { alloc, readers })
     }
 
-    /// The provider. Takes no memory.
+    /// The provider, without meters and instruments, and with the readers of the builder.
+    ///
+    /// Refused only for want of memory; then the builder is given up.
     pub fn build(self) -> Result<SdkMeterProvider, Fault>
-        ensures state { IsOkAnd result (λ p. state_of p ≡ state_of_builder self) }
+        ensures state { IfOk result (λ p. state_of p ≡ new_state empty_resource 0 (rows_of self)) }
+        ensures only_memory { IsOkUnless result Fault.OutOfMemory }
     {
-        let MeterProviderBuilder { core, readers } = self;
+        let MeterProviderBuilder { alloc, readers } = self;
+        let core = BalancedCore::new(alloc, readers.len())?;
         Ok(SdkMeterProvider { core, readers })
     }
 }
@@ -63,10 +66,10 @@ impl MeterProviderBuilder {
 impl SdkMeterProvider {
     /// A builder of a provider without readers. Takes no memory.
     pub fn builder(alloc: Global) -> MeterProviderBuilder
-        ensures { state_of_builder result ≡ new_state empty_resource 0 [] }
+        ensures { rows_of result ≡ [] }
     {
         MeterProviderBuilder {
-            core: Core::new(alloc),
+            alloc,
             readers: Vec::new(alloc),
         }
     }
@@ -74,6 +77,7 @@ impl SdkMeterProvider {
     /// One call.
     pub fn step(&mut self, call: &Call) -> Reply
         ensures step { Step [] (state_of self.old) (call_of call.now) (reply_of result) (state_of self.new) }
+        ensures balances { Balances (state_of self.new) }
     {
         self.core.step(call)
     }
@@ -85,6 +89,7 @@ impl SdkMeterProvider {
         ensures run { IfOk result (λ replies. Run [] (state_of self.old) (map call_of calls.now) (map reply_of replies.items) (state_of self.new)) }
         ensures unmade { OnErr result (state_of self.new ≡ state_of self.old) }
         ensures only_memory { IsOkUnless result Fault.OutOfMemory }
+        ensures balances { Balances (state_of self.new) }
         ensures streams { IfOk result (λ replies. OfReaders HasStreamsOfBuilds (state_of self.old) calls.now replies.items (state_of self.new)) }
         ensures feeds { IfOk result (λ replies. OfReaders HasFeedsOfBuilds (state_of self.old) calls.now replies.items (state_of self.new)) }
         ensures places { IfOk result (λ replies. OfReaders HasPlacesOfHistories (state_of self.old) calls.now replies.items (state_of self.new)) }

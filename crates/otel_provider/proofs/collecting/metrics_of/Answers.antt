@@ -1,4 +1,4 @@
-use Rattle.std.proofs.Common.{◌≡◌, ◌∙◌, map}
+use Rattle.std.proofs.Common.{map}
 use Rattle.otel_provider.specs.Shown.{metric_of}
 use Rattle.otel_provider.proofs.Shows.{shown-more}
 use Rattle.otel_provider.proofs.collecting.metrics_of.Goals as goal

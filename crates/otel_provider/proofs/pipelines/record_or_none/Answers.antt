@@ -1,4 +1,4 @@
-use Rattle.std.proofs.Common.{◌≡◌, ◌∙◌, ap, map, false}
+use Rattle.std.proofs.Common.{◌∙◌, ap, map, false}
 use Rattle.otel_model.specs.Calls as model
 use Rattle.otel_model.specs.Machine.{part_sent}
 use Rattle.otel_provider.specs.Streams.{amount}

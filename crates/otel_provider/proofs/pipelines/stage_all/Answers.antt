@@ -1,5 +1,4 @@
 use Rattle.std.proofs.Common.{◌∙◌, refl, arith, get_or}
-use Rattle.std.specs.Option.{option_map}
 use Rattle.std.proofs.lemmas.List.Elements.{AllWithin-more_set}
 use Rattle.otel_provider.specs.Pipelines.{part_of, IsStagedFor}
 use Rattle.otel_provider.proofs.Writes.{seen_same}

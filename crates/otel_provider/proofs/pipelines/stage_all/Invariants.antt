@@ -1,6 +1,5 @@
 use Rattle.std.proofs.Common.{◌≡◌, map}
 use Rattle.std.specs.List.{AllWithin}
-use Rattle.std.specs.Option.{option_map}
 use Rattle.otel_provider.specs.Pipelines.{part_of, IsStagedFor}
 use Rattle.otel_provider.proofs.pipelines.stage_all.Given as goal
 

@@ -1,10 +1,10 @@
-use Rattle.std.proofs.Common.{◌≡◌, ◌∙◌, ap, sym, Some, None, List, [], ◌∷◌, ◌++◌, false}
+use Rattle.std.proofs.Common.{◌≡◌, ◌∙◌, sym, Some, List, [], ◌∷◌, ◌++◌}
 use Rattle.std.specs.Option.{option_map}
-use Rattle.otel_provider.specs.Pipelines.{planned_from, stream_identities, Planned, AreNumbers}
+use Rattle.otel_provider.specs.Pipelines.{planned_from, stream_identities}
 use Rattle.otel_provider.specs.Streams.{Kept}
 use Rattle.otel_provider.specs.Plans.{planned_of}
 use Rattle.otel_provider.proofs.PipelineLemmas.{part-same}
-use Rattle.otel_provider.proofs.PlanLemmas.{built-from, taken-is, planned-new, planned-old, numbers-push, numbers-more, identities-push, IsNew}
+use Rattle.otel_provider.proofs.PlanLemmas.{built-from, taken-is, planned-new, numbers-push, identities-push, IsNew}
 use Rattle.otel_provider.proofs.pipeline.Pipeline.build.Goals as goal
 
 -- a new stream has the key that is added, and the instrument feeds it

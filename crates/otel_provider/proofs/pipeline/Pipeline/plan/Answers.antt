@@ -1,10 +1,10 @@
-use Rattle.std.proofs.Common.{◌≡◌, ◌<◌, ◌≤◌, ◌∙◌, ap, sym, subst, Some, List, length, arith}
+use Rattle.std.proofs.Common.{◌≡◌, ◌<◌, ◌∙◌, ap, sym, subst, Some, List, length, arith}
 use Rattle.std.proofs.lemmas.Bool.{lt-ltb}
 use Rattle.std.specs.List.{IsDistinct}
 use Rattle.std.specs.Prelude.{vec_len, vec_capacity}
 use Rattle.indexmap.specs.IndexSet.{spare}
 use Rattle.otel_provider.specs.Identities.{identity_test}
-use Rattle.otel_provider.specs.Pipelines.{stream_identities, planned_from, planned}
+use Rattle.otel_provider.specs.Pipelines.{stream_identities, planned_from}
 use Rattle.otel_provider.specs.declared.identity.Identity.{Identity}
 use Rattle.otel_provider.proofs.PipelineLemmas.{part-same, all_true, numbers-kept}
 use Rattle.otel_provider.proofs.pipeline.Pipeline.plan.Goals as goal

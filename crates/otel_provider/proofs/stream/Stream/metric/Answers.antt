@@ -1,7 +1,6 @@
-use Rattle.std.proofs.Common.{◌≡◌, ◌<◌, ◌∙◌, ap, sym, length, true, Some, arith}
+use Rattle.std.proofs.Common.{◌≡◌, ◌<◌, ◌∙◌, ap, length, true, Some, arith}
 use Rattle.std.proofs.lemmas.Bool.{lt-ltb}
 use Rattle.otel_data.specs.declared.aggregated.AggregatedMetrics.TheVariants as metrics
-use Rattle.otel_data.specs.declared.collections.Metric.{Metric}
 use Rattle.otel_model.specs.Collections.{has_points}
 use Rattle.otel_provider.specs.Shown.{metric_of}
 use Rattle.otel_provider.specs.Streams.{Kept, shown_metric}

@@ -1,11 +1,10 @@
-use Rattle.std.proofs.Common.{◌≡◌, ◌∙◌, ap, sym, List, [], ◌∷◌, ◌++◌, length, map, arith}
-use Rattle.otel_provider.specs.Instruments.{new_state}
+use Rattle.std.proofs.Common.{◌∙◌, ap, List, [], ◌∷◌, ◌++◌, map, arith}
 use Rattle.otel_provider.specs.Pipelines.{Piped, part_of}
 use Rattle.otel_model.specs.Machine.{built}
 use Rattle.otel_provider.specs.Shown.{about}
 use Rattle.otel_provider.specs.States.{shared_of}
 use Rattle.otel_provider.proofs.StepLemmas.{lent_back}
-use Rattle.otel_provider.proofs.core.Core.make.Goals as goal
+use Rattle.otel_provider.proofs.provider_core.Core.make.Goals as goal
 
 -- the new instrument is the last, and the readers come back as they were lent
 pub returns-clause-ok : goal.returns-clause-ok

@@ -1,11 +1,11 @@
-use Rattle.std.proofs.Common.{◌≡◌, ◌∙◌, ap, sym, Some, cond, List, [], ◌∷◌, ◌++◌}
+use Rattle.std.proofs.Common.{◌≡◌, ◌∙◌, ap, sym, cond, List, [], ◌∷◌, ◌++◌}
 use Rattle.std.specs.List.{list_any, position_or_len}
 use Rattle.otel_common.specs.Scopes.{scope_eq}
 use Rattle.otel_common.specs.declared.scopes.InstrumentationScope.{InstrumentationScope}
 use Rattle.otel_model.specs.Calls as model
-use Rattle.otel_provider.specs.States.{IsMade, state_of}
+use Rattle.otel_provider.specs.States.{state_of}
 use Rattle.otel_provider.proofs.StepLemmas.{meter_number, has_scope-flip}
-use Rattle.otel_provider.proofs.core.Core.meter.Goals as goal
+use Rattle.otel_provider.proofs.provider_core.Core.meter.Goals as goal
 
 -- the set of scopes keeps a scope that is there, and else adds it at the end
 pub returns-clause-ok : goal.returns-clause-ok

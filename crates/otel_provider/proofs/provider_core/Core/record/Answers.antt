@@ -1,15 +1,15 @@
-use Rattle.std.proofs.Common.{◌≡◌, ◌<◌, ◌∙◌, ap, sym, List, map, length, slice_get, None, set, arith, false}
+use Rattle.std.proofs.Common.{◌≡◌, ◌<◌, ◌∙◌, ap, sym, List, map, length, slice_get, None, arith, false}
 use Rattle.otel_model.specs.Calls as model
-use Rattle.otel_model.specs.Machine.{accepted, changed_at, part_sent}
+use Rattle.otel_model.specs.Machine.{accepted, part_sent}
 use Rattle.otel_model.specs.Refusals.{record_refusal}
 use Rattle.otel_model.specs.State.{InstrumentState}
-use Rattle.otel_provider.specs.Pipelines.{Piped, part_of}
+use Rattle.otel_provider.specs.Pipelines.{part_of}
 use Rattle.otel_provider.specs.Shown.{number_of}
 use Rattle.otel_provider.specs.States.{IsValueFor}
 use Rattle.otel_provider.specs.Streams.{amount}
 use Rattle.otel_provider.proofs.StepLemmas.{lent_back, record-made}
 use Rattle.otel_provider.proofs.Writes.{set-changed}
-use Rattle.otel_provider.proofs.core.Core.record.Goals as goal
+use Rattle.otel_provider.proofs.provider_core.Core.record.Goals as goal
 
 -- the value fits, the readers made the record, and the instrument accepted it
 pub returns-clause-ok : goal.returns-clause-ok

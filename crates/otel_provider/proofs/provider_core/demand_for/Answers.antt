@@ -1,7 +1,7 @@
-use Rattle.std.proofs.Common.{◌≡◌, ◌∙◌, ap, sym}
+use Rattle.std.proofs.Common.{◌∙◌, ap, sym}
 use Rattle.std.specs.Option.{option_map}
 use Rattle.otel_provider.proofs.StepLemmas.{wanted-none, wanted-some}
-use Rattle.otel_provider.proofs.core.demand_for.Goals as goal
+use Rattle.otel_provider.proofs.provider_core.demand_for.Goals as goal
 
 pub returns-then-not-is_good-clause-demand : goal.returns-then-not-is_good-clause-demand
 returns-then-not-is_good-clause-demand c =

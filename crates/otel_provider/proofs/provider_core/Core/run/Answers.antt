@@ -1,6 +1,6 @@
 use Rattle.std.proofs.Common.{arith}
 use Rattle.otel_provider.proofs.Runs.{run-more}
-use Rattle.otel_provider.proofs.core.Core.run.Goals as goal
+use Rattle.otel_provider.proofs.provider_core.Core.run.Goals as goal
 
 pub loop-call-preserved : goal.loop-call-preserved
 loop-call-preserved c = record {

@@ -2,7 +2,7 @@ use Rattle.std.proofs.Common.{◌≡◌, ◌∙◌, ap, sym, refl, Some, None, s
 use Rattle.otel_provider.proofs.Outcomes.{IfOk-weaker, IfErr-memory}
 use Rattle.otel_provider.proofs.Collects.{collection-made, collection-refused, collection-allowed}
 use Rattle.otel_provider.specs.Shown.{collection_of}
-use Rattle.otel_provider.proofs.core.Core.collect.Goals as goal
+use Rattle.otel_provider.proofs.provider_core.Core.collect.Goals as goal
 
 pub returns-in-Some-clause-ok : goal.returns-in-Some-clause-ok
 returns-in-Some-clause-ok c =

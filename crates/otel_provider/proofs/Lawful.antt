@@ -1,0 +1,19 @@
+-- A provider stays lawful, whatever is called.
+use Rattle.std.proofs.Common.{◌≡◌, List, [], ◌∷◌, refl, sym, subst, Result, Ok, Err}
+use Rattle.std.specs.Prelude.{IfOk, OnErr}
+use Rattle.otel_common.specs.declared.faults.Fault.{Fault}
+use Rattle.otel_model.specs.Calls as model
+use Rattle.otel_model.specs.State.{State}
+use Rattle.otel_model.specs.Steps.{Step, Run}
+use Rattle.otel_model_laws.specs.Lawful.{IsLawful}
+use Rattle.otel_model_laws.proofs.Booked.{run_lawful}
+
+-- a call is a run of one
+pub lawful-step : (old new : State) (call : model.Call) (reply : model.Reply) → IsLawful old → Step [] old call reply new → IsLawful new
+lawful-step old new call reply lawful step = run_lawful [] old new (call ∷ []) (reply ∷ []) (new, step, refl) lawful
+
+-- where nothing was made the state is the old one
+pub lawful-run : {T : Type 0} (r : Result T Fault) (calls : List model.Call) (replies : T → List model.Reply) (old new : State) → IsLawful old
+    → IfOk r (λ t. Run [] old calls (replies t) new) → OnErr r (new ≡ old) → IsLawful new
+lawful-run (Ok t) calls replies old new lawful run same = run_lawful [] old new calls (replies t) run lawful
+lawful-run (Err f) calls replies old new lawful run same = subst IsLawful (sym same) lawful

@@ -1,0 +1,63 @@
+//! The state of a provider with what no call can break.
+
+ghost use Rattle.std.specs.Prelude.{◌≡◌, [], map, replicate, IfOk, OnErr, IsOkUnless};
+ghost use Rattle.otel_model.specs.Machine.{new_state};
+ghost use Rattle.otel_model.specs.Resources.{empty_resource};
+ghost use Rattle.otel_model.specs.Steps.{Step, Run};
+ghost use Rattle.otel_model_laws.specs.Lawful.{Balances};
+ghost use Rattle.otel_provider.specs.Shown.{call_of, reply_of};
+ghost use Rattle.otel_provider.specs.Streams.{cumulative_row};
+
+use crate::calls::{Call, Reply};
+use crate::provider_core::Core;
+use otel_common::faults::Fault;
+use std::alloc::Global;
+use std::marker::Model;
+
+/// A core whose streams balance: what a stream recorded is what it exported and what is pending, and
+/// what the instruments that feed it accepted, modulo 2^64. That follows from what a call does, so it is
+/// proved here once for all calls.
+#[derive(Drop)]
+pub struct BalancedCore {
+    core: Core,
+}
+
+impl Model for BalancedCore {
+    ghost use Rattle.otel_model.specs.State.{State};
+    ghost use Rattle.otel_model_laws.specs.Lawful.{IsLawful};
+
+    ghost Value = { State };
+
+    ghost view = { λ b. b.core };
+
+    ghost invariant = { λ b. IsLawful b.core };
+}
+
+impl BalancedCore {
+    /// No meters, no instruments, and this many readers.
+    pub(crate) fn new(alloc: Global, readers: usize) -> Result<BalancedCore, Fault>
+        ensures state { IfOk result (λ core. core ≡ new_state empty_resource 0 (replicate readers cumulative_row)) }
+        ensures only_memory { IsOkUnless result Fault.OutOfMemory }
+    {
+        let core = Core::new(alloc, readers)?;
+        Ok(BalancedCore { core })
+    }
+
+    /// One call.
+    pub(crate) fn step(&mut self, call: &Call) -> Reply
+        ensures step { Step [] self.old (call_of call.now) (reply_of result) self.new }
+        ensures balances { Balances self.new }
+    {
+        self.core.step(call)
+    }
+
+    /// A list of calls, one after another, with the reply to each.
+    pub(crate) fn run(&mut self, alloc: Global, calls: &[Call]) -> Result<Vec<Reply>, Fault>
+        ensures run { IfOk result (λ replies. Run [] self.old (map call_of calls.now) (map reply_of replies.items) self.new) }
+        ensures unmade { OnErr result (self.new ≡ self.old) }
+        ensures only_memory { IsOkUnless result Fault.OutOfMemory }
+        ensures balances { Balances self.new }
+    {
+        self.core.run(alloc, calls)
+    }
+}
