@@ -1,4 +1,5 @@
 pub mod Builds
+pub mod Collects
 pub mod Commits
 pub mod IdentityLemmas
 pub mod Metrics
@@ -7,6 +8,8 @@ pub mod PipelineLemmas
 pub mod PipelinesLemmas
 pub mod PlanLemmas
 pub mod Records
+pub mod Refused
+pub mod Runs
 pub mod Shows
 pub mod StepLemmas
 pub mod Writes

@@ -1,6 +1,20 @@
 -- What holds where a call succeeds.
-use Rattle.std.specs.Prelude.{Result, Ok, Err, OnOk, IfOk}
+use Rattle.std.specs.Prelude.{◌≡◌, Option, None, Result, Ok, Err, OnOk, IfOk, IfErr, IsOkUnless}
+use Rattle.std.proofs.Common.{sym, subst}
+use Rattle.otel_common.specs.declared.faults.Fault.{Fault}
+use Rattle.otel_common.specs.declared.faults.Fault.TheVariants as fault
+use Rattle.otel_model.specs.Calls as model
+use Rattle.otel_provider.specs.States.{IsFault}
 
 pub OnOk-weaker : {T E : Type 0} (r : Result T E) {P Q : Type 0} → (P → Q) → OnOk r P → OnOk r Q
 OnOk-weaker (Ok x) f p = f p
 OnOk-weaker (Err e) f p = p
+
+pub IfOk-weaker : {T E : Type 0} (r : Result T E) {P Q : T → Type 0} → ((x : T) → P x → Q x) → IfOk r P → IfOk r Q
+IfOk-weaker (Ok x) f p = f x p
+IfOk-weaker (Err e) f p = p
+
+-- a call that is refused for memory alone, where no other fault stands
+pub IfErr-memory : {T : Type 0} (r : Result T Fault) (o : Option model.Fault) → o ≡ None → IsOkUnless r fault.OutOfMemory → IfErr r (IsFault o)
+IfErr-memory (Ok x) o none h = tt
+IfErr-memory (Err e) o none h = let P : Fault → Type 0 = λ f. IsFault o f in subst P (sym h) none

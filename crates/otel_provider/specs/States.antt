@@ -1,17 +1,22 @@
 -- The state of a provider in the words of the model, and what a call does to it.
-use Rattle.std.specs.Prelude.{◌≡◌, ℕ, false, cond, List, [], map, length, Option, None, Some}
+use Rattle.std.specs.Prelude.{◌≡◌, ◌<◌, ℕ, false, cond, List, [], ◌∷◌, ◌++◌, map, length, slice_get, Option, None, Some}
 use Rattle.otel_common.specs.declared.faults.Fault.{Fault}
 use Rattle.otel_common.specs.declared.faults.Fault.TheVariants as fault
 use Rattle.otel_common.specs.declared.scopes.InstrumentationScope.{InstrumentationScope}
 use Rattle.otel_model.specs.Calls as model
 use Rattle.otel_model.specs.Demands.{is_good}
 use Rattle.otel_model.specs.Resources.{empty_resource}
-use Rattle.otel_model.specs.State.{InstrumentState, Shared, State}
-use Rattle.otel_model.specs.Refusals.{refusal}
+use Rattle.otel_model.specs.State.{InstrumentState, Shared, ReaderPart, State}
+use Rattle.otel_model.specs.Machine as machine
+use Rattle.otel_model.specs.Refusals.{refusal, meter_refusal, record_refusal}
+use Rattle.otel_model.specs.Sent.{scope_of}
 use Rattle.otel_model.specs.Steps.{reply_of, after}
 use Rattle.otel_provider.specs.Identities.{demand_by}
+use Rattle.otel_provider.specs.Instruments.{new_state}
 use Rattle.otel_provider.specs.Pipelines.{Piped, part_of}
-use Rattle.otel_provider.specs.Shown.{about}
+use Rattle.otel_data.specs.declared.numbers.NumberValue.{NumberValue}
+use Rattle.otel_provider.specs.Shown.{about, number_of}
+use Rattle.otel_provider.specs.Streams.{amount}
 use Rattle.otel_provider.specs.declared.identity.Demand.{Demand}
 use Rattle.otel_provider.specs.declared.sorts.InstrumentSort.{InstrumentSort}
 
@@ -42,3 +47,41 @@ IsFaultOf st call f = IsFault (refusal st.shared (length st.readers) call) f
 abbrev pub wanted : Option InstrumentationScope → InstrumentSort → List ℕ → Option (List ℕ) → Option (List ℕ) → Option Demand
 wanted None sort name description unit = None
 wanted (Some scope) sort name description unit = cond (is_good (about sort name description unit)) (Some (demand_by scope sort name description unit)) None
+
+-- a fault other than want of memory
+abbrev pub IsNamed : Fault → Type 0
+IsNamed fault.OutOfMemory = ⊥
+IsNamed fault.UnknownMeter = Unit {0}
+IsNamed fault.UnknownInstrument = Unit {0}
+IsNamed fault.UnknownReader = Unit {0}
+IsNamed fault.WrongNumber = Unit {0}
+
+-- what a build of this demand leaves of the readers: what the model's leaves for any instrument that demands it
+abbrev pub AreBuilt : Option Demand → ℕ → List ReaderPart → List ReaderPart → Type 0
+AreBuilt demand now old new = (scope : Option InstrumentationScope) (sort : InstrumentSort) (name : List ℕ) (description unit : Option (List ℕ))
+    → demand ≡ wanted scope sort name description unit → new ≡ map (machine.built [] scope (about sort name description unit) now) old
+
+-- an instrument more, and at each reader the streams that its demand makes
+pub record IsBuilt (demand : Option Demand) (sort : InstrumentSort) (now : ℕ) (old new : State) : Type 0 where
+  pub shared : new.shared ≡ record old.shared { instruments = old.shared.instruments ++ new_state sort ∷ [] }
+  pub readers : AreBuilt demand now old.readers new.readers
+
+-- the scope that a build's meter has among these
+pub record IsScopeOf (meters : List InstrumentationScope) (meter : Option ℕ) (scope : Option InstrumentationScope) : Type 0 where
+  pub is : scope ≡ scope_of meters meter
+  pub known : (instruments : List InstrumentState) → meter_refusal (shared_of meters instruments) meter ≡ None
+
+-- there is no such meter
+pub record IsNoMeter (meters : List InstrumentationScope) (meter : Option ℕ) (f : Fault) : Type 0 where
+  pub is : f ≡ fault.UnknownMeter
+  pub unknown : (instruments : List InstrumentState) → meter_refusal (shared_of meters instruments) meter ≡ Some model.Fault.UnknownMeter
+
+-- a value of type `u64` with these bits
+abbrev pub IsNumber : NumberValue → ℕ → Type 0
+IsNumber value bits = number_of value ≡ record { signed = false; amount = amount bits }
+
+-- a value that the instrument of this number takes
+pub record IsValueFor (instruments : List InstrumentState) (instrument : ℕ) (value : NumberValue) (bits : ℕ) : Type 0 where
+  pub is : IsNumber value bits
+  pub there : instrument < length instruments
+  pub fits : record_refusal (slice_get instruments instrument) (number_of value).signed ≡ None

@@ -1,8 +1,16 @@
 //! The state of a provider: all of it that is no boxed object.
 
-ghost use Rattle.std.specs.Prelude.{◌≡◌, ◌++◌, ◌∷◌, [], true, Some, None, OnOk, OnErr, IfOk, IfErr, IsOkUnless};
+ghost use Rattle.std.specs.Prelude.{◌≡◌, ◌++◌, ◌∷◌, [], ℕ, List, Option, length, map, slice_get, Some, OnOk, OnErr, IfOk, IfErr, IsOkUnless, MatchResult};
+ghost use Rattle.std.specs.Option.{option_map};
+ghost use Rattle.otel_model.specs.Calls as model;
+ghost use Rattle.otel_model.specs.Demands.{is_good};
 ghost use Rattle.otel_model.specs.Machine.{new_state, new_part};
+ghost use Rattle.otel_model.specs.Refusals.{record_refusal};
 ghost use Rattle.otel_model.specs.Resources.{empty_resource};
+ghost use Rattle.otel_model.specs.Steps.{Step, Run};
+ghost use Rattle.otel_provider.specs.Shown.{about, number_of, call_of, reply_of, collection_of};
+ghost use Rattle.otel_provider.specs.States.{IsMade, IsFault, IsFaultOf, IsNamed, IsBuilt, IsScopeOf, IsNoMeter, IsValueFor, wanted};
+ghost use Rattle.otel_provider.specs.declared.sorts.InstrumentSort.{InstrumentSort};
 ghost use Rattle.otel_provider.specs.Streams.{cumulative_row};
 
 use crate::calls::{Call, Reply};
@@ -11,7 +19,7 @@ use crate::identity::Demand;
 use crate::instrument::Instrument;
 use crate::meter::{validate_instrument_name, validate_instrument_unit};
 use crate::pipeline::Pipeline;
-use crate::pipelines::{build_all, commit_all, plan_all, stage_all};
+use crate::pipelines::{build_or_none, record_or_none};
 use crate::sorts::InstrumentSort;
 use indexmap::IndexSet;
 use otel_common::attributes::KeyValue;
@@ -23,14 +31,6 @@ use otel_data::collections::ResourceMetrics;
 use otel_data::numbers::NumberValue;
 use std::alloc::Global;
 use std::marker::Model;
-
-/// What a build says of its instrument.
-pub(crate) struct About<'a> {
-    pub(crate) sort: InstrumentSort,
-    pub(crate) name: &'a StringValue,
-    pub(crate) description: &'a Option<StringValue>,
-    pub(crate) unit: &'a Option<StringValue>,
-}
 
 /// The meters, the instruments, and the streams of each reader.
 #[derive(Drop)]
@@ -50,7 +50,10 @@ impl Model for Core {
     ghost view = { λ c. state_of c.meters.keys c.instruments.items c.pipelines.items };
 }
 
-fn is_good(name: &StringValue, unit: &Option<StringValue>) -> bool {
+/// Whether the name and the unit of an instrument are good.
+fn is_good(name: &StringValue, unit: &Option<StringValue>) -> bool
+    ensures { (sort : InstrumentSort) (description : Option (List ℕ)) → result ≡ is_good (about sort name.now description unit.now) }
+{
     let unit = match unit {
         Some(unit) => Some(unit.as_str()),
         None => None,
@@ -62,7 +65,9 @@ fn is_good(name: &StringValue, unit: &Option<StringValue>) -> bool {
 fn scope_of(
     meters: &IndexSet<InstrumentationScope>,
     meter: Option<usize>,
-) -> Result<Option<&InstrumentationScope>, Fault> {
+) -> Result<Option<&InstrumentationScope>, Fault>
+    ensures { MatchResult result (λ scope. IsScopeOf meters.now.keys meter (option_map (λ s. s.now) scope)) (λ f. IsNoMeter meters.now.keys meter f) }
+{
     match meter {
         None => Ok(None),
         Some(number) => match meters.get_index(number) {
@@ -70,6 +75,45 @@ fn scope_of(
             None => Err(Fault::UnknownMeter),
         },
     }
+}
+
+/// What a build demands: nothing without a scope, or with a bad name or unit.
+fn demand_for(
+    alloc: Global,
+    scope: Option<&InstrumentationScope>,
+    sort: InstrumentSort,
+    name: &StringValue,
+    description: &Option<StringValue>,
+    unit: &Option<StringValue>,
+) -> Result<Option<Demand>, Fault>
+    ensures demand { IfOk result (λ d. d ≡ wanted (option_map (λ s. s.now) scope.entry) sort name.now description.now unit.now) }
+    ensures only_memory { IsOkUnless result Fault.OutOfMemory }
+{
+    let Some(scope) = scope else {
+        return Ok(None);
+    };
+    if !is_good(name, unit) {
+        return Ok(None);
+    }
+    Ok(Some(Demand::new(alloc, scope, sort, name, description, unit)?))
+}
+
+/// The value's bits, where it has the number type of the instrument.
+fn value_for(instruments: &[Instrument], instrument: usize, value: NumberValue) -> Result<u64, Fault>
+    ensures value { MatchResult result (IsValueFor instruments.now instrument value) (IsFault (record_refusal (slice_get instruments.now instrument) (number_of value).signed)) }
+    ensures named { IfErr result IsNamed }
+{
+    match instruments.get(instrument) {
+        Some(found) => found.bits_of(value),
+        None => Err(Fault::UnknownInstrument),
+    }
+}
+
+/// The streams of the reader of this number.
+fn pipeline_at(pipelines: &[Pipeline], reader: usize) -> Option<&Pipeline>
+    ensures { option_map (λ p. p.now) result ≡ slice_get pipelines.now reader }
+{
+    pipelines.get(reader)
 }
 
 impl Core {
@@ -94,11 +138,32 @@ impl Core {
         Ok(())
     }
 
-    fn meter(&mut self, scope: &InstrumentationScope) -> Result<usize, Fault> {
-        let (number, _) = self.meters.insert_full(copy_scope(scope)?)?;
+    /// The number of the meter of a scope, which is new if there was none.
+    fn meter(&mut self, scope: &InstrumentationScope) -> Result<usize, Fault>
+        ensures ok { IfOk result (λ n. IsMade self.old (model.Call.Meter scope.now) (model.Reply.Meter (Some n)) self.new) }
+        ensures err { OnErr result (self.new ≡ self.old) }
+        ensures only_memory { IsOkUnless result Fault.OutOfMemory }
+    {
+        let scope = copy_scope(scope)?;
+        let (number, _) = self.meters.insert_full(scope)?;
         Ok(number)
     }
 
+    /// Makes an instrument that demands this, or nothing, at all readers or at none.
+    fn make(&mut self, demand: Option<&Demand>, sort: InstrumentSort, now: u64) -> Result<usize, Fault>
+        ensures number { IfOk result (λ n. n ≡ length self.old.shared.instruments) }
+        ensures ok { OnOk result (IsBuilt (option_map (λ d. d.now) demand.entry) sort now self.old self.new) }
+        ensures err { OnErr result (self.new ≡ self.old) }
+        ensures only_memory { IsOkUnless result Fault.OutOfMemory }
+    {
+        self.instruments.reserve(1)?;
+        build_or_none(&mut self.pipelines, demand, now)?;
+        let number = self.instruments.len();
+        self.instruments.push_reserved(Instrument::new(sort));
+        Ok(number)
+    }
+
+    /// Builds an instrument.
     fn build(
         &mut self,
         meter: Option<usize>,
@@ -107,69 +172,112 @@ impl Core {
         description: &Option<StringValue>,
         unit: &Option<StringValue>,
         now: u64,
-    ) -> Result<usize, Fault> {
-        let scope = scope_of(&self.meters, meter)?;
-        let mut demand = None;
-        if let Some(scope) = scope {
-            if is_good(name, unit) {
-                demand = Some(Demand::new(self.alloc, scope, sort, name, description, unit)?);
-            }
-        }
-        self.instruments.reserve(1)?;
-        plan_all(&mut self.pipelines, demand.as_ref(), now)?;
-        build_all(&mut self.pipelines);
-        let number = self.instruments.len();
-        self.instruments.push_reserved(Instrument::new(sort));
-        Ok(number)
+    ) -> Result<usize, Fault>
+        ensures ok { IfOk result (λ n. IsMade self.old (model.Call.Build meter (about sort name.now description.now unit.now) now) (model.Reply.Instrument n) self.new) }
+        ensures err { OnErr result (self.new ≡ self.old) }
+        ensures fault { IfErr result (IsFaultOf self.old (model.Call.Build meter (about sort name.now description.now unit.now) now)) }
+    {
+        let scope = match scope_of(&self.meters, meter) {
+            Ok(scope) => scope,
+            Err(fault) => return Err(fault),
+        };
+        let demand = demand_for(self.alloc, scope, sort, name, description, unit)?;
+        self.make(demand.as_ref(), sort, now)
     }
 
-    fn record(&mut self, instrument: usize, value: NumberValue, attributes: &[KeyValue]) -> Result<(), Fault> {
-        let Some(found) = self.instruments.get(instrument) else {
-            return Err(Fault::UnknownInstrument);
+    /// Records a value with attributes at an instrument, in all the streams that it feeds or in none.
+    fn record(&mut self, instrument: usize, value: NumberValue, attributes: &[KeyValue]) -> Result<(), Fault>
+        ensures ok { OnOk result (IsMade self.old (model.Call.Record instrument (number_of value) attributes.now) model.Reply.Done self.new) }
+        ensures err { OnErr result (self.new ≡ self.old) }
+        ensures fault { IfErr result (IsFaultOf self.old (model.Call.Record instrument (number_of value) attributes.now)) }
+        ensures free { attributes.now ≡ [] → IfErr result IsNamed }
+    {
+        let value = match value_for(&self.instruments, instrument, value) {
+            Ok(value) => value,
+            Err(fault) => return Err(fault),
         };
-        let value = match (found.is_signed(), value) {
-            (false, NumberValue::U64(value)) => value,
-            _ => return Err(Fault::WrongNumber),
-        };
-        stage_all(&mut self.pipelines, instrument, attributes)?;
-        commit_all(&mut self.pipelines, instrument, value);
+        record_or_none(&mut self.pipelines, instrument, value, attributes)?;
         self.instruments[instrument].accept(value);
         Ok(())
     }
 
-    fn collect(&self, reader: usize, now: u64) -> Result<ResourceMetrics, Fault> {
-        match self.pipelines.get(reader) {
+    /// What a collection of a reader at a moment gives.
+    fn collect(&self, reader: usize, now: u64) -> Result<ResourceMetrics, Fault>
+        ensures ok { IfOk result (λ c. IsMade self.now (model.Call.Collect reader now []) (model.Reply.Collected (collection_of c)) self.now) }
+        ensures fault { IfErr result (IsFaultOf self.now (model.Call.Collect reader now [])) }
+    {
+        match pipeline_at(&self.pipelines, reader) {
             Some(pipeline) => pipeline.collect(&self.meters, now),
             None => Err(Fault::UnknownReader),
         }
     }
 
-    pub(crate) fn step(&mut self, call: &Call) -> Reply {
-        match call {
-            Call::Meter { scope } => match self.meter(scope) {
-                Ok(number) => Reply::Meter(Some(number)),
-                Err(fault) => Reply::Refused(fault),
-            },
-            Call::Build { meter, sort, name, description, unit, now } => {
-                match self.build(*meter, *sort, name, description, unit, *now) {
-                    Ok(number) => Reply::Instrument(number),
-                    Err(fault) => Reply::Refused(fault),
-                }
-            }
-            Call::Record { instrument, value, attributes } => {
-                match self.record(*instrument, *value, attributes.as_slice()) {
-                    Ok(()) => Reply::Done,
-                    Err(fault) => Reply::Refused(fault),
-                }
-            }
-            Call::Collect { reader, now } => match self.collect(*reader, *now) {
-                Ok(metrics) => Reply::Collected(metrics),
-                Err(fault) => Reply::Refused(fault),
-            },
+    fn step_meter(&mut self, scope: &InstrumentationScope) -> Reply
+        ensures { Step [] self.old (model.Call.Meter scope.now) (reply_of result) self.new }
+    {
+        match self.meter(scope) {
+            Ok(number) => Reply::Meter(Some(number)),
+            Err(fault) => Reply::Refused(fault),
         }
     }
 
-    pub(crate) fn run(&mut self, alloc: Global, calls: &[Call]) -> Result<Vec<Reply>, Fault> {
+    fn step_build(
+        &mut self,
+        meter: Option<usize>,
+        sort: InstrumentSort,
+        name: &StringValue,
+        description: &Option<StringValue>,
+        unit: &Option<StringValue>,
+        now: u64,
+    ) -> Reply
+        ensures { Step [] self.old (model.Call.Build meter (about sort name.now description.now unit.now) now) (reply_of result) self.new }
+    {
+        match self.build(meter, sort, name, description, unit, now) {
+            Ok(number) => Reply::Instrument(number),
+            Err(fault) => Reply::Refused(fault),
+        }
+    }
+
+    fn step_record(&mut self, instrument: usize, value: NumberValue, attributes: &[KeyValue]) -> Reply
+        ensures { Step [] self.old (model.Call.Record instrument (number_of value) attributes.now) (reply_of result) self.new }
+    {
+        match self.record(instrument, value, attributes) {
+            Ok(()) => Reply::Done,
+            Err(fault) => Reply::Refused(fault),
+        }
+    }
+
+    fn step_collect(&self, reader: usize, now: u64) -> Reply
+        ensures { Step [] self.now (model.Call.Collect reader now []) (reply_of result) self.now }
+    {
+        match self.collect(reader, now) {
+            Ok(metrics) => Reply::Collected(metrics),
+            Err(fault) => Reply::Refused(fault),
+        }
+    }
+
+    /// One call.
+    pub(crate) fn step(&mut self, call: &Call) -> Reply
+        ensures { Step [] self.old (call_of call.now) (reply_of result) self.new }
+    {
+        match call {
+            Call::Meter { scope } => self.step_meter(scope),
+            Call::Build { meter, sort, name, description, unit, now } => {
+                self.step_build(*meter, *sort, name, description, unit, *now)
+            }
+            Call::Record { instrument, value, attributes } => {
+                self.step_record(*instrument, *value, attributes.as_slice())
+            }
+            Call::Collect { reader, now } => self.step_collect(*reader, *now),
+        }
+    }
+
+    /// A list of calls, one after another, with the reply to each.
+    pub(crate) fn run(&mut self, alloc: Global, calls: &[Call]) -> Result<Vec<Reply>, Fault>
+        ensures run { IfOk result (λ replies. Run [] self.old (map call_of calls.now) (map reply_of replies.items) self.new) }
+        ensures unmade { OnErr result (self.new ≡ self.old) }
+        ensures only_memory { IsOkUnless result Fault.OutOfMemory }
+    {
         let mut replies = Vec::with_capacity(alloc, calls.len())?;
         for call in calls {
             let reply = self.step(call);

@@ -1,11 +1,16 @@
 //! Instruments, as the provider keeps them.
 
-ghost use Rattle.std.specs.Prelude.{◌≡◌, pos};
+ghost use Rattle.std.specs.Prelude.{◌≡◌, Some, None, OnOk, IfErr, MatchResult};
 ghost use Rattle.otel_model.specs.Machine.{accepted};
+ghost use Rattle.otel_model.specs.Refusals.{record_refusal};
 ghost use Rattle.otel_provider.specs.Instruments.{new_state};
+ghost use Rattle.otel_provider.specs.Shown.{number_of};
+ghost use Rattle.otel_provider.specs.States.{IsFault, IsNamed, IsNumber};
 ghost use Rattle.otel_provider.specs.Streams.{amount};
 
 use crate::sorts::InstrumentSort;
+use otel_common::faults::Fault;
+use otel_data::numbers::NumberValue;
 use std::marker::Model;
 
 /// An instrument, and the number and the sum of the records that it accepted, both modulo 2^64.
@@ -37,11 +42,16 @@ impl Instrument {
         }
     }
 
-    /// Whether its values are `i64`.
-    pub(crate) fn is_signed(&self) -> bool
-        ensures { result ≡ self.now.signed }
+    /// The bits of a value, if it has the instrument's number type.
+    pub(crate) fn bits_of(&self, value: NumberValue) -> Result<u64, Fault>
+        ensures number { MatchResult result (IsNumber value) (IsFault (record_refusal (Some self.now) (number_of value).signed)) }
+        ensures named { IfErr result IsNamed }
+        ensures fits { OnOk result (record_refusal (Some self.now) (number_of value).signed ≡ None) }
     {
-        self.sort.is_signed()
+        match (self.sort, value) {
+            (InstrumentSort::U64Counter, NumberValue::U64(value)) => Ok(value),
+            (InstrumentSort::U64Counter, NumberValue::I64(_)) => Err(Fault::WrongNumber),
+        }
     }
 
     /// Counts a record.

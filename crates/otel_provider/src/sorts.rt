@@ -3,7 +3,7 @@
 ghost use Rattle.std.specs.Prelude.{◌≡◌};
 ghost use Rattle.std.specs.Cmp.{partial_equiv_from_equiv};
 ghost use Rattle.std.specs.Hash.{same_Alike};
-ghost use Rattle.otel_provider.specs.Sorts.{sort_number, is_signed, sort_eq, sort_eq-Decides, sort_eq_equiv, sort_writes};
+ghost use Rattle.otel_provider.specs.Sorts.{sort_number, sort_eq, sort_eq-Decides, sort_eq_equiv, sort_writes};
 
 use std::hash::{Hash, Hasher};
 
@@ -19,15 +19,6 @@ impl InstrumentSort {
     {
         match self {
             InstrumentSort::U64Counter => 0,
-        }
-    }
-
-    /// Whether the values are signed, `i64`, and not `u64`.
-    pub fn is_signed(self) -> bool
-        ensures { result ≡ is_signed self }
-    {
-        match self {
-            InstrumentSort::U64Counter => false,
         }
     }
 }
