@@ -38,3 +38,6 @@
 pub mod metrics;
 
 pub use otel_common::common;
+
+#[cfg(test)]
+mod tests;
