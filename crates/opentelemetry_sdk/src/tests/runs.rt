@@ -78,8 +78,8 @@ fn shared_streams(rt: HostRuntime) -> Result<(), Fail> {
     assert_replies(&rt, rt.alloc(), steps.as_slice())
 }
 
-/// The same scope gives the same meter. A collection has scopes in order of their meters, metrics in
-/// order of making, and no metric without points.
+/// The same scope gives the same meter, another version another one. A collection has scopes in order
+/// of their meters, metrics in order of making, and no metric without points.
 #[test]
 fn meters(rt: HostRuntime) -> Result<(), Fail> {
     let steps = [
@@ -95,9 +95,10 @@ fn meters(rt: HostRuntime) -> Result<(), Fail> {
         (Record(2, U64(1), &[]), "done"),
         (Record(0, U64(2), &[]), "done"),
         (Record(4, U64(4), &[]), "done"),
+        (Record(3, U64(8), &[]), "done"),
         (
             Collect(0, 200),
-            "collected | b z 100 200 - 4 | a z 100 200 - 2 | a x 100 200 - 1",
+            "collected | b z 100 200 - 4 | b z 100 200 - 8 | a z 100 200 - 2 | a x 100 200 - 1",
         ),
     ];
     assert_replies(&rt, rt.alloc(), steps.as_slice())
