@@ -1,0 +1,43 @@
+//! Metrics: a provider hands out meters, meters make instruments, instruments take in records, and
+//! each reader collects their sums as points by scope, metric and set of attributes.
+//!
+//! This crate gives the modules of the crates below under one roof:
+//!
+//! - [`common`]: attributes and their canonical sets, instrumentation scopes, faults;
+//! - [`metrics`]: the provider and its calls, readers, the data of a collection, aggregation.
+//!
+//! A provider is made by its builder, from readers in boxes. Then it is asked by calls, each of which
+//! is answered by a reply; a refused call changes nothing. A counter that takes in two records and is
+//! collected:
+//!
+//! ```
+//! let reader = Box::new(alloc, ManualReader::default())?;
+//! let mut provider = SdkMeterProvider::builder(alloc).with_reader(reader)?.build()?;
+//! let scope = InstrumentationScope::builder(alloc, String::from_str(alloc, "app")?).build()?;
+//! let calls = vec![in alloc;
+//!     Call::Meter { scope },
+//!     Call::Build {
+//!         meter: Some(0),
+//!         sort: InstrumentSort::U64Counter,
+//!         name: StringValue::new(alloc, "requests")?,
+//!         description: None,
+//!         unit: None,
+//!         now: 100,
+//!     },
+//!     Call::Record { instrument: 0, value: NumberValue::U64(3), attributes: Items::from(Vec::new(alloc)) },
+//!     Call::Record { instrument: 0, value: NumberValue::U64(4), attributes: Items::from(Vec::new(alloc)) },
+//!     Call::Collect { reader: 0, now: 200 }
+//! ]?;
+//! let replies = provider.run(alloc, calls.as_slice())?;
+//! ```
+//!
+//! The replies are `Meter(Some(0))`, `Instrument(0)`, `Done`, `Done` and `Collected(..)`, whose only
+//! point has the value 7.
+#![tactic(auto)]
+
+pub mod metrics;
+
+pub use otel_common::common;
+
+#[cfg(test)]
+mod tests;

@@ -1,0 +1,6 @@
+//! The provider, what it is asked and what it answers.
+
+pub use otel_data::numbers::NumberValue;
+pub use otel_provider::calls::{Call, Reply};
+pub use otel_provider::provider::{MeterProviderBuilder, SdkMeterProvider};
+pub use otel_provider::sorts::InstrumentSort;

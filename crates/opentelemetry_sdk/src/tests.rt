@@ -1,0 +1,6 @@
+//! Tests that cross the crates.
+
+mod calls;
+mod replies;
+mod runs;
+mod texts;

@@ -1,0 +1,206 @@
+//! Runs as tables: steps, and beside each the text of its reply.
+
+use crate::common::{Array, InstrumentationScope, Items, Key, KeyValue, StringValue, Value};
+use crate::metrics::data::{
+    AggregatedMetrics, Metric, MetricData, ResourceMetrics, ScopeMetrics, Sum,
+};
+use crate::metrics::provider::{Call, InstrumentSort, NumberValue, Reply};
+use crate::metrics::{ManualReader, SdkMeterProvider};
+use std::alloc::Global;
+use std::process::Abort;
+use std::slice::Iter;
+use std::test::Fail;
+
+/// A call, written short.
+#[derive(Drop)]
+pub enum Step<'a> {
+    /// The meter of the scope of this name and version.
+    Meter(&'a str, Option<&'a str>),
+    /// A counter of this meter and name, made at 100.
+    Build(Option<usize>, &'a str),
+    /// A record at this instrument, with these attributes.
+    Record(usize, NumberValue, &'a [(&'a str, i64)]),
+    /// A collection of this reader at this moment.
+    Collect(usize, u64),
+}
+
+/// A text as a value.
+pub fn text(alloc: Global, text: &str) -> Result<StringValue, Fail> {
+    Ok(StringValue::new(alloc, text)?)
+}
+
+/// Values of all kinds, of which no two are equal.
+pub fn values(alloc: Global) -> Result<Vec<Value>, Fail> {
+    let texts = vec![in alloc; text(alloc, "1")?]?;
+    let values = vec![in alloc;
+        Value::Bool(true),
+        Value::Bool(false),
+        Value::I64(1),
+        Value::I64(0),
+        Value::String(text(alloc, "1")?),
+        Value::Array(Array::Bool(Items::from([true].to_vec(alloc)?))),
+        Value::Array(Array::I64(Items::from([1].to_vec(alloc)?))),
+        Value::Array(Array::String(Items::from(texts))),
+        Value::Array(Array::I64(Items::from(Vec::new(alloc)))),
+    ]?;
+    Ok(values)
+}
+
+/// The attributes of these keys and values.
+pub fn attributes(alloc: Global, pairs: &[(&str, i64)]) -> Result<Vec<KeyValue>, Fail> {
+    let mut attributes = Vec::new(alloc);
+    for (key, value) in pairs {
+        attributes.push(KeyValue::new(Key::new(alloc, key)?, Value::I64(*value)))?;
+    }
+    Ok(attributes)
+}
+
+/// The scope of this name and version.
+pub fn scope(
+    alloc: Global,
+    name: &str,
+    version: Option<&str>,
+) -> Result<InstrumentationScope, Fail> {
+    let mut builder = InstrumentationScope::builder(alloc, String::from_str(alloc, name)?);
+    if let Some(version) = version {
+        builder = builder.with_version(String::from_str(alloc, version)?);
+    }
+    Ok(builder.build()?)
+}
+
+/// The call that a step stands for.
+pub fn call_of(alloc: Global, step: &Step<'_>) -> Result<Call, Fail> {
+    match step {
+        Step::Meter(name, version) => Ok(Call::Meter {
+            scope: scope(alloc, name, *version)?,
+        }),
+        Step::Build(meter, name) => Ok(Call::Build {
+            meter: *meter,
+            sort: InstrumentSort::U64Counter,
+            name: text(alloc, name)?,
+            description: None,
+            unit: None,
+            now: 100,
+        }),
+        Step::Record(instrument, value, pairs) => Ok(Call::Record {
+            instrument: *instrument,
+            value: *value,
+            attributes: Items::from(attributes(alloc, pairs)?),
+        }),
+        Step::Collect(reader, now) => Ok(Call::Collect {
+            reader: *reader,
+            now: *now,
+        }),
+    }
+}
+
+/// Attributes as text, joined by commas; `-` for none.
+pub fn write_attributes(text: &mut String, attributes: Iter<'_, KeyValue>) -> Result<(), Fail> {
+    if attributes.len() == 0 {
+        text.push_str("-")?;
+    }
+    for (index, attribute) in attributes.enumerate() {
+        if index > 0 {
+            text.push_str(",")?;
+        }
+        let key = attribute.key.as_str();
+        match &attribute.value {
+            Value::Bool(value) => write!(text, "{key}={value}")?,
+            Value::I64(value) => write!(text, "{key}={value}")?,
+            Value::String(value) => write!(text, "{key}={}", value.as_str())?,
+            Value::Array(value) => write!(text, "{key}={value:?}")?,
+        }
+    }
+    Ok(())
+}
+
+/// Adds a text for each point of a sum: this start, and its moments, attributes and value.
+fn push_points(
+    alloc: Global,
+    points: &mut Vec<String>,
+    start: &str,
+    sum: &Sum<u64>,
+) -> Result<(), Fail> {
+    for point in sum.data_points() {
+        let mut text = String::from_str(alloc, start)?;
+        write!(text, "{} {} ", sum.start_time(), sum.time())?;
+        write_attributes(&mut text, point.attributes())?;
+        write!(text, " {}", point.value())?;
+        points.push(text)?;
+    }
+    Ok(())
+}
+
+/// Adds a text for each point of a metric.
+fn push_metric(
+    alloc: Global,
+    points: &mut Vec<String>,
+    scope: &InstrumentationScope,
+    metric: &Metric,
+) -> Result<(), Fail> {
+    let AggregatedMetrics::U64(MetricData::Sum(sum)) = metric.data();
+    let start = format!(in alloc; "{} {} ", scope.name(), metric.name())?;
+    push_points(alloc, points, start.as_str(), sum)
+}
+
+/// Adds a text for each point of a scope.
+fn push_scope(alloc: Global, points: &mut Vec<String>, scope: &ScopeMetrics) -> Result<(), Fail> {
+    for metric in scope.metrics() {
+        push_metric(alloc, points, scope.scope(), metric)?;
+    }
+    Ok(())
+}
+
+/// A text for each point of a collection, in order.
+pub fn points_of(alloc: Global, collected: &ResourceMetrics) -> Result<Vec<String>, Fail> {
+    let mut points = Vec::new(alloc);
+    for scope in collected.scope_metrics() {
+        push_scope(alloc, &mut points, scope)?;
+    }
+    Ok(points)
+}
+
+/// A reply as text; the points of a collection stand behind strokes.
+pub fn text_of(alloc: Global, reply: &Reply) -> Result<String, Fail> {
+    match reply {
+        Reply::Meter(Some(number)) => Ok(format!(in alloc; "meter {number}")?),
+        Reply::Meter(None) => Ok(String::from_str(alloc, "meter none")?),
+        Reply::Instrument(number) => Ok(format!(in alloc; "instrument {number}")?),
+        Reply::Done => Ok(String::from_str(alloc, "done")?),
+        Reply::Refused(fault) => Ok(format!(in alloc; "refused {}", fault.number())?),
+        Reply::Collected(collected) => {
+            let mut text = String::from_str(alloc, "collected")?;
+            for point in points_of(alloc, collected)? {
+                write!(text, " | {}", point.as_str())?;
+            }
+            Ok(text)
+        }
+    }
+}
+
+/// The replies of a new provider with one reader.
+pub fn replies_of(alloc: Global, steps: &[(Step<'_>, &str)]) -> Result<Vec<Reply>, Fail> {
+    let mut calls = Vec::new(alloc);
+    for (step, _) in steps {
+        calls.push(call_of(alloc, step)?)?;
+    }
+    let reader = Box::new(alloc, ManualReader::default())?;
+    let mut provider = SdkMeterProvider::builder(alloc)
+        .with_reader(reader)?
+        .build()?;
+    Ok(provider.run(alloc, calls.as_slice())?)
+}
+
+/// Runs the steps at a new provider with one reader, and asserts that each reply has its text.
+pub fn assert_replies(
+    rt: &impl Abort,
+    alloc: Global,
+    steps: &[(Step<'_>, &str)],
+) -> Result<(), Fail> {
+    let replies = replies_of(alloc, steps)?;
+    assert_eq!(rt; replies.len(), steps.len());
+    for (reply, (_, wanted)) in replies.iter().zip(steps) {
+        assert_eq!(rt; text_of(alloc, reply)?.as_str(), *wanted);
+    }
+    Ok(())
+}

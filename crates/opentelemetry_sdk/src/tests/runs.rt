@@ -1,0 +1,165 @@
+//! Runs of a provider.
+
+use super::replies::Step::{Build, Collect, Meter, Record};
+use super::replies::{assert_replies, call_of, points_of, replies_of, text_of};
+use crate::metrics::provider::NumberValue::{I64, U64};
+use crate::metrics::provider::Reply;
+use crate::metrics::{ManualReader, SdkMeterProvider};
+use std::test::Fail;
+
+#[test]
+fn row_10(rt: HostRuntime) -> Result<(), Fail> {
+    let steps = [
+        (Meter("app", None), "meter 0"),
+        (Build(Some(0), "requests"), "instrument 0"),
+        (Record(0, U64(1), &[("b", 1), ("a", 2)]), "done"),
+        (Record(0, U64(2), &[("a", 2), ("b", 1)]), "done"),
+        (Record(0, U64(4), &[("a", 2), ("a", 9), ("b", 1)]), "done"),
+        (
+            Collect(0, 200),
+            "collected | app requests 100 200 a=2,b=1 7",
+        ),
+    ];
+    assert_replies(&rt, rt.alloc(), steps.as_slice())
+}
+
+/// What is refused changes nothing.
+#[test]
+fn refusals(rt: HostRuntime) -> Result<(), Fail> {
+    let steps = [
+        (Build(Some(0), "early"), "refused 2"),
+        (Record(0, U64(1), &[]), "refused 3"),
+        (Meter("app", None), "meter 0"),
+        (Build(Some(0), "requests"), "instrument 0"),
+        (Record(0, U64(1), &[("a", 1)]), "done"),
+        (Build(Some(1), "late"), "refused 2"),
+        (Record(1, U64(2), &[("a", 1)]), "refused 3"),
+        (Record(1, I64(2), &[("a", 1)]), "refused 3"),
+        (Record(0, I64(4), &[("a", 1)]), "refused 6"),
+        (Record(0, I64(8), &[("b", 1)]), "refused 6"),
+        (Collect(1, 150), "refused 5"),
+        (Collect(0, 200), "collected | app requests 100 200 a=1 1"),
+    ];
+    assert_replies(&rt, rt.alloc(), steps.as_slice())
+}
+
+/// Without a meter, or with a bad name, an instrument ignores its records.
+#[test]
+fn ignored(rt: HostRuntime) -> Result<(), Fail> {
+    let steps = [
+        (Meter("app", None), "meter 0"),
+        (Build(None, "requests"), "instrument 0"),
+        (Build(Some(0), "_requests"), "instrument 1"),
+        (Build(Some(0), ""), "instrument 2"),
+        (Record(0, U64(1), &[]), "done"),
+        (Record(1, U64(2), &[("a", 1)]), "done"),
+        (Record(2, I64(4), &[]), "refused 6"),
+        (Collect(0, 200), "collected"),
+    ];
+    assert_replies(&rt, rt.alloc(), steps.as_slice())
+}
+
+/// Builds whose names differ in the case of ASCII letters share a stream, spelled as by the first.
+#[test]
+fn shared_streams(rt: HostRuntime) -> Result<(), Fail> {
+    let steps = [
+        (Meter("app", None), "meter 0"),
+        (Build(Some(0), "Requests"), "instrument 0"),
+        (Build(Some(0), "requestS"), "instrument 1"),
+        (Record(1, U64(1), &[("a", 1)]), "done"),
+        (Record(0, U64(2), &[("a", 1)]), "done"),
+        (Collect(0, 200), "collected | app Requests 100 200 a=1 3"),
+        (Record(1, U64(4), &[]), "done"),
+        (
+            Collect(0, 300),
+            "collected | app Requests 100 300 - 4 | app Requests 100 300 a=1 3",
+        ),
+    ];
+    assert_replies(&rt, rt.alloc(), steps.as_slice())
+}
+
+/// The same scope gives the same meter, another version another one. A collection has scopes in order
+/// of their meters, metrics in order of making, and no metric without points.
+#[test]
+fn meters(rt: HostRuntime) -> Result<(), Fail> {
+    let steps = [
+        (Meter("b", None), "meter 0"),
+        (Meter("b", Some("1")), "meter 1"),
+        (Meter("a", None), "meter 2"),
+        (Meter("b", None), "meter 0"),
+        (Build(Some(2), "z"), "instrument 0"),
+        (Build(Some(2), "y"), "instrument 1"),
+        (Build(Some(2), "x"), "instrument 2"),
+        (Build(Some(1), "z"), "instrument 3"),
+        (Build(Some(0), "z"), "instrument 4"),
+        (Record(2, U64(1), &[]), "done"),
+        (Record(0, U64(2), &[]), "done"),
+        (Record(4, U64(4), &[]), "done"),
+        (Record(3, U64(8), &[]), "done"),
+        (
+            Collect(0, 200),
+            "collected | b z 100 200 - 4 | b z 100 200 - 8 | a z 100 200 - 2 | a x 100 200 - 1",
+        ),
+    ];
+    assert_replies(&rt, rt.alloc(), steps.as_slice())
+}
+
+/// The 2001st set and those after it go to the overflow point; a set that has a point keeps it.
+#[test]
+fn overflow(rt: HostRuntime) -> Result<(), Fail> {
+    let reader = Box::new(rt.alloc(), ManualReader::default())?;
+    let mut provider = SdkMeterProvider::builder(rt.alloc())
+        .with_reader(reader)?
+        .build()?;
+    for step in [Meter("app", None), Build(Some(0), "requests")] {
+        let _ = provider.step(&call_of(rt.alloc(), &step)?);
+    }
+    for number in 0..2002 {
+        let attributes = [("number", number)];
+        let call = call_of(rt.alloc(), &Record(0, U64(1), attributes.as_slice()))?;
+        let reply = provider.step(&call);
+        assert!(rt; matches!(reply, Reply::Done));
+    }
+    let _ = provider.step(&call_of(rt.alloc(), &Record(0, U64(4), &[("number", 0)]))?);
+    let Reply::Collected(collected) = provider.step(&call_of(rt.alloc(), &Collect(0, 200))?) else {
+        return Err("no collection".into());
+    };
+    let points = points_of(rt.alloc(), &collected)?;
+    assert_eq!(rt; points.len(), 2001);
+    assert_eq!(rt; points[0].as_str(), "app requests 100 200 number=0 5");
+    assert_eq!(rt; points[1999].as_str(), "app requests 100 200 number=1999 1");
+    assert_eq!(rt;
+        points[2000].as_str(),
+        "app requests 100 200 otel.metric.overflow=true 2"
+    );
+    Ok(())
+}
+
+/// A call for which memory is refused is as if it had not been made, whichever call it is. Memory is
+/// refused by hand: `rt try --test --fail-alloc N`.
+#[test]
+fn refused_memory(rt: HostRuntime) -> Result<(), Fail> {
+    let steps = [
+        (Meter("app", None), "meter 0"),
+        (Build(Some(0), "requests"), "instrument 0"),
+        (Record(0, U64(1), &[("a", 1)]), "done"),
+        (Record(0, U64(2), &[]), "done"),
+        (Record(0, U64(4), &[("b", 1)]), "done"),
+        (Collect(0, 200), "collected"),
+    ];
+    let mut replies = String::new(rt.alloc());
+    for reply in replies_of(rt.alloc(), steps.as_slice())? {
+        write!(replies, "{};", text_of(rt.alloc(), &reply)?.as_str())?;
+    }
+    let outcomes = [
+        "meter 0;instrument 0;done;done;done;collected | app requests 100 200 - 2 | app requests 100 200 a=1 1 | app requests 100 200 b=1 4;",
+        "refused 1;refused 2;refused 3;refused 3;refused 3;collected;",
+        "meter 0;refused 1;refused 3;refused 3;refused 3;collected;",
+        "meter 0;instrument 0;refused 1;done;done;collected | app requests 100 200 - 2 | app requests 100 200 b=1 4;",
+        "meter 0;instrument 0;done;done;refused 1;collected | app requests 100 200 - 2 | app requests 100 200 a=1 1;",
+        "meter 0;instrument 0;done;done;done;refused 1;",
+    ];
+    let known = outcomes.iter().any(|outcome| replies.as_str() == *outcome);
+    assert!(rt; known, "replies {}", replies.as_str());
+    Ok(())
+}
