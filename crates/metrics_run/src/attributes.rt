@@ -6,8 +6,7 @@ ghost use Rattle.metrics_run.specs.Attributes.{IsAttributeWord, IsValueWord, Rea
 use crate::numbers::signed;
 use crate::refusals::Refusal;
 use crate::texts::unescaped;
-use otel_common::attributes::{KeyValue, Value};
-use otel_common::keys::Key;
+use opentelemetry_sdk::common::{Key, KeyValue, Value};
 use std::alloc::Global;
 
 /// The attributes of a word: `-` for none, else pairs with commas between them.

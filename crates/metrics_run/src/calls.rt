@@ -9,10 +9,8 @@ use crate::attributes::attributes_of;
 use crate::numbers::{index, unsigned, value};
 use crate::refusals::Refusal;
 use crate::texts::text_of_word;
-use otel_common::scopes::InstrumentationScope;
-use otel_common::strings::StringValue;
-use otel_provider::calls::Call;
-use otel_provider::sorts::InstrumentSort;
+use opentelemetry_sdk::common::{InstrumentationScope, StringValue};
+use opentelemetry_sdk::metrics::provider::{Call, InstrumentSort};
 use std::alloc::Global;
 
 /// The call that the words of a line ask for.

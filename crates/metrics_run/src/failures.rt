@@ -4,7 +4,7 @@ ghost use Rattle.std.specs.Prelude.{◌≡◌};
 ghost use Rattle.metrics_run.specs.Failures.{status_of};
 ghost use Rattle.metrics_run.specs.declared.failures.Failure.TheVariants.{OutOfMemory};
 
-use otel_common::faults::Fault;
+use opentelemetry_sdk::common::Fault;
 use std::alloc::{AllocError, AllocFailed};
 use thiserror::Error;
 

@@ -5,7 +5,7 @@ ghost use Rattle.std.specs.Str.Parse.{digits_value, signed_digits_value};
 ghost use Rattle.metrics_run.specs.Numbers.{IsUnsigned, IsSigned, IsNumberWord};
 
 use crate::refusals::Refusal;
-use otel_data::numbers::NumberValue;
+use opentelemetry_sdk::metrics::provider::NumberValue;
 
 /// A number without a sign.
 pub fn unsigned(word: &str) -> Result<u64, Refusal>

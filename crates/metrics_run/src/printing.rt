@@ -1,11 +1,11 @@
 //! What a script prints: a line for each reply, and one for each point.
 
-use otel_common::attributes::{Array, KeyValue, Value};
-use otel_common::metrics::Temporality;
-use otel_data::aggregated::{AggregatedMetrics, MetricData};
-use otel_data::collections::{Metric, ResourceMetrics, ScopeMetrics};
-use otel_data::sums::Sum;
-use otel_provider::calls::Reply;
+use opentelemetry_sdk::common::{Array, KeyValue, Value};
+use opentelemetry_sdk::metrics::Temporality;
+use opentelemetry_sdk::metrics::data::{
+    AggregatedMetrics, Metric, MetricData, ResourceMetrics, ScopeMetrics, Sum,
+};
+use opentelemetry_sdk::metrics::provider::Reply;
 use percent_encoding::{AsciiSet, CONTROLS, PercentEncode, ascii_set, utf8_percent_encode};
 use std::fmt::Display;
 use std::io;

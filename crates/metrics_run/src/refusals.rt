@@ -4,7 +4,7 @@ ghost use Rattle.metrics_run.specs.declared.refusals.Refusal.TheVariants.{OutOfM
 ghost use Rattle.metrics_run.specs.Refusals.{refusal_of_decoding};
 ghost use Rattle.std.specs.Prelude.{◌≡◌};
 
-use otel_common::faults::Fault;
+use opentelemetry_sdk::common::Fault;
 use percent_encoding::DecodeError;
 use std::alloc::{AllocError, AllocFailed};
 

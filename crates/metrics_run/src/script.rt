@@ -3,8 +3,8 @@
 use crate::failures::Failure;
 use crate::printing::write_reply;
 use crate::scripts::{Script, script_of};
-use otel_provider::calls::Reply;
-use otel_provider::provider::SdkMeterProvider;
+use opentelemetry_sdk::metrics::SdkMeterProvider;
+use opentelemetry_sdk::metrics::provider::Reply;
 use std::alloc::Global;
 use std::io::{BufWriter, ErrorKind, Read, Write};
 

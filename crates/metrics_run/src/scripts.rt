@@ -3,8 +3,8 @@
 use crate::calls::call_of;
 use crate::failures::Failure;
 use crate::refusals::Refusal;
-use otel_provider::calls::Call;
-use otel_stream::manual_reader::ManualReader;
+use opentelemetry_sdk::metrics::ManualReader;
+use opentelemetry_sdk::metrics::provider::Call;
 use std::alloc::{AllocError, Global};
 
 /// What a script asks for: the provider's reader, if it has one, and the calls.

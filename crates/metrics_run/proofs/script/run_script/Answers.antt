@@ -1,5 +1,5 @@
 use Rattle.std.proofs.Common.{◌≡◌, refl}
-use Rattle.metrics_run.proofs.Boxes.{at_entry}
+use Rattle.otel_stream.proofs.Boxes.{at_entry}
 use Rattle.otel_common.specs.declared.metrics.Temporality.TheVariants.{Cumulative}
 use Rattle.metrics_run.proofs.script.run_script.OwnLists.{own-1}
 use Rattle.metrics_run.proofs.script.run_script.Goals as goal

@@ -1,5 +1,5 @@
 use Rattle.std.proofs.Common.{◌≡◌, refl}
-use Rattle.opentelemetry_sdk.proofs.Boxes.{at_entry}
+use Rattle.otel_stream.proofs.Boxes.{at_entry}
 use Rattle.otel_common.specs.declared.metrics.Temporality.TheVariants.{Cumulative}
 use Rattle.opentelemetry_sdk.proofs.tests.replies.replies_of.OwnLists.{own-1}
 use Rattle.opentelemetry_sdk.proofs.tests.replies.replies_of.Goals as goal
