@@ -8,7 +8,7 @@ use std::alloc::{AllocError, AllocFailed};
 use thiserror::Error;
 
 /// Why a call was refused. A refused call changes nothing.
-#[derive(Debug, Drop, Error)]
+#[derive(Clone, Debug, Drop, Error)]
 pub enum Fault {
     /// A growth was refused in this call.
     #[error("out of memory")]

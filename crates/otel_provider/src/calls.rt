@@ -41,7 +41,7 @@ pub enum Call {
 }
 
 /// What a call is answered.
-#[derive(Debug, Drop)]
+#[derive(Clone, Debug, Drop)]
 pub enum Reply {
     /// The number of the meter.
     Meter(Option<usize>),

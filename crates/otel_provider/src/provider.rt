@@ -37,7 +37,7 @@ pub struct SdkMeterProvider {
 impl MeterProviderBuilder {
     /// Adds the reader. For now a provider has at most one, which answers `Cumulative` for every kind.
     ///
-    /// Refused only for want of memory; then the builder is given up.
+    /// Refused only for want of memory; then the builder is given up. Takes memory once at most.
     pub fn with_reader(self, reader: Box<dyn MetricReader>) -> Result<Self, Fault>
         requires first { rows_of self ≡ [] }
         requires cumulative { (kind : InstrumentKind) → ⟦<Box<dyn MetricReader> as MetricReader>⟧.preference reader kind ≡ Cumulative }
@@ -52,7 +52,8 @@ impl MeterProviderBuilder {
 
     /// The provider, without meters and instruments, and with the readers of the builder.
     ///
-    /// Refused only for want of memory; then the builder is given up.
+    /// Refused only for want of memory; then the builder is given up. Takes memory once at most, and time
+    /// as the number of readers.
     pub fn build(self) -> Result<SdkMeterProvider, Fault>
         ensures state { IfOk result (λ p. state_of p ≡ new_state empty_resource 0 (rows_of self)) }
         ensures only_memory { IsOkUnless result Fault.OutOfMemory }
@@ -74,7 +75,18 @@ impl SdkMeterProvider {
         }
     }
 
-    /// One call.
+    /// One call, and its reply. A call that is refused changes nothing; `OutOfMemory` only comes where no
+    /// other fault stands.
+    ///
+    /// - `Meter` copies the scope and looks it up once.
+    /// - `Build` copies scope and texts, and at each reader looks up the identity once. It is made at all
+    ///   readers or at none.
+    /// - `Record` makes, in each stream that the instrument feeds, a canonical copy of the attributes, so a
+    ///   sort of them by key, and looks it up once; a set that is new takes memory besides. Without
+    ///   attributes it takes no memory and no look-up, and is never refused for memory. It is made in all
+    ///   streams or in none.
+    /// - `Collect` goes over the reader's streams once for each meter, and copies each set that is shown.
+    ///   It changes nothing.
     pub fn step(&mut self, call: &Call) -> Reply
         ensures step { Step [] (state_of self.old) (call_of call.now) (reply_of result) (state_of self.new) }
         ensures balances { Balances (state_of self.new) }
@@ -82,9 +94,13 @@ impl SdkMeterProvider {
         self.core.step(call)
     }
 
-    /// A list of calls, one after another, with the reply to each.
+    /// A list of calls, one after another, with the reply to each. It costs what its calls do as steps.
     ///
-    /// Room for the replies is made first, so where this answers `OutOfMemory` no call was made.
+    /// Room for the replies is made first, in one piece. So where this answers `OutOfMemory` no call was
+    /// made, and else each call has its reply, also where it was refused.
+    ///
+    /// `run` says what is done, call by call; the clauses from `streams` on say, for a provider as `build`
+    /// gave it, what can be read off the calls and replies alone.
     pub fn run(&mut self, alloc: Global, calls: &[Call]) -> Result<Vec<Reply>, Fault>
         ensures run { IfOk result (λ replies. Run [] (state_of self.old) (map call_of calls.now) (map reply_of replies.items) (state_of self.new)) }
         ensures unmade { OnErr result (state_of self.new ≡ state_of self.old) }

@@ -23,9 +23,9 @@ loop-preserved c = record {
   within = omega (arith, c.loop-test.true);
   room = omega (arith, c.push_reserved.ensures.capacity, c.loop.invariant.room);
   parts = ap (map part_of) c.push_reserved.ensures.items
-    ∙ (map-append part_of c.loop.pipelines.items (c.new.result ∷ [])
-    ∙ ((λ i. c.loop.invariant.parts i ++ new-is c.new.result c.new.ensures.streams c.new.ensures.feeds i ∷ [])
-    ∙ replicate-append-replicate c.loop.counter 1 (new_part cumulative_row)));
+      ∙ (map-append part_of c.loop.pipelines.items (c.new.result ∷ [])
+      ∙ ((λ i. c.loop.invariant.parts i ++ new-is c.new.result c.new.ensures.streams c.new.ensures.feeds i ∷ [])
+      ∙ replicate-append-replicate c.loop.counter 1 (new_part cumulative_row)));
 }
 
 pub returns-clause-parts : goal.returns-clause-parts
