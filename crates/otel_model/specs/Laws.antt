@@ -199,3 +199,8 @@ IsAllShown = (views : Views) (row : Row) (r : ℕ) (d : Demand) (calls : List Ca
 abbrev pub ArePointsFew : Type 0
 ArePointsFew = (views : Views) (row : Row) (r : ℕ) (d : Demand) (calls : List Call) (events : List Event)
     → length (differences row d (reported_of views row r d calls) (window_points row d (history views row r d calls ++ events))) ≤ d.limit + 2
+
+-- so at a collection that comes now
+abbrev pub HasFewPoints : OfReader
+HasFewPoints views resource calls replies new r row part = (d : Demand) (events : List Event)
+    → length (differences row d (reported_of views row r d (made calls replies)) (window_points row d (history views row r d (made calls replies) ++ events))) ≤ d.limit + 2

@@ -6,7 +6,8 @@ use Rattle.otel_model.specs.Laws.{OfReader, OfStream, OfEachReader, OfEachStream
 use Rattle.otel_model.specs.Resources.{Resource}
 use Rattle.otel_model.specs.State.{State}
 use Rattle.otel_model.specs.Steps.{Run}
-use Rattle.otel_provider.specs.Headline.{OfReaders, OfStreams, OfAnswers}
+use Rattle.otel_model_laws.proofs.Reorder.{records_law}
+use Rattle.otel_provider.specs.Headline.{OfReaders, OfStreams, OfAnswers, InAnyOrder}
 use Rattle.otel_provider.specs.Shown.{call_of, reply_of}
 use Rattle.otel_provider.specs.declared.calls.Call.{Call}
 use Rattle.otel_provider.specs.declared.calls.Reply.{Reply}
@@ -32,3 +33,6 @@ pub of_answers : (P : Views → Resource → ℕ → List model.Call → List mo
     → IsRunOf old calls replies new → OfAnswers P old calls replies
 of_answers P law old new calls replies run resource identity rows fresh r row at =
     law [] resource identity rows (map call_of calls) (map reply_of replies) new (subst (λ st. IsRunOf st calls replies new) fresh run) r row at
+
+pub in_any_order : (old new : State) (calls : List Call) (replies : List Reply) → IsRunOf old calls replies new → InAnyOrder old calls replies new
+in_any_order old new calls replies run before later n v l m reordered is = records_law [] old new before later n v l m (map reply_of replies) reordered (subst (λ cs. Run [] old cs (map reply_of replies) new) is run)

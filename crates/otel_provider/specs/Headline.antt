@@ -1,11 +1,15 @@
 -- The laws of the model, said of a list of calls and its replies, for a provider as `build` gave it.
-use Rattle.std.specs.Prelude.{◌≡◌, ℕ, List, [], map, Some, slice_get}
+use Rattle.std.specs.Prelude.{◌≡◌, ℕ, List, [], ◌∷◌, ◌++◌, map, Some, slice_get}
+use Rattle.otel_common.specs.declared.attributes.KeyValue.{KeyValue}
 use Rattle.otel_model.specs.Calls as model
+use Rattle.otel_model.specs.Calls.{Number}
 use Rattle.otel_model.specs.Demands.{Row, Views}
 use Rattle.otel_model.specs.Laws.{OfReader, OfStream}
 use Rattle.otel_model.specs.Machine.{new_state}
 use Rattle.otel_model.specs.Resources.{Resource}
 use Rattle.otel_model.specs.State.{ReaderPart, State, Stream}
+use Rattle.otel_model.specs.Steps.{Run}
+use Rattle.otel_model_laws.specs.Orders.{IsReordered}
 use Rattle.otel_provider.specs.Shown.{call_of, reply_of}
 use Rattle.otel_provider.specs.declared.calls.Call.{Call}
 use Rattle.otel_provider.specs.declared.calls.Reply.{Reply}
@@ -29,3 +33,8 @@ OfStreams P = OfReaders (λ views resource calls replies new r row part.
 abbrev pub OfAnswers : (Views → Resource → ℕ → List model.Call → List model.Reply → ℕ → Row → Type 0) → State → List Call → List Reply → Type 0
 OfAnswers P old calls replies = FromBuilt old (λ resource identity rows.
     (r : ℕ) (row : Row) → slice_get rows r ≡ Some row → P [] resource identity (map call_of calls) (map reply_of replies) r row)
+
+-- the attributes of any of its records in another order, where no key stands twice: the same replies and state
+abbrev pub InAnyOrder : State → List Call → List Reply → State → Type 0
+InAnyOrder old calls replies new = (before later : List model.Call) (n : ℕ) (v : Number) (l m : List KeyValue) → IsReordered l m
+    → map call_of calls ≡ before ++ model.Record n v l ∷ later → Run [] old (before ++ model.Record n v m ∷ later) (map reply_of replies) new

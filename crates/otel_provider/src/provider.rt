@@ -3,12 +3,12 @@
 ghost use Rattle.std.specs.Prelude.{◌≡◌, ◌++◌, ◌∷◌, [], map, IfOk, OnErr, IsOkUnless};
 ghost use Rattle.otel_common.specs.declared.metrics.Temporality.TheVariants.{Cumulative};
 ghost use Rattle.otel_stream.specs.declared.instrument.InstrumentKind.{InstrumentKind};
-ghost use Rattle.otel_model.specs.Laws.{HasStreamsOfBuilds, HasFeedsOfBuilds, HasPlacesOfHistories, HasCountedOfHistories, IsGivenCollections, IsAnsweredAsOnly, HasRecordedTotal, HasExportedTotal, Conserves, HasAccepted};
+ghost use Rattle.otel_model.specs.Laws.{HasStreamsOfBuilds, HasFeedsOfBuilds, HasPlacesOfHistories, HasCountedOfHistories, IsGivenCollections, IsAnsweredAsOnly, HasRecordedTotal, HasExportedTotal, Conserves, HasAccepted, HasFewPoints};
 ghost use Rattle.otel_model.specs.Machine.{new_state};
 ghost use Rattle.otel_model.specs.Resources.{empty_resource};
 ghost use Rattle.otel_model.specs.Steps.{Step, Run};
 ghost use Rattle.otel_model_laws.specs.Lawful.{Balances};
-ghost use Rattle.otel_provider.specs.Headline.{OfReaders, OfStreams, OfAnswers};
+ghost use Rattle.otel_provider.specs.Headline.{OfReaders, OfStreams, OfAnswers, InAnyOrder};
 ghost use Rattle.otel_provider.specs.Providers.{state_of, rows_of};
 ghost use Rattle.otel_provider.specs.Shown.{call_of, reply_of};
 ghost use Rattle.otel_provider.specs.Streams.{cumulative_row};
@@ -112,10 +112,12 @@ impl SdkMeterProvider {
         ensures counted { IfOk result (λ replies. OfReaders HasCountedOfHistories (state_of self.old) calls.now replies.items (state_of self.new)) }
         ensures collections { IfOk result (λ replies. OfAnswers IsGivenCollections (state_of self.old) calls.now replies.items) }
         ensures only_reader { IfOk result (λ replies. OfAnswers IsAnsweredAsOnly (state_of self.old) calls.now replies.items) }
+        ensures order { IfOk result (λ replies. InAnyOrder (state_of self.old) calls.now replies.items (state_of self.new)) }
         ensures recorded { IfOk result (λ replies. OfStreams HasRecordedTotal (state_of self.old) calls.now replies.items (state_of self.new)) }
         ensures exported { IfOk result (λ replies. OfStreams HasExportedTotal (state_of self.old) calls.now replies.items (state_of self.new)) }
         ensures conserved { IfOk result (λ replies. OfStreams Conserves (state_of self.old) calls.now replies.items (state_of self.new)) }
         ensures accepted { IfOk result (λ replies. OfStreams HasAccepted (state_of self.old) calls.now replies.items (state_of self.new)) }
+        ensures few { IfOk result (λ replies. OfReaders HasFewPoints (state_of self.old) calls.now replies.items (state_of self.new)) }
     {
         self.core.run(alloc, calls)
     }
