@@ -19,7 +19,7 @@ cleared_steps f [] = refl
 cleared_steps f (v ∷ vs) = cleared_steps (recorded f v) vs ∙ cleared-recorded f v
 
 -- ======== the whole list ========
-length-counts_from : (a n : ℕ) (vs : List Sample) → length (counts_from a n vs) ≡ n
+pub length-counts_from : (a n : ℕ) (vs : List Sample) → length (counts_from a n vs) ≡ n
 length-counts_from a zero vs = refl
 length-counts_from a (suc n) vs = ap suc (length-counts_from (a + 1) n vs)
 

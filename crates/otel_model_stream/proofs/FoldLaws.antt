@@ -85,11 +85,11 @@ folded-push (Spreads s) vs v =
     (λ j. Spreads (record { has_min_max = s.has_min_max; has_sum = s.has_sum; count = count j; sum = sum j; least = least j; greatest = greatest j; counts = counts j }))
 
 -- ======== no records ========
-no_counts : (a n : ℕ) → counts_from a n [] ≡ replicate n 0
+pub no_counts : (a n : ℕ) → counts_from a n [] ≡ replicate n 0
 no_counts a zero = refl
 no_counts a (suc n) = ap (λ l. 0 ∷ l) (no_counts (a + 1) n)
 
-never : {A : Type 0} (b : Bool) (x : A) → cond b x x ≡ x
+pub never : {A : Type 0} (b : Bool) (x : A) → cond b x x ≡ x
 never true x = refl
 never false x = refl
 

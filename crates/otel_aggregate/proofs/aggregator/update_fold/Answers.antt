@@ -1,6 +1,6 @@
 use Rattle.std.proofs.Common.{ap, sym, ◌∙◌}
 use Rattle.otel_model_stream.specs.Folds.{recorded}
-use Rattle.otel_aggregate.proofs.FoldLaws.{folded-push}
+use Rattle.otel_model_stream.proofs.FoldLaws.{folded-push}
 use Rattle.otel_aggregate.proofs.aggregator.update_fold.Goals as goal
 
 pub returns : goal.returns
