@@ -8,7 +8,6 @@ pub mod Metrics
 pub mod Outcomes
 pub mod PipelineLemmas
 pub mod PipelinesLemmas
-pub mod Pipes
 pub mod PlanLemmas
 pub mod Records
 pub mod Refused

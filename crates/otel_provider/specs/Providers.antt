@@ -1,15 +1,24 @@
 -- What a provider and its builder are in the words of the model.
-use Rattle.std.specs.Prelude.{List, map}
+use Rattle.std.specs.Prelude.{List}
+use Rattle.std.specs.Global.{Global}
+use Rattle.std.specs.declared.dyn_box.DynBox.{DynBox}
 use Rattle.otel_model.specs.Demands.{Row}
 use Rattle.otel_model.specs.State.{State}
-use Rattle.otel_provider.specs.Streams.{cumulative_row}
 use Rattle.otel_provider.specs.declared.provider.MeterProviderBuilder.{MeterProviderBuilder}
 use Rattle.otel_provider.specs.declared.provider.SdkMeterProvider.{SdkMeterProvider}
 
--- the rows of a builder's readers, which all answer `Cumulative` for now
+-- what a builder's readers answered for each kind
 abbrev pub rows_of : {V : Type 0} {H : V → Type 0} → MeterProviderBuilder V H → List Row
-rows_of b = map (λ _. cumulative_row) b.readers.items
+rows_of b = b.core
 
 -- a provider's state: all of it but the boxed readers
 abbrev pub state_of : {V : Type 0} {H : V → Type 0} → SdkMeterProvider V H → State
 state_of p = p.core
+
+-- the boxed readers of a builder
+abbrev pub boxes_of : {V : Type 0} {H : V → Type 0} → MeterProviderBuilder V H → List (DynBox V Global H)
+boxes_of b = b.readers.items
+
+-- the boxed readers of a provider
+abbrev pub kept_by : {V : Type 0} {H : V → Type 0} → SdkMeterProvider V H → List (DynBox V Global H)
+kept_by p = p.readers.items

@@ -1,14 +1,14 @@
 //! The state of a provider with what no call can break.
 
-ghost use Rattle.std.specs.Prelude.{◌≡◌, [], map, replicate, IfOk, OnErr, IsOkUnless};
+ghost use Rattle.std.specs.Prelude.{◌≡◌, [], map, IfOk, OnErr, IsOkUnless};
 ghost use Rattle.otel_model.specs.Machine.{new_state};
 ghost use Rattle.otel_model.specs.Resources.{empty_resource};
 ghost use Rattle.otel_model.specs.Steps.{Step, Run};
 ghost use Rattle.otel_model_laws.specs.Lawful.{Balances};
 ghost use Rattle.otel_provider.specs.Shown.{call_of, reply_of};
-ghost use Rattle.otel_provider.specs.Streams.{cumulative_row};
 
 use crate::calls::{Call, Reply};
+use crate::fresh::FreshCore;
 use crate::provider_core::Core;
 use otel_common::faults::Fault;
 use std::alloc::Global;
@@ -34,13 +34,13 @@ impl Model for BalancedCore {
 }
 
 impl BalancedCore {
-    /// No meters, no instruments, and this many readers.
-    pub(crate) fn new(alloc: Global, readers: usize) -> Result<BalancedCore, Fault>
-        ensures state { IfOk result (λ core. core ≡ new_state empty_resource 0 (replicate readers cumulative_row)) }
-        ensures only_memory { IsOkUnless result Fault.OutOfMemory }
+    /// The core before its first call.
+    pub(crate) fn new(fresh: FreshCore) -> BalancedCore
+        ensures { result ≡ new_state empty_resource 0 fresh }
     {
-        let core = Core::new(alloc, readers)?;
-        Ok(BalancedCore { core })
+        BalancedCore {
+            core: fresh.into_core(),
+        }
     }
 
     /// One call.

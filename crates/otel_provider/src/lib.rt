@@ -5,6 +5,7 @@ mod balanced;
 pub mod calls;
 mod collecting;
 mod copies;
+mod fresh;
 pub mod identity;
 mod instrument;
 pub mod meter;

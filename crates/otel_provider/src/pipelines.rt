@@ -1,30 +1,17 @@
 //! What is done to the streams of all readers, one reader after another.
 
-ghost use Rattle.std.specs.Prelude.{◌≡◌, [], false, All, map, replicate, IsOk, IfOk, OnOk, OnErr, IsOkUnless};
+ghost use Rattle.std.specs.Prelude.{◌≡◌, [], false, All, map, IsOk, OnOk, OnErr, IsOkUnless};
 ghost use Rattle.std.specs.Option.{option_map};
 ghost use Rattle.otel_model.specs.Calls as model;
-ghost use Rattle.otel_model.specs.Machine.{new_part, part_sent};
+ghost use Rattle.otel_model.specs.Machine.{part_sent};
 ghost use Rattle.otel_provider.specs.States.{AreBuilt};
-ghost use Rattle.otel_provider.specs.Streams.{amount, cumulative_row};
+ghost use Rattle.otel_provider.specs.Streams.{amount};
 ghost use Rattle.otel_provider.specs.Pipelines.{part_of, built, recorded, IsPlanned, IsReadyFor, IsStagedFor};
 
 use crate::identity::Demand;
 use crate::pipeline::Pipeline;
 use otel_common::attributes::KeyValue;
 use otel_common::faults::Fault;
-use std::alloc::Global;
-
-/// This many readers, without streams.
-pub(crate) fn new_pipelines(alloc: Global, readers: usize) -> Result<Vec<Pipeline>, Fault>
-    ensures parts { IfOk result (λ pipelines. map part_of pipelines.items ≡ replicate readers (new_part cumulative_row)) }
-    ensures only_memory { IsOkUnless result Fault.OutOfMemory }
-{
-    let mut pipelines = Vec::with_capacity(alloc, readers)?;
-    for _ in 0..readers {
-        pipelines.push_reserved(Pipeline::new(alloc));
-    }
-    Ok(pipelines)
-}
 
 /// Gets all readers ready for a build that demands this, or nothing. What they have stays as it was.
 fn plan_all(pipelines: &mut [Pipeline], demand: Option<&Demand>, now: u64) -> Result<(), Fault>

@@ -1,6 +1,6 @@
 //! The provider and its builder.
 
-ghost use Rattle.std.specs.Prelude.{◌≡◌, ◌++◌, ◌∷◌, [], map, IfOk, OnErr, IsOkUnless};
+ghost use Rattle.std.specs.Prelude.{◌≡◌, ◌++◌, ◌∷◌, [], map, IfOk, OnErr, IsOkAnd, IsOkUnless};
 ghost use Rattle.otel_common.specs.declared.metrics.Temporality.TheVariants.{Cumulative};
 ghost use Rattle.otel_stream.specs.declared.instrument.InstrumentKind.{InstrumentKind};
 ghost use Rattle.otel_model.specs.Laws.{HasStreamsOfBuilds, HasFeedsOfBuilds, HasPlacesOfHistories, HasCountedOfHistories, IsGivenCollections, IsAnsweredAsOnly, HasRecordedTotal, HasExportedTotal, Conserves, HasAccepted, HasFewPoints};
@@ -9,12 +9,13 @@ ghost use Rattle.otel_model.specs.Resources.{empty_resource};
 ghost use Rattle.otel_model.specs.Steps.{Step, Run};
 ghost use Rattle.otel_model_laws.specs.Lawful.{Balances};
 ghost use Rattle.otel_provider.specs.Headline.{OfReaders, OfStreams, OfAnswers, InAnyOrder};
-ghost use Rattle.otel_provider.specs.Providers.{state_of, rows_of};
+ghost use Rattle.otel_provider.specs.Providers.{state_of, rows_of, boxes_of, kept_by};
 ghost use Rattle.otel_provider.specs.Shown.{call_of, reply_of};
 ghost use Rattle.otel_provider.specs.Streams.{cumulative_row};
 
 use crate::balanced::BalancedCore;
 use crate::calls::{Call, Reply};
+use crate::fresh::FreshCore;
 use otel_common::faults::Fault;
 use otel_stream::reader::MetricReader;
 use std::alloc::Global;
@@ -22,7 +23,7 @@ use std::alloc::Global;
 /// Makes a provider: it collects the readers (Metrics SDK, "MeterProvider Creation").
 #[derive(Drop)]
 pub struct MeterProviderBuilder {
-    alloc: Global,
+    core: FreshCore,
     readers: Vec<Box<dyn MetricReader>>,
 }
 
@@ -37,29 +38,29 @@ pub struct SdkMeterProvider {
 impl MeterProviderBuilder {
     /// Adds the reader. For now a provider has at most one, which answers `Cumulative` for every kind.
     ///
-    /// Refused only for want of memory; then the builder is given up. Takes memory once at most.
+    /// Refused only for want of memory; then the builder is given up. Takes memory twice at most.
     pub fn with_reader(self, reader: Box<dyn MetricReader>) -> Result<Self, Fault>
         requires first { rows_of self ≡ [] }
         requires cumulative { (kind : InstrumentKind) → ⟦<Box<dyn MetricReader> as MetricReader>⟧.preference reader kind ≡ Cumulative }
         ensures rows { IfOk result (λ b. rows_of b ≡ rows_of self ++ cumulative_row ∷ []) }
+        ensures kept { IfOk result (λ b. boxes_of b ≡ boxes_of self ++ reader ∷ []) }
         ensures only_memory { IsOkUnless result Fault.OutOfMemory }
     {
-        let MeterProviderBuilder { alloc, readers } = self;
+        let MeterProviderBuilder { core, readers } = self;
+        let core = core.with_reader()?;
         let mut readers = readers;
         readers.push(reader)?;
-        Ok(MeterProviderBuilder { alloc, readers })
+        Ok(MeterProviderBuilder { core, readers })
     }
 
-    /// The provider, without meters and instruments, and with the readers of the builder.
-    ///
-    /// Refused only for want of memory; then the builder is given up. Takes memory once at most, and time
-    /// as the number of readers.
+    /// The provider, without meters and instruments, and with the readers of the builder. It always
+    /// succeeds, and takes no memory.
     pub fn build(self) -> Result<SdkMeterProvider, Fault>
-        ensures state { IfOk result (λ p. state_of p ≡ new_state empty_resource 0 (rows_of self)) }
-        ensures only_memory { IsOkUnless result Fault.OutOfMemory }
+        ensures state { IsOkAnd result (λ p. state_of p ≡ new_state empty_resource 0 (rows_of self)) }
+        ensures kept { IfOk result (λ p. kept_by p ≡ boxes_of self) }
     {
-        let MeterProviderBuilder { alloc, readers } = self;
-        let core = BalancedCore::new(alloc, readers.len())?;
+        let MeterProviderBuilder { core, readers } = self;
+        let core = BalancedCore::new(core);
         Ok(SdkMeterProvider { core, readers })
     }
 }
@@ -70,7 +71,7 @@ impl SdkMeterProvider {
         ensures { rows_of result ≡ [] }
     {
         MeterProviderBuilder {
-            alloc,
+            core: FreshCore::new(alloc),
             readers: Vec::new(alloc),
         }
     }

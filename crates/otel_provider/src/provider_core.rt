@@ -1,10 +1,10 @@
 //! The state of a provider: all of it that is no boxed object.
 
-ghost use Rattle.std.specs.Prelude.{◌≡◌, [], ℕ, List, Option, length, map, replicate, slice_get, Some, OnOk, OnErr, IfOk, IfErr, IsOkUnless, MatchResult};
+ghost use Rattle.std.specs.Prelude.{◌≡◌, ◌∷◌, ◌++◌, [], ℕ, List, Option, length, map, slice_get, Some, OnOk, OnErr, IfOk, IfErr, IsOkUnless, MatchResult};
 ghost use Rattle.std.specs.Option.{option_map};
 ghost use Rattle.otel_model.specs.Calls as model;
 ghost use Rattle.otel_model.specs.Demands.{is_good};
-ghost use Rattle.otel_model.specs.Machine.{new_state};
+ghost use Rattle.otel_model.specs.Machine.{new_state, new_part};
 ghost use Rattle.otel_model.specs.Refusals.{record_refusal};
 ghost use Rattle.otel_model.specs.Resources.{empty_resource};
 ghost use Rattle.otel_model.specs.Steps.{Step, Run};
@@ -19,7 +19,7 @@ use crate::identity::Demand;
 use crate::instrument::Instrument;
 use crate::meter::{validate_instrument_name, validate_instrument_unit};
 use crate::pipeline::Pipeline;
-use crate::pipelines::{build_or_none, new_pipelines, record_or_none};
+use crate::pipelines::{build_or_none, record_or_none};
 use crate::sorts::InstrumentSort;
 use indexmap::IndexSet;
 use otel_common::attributes::KeyValue;
@@ -121,18 +121,26 @@ fn pipeline_at(pipelines: &[Pipeline], reader: usize) -> Option<&Pipeline>
 }
 
 impl Core {
-    /// No meters, no instruments, and this many readers, each of which answers `Cumulative` for every kind.
-    pub(crate) fn new(alloc: Global, readers: usize) -> Result<Core, Fault>
-        ensures state { IfOk result (λ core. core ≡ new_state empty_resource 0 (replicate readers cumulative_row)) }
-        ensures only_memory { IsOkUnless result Fault.OutOfMemory }
+    /// No meters, no instruments and no readers. Takes no memory.
+    pub(crate) fn new(alloc: Global) -> Core
+        ensures { result ≡ new_state empty_resource 0 [] }
     {
-        let pipelines = new_pipelines(alloc, readers)?;
-        Ok(Core {
+        Core {
             alloc,
             meters: IndexSet::new(alloc),
             instruments: Vec::new(alloc),
-            pipelines,
-        })
+            pipelines: Vec::new(alloc),
+        }
+    }
+
+    /// A reader more, without streams, which answers `Cumulative` for every kind.
+    pub(crate) fn with_reader(self) -> Result<Core, Fault>
+        ensures reader { IfOk result (λ core. core ≡ record { shared = self.shared; readers = self.readers ++ new_part cumulative_row ∷ [] }) }
+        ensures only_memory { IsOkUnless result Fault.OutOfMemory }
+    {
+        let mut core = self;
+        core.pipelines.push(Pipeline::new(core.alloc))?;
+        Ok(core)
     }
 
     /// The number of the meter of a scope, which is new if there was none.

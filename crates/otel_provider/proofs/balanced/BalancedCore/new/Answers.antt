@@ -1,10 +1,9 @@
-use Rattle.std.proofs.Common.{replicate, subst, sym}
+use Rattle.std.proofs.Common.{subst, sym}
 use Rattle.otel_model.specs.Resources.{empty_resource}
 use Rattle.otel_model_laws.specs.Lawful.{IsLawful}
 use Rattle.otel_model_laws.proofs.Booked.{first_lawful}
-use Rattle.otel_provider.specs.Streams.{cumulative_row}
 use Rattle.otel_provider.proofs.balanced.BalancedCore.new.Goals as goal
 
 -- a provider is lawful as it is built
 pub invariant_of-result : goal.invariant_of-result
-invariant_of-result c = subst IsLawful (sym c.in_ok-core.ensures.state) (first_lawful empty_resource 0 (replicate c.args.readers cumulative_row))
+invariant_of-result c = subst IsLawful (sym c.into_core.ensures) (first_lawful empty_resource 0 c.args.fresh)
