@@ -1,4 +1,5 @@
-pub mod Empty
+pub mod CanonicalSets
 pub mod FoldLaws
 pub mod TallyLemmas
 pub mod PlaceLemmas
+pub mod PendingLemmas

@@ -13,19 +13,6 @@ use Rattle.otel_aggregate.proofs.TallyLemmas.{set_eq-flip}
 pub set_eq-self : (s : List KeyValue) → set_eq s s ≡ true
 set_eq-self s = (set_eq-Decides s s).1 refl
 
--- the parts of `is_ready`
-pub ready_parts : (n h u k s : Bool) → (n || (h || (u && (k && s)))) ≡ true → n ≡ false → h ≡ false → (u ≡ true) × (k ≡ true) × (s ≡ true)
-ready_parts n h true true true t a b = (refl, refl, refl)
-ready_parts false false true true false t a b = absurd (true≢false (sym t))
-ready_parts false false true false s t a b = absurd (true≢false (sym t))
-ready_parts false false false k s t a b = absurd (true≢false (sym t))
-ready_parts true h u k s t a b = absurd (true≢false a)
-ready_parts false true u k s t a b = absurd (true≢false b)
-
-pub or_middle : (n h r : Bool) → h ≡ true → (n || (h || r)) ≡ true
-or_middle true h r e = refl
-or_middle false h r e = ap (λ b. b || r) e
-
 pub has-index : (s : List KeyValue) (entries : List Entry) → has s entries ≡ is_some (index_of s entries)
 has-index s [] = refl
 has-index s (entry ∷ entries) = by (is_of s entry) (index_of s entries) (has-index s entries)
@@ -199,16 +186,3 @@ pub at_entry-some : (g : List KeyValue) (f : Entry → Entry) (none : Entry) (en
 at_entry-some g f none entries i is d h =
     let miss : is_of g none ≡ false = ap (λ x. set_eq x g) is ∙ set_eq-flip none_set g ∙ h.0 in
     λ j. record { none = sym (ap (λ b. cond b (f none) none) miss) j; entries = with_entry-on g f entries i d h.1 j }
-
--- an entry of the set stands where the set is found, since no other has its set
-pub index_of-at : (s : List KeyValue) (entries : List Entry) (i : ℕ) (e : Entry) → IsDistinct set_eq (sets entries) → slice_get entries i ≡ Some e → is_of s e ≡ true → index_of s entries ≡ Some i
-unfolding IsDistinct
-index_of-at s [] i e d at is = absurd (cc)
-index_of-at s (r ∷ rs) zero e d at is =
-    let first : r ≡ e = cc in
-    ap (λ (x : Entry). cond (is_of s x) (Some 0) (option_map suc (index_of s rs))) first ∙ ap (λ b. cond b (Some 0) (option_map suc (index_of s rs))) is
-index_of-at s (r ∷ rs) (suc i) e d at is = by (is_of s r) refl (index_of-at s rs i e d.1 at is)
-  where
-    by : (b : Bool) → is_of s r ≡ b → index_of s rs ≡ Some i → cond b (Some 0) (option_map suc (index_of s rs)) ≡ Some (suc i)
-    by false t rest = ap (option_map suc) rest
-    by true t rest = absurd (true≢false (sym (ap is_some rest) ∙ sym (has-index s rs) ∙ others s r.set rs t d.0))

@@ -1,14 +1,15 @@
 -- What a map's calls do to its tallies, as the model's entries.
-use Rattle.std.proofs.Common.{nat_lt, not, ℕ, zero, suc, ◌+◌, ◌≡◌, List, [], ◌∷◌, ◌++◌, length, slice_get, Bool, true, false, cond, Some, None, position, option_map, refl, ap, arith, sym, ◌∙◌}
-use Rattle.std.specs.List.{position_or_len}
+use Rattle.std.proofs.Common.{nat_lt, not, ℕ, zero, suc, ◌+◌, ◌≡◌, List, [], ◌∷◌, ◌++◌, length, slice_get, Bool, true, false, cond, Some, None, position, option_map, refl, ap, arith, sym, ◌∙◌, ◌||◌, true≢false}
+use Rattle.std.specs.Global.{Vec}
+use Rattle.std.specs.List.{position_or_len, IsDistinct, AllByRecursion}
 use Rattle.std.proofs.lemmas.List.{map-append}
 use Rattle.std.proofs.lemmas.Bool.Decides.{nat_tests}
 use Rattle.indexmap.specs.Layout.{set_value_at}
-use Rattle.indexmap.specs.IndexMap.{IndexMap, insert_entry, get}
-use Rattle.std.specs.Map.{keys_of}
+use Rattle.indexmap.specs.IndexMap.{IndexMap, insert_entry}
+use Rattle.std.specs.Map.{keys_of, lookup}
 use Rattle.indexmap.proofs.CallerLemmas.{insert_entry-new}
 use Rattle.otel_model_stream.specs.Folds.{Fold}
-use Rattle.otel_model_stream.specs.Entries.{Entry}
+use Rattle.otel_model_stream.specs.Entries.{Entry, has}
 use Rattle.otel_common.specs.declared.attributes.KeyValue.{KeyValue}
 use Rattle.otel_common.specs.Equality.{set_eq, set_eq-Decides}
 use Rattle.otel_aggregate.specs.Tallies.{entry_of, entries_of, with_entry_at, index_of, sets}
@@ -36,28 +37,50 @@ set_eq-flip a b = by (set_eq a b) (set_eq b a) refl refl
     by true false p q = sym ((set_eq-Decides b a).1 (sym ((set_eq-Decides a b).0 p))) ∙ q
     by false true p q = sym p ∙ (set_eq-Decides a b).1 (sym ((set_eq-Decides b a).0 q))
 
+abbrev pub Key : Type 0
+Key = Vec KeyValue
+
+-- the test of keys is that of their sets
+abbrev pub key_eq : Key → Key → Bool
+key_eq x y = set_eq x.items y.items
+
 module _ {A : Type 0} (meaning : A → Fold) where
   -- a write by index
-  pub entries-set : (es : List (List KeyValue × Tally A)) (i : ℕ) (e : List KeyValue × Tally A) (new : Tally A) (f : Entry → Entry) → slice_get es i ≡ Some e → entry_of meaning (e.0, new) ≡ f (entry_of meaning e)
+  pub entries-set : (es : List (Key × Tally A)) (i : ℕ) (e : Key × Tally A) (new : Tally A) (f : Entry → Entry) → slice_get es i ≡ Some e → entry_of meaning (e.0, new) ≡ f (entry_of meaning e)
       → entries_of meaning (set_value_at es i new) ≡ with_entry_at i f (entries_of meaning es)
   entries-set [] i e new f at same = refl
   entries-set (x ∷ xs) zero e new f at same =
       let first : x ≡ e = cc in
-      ap (λ (y : List KeyValue × Tally A). entry_of meaning (y.0, new) ∷ entries_of meaning xs) first ∙ ap (λ r. r ∷ entries_of meaning xs) same ∙ ap (λ (y : List KeyValue × Tally A). f (entry_of meaning y) ∷ entries_of meaning xs) (sym first)
+      ap (λ (y : Key × Tally A). entry_of meaning (y.0, new) ∷ entries_of meaning xs) first ∙ ap (λ r. r ∷ entries_of meaning xs) same ∙ ap (λ (y : Key × Tally A). f (entry_of meaning y) ∷ entries_of meaning xs) (sym first)
   entries-set (x ∷ xs) (suc i) e new f at same = ap (λ rs. entry_of meaning x ∷ rs) (entries-set xs i e new f at same)
 
+  -- a set without entry has no key
+  pub entries-absent : (es : List (Key × Tally A)) (k : Key) → has k.items (entries_of meaning es) ≡ false → lookup (key_eq k) es ≡ None
+  entries-absent [] k none = refl
+  entries-absent (e ∷ es) k none = by (set_eq e.0.items k.items) refl none (λ h. entries-absent es k h)
+    where
+      by : (b : Bool) → set_eq e.0.items k.items ≡ b → (b || has k.items (entries_of meaning es)) ≡ false → (has k.items (entries_of meaning es) ≡ false → lookup (key_eq k) es ≡ None)
+          → cond (set_eq k.items e.0.items) (Some e.1) (lookup (key_eq k) es) ≡ None
+      by true t h ih = absurd (true≢false h)
+      by false t h ih = ap (λ b. cond b (Some e.1) (lookup (key_eq k) es)) (set_eq-flip k.items e.0.items ∙ t) ∙ ih h
+
   -- a new key goes last
-  pub entries-insert : {S : Type 0} (m : IndexMap (List KeyValue) (Tally A) S) (k : List KeyValue) (v : Tally A) → get set_eq m k ≡ None
-      → entries_of meaning (insert_entry set_eq m.entries k v) ≡ entries_of meaning m.entries ++ entry_of meaning (k, v) ∷ []
-  entries-insert m k v none = ap (entries_of meaning) (insert_entry-new set_eq m k v none) ∙ map-append (entry_of meaning) m.entries ((k, v) ∷ [])
+  pub entries-insert : {S : Type 0} (m : IndexMap Key (Tally A) S) (k : Key) (v : Tally A) → has k.items (entries_of meaning m.entries) ≡ false
+      → entries_of meaning (insert_entry key_eq m.entries k v) ≡ entries_of meaning m.entries ++ entry_of meaning (k, v) ∷ []
+  entries-insert m k v none = ap (entries_of meaning) (insert_entry-new key_eq m k v (entries-absent m.entries k none)) ∙ map-append (entry_of meaning) m.entries ((k, v) ∷ [])
 
   -- a key stands where its entry stands
-  pub entries-position : (es : List (List KeyValue × Tally A)) (k : List KeyValue) → position (set_eq k) (keys_of es) ≡ index_of k (entries_of meaning es)
-  entries-position [] k = refl
-  entries-position (e ∷ es) k = position-cons (set_eq k) e.0 (keys_of es) ∙ ap (λ b. cond b (Some 0) (option_map suc (position (set_eq k) (keys_of es)))) (set_eq-flip k e.0)
-      ∙ ap (λ o. cond (set_eq e.0 k) (Some 0) (option_map suc o)) (entries-position es k)
+  pub entries-position : (es : List (Key × Tally A)) (s : List KeyValue) → position (λ (k : Key). set_eq s k.items) (keys_of es) ≡ index_of s (entries_of meaning es)
+  entries-position [] s = refl
+  entries-position (e ∷ es) s = position-cons (λ (k : Key). set_eq s k.items) e.0 (keys_of es) ∙ ap (λ b. cond b (Some 0) (option_map suc (position (λ (k : Key). set_eq s k.items) (keys_of es)))) (set_eq-flip s e.0.items)
+      ∙ ap (λ o. cond (set_eq e.0.items s) (Some 0) (option_map suc o)) (entries-position es s)
 
-  -- the sets of the entries are the keys
-  pub sets-keys : (es : List (List KeyValue × Tally A)) → sets (entries_of meaning es) ≡ keys_of es
-  sets-keys [] = refl
-  sets-keys (e ∷ es) = ap (λ l. e.0 ∷ l) (sets-keys es)
+  -- the keys are distinct where their sets are
+  pub distinct-sets : (es : List (Key × Tally A)) → IsDistinct key_eq (keys_of es) → IsDistinct set_eq (sets (entries_of meaning es))
+  unfolding IsDistinct
+  distinct-sets [] d = tt
+  distinct-sets (e ∷ es) d = (apart es d.0, distinct-sets es d.1)
+    where
+      apart : (xs : List (Key × Tally A)) → AllByRecursion (λ y. key_eq e.0 y ≡ false) (keys_of xs) → AllByRecursion (λ y. set_eq e.0.items y ≡ false) (sets (entries_of meaning xs))
+      apart [] h = tt
+      apart (x ∷ xs) h = (h.0, apart xs h.1)

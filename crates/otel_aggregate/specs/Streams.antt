@@ -1,12 +1,14 @@
 -- One stream of one reader: its map of sets, and what a collection does to it (Metrics SDK, "MetricReader").
-use Rattle.std.specs.Prelude.{ℕ, Bool, true, false, not, cond, List}
+use Rattle.std.specs.Prelude.{ℕ, Bool, true, false, not, cond, List, Option, None, Some}
+use Rattle.otel_common.specs.Equality.{set_eq}
 use Rattle.otel_common.specs.declared.attributes.KeyValue.{KeyValue}
 use Rattle.otel_common.specs.declared.metrics.Temporality.{Temporality}
 use Rattle.otel_common.specs.declared.metrics.Temporality.TheVariants.{Cumulative, Delta, LowMemory}
-use Rattle.otel_model_stream.specs.Sets.{AttributeSet, AllowList, set_of}
+use Rattle.otel_model_stream.specs.Sets.{AttributeSet, AllowList, none_set, set_of}
 use Rattle.otel_model_stream.specs.Folds.{Aggregate, Amount, empty_of, sample_of}
 use Rattle.otel_model_stream.specs.Entries.{Point, points}
-use Rattle.otel_model_stream.specs.Maps.{MapState, new_map, is_ready, measured, evicted_map}
+use Rattle.otel_model_stream.specs.Maps.{MapState, new_map, measured, evicted_map}
+use Rattle.otel_aggregate.specs.Tallies.{knows}
 
 pub record StreamState : Type 0 where
   pub map_state : MapState
@@ -33,14 +35,15 @@ new_stream aggregate is_monotonic allow resets limit start = record {
   start = start;
 }
 
--- a stream, and whether it can make an entry without memory
+-- a stream, and the set of the record that is prepared
 pub record HeldStream : Type 0 where
   pub state : StreamState
-  pub ready : Bool
+  pub pending : Option AttributeSet
 
--- a record of the set finds its entry, or one can be made without memory
-abbrev pub has_room : AttributeSet → HeldStream → Bool
-has_room s h = is_ready s (record { state = h.state.map_state; ready = h.ready })
+-- these attributes are none, or they are the set of an entry as they stand and all of them are kept
+abbrev pub is_known : AllowList → List KeyValue → MapState → Bool
+is_known None l m = knows l m
+is_known (Some allow) l m = set_eq l none_set
 
 -- after a record of an amount under a set
 abbrev pub recorded_set : AttributeSet → Amount → StreamState → StreamState

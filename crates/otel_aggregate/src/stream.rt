@@ -1,13 +1,14 @@
 //! What all aggregates share.
 
-ghost use Rattle.std.specs.Prelude.{◌≡◌, [], true, IfOk, IsOk, IsOkUnless};
-ghost use Rattle.otel_model_stream.specs.Sets.{none_set, set_of};
+ghost use Rattle.std.specs.Prelude.{◌≡◌, [], true, None, Some, IsTrue, IfOk, OnOk, IsOk, IsOkUnless};
+ghost use Rattle.otel_model_stream.specs.Sets.{set_of};
 ghost use Rattle.otel_model_stream.specs.Entries.{points};
 ghost use Rattle.otel_model_stream.specs.Maps.{new_map};
 ghost use Rattle.otel_aggregate.specs.Tallies.{copies};
+ghost use Rattle.otel_aggregate.specs.Streams.{is_known};
 
 use crate::aggregator::Aggregator;
-use crate::sets::set_for;
+use crate::sets::allowed_attributes;
 use crate::value_map::ValueMap;
 use otel_common::attributes::KeyValue;
 use otel_common::faults::Fault;
@@ -34,6 +35,7 @@ impl<A: Aggregator> Stream<A> {
         start: u64,
     ) -> Result<Self, Fault>
         ensures state { IfOk result (λ made. made.map.state ≡ new_map limit (A.empty config)) }
+        ensures unprepared { IfOk result (λ made. made.map.pending ≡ None) }
         ensures allow { IfOk result (λ made. made.allow ≡ allow) }
         ensures start { IfOk result (λ made. made.start ≡ start) }
         ensures only_memory { IsOkUnless result Fault.OutOfMemory }
@@ -46,14 +48,25 @@ impl<A: Aggregator> Stream<A> {
         })
     }
 
-    /// The set under which a record of these attributes is kept. No attributes take no memory.
-    pub fn set_for(&self, attributes: &[KeyValue]) -> Result<Items<KeyValue>, Fault>
-        ensures set { IfOk result (λ s. s ≡ set_of self.now.allow attributes.now) }
+    /// Prepares a record of these attributes.
+    pub fn prepare(&mut self, attributes: &[KeyValue]) -> Result<(), Fault>
+        ensures same { self.new.map.state ≡ self.old.map.state }
+        ensures allow { self.new.allow ≡ self.old.allow }
+        ensures start { self.new.start ≡ self.old.start }
+        ensures ready { OnOk result (self.new.map.pending ≡ Some (set_of self.old.allow attributes.now)) }
+        ensures known { IsTrue (is_known self.old.allow attributes.now self.old.map.state) → IsOk result }
         ensures only_memory { IsOkUnless result Fault.OutOfMemory }
-        ensures free { attributes.now ≡ [] → IsOk result }
-        ensures none { attributes.now ≡ [] → IfOk result (λ s. s ≡ none_set) }
     {
-        set_for(self.alloc, &self.allow, attributes)
+        if attributes.is_empty() {
+            return self.map.prepare(attributes);
+        }
+        match &self.allow {
+            None => self.map.prepare(attributes),
+            Some(allow) => {
+                let allowed = allowed_attributes(self.alloc, allow.as_slice(), attributes)?;
+                self.map.prepare(&allowed)
+            }
+        }
     }
 
     /// The points so far.

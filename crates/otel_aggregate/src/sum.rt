@@ -1,10 +1,10 @@
 //! Sums.
 
-ghost use Rattle.std.specs.Prelude.{◌≡◌, [], false, IsTrue, OnOk, OnErr, IfOk, IsOk, IsOkUnless};
-ghost use Rattle.otel_model_stream.specs.Sets.{none_set, set_of};
+ghost use Rattle.std.specs.Prelude.{◌≡◌, false, is_some, None, Some, IsTrue, IsSome, OnOk, OnErr, IfOk, IsOk, IsOkUnless};
+ghost use Rattle.otel_model_stream.specs.Sets.{AttributeSet, set_of};
 ghost use Rattle.otel_model_stream.specs.Folds.{Sum as SumAggregate};
 ghost use Rattle.otel_aggregate.specs.Data.{sum_data};
-ghost use Rattle.otel_aggregate.specs.Streams.{new_stream, resets_of, has_room, recorded_set, recorded_attributes, collected};
+ghost use Rattle.otel_aggregate.specs.Streams.{new_stream, resets_of, is_known, recorded_set, recorded_attributes, collected};
 
 use crate::aggregator::Increment;
 use crate::number::Number;
@@ -42,7 +42,7 @@ impl<T: Number + Drop> Model for Sum<T> {
         resets = false;
         start = s.stream.start;
       };
-      ready = s.stream.map.ready;
+      pending = s.stream.map.pending;
     } };
 }
 
@@ -59,6 +59,7 @@ impl<T: Number + Drop> Sum<T> {
     ) -> Result<Self, Fault>
         requires cumulative { resets_of temporality ≡ false }
         ensures made { IfOk result (λ made. made.state ≡ new_stream SumAggregate is_monotonic allow (resets_of temporality) limit now) }
+        ensures unprepared { IfOk result (λ made. made.pending ≡ None) }
         ensures only_memory { IsOkUnless result Fault.OutOfMemory }
     {
         let _ = temporality;
@@ -69,47 +70,46 @@ impl<T: Number + Drop> Sum<T> {
         })
     }
 
-    /// The set under which a record of these attributes is kept. No attributes take no memory.
-    pub fn set_for(&self, attributes: &[KeyValue]) -> Result<Items<KeyValue>, Fault>
-        ensures set { IfOk result (λ s. s ≡ set_of self.now.state.allow attributes.now) }
-        ensures only_memory { IsOkUnless result Fault.OutOfMemory }
-        ensures free { attributes.now ≡ [] → IsOk result }
-        ensures none { attributes.now ≡ [] → IfOk result (λ s. s ≡ none_set) }
-    {
-        self.stream.set_for(attributes)
-    }
-
-    /// Makes room for a record of the set. The sums stay as they were.
+    /// Prepares a record of these attributes, in the place of one that was prepared before. The sums
+    /// stay as they were.
     ///
     /// The first of two phases: a record of many streams is prepared in all of them, and then taken
-    /// in by all. The empty set, and a set that has an entry, take no memory.
-    pub fn prepare(&mut self, set: &Items<KeyValue>) -> Result<(), Fault>
+    /// in by all. It takes no memory without attributes, and, where there is no allow-list, with
+    /// attributes that are the set of an entry as they stand: sorted by key, no key twice.
+    pub fn prepare(&mut self, attributes: &[KeyValue]) -> Result<(), Fault>
         ensures same { self.new.state ≡ self.old.state }
-        ensures ready { OnOk result (IsTrue (has_room set.now self.new)) }
-        ensures succeeds { IsTrue (has_room set.now self.old) → IsOk result }
+        ensures ready { OnOk result (self.new.pending ≡ Some (set_of self.old.state.allow attributes.now)) }
+        ensures known { IsTrue (is_known self.old.state.allow attributes.now self.old.state.map_state) → IsOk result }
         ensures only_memory { IsOkUnless result Fault.OutOfMemory }
     {
-        self.stream.map.prepare(set)
+        self.stream.prepare(attributes)
     }
 
-    /// Takes in a record of the set, for which room was made. The second phase.
-    pub fn measure_ready(&mut self, value: T, set: Items<KeyValue>)
-        requires { IsTrue (has_room set self.old) }
-        ensures { self.new.state ≡ recorded_set set (record { bits = T.bits value; wide = T.wide value }) self.old.state }
+    /// Whether a record is prepared.
+    pub fn is_prepared(&self) -> bool
+        ensures { result ≡ is_some self.now.pending }
     {
-        self.stream.map.measure_ready(value, set);
+        self.stream.map.is_prepared()
     }
 
-    /// Takes in a record of these attributes. No attributes take no memory.
+    /// Takes in the record that was prepared. The second phase.
+    pub fn measure_ready(&mut self, value: T)
+        requires { IsSome self.old.pending }
+        ensures measured { (s : AttributeSet) → self.old.pending ≡ Some s → self.new.state ≡ recorded_set s (record { bits = T.bits value; wide = T.wide value }) self.old.state }
+        ensures spent { self.new.pending ≡ None }
+    {
+        self.stream.map.measure_ready(value);
+    }
+
+    /// Takes in a record of these attributes. It takes no memory where `prepare` takes none.
     pub fn measure(&mut self, value: T, attributes: &[KeyValue]) -> Result<(), Fault>
         ensures ok { OnOk result (self.new.state ≡ recorded_attributes attributes.now (record { bits = T.bits value; wide = T.wide value }) self.old.state) }
         ensures err { OnErr result (self.new.state ≡ self.old.state) }
+        ensures known { IsTrue (is_known self.old.state.allow attributes.now self.old.state.map_state) → IsOk result }
         ensures only_memory { IsOkUnless result Fault.OutOfMemory }
-        ensures free { attributes.now ≡ [] → IsOk result }
     {
-        let set = self.set_for(attributes)?;
-        self.prepare(&set)?;
-        self.measure_ready(value, set);
+        self.prepare(attributes)?;
+        self.measure_ready(value);
         Ok(())
     }
 

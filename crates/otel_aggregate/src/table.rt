@@ -1,12 +1,12 @@
 //! Tallies by set, in order of making.
 
-ghost use Rattle.std.specs.Prelude.{◌≡◌, IfOk, IsOk, is_some, true, IsOkUnless, ◌<◌, ◌∷◌, [], ◌++◌, None, OnOk, IfNone, IfSome, map, filter, ◌||◌};
+ghost use Rattle.std.specs.Prelude.{◌≡◌, IfOk, IsOk, is_some, true, false, IsOkUnless, ◌<◌, ◌∷◌, [], ◌++◌, OnOk, IfSome, map, filter, ◌||◌};
 ghost use Rattle.std.specs.List.{IsDistinct};
-ghost use Rattle.indexmap.specs.IndexMap.{index_map_len, spare, get};
+ghost use Rattle.indexmap.specs.IndexMap.{index_map_len, spare};
 ghost use Rattle.otel_common.specs.Equality.{set_eq};
 ghost use Rattle.otel_model_stream.specs.Sets.{none_set, over_set};
-ghost use Rattle.otel_model_stream.specs.Entries.{fresh, write, shown};
-ghost use Rattle.otel_aggregate.specs.Tallies.{entries_of, entry_of, copies, with_entry_at, index_of, sets};
+ghost use Rattle.otel_model_stream.specs.Entries.{fresh, has, write, shown};
+ghost use Rattle.otel_aggregate.specs.Tallies.{entries_of, tally_entry, copies, with_entry_at, index_of, sets};
 
 use crate::aggregator::Aggregator;
 use crate::sets::{copy_set, overflow_set};
@@ -25,9 +25,22 @@ pub struct Tally<A> {
     pub updated: bool,
 }
 
+/// A record that was prepared.
+#[derive(Drop)]
+pub enum Pending {
+    /// None was prepared.
+    Nothing,
+    /// One without attributes.
+    Empty,
+    /// One of the set whose tally stands at this index.
+    Known(usize),
+    /// One of this set, which has no tally.
+    New(Vec<KeyValue>),
+}
+
 /// Takes a record into the tally at an index.
 pub fn touch<A: Aggregator>(
-    tallies: &mut IndexMap<Items<KeyValue>, Tally<A>>,
+    tallies: &mut IndexMap<Vec<KeyValue>, Tally<A>>,
     at: usize,
     value: A::PreComputedValue,
 )
@@ -44,14 +57,14 @@ pub fn touch<A: Aggregator>(
 
 /// Adds the tally of a set that has none.
 pub fn add<A: Aggregator>(
-    tallies: &mut IndexMap<Items<KeyValue>, Tally<A>>,
-    set: Items<KeyValue>,
+    tallies: &mut IndexMap<Vec<KeyValue>, Tally<A>>,
+    set: Vec<KeyValue>,
     counted: bool,
     aggregator: A,
 )
-    requires absent { get set_eq tallies.old set ≡ None }
+    requires absent { has set.items (entries_of A.meaning tallies.old.entries) ≡ false }
     requires room { 0 < spare tallies.old }
-    ensures entries { entries_of A.meaning tallies.new.entries ≡ entries_of A.meaning tallies.old.entries ++ fresh (A.meaning aggregator) set counted ∷ [] }
+    ensures entries { entries_of A.meaning tallies.new.entries ≡ entries_of A.meaning tallies.old.entries ++ fresh (A.meaning aggregator) set.items counted ∷ [] }
 {
     let tally = Tally {
         aggregator,
@@ -63,33 +76,12 @@ pub fn add<A: Aggregator>(
 
 /// Where the tally of a set stands.
 pub fn find<A: Aggregator>(
-    tallies: &IndexMap<Items<KeyValue>, Tally<A>>,
-    set: &Items<KeyValue>,
+    tallies: &IndexMap<Vec<KeyValue>, Tally<A>>,
+    set: &[KeyValue],
 ) -> Option<usize>
-    ensures at { result ≡ index_of set.now (entries_of A.meaning tallies.now.entries) }
-    ensures absent { IfNone result (get set_eq tallies.now set.now ≡ None) }
-    ensures within { IfSome result (λ i. i < index_map_len tallies.now) }
+    ensures { result ≡ index_of set.now (entries_of A.meaning tallies.now.entries) }
 {
     tallies.get_index_of(set)
-}
-
-/// Where the tally of a set stands, tried first at an index.
-pub fn find_near<A: Aggregator>(
-    tallies: &IndexMap<Items<KeyValue>, Tally<A>>,
-    near: usize,
-    set: &Items<KeyValue>,
-) -> Option<usize>
-    ensures at { result ≡ index_of set.now (entries_of A.meaning tallies.now.entries) }
-    ensures absent { IfNone result (get set_eq tallies.now set.now ≡ None) }
-    ensures within { IfSome result (λ i. i < index_map_len tallies.now) }
-{
-    let _ = tallies.len();
-    if let Some((key, _)) = tallies.get_index(near) {
-        if *key == *set {
-            return Some(near);
-        }
-    }
-    find(tallies, set)
 }
 
 /// Makes an aggregator in advance, where there is none.
@@ -112,9 +104,9 @@ pub fn make_unused<A: Aggregator>(
 }
 
 /// Makes the set of the overflow entry in advance, where there is none.
-pub fn make_key(key: &mut Option<Items<KeyValue>>, alloc: Global) -> Result<(), Fault>
-    requires { IfSome key.old (λ made. made ≡ over_set) }
-    ensures over { IfSome key.new (λ made. made ≡ over_set) }
+pub fn make_key(key: &mut Option<Vec<KeyValue>>, alloc: Global) -> Result<(), Fault>
+    requires { IfSome key.old (λ made. made.items ≡ over_set) }
+    ensures over { IfSome key.new (λ made. made.items ≡ over_set) }
     ensures made { OnOk result (is_some key.new ≡ true) }
     ensures succeeds { is_some key.old ≡ true → IsOk result }
     ensures only_memory { IsOkUnless result Fault.OutOfMemory }
@@ -131,7 +123,7 @@ pub fn first_points<A: Aggregator>(
     alloc: Global,
     none: &Tally<A>,
 ) -> Result<Vec<(Items<KeyValue>, A)>, Fault>
-    ensures points { IfOk result (λ given. copies A.meaning given.items ≡ map shown (filter (λ entry. entry.updated) (entry_of A.meaning (none_set, none.now) ∷ []))) }
+    ensures points { IfOk result (λ given. copies A.meaning given.items ≡ map shown (filter (λ entry. entry.updated) (tally_entry A.meaning none_set none.now ∷ []))) }
     ensures only_memory { IsOkUnless result Fault.OutOfMemory }
 {
     let mut points = Vec::new(alloc);
@@ -146,7 +138,7 @@ pub fn first_points<A: Aggregator>(
 /// Adds the points of all tallies, in order.
 pub fn copy_out<A: Aggregator>(
     alloc: Global,
-    tallies: &IndexMap<Items<KeyValue>, Tally<A>>,
+    tallies: &IndexMap<Vec<KeyValue>, Tally<A>>,
     points: &mut Vec<(Items<KeyValue>, A)>,
 ) -> Result<(), Fault>
     ensures points { OnOk result (copies A.meaning points.new.items ≡ copies A.meaning points.old.items ++ map shown (filter (λ entry. true || entry.updated) (entries_of A.meaning tallies.now.entries))) }
@@ -154,7 +146,7 @@ pub fn copy_out<A: Aggregator>(
 {
     points.reserve(tallies.len())?;
     for (set, tally) in tallies.iter() {
-        points.push((copy_set(set)?, tally.aggregator.copy(alloc)?))?;
+        points.push((copy_set(alloc, set)?, tally.aggregator.copy(alloc)?))?;
     }
     Ok(())
 }

@@ -2,7 +2,6 @@
 
 use crate::aggregator::{Aggregator, Increment, create_fold, reset_fold, update_fold};
 use crate::number::Number;
-use crate::sets::{is_empty_set, set_for};
 use crate::shows::into_points;
 use crate::sum::Sum;
 use crate::value_map::ValueMap;
@@ -116,10 +115,12 @@ fn an_allow_list_drops_other_keys(rt: HostRuntime) -> Result<(), Fail> {
 fn a_record_is_prepared_and_then_taken_in(rt: HostRuntime) -> Result<(), Fail> {
     let alloc = rt.alloc();
     let mut sum = cumulative(alloc, None, 10)?;
-    let set = sum.set_for(&one(alloc, "x", 1)?)?;
-    sum.prepare(&set)?;
+    assert!(rt; !sum.is_prepared());
+    sum.prepare(&one(alloc, "x", 1)?)?;
+    assert!(rt; sum.is_prepared());
     assert_eq!(rt; sum.points(alloc, 200)?.data_points().count(), 0);
-    sum.measure_ready(5, set);
+    sum.measure_ready(5);
+    assert!(rt; !sum.is_prepared());
     let data = sum.points(alloc, 300)?;
     assert_eq!(rt; data.start_time(), 100);
     assert_eq!(rt; data.time(), 300);
@@ -134,10 +135,10 @@ fn a_map_gives_its_sets_in_order(rt: HostRuntime) -> Result<(), Fail> {
     let alloc = rt.alloc();
     let mut map: ValueMap<Increment<u64>> = ValueMap::new(alloc, (), 2)?;
     map.measure(1, &two(alloc, ("y", 1), ("x", 1))?)?;
-    let set = set_for(alloc, &None, &two(alloc, ("x", 1), ("y", 1))?)?;
-    map.prepare(&set)?;
-    map.measure_ready(2, set);
-    map.measure_set(4, Items::from(Vec::new(alloc)))?;
+    map.prepare(&two(alloc, ("x", 1), ("y", 1))?)?;
+    assert!(rt; map.is_prepared());
+    map.measure_ready(2);
+    map.measure(4, &[])?;
     let points = into_points(alloc, map.collect_readonly(alloc)?)?;
     let points = points.as_slice();
     assert_eq!(rt; points.len(), 2);
@@ -170,13 +171,5 @@ fn an_increment_adds_up(rt: HostRuntime) -> Result<(), Fail> {
     assert_eq!(rt; sum.copy(alloc)?.value, 7);
     reset_fold(&mut sum);
     assert_eq!(rt; sum.value, 0);
-    Ok(())
-}
-
-#[test]
-fn no_attributes_give_the_empty_set(rt: HostRuntime) -> Result<(), Fail> {
-    let alloc = rt.alloc();
-    assert!(rt; is_empty_set(&set_for(alloc, &None, &[])?));
-    assert!(rt; !is_empty_set(&set_for(alloc, &None, &one(alloc, "x", 1)?)?));
     Ok(())
 }

@@ -1,22 +1,25 @@
 //! A bounded map from sets of attributes to aggregators.
 
-ghost use Rattle.std.specs.Prelude.{◌≡◌, [], true, IsTrue, OnOk, OnErr, IfOk, IsOk, IsOkUnless};
+ghost use Rattle.std.specs.Prelude.{◌≡◌, true, is_some, None, Some, IsTrue, IsSome, OnOk, OnErr, IfOk, IsOk, IsOkUnless};
 ghost use Rattle.otel_common.specs.Canonical.{canon};
 ghost use Rattle.otel_model_stream.specs.Entries.{entry_for, points};
-ghost use Rattle.otel_model_stream.specs.Maps.{new_map, with_place, measured, is_ready};
-ghost use Rattle.otel_aggregate.specs.Tallies.{IsPlace, copies};
+ghost use Rattle.otel_model_stream.specs.Maps.{new_map, with_place, measured};
+ghost use Rattle.otel_model_stream.specs.Sets.{AttributeSet};
+ghost use Rattle.otel_aggregate.specs.Tallies.{IsPlace, copies, knows};
 
 use crate::aggregator::Aggregator;
-use crate::sets::{is_empty_set, overflow_set, set_for};
+use crate::sets::overflow_set;
 use crate::table::{
-    Tally, add, copy_out, find, find_near, first_points, make_key, make_unused, touch,
+    Pending, Tally, add, copy_out, find, first_points, make_key, make_unused, touch,
 };
 use indexmap::IndexMap;
 use otel_common::attributes::KeyValue;
+use otel_common::canonical::canonical;
 use otel_common::faults::Fault;
 use otel_common::lists::Items;
 use std::alloc::Global;
 use std::marker::Model;
+use std::mem::replace;
 
 /// A bounded map from sets of attributes to aggregators (Metrics SDK, "Cardinality limits").
 ///
@@ -34,12 +37,12 @@ pub struct ValueMap<A: Aggregator> {
     /// An aggregator that was made in advance for the next new tally.
     unused: Option<A>,
     /// The set of the overflow entry, to look it up.
-    overflow: Items<KeyValue>,
+    overflow: Vec<KeyValue>,
     /// The same set, made in advance to be the key of the overflow entry.
-    spare_key: Option<Items<KeyValue>>,
-    tallies: IndexMap<Items<KeyValue>, Tally<A>>,
-    /// Where the set of the last call of `prepare` was found, so that the record looks it up only once.
-    near: usize,
+    spare_key: Option<Vec<KeyValue>>,
+    /// By canonical sets, so that attributes that are one as they stand are found without a copy.
+    tallies: IndexMap<Vec<KeyValue>, Tally<A>>,
+    pending: Pending,
 }
 
 impl<A: Aggregator> Model for ValueMap<A> {
@@ -47,27 +50,29 @@ impl<A: Aggregator> Model for ValueMap<A> {
     ghost use Rattle.indexmap.specs.IndexMap.{spare};
     ghost use Rattle.otel_model_stream.specs.Sets.{none_set, over_set};
     ghost use Rattle.otel_model_stream.specs.Entries.{number_counted, has};
-    ghost use Rattle.otel_model_stream.specs.Maps.{Held};
-    ghost use Rattle.otel_aggregate.specs.Tallies.{entries_of, state_of};
+    ghost use Rattle.otel_aggregate.specs.Tallies.{Held, entries_of, state_of, pending_set, IsSound, AreCanonical};
 
     ghost Value = { Held };
 
     ghost view = { λ m. record {
       state = state_of A.meaning m.limit (A.empty m.config) m.none m.tallies.entries;
-      ready = is_some m.unused && (is_some m.spare_key && nat_lt 0 (spare m.tallies));
+      pending = pending_set (entries_of A.meaning m.tallies.entries) m.pending;
     } };
 
     ghost invariant = { λ m. (m.count ≡ number_counted (entries_of A.meaning m.tallies.entries))
         × IfSome m.unused (λ made. A.meaning made ≡ A.empty m.config)
-        × (m.overflow ≡ over_set)
-        × IfSome m.spare_key (λ key. key ≡ over_set)
-        × (has none_set (entries_of A.meaning m.tallies.entries) ≡ false) };
+        × (m.overflow.items ≡ over_set)
+        × IfSome m.spare_key (λ key. key.items ≡ over_set)
+        × (has none_set (entries_of A.meaning m.tallies.entries) ≡ false)
+        × AreCanonical (entries_of A.meaning m.tallies.entries)
+        × IsSound (entries_of A.meaning m.tallies.entries) (is_some m.unused && (is_some m.spare_key && nat_lt 0 (spare m.tallies))) m.pending };
 }
 
 impl<A: Aggregator> ValueMap<A> {
     /// A map with no entry but that of the empty set.
     pub fn new(alloc: Global, config: A::InitConfig, limit: usize) -> Result<Self, Fault>
         ensures made { IfOk result (λ made. made.state ≡ new_map limit (A.empty config)) }
+        ensures unprepared { IfOk result (λ made. made.pending ≡ None) }
         ensures only_memory { IsOkUnless result Fault.OutOfMemory }
     {
         let none = Tally {
@@ -86,45 +91,69 @@ impl<A: Aggregator> ValueMap<A> {
             overflow,
             spare_key: None,
             tallies: IndexMap::new(alloc),
-            near: 0,
+            pending: Pending::Nothing,
         })
     }
 
-    /// Makes room for a record of the set. What the map holds stays as it was.
+    /// Prepares a record of the attributes, under their canonical form, in the place of one that was
+    /// prepared before. What the map holds stays as it was.
     ///
     /// The first of two phases: a record of many maps is prepared in all of them, and then taken in by
-    /// all. The empty set, and a set that has an entry, take no memory.
-    pub fn prepare(&mut self, set: &Items<KeyValue>) -> Result<(), Fault>
+    /// all. It looks the attributes up as they stand, which is all where they are the set of an entry,
+    /// and takes no memory then or without attributes. Else it sorts a copy and looks that up.
+    pub fn prepare(&mut self, attributes: &[KeyValue]) -> Result<(), Fault>
         ensures same { self.new.state ≡ self.old.state }
-        ensures ready { OnOk result (IsTrue (is_ready set.now self.new)) }
-        ensures succeeds { IsTrue (is_ready set.now self.old) → IsOk result }
+        ensures ready { OnOk result (self.new.pending ≡ Some (canon attributes.now)) }
+        ensures refused { OnErr result (self.new.pending ≡ None) }
+        ensures known { IsTrue (knows attributes.now self.old.state) → IsOk result }
         ensures only_memory { IsOkUnless result Fault.OutOfMemory }
     {
-        if is_empty_set(set) {
+        self.pending = Pending::Nothing;
+        if attributes.is_empty() {
+            self.pending = Pending::Empty;
             return Ok(());
         }
-        if let Some(at) = find(&self.tallies, set) {
-            self.near = at;
+        if let Some(at) = find(&self.tallies, attributes) {
+            self.pending = Pending::Known(at);
+            return Ok(());
+        }
+        let set = canonical(self.alloc, attributes)?;
+        if let Some(at) = find(&self.tallies, &set) {
+            self.pending = Pending::Known(at);
             return Ok(());
         }
         self.tallies.reserve(1)?;
         make_unused(&mut self.unused, self.alloc, &self.config)?;
         make_key(&mut self.spare_key, self.alloc)?;
+        self.pending = Pending::New(set);
         Ok(())
     }
 
-    /// Finds or makes the tally that a record of the set goes to.
-    fn place(&mut self, set: Items<KeyValue>) -> Option<usize>
-        requires { IsTrue (is_ready set self.old) }
-        ensures state { self.new.state ≡ with_place set self.old.state }
-        ensures at { IsPlace self.new.state.table.entries (entry_for set self.new.state.table.entries) result }
+    /// Whether a record is prepared.
+    pub fn is_prepared(&self) -> bool
+        ensures { result ≡ is_some self.now.pending }
     {
-        if is_empty_set(&set) {
-            return None;
+        match self.pending {
+            Pending::Nothing => false,
+            Pending::Empty => true,
+            Pending::Known(_) => true,
+            Pending::New(_) => true,
         }
-        if let Some(at) = find_near(&self.tallies, self.near, &set) {
-            return Some(at);
-        }
+    }
+
+    /// Finds or makes the tally that the record that is prepared goes to.
+    fn place(&mut self) -> Option<usize>
+        requires { IsSome self.old.pending }
+        ensures state { (s : AttributeSet) → self.old.pending ≡ Some s → self.new.state ≡ with_place s self.old.state }
+        ensures at { (s : AttributeSet) → self.old.pending ≡ Some s → IsPlace self.new.state.table.entries (entry_for s self.new.state.table.entries) result }
+        ensures spent { self.new.pending ≡ None }
+    {
+        let set = match replace(&mut self.pending, Pending::Nothing) {
+            Pending::Nothing => return None,
+            Pending::Empty => return None,
+            Pending::Known(at) => return Some(at),
+            Pending::New(set) => set,
+        };
         let at = self.tallies.len();
         if self.count < self.limit {
             self.count += 1;
@@ -143,12 +172,14 @@ impl<A: Aggregator> ValueMap<A> {
         Some(at)
     }
 
-    /// Takes in a record of the set, for which room was made. The second phase.
-    pub fn measure_ready(&mut self, value: A::PreComputedValue, set: Items<KeyValue>)
-        requires { IsTrue (is_ready set self.old) }
-        ensures { self.new.state ≡ measured set (A.sample value) self.old.state }
+    /// Takes in the record that was prepared. The second phase, without a look-up for a set that has
+    /// an entry.
+    pub fn measure_ready(&mut self, value: A::PreComputedValue)
+        requires { IsSome self.old.pending }
+        ensures measured { (s : AttributeSet) → self.old.pending ≡ Some s → self.new.state ≡ measured s (A.sample value) self.old.state }
+        ensures spent { self.new.pending ≡ None }
     {
-        match self.place(set) {
+        match self.place() {
             None => {
                 self.none.aggregator.update(value);
                 self.none.updated = true;
@@ -157,23 +188,8 @@ impl<A: Aggregator> ValueMap<A> {
         }
     }
 
-    /// Takes in a record of the set. The empty set, and a set that has an entry, take no memory.
-    pub fn measure_set(
-        &mut self,
-        value: A::PreComputedValue,
-        set: Items<KeyValue>,
-    ) -> Result<(), Fault>
-        ensures ok { OnOk result (self.new.state ≡ measured set (A.sample value) self.old.state) }
-        ensures err { OnErr result (self.new.state ≡ self.old.state) }
-        ensures succeeds { IsTrue (is_ready set self.old) → IsOk result }
-        ensures only_memory { IsOkUnless result Fault.OutOfMemory }
-    {
-        self.prepare(&set)?;
-        self.measure_ready(value, set);
-        Ok(())
-    }
-
-    /// Takes in a record of the attributes, under their canonical form. No attributes take no memory.
+    /// Takes in a record of the attributes, under their canonical form. Without attributes, and with
+    /// those that are the set of an entry as they stand, it takes no memory.
     pub fn measure(
         &mut self,
         value: A::PreComputedValue,
@@ -181,11 +197,12 @@ impl<A: Aggregator> ValueMap<A> {
     ) -> Result<(), Fault>
         ensures ok { OnOk result (self.new.state ≡ measured (canon attributes.now) (A.sample value) self.old.state) }
         ensures err { OnErr result (self.new.state ≡ self.old.state) }
-        ensures free { attributes.now ≡ [] → IsOk result }
+        ensures known { IsTrue (knows attributes.now self.old.state) → IsOk result }
         ensures only_memory { IsOkUnless result Fault.OutOfMemory }
     {
-        let set = set_for(self.alloc, &None, attributes)?;
-        self.measure_set(value, set)
+        self.prepare(attributes)?;
+        self.measure_ready(value);
+        Ok(())
     }
 
     /// The sets with copies of their aggregators: the empty set if it was updated, and then every

@@ -1,9 +1,8 @@
 -- A bounded map from sets to what their records come to: the table of a stream, and what it was made with.
-use Rattle.std.specs.Prelude.{ℕ, Bool, ◌||◌}
-use Rattle.otel_common.specs.Equality.{set_eq}
-use Rattle.otel_model_stream.specs.Sets.{AttributeSet, none_set}
+use Rattle.std.specs.Prelude.{ℕ}
+use Rattle.otel_model_stream.specs.Sets.{AttributeSet}
 use Rattle.otel_model_stream.specs.Folds.{Fold, Sample}
-use Rattle.otel_model_stream.specs.Entries.{Table, new_table, has, place, recorded_at, evicted, drained}
+use Rattle.otel_model_stream.specs.Entries.{Table, new_table, place, recorded_at, evicted, drained}
 
 -- what limits it, what no records come to, and its table
 pub record MapState : Type 0 where
@@ -30,12 +29,3 @@ evicted_map m = record m { table = evicted m.table }
 -- after a draining collection
 abbrev pub drained_map : MapState → MapState
 drained_map m = record m { table = drained m.table }
-
--- the state, and whether an entry can be made without memory
-pub record Held : Type 0 where
-  pub state : MapState
-  pub ready : Bool
-
--- a mention of the set finds its entry, or one can be made without memory
-abbrev pub is_ready : AttributeSet → Held → Bool
-is_ready s m = set_eq s none_set || (has s m.state.table.entries || m.ready)

@@ -82,10 +82,10 @@ impl SdkMeterProvider {
     /// - `Meter` copies the scope and looks it up once.
     /// - `Build` copies scope and texts, and at each reader looks up the identity once. It is made at all
     ///   readers or at none.
-    /// - `Record` makes, in each stream that the instrument feeds, a canonical copy of the attributes, so a
-    ///   sort of them by key, and looks it up once; a set that is new takes memory besides. Without
-    ///   attributes it takes no memory and no look-up, and is never refused for memory. It is made in all
-    ///   streams or in none.
+    /// - `Record` looks the attributes up in each stream that the instrument feeds, once and without memory
+    ///   where they are sorted by key, no key twice, and have a point there. Else it sorts a copy and looks
+    ///   that up, and a new set takes memory besides. Without attributes there is no look-up, and the call
+    ///   is never refused for memory. It is made in all streams or in none.
     /// - `Collect` goes over the reader's streams once for each meter, and copies each set that is shown.
     ///   It changes nothing.
     pub fn step(&mut self, call: &Call) -> Reply

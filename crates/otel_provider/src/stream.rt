@@ -10,7 +10,6 @@ use crate::identity::Demand;
 use otel_aggregate::sum::Sum;
 use otel_common::attributes::KeyValue;
 use otel_common::faults::Fault;
-use otel_common::lists::Items;
 use otel_common::metrics::Temporality;
 use otel_data::aggregated::{AggregatedMetrics, MetricData};
 use otel_data::collections::Metric;
@@ -25,15 +24,12 @@ const DEFAULT_LIMIT: usize = 2000;
 pub(crate) struct Stream {
     demand: Demand,
     sum: Sum<u64>,
-    /// The set of the record that is being made, for which the sums have room.
-    staged: Option<Items<KeyValue>>,
     /// The sum of all records, modulo 2^64.
     recorded: u64,
 }
 
 impl Model for Stream {
-    ghost use Rattle.std.specs.Prelude.{◌≡◌, IfSome, IsTrue};
-    ghost use Rattle.otel_aggregate.specs.Streams.{has_room};
+    ghost use Rattle.std.specs.Prelude.{◌≡◌};
     ghost use Rattle.otel_provider.specs.Streams.{Kept, default_sums};
 
     ghost Value = { Kept };
@@ -43,11 +39,10 @@ impl Model for Stream {
       table = s.sum.state.map_state.table;
       since = s.sum.state.start;
       recorded = s.recorded;
-      staged = s.staged;
+      staged = s.sum.pending;
     } };
 
-    ghost invariant = { λ s. (s.sum.state ≡ default_sums s.sum.state.map_state.table s.sum.state.start)
-        × IfSome s.staged (λ set. IsTrue (has_room set s.sum)) };
+    ghost invariant = { λ s. s.sum.state ≡ default_sums s.sum.state.map_state.table s.sum.state.start };
 }
 
 impl Stream {
@@ -67,7 +62,6 @@ impl Stream {
         Ok(Stream {
             demand,
             sum,
-            staged: None,
             recorded: 0,
         })
     }
@@ -86,20 +80,16 @@ impl Stream {
         ensures free { attributes.now ≡ [] → IsOk result }
         ensures only_memory { IsOkUnless result Fault.OutOfMemory }
     {
-        let set = self.sum.set_for(attributes)?;
-        self.staged = None;
-        self.sum.prepare(&set)?;
-        self.staged = Some(set);
-        Ok(())
+        self.sum.prepare(attributes)
     }
 
     /// Makes the record that the stream got ready for, if there is one.
     pub(crate) fn commit(&mut self, value: u64)
         ensures { self.new ≡ committed value self.old }
     {
-        if let Some(set) = self.staged.take() {
+        if self.sum.is_prepared() {
             self.recorded = self.recorded.wrapping_add(value);
-            self.sum.measure_ready(value, set);
+            self.sum.measure_ready(value);
         }
     }
 

@@ -1,17 +1,14 @@
 use Rattle.std.proofs.Common.{ap, true}
 use Rattle.otel_model_stream.specs.Entries.{write}
 use Rattle.otel_model_stream.specs.Folds.{Fold}
-use Rattle.std.specs.List.{IsDistinct}
-use Rattle.otel_common.specs.Equality.{set_eq}
-use Rattle.std.proofs.Common.{subst, sym}
-use Rattle.otel_aggregate.proofs.TallyLemmas.{entries-set, sets-keys}
+use Rattle.otel_aggregate.proofs.TallyLemmas.{entries-set, distinct-sets}
 use Rattle.otel_aggregate.proofs.table.touch.Goals as goal
 
 pub returns-clause-entries : goal.returns-clause-entries
 returns-clause-entries g c =
     let e = c.pair_mut-tally.result in
     entries-set g.A.Aggregator.meaning c.args.tallies.now.entries c.args.at (e.0.now, e.1.now) _ (write (g.A.Aggregator.sample c.args.value)) c.pair_mut-tally.ensures.value
-    (ap (λ (m : Fold). record { set = e.0.now; counted = e.1.now.counted; updated = true; fold = m; handles = 0 }) c.update.ensures)
+    (ap (λ (m : Fold). record { set = e.0.now.items; counted = e.1.now.counted; updated = true; fold = m; handles = 0 }) c.update.ensures)
 
 pub returns-clause-unique : goal.returns-clause-unique
-returns-clause-unique g c = subst (IsDistinct set_eq) (sym (sets-keys g.A.Aggregator.meaning c.args.tallies.now.entries)) c.len.ensures.unique
+returns-clause-unique g c = distinct-sets g.A.Aggregator.meaning c.args.tallies.now.entries c.len.ensures.unique

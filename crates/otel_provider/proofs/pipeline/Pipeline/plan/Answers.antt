@@ -1,4 +1,4 @@
-use Rattle.std.proofs.Common.{◌≡◌, ◌<◌, ◌∙◌, ap, sym, subst, Some, List, length, arith}
+use Rattle.std.proofs.Common.{◌≡◌, ◌<◌, ◌∙◌, ap, sym, subst, Some, List, length, refl, arith}
 use Rattle.std.proofs.lemmas.Bool.{lt-ltb}
 use Rattle.std.specs.List.{IsDistinct}
 use Rattle.std.specs.Prelude.{vec_len, vec_capacity}
@@ -34,3 +34,9 @@ returns-in_err-reserve-3-clause-same c = rw (← c.self.view_is) (part-same _ _ 
 
 pub returns-clause-same : goal.returns-clause-same
 returns-clause-same c = rw (← c.self.view_is) (part-same _ _ _ _ c.reserve-2.ensures.items c.reserve-3.ensures.items)
+
+pub returns-in_err-reserve-clause-same : goal.returns-in_err-reserve-clause-same
+returns-in_err-reserve-clause-same c = rw (← c.self.view_is) refl
+
+pub returns-in_err-reserve-2-clause-same : goal.returns-in_err-reserve-2-clause-same
+returns-in_err-reserve-2-clause-same c = rw (← c.self.view_is) (part-same _ _ _ _ c.reserve-2.ensures.items refl)
