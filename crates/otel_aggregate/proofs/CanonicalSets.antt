@@ -1,5 +1,5 @@
 -- Which canonical sets are empty, and that the overflow entry's is canonical.
-use Rattle.std.proofs.Common.{ℕ, List, [], ◌∷◌, ◌≡◌, ◌∙◌, Bool, true, false, cond, ap, refl, sym, arith, length, Some, None, true≢false, ◌==◌}
+use Rattle.std.proofs.Common.{List, [], ◌∷◌, ◌≡◌, ◌∙◌, false, cond, ap, refl, sym, arith, length, Some, None, true≢false, ◌==◌}
 use Rattle.std.specs.Cmp.Lexicographic.{texts_ties, bytes_decides}
 use Rattle.otel_common.specs.Canonical.{canon}
 use Rattle.otel_common.specs.Equality.{set_eq}

@@ -1,8 +1,6 @@
 -- Where a set stands, and a record that is prepared.
-use Rattle.std.proofs.Common.{ℕ, zero, suc, ◌≡◌, List, [], ◌∷◌, ◌++◌, length, map, nat_lt, Bool, true, false, cond, ◌||◌, ◌&&◌, ◌==◌, Option, Some, None, is_some, option_map, slice_get, nat_eq, refl, ap, arith, subst, sym, ◌∙◌, true≢false}
-use Rattle.std.specs.Prelude.{IsTrue}
+use Rattle.std.proofs.Common.{ℕ, zero, suc, ◌≡◌, List, [], ◌∷◌, ◌++◌, length, Bool, true, false, cond, ◌||◌, ◌&&◌, ◌==◌, Option, Some, None, is_some, option_map, slice_get, refl, ap, subst, sym, ◌∙◌, true≢false}
 use Rattle.std.specs.Global.{Vec}
-use Rattle.std.proofs.lemmas.Bool.Decides.{nat_tests}
 use Rattle.otel_common.specs.Canonical.{canon}
 use Rattle.otel_common.specs.declared.attributes.KeyValue.{KeyValue}
 use Rattle.otel_common.specs.Equality.{set_eq, set_eq-Decides}

@@ -1,5 +1,5 @@
 -- Where a record's entry stands in a table, and what a change there does to the table.
-use Rattle.std.proofs.Common.{ℕ, zero, suc, ◌+◌, ◌<◌, ◌≡◌, List, [], ◌∷◌, ◌++◌, length, map, filter, slice_get, nat_lt, Bool, true, false, cond, ◌||◌, ◌&&◌, Option, Some, None, is_some, option_map, refl, ap, arith, sym, ◌∙◌, true≢false}
+use Rattle.std.proofs.Common.{ℕ, zero, suc, ◌+◌, ◌<◌, ◌≡◌, List, [], ◌∷◌, ◌++◌, length, map, filter, nat_lt, Bool, true, false, cond, ◌||◌, Option, Some, None, is_some, option_map, refl, ap, arith, sym, ◌∙◌, true≢false}
 use Rattle.std.specs.List.{IsDistinct, AllByRecursion}
 use Rattle.std.proofs.lemmas.List.Folds.{list_any-append}
 use Rattle.otel_common.specs.declared.attributes.KeyValue.{KeyValue}
