@@ -1,5 +1,5 @@
 -- Where a set stands, and a record that is prepared.
-use Rattle.std.proofs.Common.{ℕ, zero, suc, ◌≡◌, List, [], ◌∷◌, ◌++◌, length, Bool, true, false, cond, ◌||◌, ◌&&◌, ◌==◌, Option, Some, None, is_some, option_map, slice_get, refl, ap, subst, sym, ◌∙◌, true≢false}
+use Rattle.std.proofs.Common.{ℕ, zero, suc, ◌≡◌, List, [], ◌∷◌, ◌++◌, length, map, filter, Bool, true, false, cond, ◌||◌, ◌&&◌, ◌==◌, Option, Some, None, is_some, option_map, slice_get, refl, ap, subst, sym, ◌∙◌, true≢false}
 use Rattle.std.specs.Global.{Vec}
 use Rattle.otel_common.specs.Canonical.{canon}
 use Rattle.otel_common.specs.declared.attributes.KeyValue.{KeyValue}
@@ -7,7 +7,7 @@ use Rattle.otel_common.specs.Equality.{set_eq, set_eq-Decides}
 use Rattle.otel_common.proofs.CanonLaws.{canon-canon}
 use Rattle.otel_model_stream.specs.Folds.{Fold}
 use Rattle.otel_model_stream.specs.Sets.{none_set}
-use Rattle.otel_model_stream.specs.Entries.{Entry, is_of, has}
+use Rattle.otel_model_stream.specs.Entries.{Entry, is_of, has, stays, reset}
 use Rattle.otel_aggregate.specs.Tallies.{index_of, with_entry_at, pending_set, IsNew, IsSound, AreCanonical}
 use Rattle.otel_aggregate.specs.declared.table.Pending.{Pending}
 use Rattle.otel_aggregate.specs.declared.table.Pending.TheVariants.{Nothing, Empty, Known, New}
@@ -44,6 +44,24 @@ pub canonical-with_entry_at : (f : Entry → Entry) → ((r : Entry) → (f r).s
 canonical-with_entry_at f same [] i all = tt
 canonical-with_entry_at f same (r ∷ rs) zero all = (ap canon (same r) ∙ all.0 ∙ sym (same r), all.1)
 canonical-with_entry_at f same (r ∷ rs) (suc i) all = (all.0, canonical-with_entry_at f same rs i all.1)
+
+-- what an eviction leaves are canonical sets that were there
+pub canonical-evicted : (entries : List Entry) → AreCanonical entries → AreCanonical (map reset (filter stays entries))
+canonical-evicted [] all = tt
+canonical-evicted (r ∷ rs) all = by (stays r) (canonical-evicted rs all.1)
+  where
+    by : (b : Bool) → AreCanonical (map reset (filter stays rs)) → AreCanonical (map reset (cond b (r ∷ filter stays rs) (filter stays rs)))
+    by true rest = (all.0, rest)
+    by false rest = rest
+
+pub has-evicted : (s : List KeyValue) (entries : List Entry) → has s entries ≡ false → has s (map reset (filter stays entries)) ≡ false
+has-evicted s [] e = refl
+has-evicted s (r ∷ rs) e = by (is_of s r) refl (stays r) e (λ h. has-evicted s rs h)
+  where
+    by : (b : Bool) → is_of s r ≡ b → (t : Bool) → (b || has s rs) ≡ false → (has s rs ≡ false → has s (map reset (filter stays rs)) ≡ false) → has s (map reset (cond t (r ∷ filter stays rs) (filter stays rs))) ≡ false
+    by true is t e ih = absurd (true≢false e)
+    by false is true e ih = ap (λ b. b || has s (map reset (filter stays rs))) is ∙ ih e
+    by false is false e ih = ih e
 
 -- ======== preparing ========
 -- attributes that are found as they stand

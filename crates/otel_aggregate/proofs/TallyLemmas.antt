@@ -1,15 +1,17 @@
 -- What a map's calls do to its tallies, as the model's entries.
-use Rattle.std.proofs.Common.{nat_lt, not, ℕ, zero, suc, ◌+◌, ◌≡◌, List, [], ◌∷◌, ◌++◌, length, slice_get, Bool, true, false, cond, Some, None, position, option_map, refl, ap, arith, sym, ◌∙◌, ◌||◌, true≢false}
+use Rattle.std.proofs.Common.{nat_lt, not, ℕ, zero, suc, ◌+◌, ◌≡◌, List, [], ◌∷◌, ◌++◌, length, map, filter, subst, slice_get, Bool, true, false, cond, Some, None, position, option_map, refl, ap, arith, sym, ◌∙◌, ◌||◌, true≢false}
 use Rattle.std.specs.Global.{Vec}
-use Rattle.std.specs.List.{position_or_len, IsDistinct, AllByRecursion}
+use Rattle.std.specs.List.{position_or_len, IsDistinct, AllByRecursion, count_by}
 use Rattle.std.proofs.lemmas.List.{map-append}
 use Rattle.std.proofs.lemmas.Bool.Decides.{nat_tests}
 use Rattle.indexmap.specs.Layout.{set_value_at}
 use Rattle.indexmap.specs.IndexMap.{IndexMap, insert_entry}
-use Rattle.std.specs.Map.{keys_of, lookup}
+use Rattle.std.specs.Map.{keys_of, values_of, lookup}
+use Rattle.std.specs.Map.Calls.{RetainsPairs}
+use Rattle.std.proofs.lemmas.List.Sums.{sum_by-cons}
 use Rattle.indexmap.proofs.CallerLemmas.{insert_entry-new}
 use Rattle.otel_model_stream.specs.Folds.{Fold}
-use Rattle.otel_model_stream.specs.Entries.{Entry, has}
+use Rattle.otel_model_stream.specs.Entries.{Entry, has, number_counted}
 use Rattle.otel_common.specs.declared.attributes.KeyValue.{KeyValue}
 use Rattle.otel_common.specs.Equality.{set_eq, set_eq-Decides}
 use Rattle.otel_aggregate.specs.Tallies.{entry_of, entries_of, with_entry_at, index_of, sets}
@@ -84,3 +86,33 @@ module _ {A : Type 0} (meaning : A → Fold) where
       apart : (xs : List (Key × Tally A)) → AllByRecursion (λ y. key_eq e.0 y ≡ false) (keys_of xs) → AllByRecursion (λ y. set_eq e.0.items y ≡ false) (sets (entries_of meaning xs))
       apart [] h = tt
       apart (x ∷ xs) h = (h.0, apart xs h.1)
+
+  -- what counts the tallies counts the entries
+  pub entries-counted : (es : List (Key × Tally A)) → count_by (λ (t : Tally A). t.counted) (values_of es) ≡ number_counted (entries_of meaning es)
+  entries-counted [] = refl
+  entries-counted (e ∷ es) = sum_by-cons _ e.1 (values_of es) ∙ by e.1.counted (entries-counted es)
+    where
+      cs : List Entry
+      cs = filter (λ (e : Entry). e.counted) (entries_of meaning es)
+
+      by : (b : Bool) → count_by (λ (t : Tally A). t.counted) (values_of es) ≡ length cs → cond b 1 0 + count_by (λ (t : Tally A). t.counted) (values_of es) ≡ length (cond b (entry_of meaning e ∷ cs) cs)
+      by true h = omega (arith, h)
+      by false h = omega (arith, h)
+
+  -- what `retain` leaves, as entries
+  pub entries-retained : {F : Type 0} (T : F → Key → Tally A → Bool → Tally A → F → Type 0) (test : Entry → Bool) (change : Entry → Entry) (f : F)
+      → ((k : Key) (v : Tally A) (b : Bool) (w : Tally A) (g : F) → T f k v b w g → (b ≡ test (entry_of meaning (k, v))) × (entry_of meaning (k, w) ≡ change (entry_of meaning (k, v))) × (g ≡ f))
+      → (es left : List (Key × Tally A)) → RetainsPairs T f es left → entries_of meaning left ≡ map change (filter test (entries_of meaning es))
+  entries-retained T test change f says [] left h = ap (entries_of meaning) h
+  entries-retained T test change f says (e ∷ es) left h =
+      let s = says e.0 e.1 h.0 h.1 h.2 h.4 in
+      let rest = entries-retained T test change f says es h.3 (subst (λ g. RetainsPairs T g es h.3) s.2 h.5) in
+      ap (entries_of meaning) h.6 ∙ left_entry h.0 ∙ (λ j. cond (s.0 j) (s.1 j ∷ rest j) (rest j)) ∙ changed (test (entry_of meaning e)) (entry_of meaning e) (filter test (entries_of meaning es))
+    where
+      changed : (b : Bool) (r : Entry) (rs : List Entry) → cond b (change r ∷ map change rs) (map change rs) ≡ map change (cond b (r ∷ rs) rs)
+      changed true r rs = refl
+      changed false r rs = refl
+
+      left_entry : (b : Bool) → entries_of meaning (cond b ((e.0, h.1) ∷ h.3) h.3) ≡ cond b (entry_of meaning (e.0, h.1) ∷ entries_of meaning h.3) (entries_of meaning h.3)
+      left_entry true = refl
+      left_entry false = refl

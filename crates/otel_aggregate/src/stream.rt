@@ -69,11 +69,11 @@ impl<A: Aggregator> Stream<A> {
         }
     }
 
-    /// The points so far.
-    pub fn points(&self, alloc: Global) -> Result<Vec<(Items<KeyValue>, A)>, Fault>
-        ensures points { IfOk result (λ given. copies A.meaning given.items ≡ points true self.now.map.state.table) }
+    /// The points so far: of every set, or of those that were updated.
+    pub fn points(&self, alloc: Global, every: bool) -> Result<Vec<(Items<KeyValue>, A)>, Fault>
+        ensures points { IfOk result (λ given. copies A.meaning given.items ≡ points every self.now.map.state.table) }
         ensures only_memory { IsOkUnless result Fault.OutOfMemory }
     {
-        self.map.collect_readonly(alloc)
+        self.map.points(alloc, every)
     }
 }

@@ -19,11 +19,24 @@ use otel_data::sums::Sum as SumData;
 use std::alloc::Global;
 use std::marker::Model;
 
+/// Whether a stream resets at each collection, by its reader's answer.
+fn is_delta(temporality: Temporality) -> bool
+    ensures { result ≡ resets_of temporality }
+{
+    match temporality {
+        Temporality::Delta => true,
+        Temporality::Cumulative => false,
+        Temporality::LowMemory => false,
+    }
+}
+
 /// The sums of a stream's records, by set (Metrics SDK, "Sum Aggregation").
 #[derive(Drop)]
 pub struct Sum<T: Number + Drop> {
     stream: Stream<Increment<T>>,
     is_monotonic: bool,
+    /// Whether each collection starts the sums again.
+    resets: bool,
 }
 
 impl<T: Number + Drop> Model for Sum<T> {
@@ -39,7 +52,7 @@ impl<T: Number + Drop> Model for Sum<T> {
         aggregate = SumAggregate;
         is_monotonic = s.is_monotonic;
         allow = s.stream.allow;
-        resets = false;
+        resets = s.resets;
         start = s.stream.start;
       };
       pending = s.stream.map.pending;
@@ -47,8 +60,8 @@ impl<T: Number + Drop> Model for Sum<T> {
 }
 
 impl<T: Number + Drop> Sum<T> {
-    /// Sums without records. `temporality` is the reader's answer, by which the stream is to be
-    /// cumulative, and `now` is the moment of the making.
+    /// Sums without records. `temporality` is the reader's answer: with `Delta` each collection starts
+    /// the sums again, with any other they go on from `now`, the moment of the making.
     pub fn new(
         alloc: Global,
         temporality: Temporality,
@@ -57,16 +70,15 @@ impl<T: Number + Drop> Sum<T> {
         now: u64,
         is_monotonic: bool,
     ) -> Result<Self, Fault>
-        requires cumulative { resets_of temporality ≡ false }
         ensures made { IfOk result (λ made. made.state ≡ new_stream SumAggregate is_monotonic allow (resets_of temporality) limit now) }
         ensures unprepared { IfOk result (λ made. made.pending ≡ None) }
         ensures only_memory { IsOkUnless result Fault.OutOfMemory }
     {
-        let _ = temporality;
         let stream = Stream::new(alloc, (), allow, limit, now)?;
         Ok(Sum {
             stream,
             is_monotonic,
+            resets: is_delta(temporality),
         })
     }
 
@@ -113,21 +125,36 @@ impl<T: Number + Drop> Sum<T> {
         Ok(())
     }
 
-    /// What a collection at a moment gives. The sums stay as they were.
+    /// What a collection at a moment gives: the start, the sums and `now`. The sums stay as they were.
     pub fn points(&self, alloc: Global, now: u64) -> Result<SumData<T>, Fault>
         ensures sums { self.now.state.aggregate ≡ SumAggregate }
-        ensures cumulative { self.now.state.resets ≡ false }
         ensures data { IfOk result (λ given. given ≡ sum_data T.of_bits now self.now.state) }
         ensures only_memory { IsOkUnless result Fault.OutOfMemory }
     {
-        let given = self.stream.points(alloc)?;
+        let given = self.stream.points(alloc, !self.resets)?;
+        let temporality = if self.resets {
+            Temporality::Delta
+        } else {
+            Temporality::Cumulative
+        };
         Ok(SumData::new(
             into_points(alloc, given)?,
             self.stream.start,
             now,
-            Temporality::Cumulative,
+            temporality,
             self.is_monotonic,
         ))
+    }
+
+    /// Ends a collection at a moment whose points were taken: where the stream resets, the sums start
+    /// again from `now`.
+    pub fn finish(&mut self, now: u64)
+        ensures { self.new.state ≡ collected now self.old.state }
+    {
+        if self.resets {
+            self.stream.map.reset_and_evict();
+            self.stream.start = now;
+        }
     }
 
     /// A collection at a moment.
@@ -137,6 +164,8 @@ impl<T: Number + Drop> Sum<T> {
         ensures err { OnErr result (self.new.state ≡ self.old.state) }
         ensures only_memory { IsOkUnless result Fault.OutOfMemory }
     {
-        self.points(alloc, now)
+        let given = self.points(alloc, now)?;
+        self.finish(now);
+        Ok(given)
     }
 }

@@ -1,12 +1,12 @@
 //! Tallies by set, in order of making.
 
 ghost use Rattle.std.specs.Prelude.{◌≡◌, IfOk, IsOk, is_some, true, false, IsOkUnless, ◌<◌, ◌∷◌, [], ◌++◌, OnOk, IfSome, map, filter, ◌||◌};
-ghost use Rattle.std.specs.List.{IsDistinct};
-ghost use Rattle.indexmap.specs.IndexMap.{index_map_len, spare};
+ghost use Rattle.std.specs.List.{IsDistinct, count_by};
+ghost use Rattle.indexmap.specs.IndexMap.{index_map_len, spare, values};
 ghost use Rattle.otel_common.specs.Equality.{set_eq};
 ghost use Rattle.otel_model_stream.specs.Sets.{none_set, over_set};
-ghost use Rattle.otel_model_stream.specs.Entries.{fresh, has, write, shown};
-ghost use Rattle.otel_aggregate.specs.Tallies.{entries_of, tally_entry, copies, with_entry_at, index_of, sets};
+ghost use Rattle.otel_model_stream.specs.Entries.{fresh, has, write, shown, reset, stays, number_counted};
+ghost use Rattle.otel_aggregate.specs.Tallies.{entries_of, entry_of, tally_entry, copies, with_entry_at, index_of, sets};
 
 use crate::aggregator::Aggregator;
 use crate::sets::{copy_set, overflow_set};
@@ -135,18 +135,55 @@ pub fn first_points<A: Aggregator>(
     Ok(points)
 }
 
-/// Adds the points of all tallies, in order.
+/// Adds the points of the tallies, in order: of every one, or of those that were updated.
 pub fn copy_out<A: Aggregator>(
     alloc: Global,
     tallies: &IndexMap<Vec<KeyValue>, Tally<A>>,
+    every: bool,
     points: &mut Vec<(Items<KeyValue>, A)>,
 ) -> Result<(), Fault>
-    ensures points { OnOk result (copies A.meaning points.new.items ≡ copies A.meaning points.old.items ++ map shown (filter (λ entry. true || entry.updated) (entries_of A.meaning tallies.now.entries))) }
+    ensures points { OnOk result (copies A.meaning points.new.items ≡ copies A.meaning points.old.items ++ map shown (filter (λ entry. every || entry.updated) (entries_of A.meaning tallies.now.entries))) }
     ensures only_memory { IsOkUnless result Fault.OutOfMemory }
 {
-    points.reserve(tallies.len())?;
+    if every {
+        points.reserve(tallies.len())?;
+    }
     for (set, tally) in tallies.iter() {
-        points.push((copy_set(alloc, set)?, tally.aggregator.copy(alloc)?))?;
+        let is_shown = every || tally.updated;
+        if is_shown {
+            points.push((copy_set(alloc, set)?, tally.aggregator.copy(alloc)?))?;
+        }
     }
     Ok(())
+}
+
+/// Forgets all records, and the tallies that had none since the last time, but that of the overflow set.
+pub fn evict<A: Aggregator>(tallies: &mut IndexMap<Vec<KeyValue>, Tally<A>>, overflow: &[KeyValue])
+    requires { overflow.now ≡ over_set }
+    ensures { entries_of A.meaning tallies.new.entries ≡ map reset (filter stays (entries_of A.meaning tallies.old.entries)) }
+{
+    tallies.retain(
+        |set: &Vec<KeyValue>, tally: &mut Tally<A>| -> bool
+            ensures { (result ≡ (tally.old.updated || set_eq set.now.items overflow.entry.now)) × (entry_of A.meaning (set.now, tally.new) ≡ reset (entry_of A.meaning (set.now, tally.old))) }
+        {
+            let stays = tally.updated || set.as_slice() == overflow;
+            tally.updated = false;
+            tally.aggregator.reset();
+            stays
+        },
+    );
+}
+
+/// How many of the tallies are counted.
+fn count_tallies<A>(tallies: &IndexMap<Vec<KeyValue>, Tally<A>>) -> usize
+    ensures { result ≡ count_by (λ tally. tally.counted) (values tallies.now) }
+{
+    tallies.values().filter(|tally| tally.counted).count()
+}
+
+/// How many tallies the limit counts.
+pub fn count_counted<A: Aggregator>(tallies: &IndexMap<Vec<KeyValue>, Tally<A>>) -> usize
+    ensures { result ≡ number_counted (entries_of A.meaning tallies.now.entries) }
+{
+    count_tallies(tallies)
 }

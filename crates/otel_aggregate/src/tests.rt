@@ -33,6 +33,10 @@ fn cumulative(alloc: Global, allow: Option<Items<Key>>, limit: usize) -> Result<
     Ok(Sum::new(alloc, Temporality::Cumulative, allow, limit, 100, true)?)
 }
 
+fn delta(alloc: Global, limit: usize) -> Result<Sum<u64>, Fail> {
+    Ok(Sum::new(alloc, Temporality::Delta, None, limit, 100, true)?)
+}
+
 /// Each point of a collection at 200: the key of its first attribute, or nothing, and its value.
 fn shown(alloc: Global, sum: &mut Sum<u64>) -> Result<Vec<(String, u64)>, Fail> {
     let mut all = Vec::new(alloc);
@@ -83,6 +87,80 @@ fn the_empty_set_comes_first_and_is_not_counted(rt: HostRuntime) -> Result<(), F
             &[("", 1), ("x", 2), (OVERFLOW, 4)]
         )
     );
+    Ok(())
+}
+
+#[test]
+fn row_3(rt: HostRuntime) -> Result<(), Fail> {
+    let alloc = rt.alloc();
+    let mut sum = delta(alloc, 2)?;
+    sum.measure(1, &one(alloc, "x", 1)?)?;
+    sum.measure(2, &one(alloc, "y", 1)?)?;
+    sum.measure(4, &one(alloc, "z", 1)?)?;
+    sum.measure(8, &one(alloc, "x", 1)?)?;
+    assert!(rt;
+        holds(
+            &shown(alloc, &mut sum)?,
+            &[("x", 9), ("y", 2), (OVERFLOW, 4)]
+        )
+    );
+    Ok(())
+}
+
+#[test]
+fn row_4(rt: HostRuntime) -> Result<(), Fail> {
+    let alloc = rt.alloc();
+    let mut sum = delta(alloc, 1)?;
+    sum.measure(1, &one(alloc, "x", 1)?)?;
+    assert!(rt; holds(&shown(alloc, &mut sum)?, &[("x", 1)]));
+    sum.measure(2, &one(alloc, "y", 1)?)?;
+    assert!(rt; holds(&shown(alloc, &mut sum)?, &[(OVERFLOW, 2)]));
+    sum.measure(4, &one(alloc, "y", 1)?)?;
+    assert!(rt; holds(&shown(alloc, &mut sum)?, &[("y", 4)]));
+    Ok(())
+}
+
+#[test]
+fn row_7(rt: HostRuntime) -> Result<(), Fail> {
+    let alloc = rt.alloc();
+    let overflow = vec![in alloc; KeyValue::new(Key::new(alloc, OVERFLOW)?, Value::Bool(true))]?;
+    let mut sum = delta(alloc, 1)?;
+    sum.measure(1, &overflow)?;
+    sum.measure(2, &one(alloc, "x", 1)?)?;
+    assert!(rt; holds(&shown(alloc, &mut sum)?, &[(OVERFLOW, 3)]));
+    assert!(rt; holds(&shown(alloc, &mut sum)?, &[]));
+    sum.measure(5, &one(alloc, "x", 1)?)?;
+    assert!(rt; holds(&shown(alloc, &mut sum)?, &[(OVERFLOW, 5)]));
+    Ok(())
+}
+
+#[test]
+fn row_22(rt: HostRuntime) -> Result<(), Fail> {
+    let alloc = rt.alloc();
+    let mut sum = delta(alloc, 1)?;
+    sum.measure(1, &[])?;
+    sum.measure(2, &one(alloc, "x", 1)?)?;
+    sum.measure(4, &one(alloc, "y", 1)?)?;
+    assert!(rt;
+        holds(
+            &shown(alloc, &mut sum)?,
+            &[("", 1), ("x", 2), (OVERFLOW, 4)]
+        )
+    );
+    Ok(())
+}
+
+/// A delta collection has the moments since the one before, also where that had no points.
+#[test]
+fn delta_moments(rt: HostRuntime) -> Result<(), Fail> {
+    let alloc = rt.alloc();
+    let mut sum = delta(alloc, 10)?;
+    let _ = sum.collect(alloc, 200)?;
+    sum.measure(1, &[])?;
+    let data = sum.collect(alloc, 300)?;
+    assert_eq!(rt; data.start_time(), 200);
+    assert_eq!(rt; data.time(), 300);
+    assert_eq!(rt; data.temporality(), Temporality::Delta);
     Ok(())
 }
 
@@ -146,6 +224,9 @@ fn a_map_gives_its_sets_in_order(rt: HostRuntime) -> Result<(), Fail> {
     assert_eq!(rt; points[0].attributes().count(), 0);
     assert_eq!(rt; points[1].value(), 3);
     assert_eq!(rt; points[1].attributes().count(), 2);
+    assert_eq!(rt; map.collect_and_reset(alloc)?.len(), 2);
+    assert_eq!(rt; map.collect_and_reset(alloc)?.len(), 0);
+    assert_eq!(rt; map.collect_readonly(alloc)?.len(), 0);
     Ok(())
 }
 

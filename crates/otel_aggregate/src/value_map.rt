@@ -1,16 +1,17 @@
 //! A bounded map from sets of attributes to aggregators.
 
-ghost use Rattle.std.specs.Prelude.{◌≡◌, true, is_some, None, Some, IsTrue, IsSome, OnOk, OnErr, IfOk, IsOk, IsOkUnless};
+ghost use Rattle.std.specs.Prelude.{◌≡◌, true, false, is_some, None, Some, IsTrue, IsSome, OnOk, OnErr, IfOk, IsOk, IsOkUnless};
 ghost use Rattle.otel_common.specs.Canonical.{canon};
 ghost use Rattle.otel_model_stream.specs.Entries.{entry_for, points};
-ghost use Rattle.otel_model_stream.specs.Maps.{new_map, with_place, measured};
+ghost use Rattle.otel_model_stream.specs.Maps.{new_map, with_place, measured, evicted_map};
 ghost use Rattle.otel_model_stream.specs.Sets.{AttributeSet};
 ghost use Rattle.otel_aggregate.specs.Tallies.{IsPlace, copies, knows};
 
 use crate::aggregator::Aggregator;
 use crate::sets::overflow_set;
 use crate::table::{
-    Pending, Tally, add, copy_out, find, first_points, make_key, make_unused, touch,
+    Pending, Tally, add, copy_out, count_counted, evict, find, first_points, make_key, make_unused,
+    touch,
 };
 use indexmap::IndexMap;
 use otel_common::attributes::KeyValue;
@@ -205,14 +206,49 @@ impl<A: Aggregator> ValueMap<A> {
         Ok(())
     }
 
-    /// The sets with copies of their aggregators: the empty set if it was updated, and then every
-    /// entry in order of making. The map stays as it was.
+    /// The sets with copies of their aggregators: the empty set if it was updated, and then the entries
+    /// in order of making, every one or those that were updated. The map stays as it was.
+    pub fn points(&self, alloc: Global, every: bool) -> Result<Vec<(Items<KeyValue>, A)>, Fault>
+        ensures points { IfOk result (λ given. copies A.meaning given.items ≡ points every self.now.state.table) }
+        ensures only_memory { IsOkUnless result Fault.OutOfMemory }
+    {
+        let mut points = first_points(alloc, &self.none)?;
+        copy_out(alloc, &self.tallies, every, &mut points)?;
+        Ok(points)
+    }
+
+    /// Forgets all records. An entry that had none since the last time goes, but for the overflow entry.
+    /// A record that was prepared is given up.
+    pub fn reset_and_evict(&mut self)
+        ensures state { self.new.state ≡ evicted_map self.old.state }
+        ensures unprepared { self.new.pending ≡ None }
+    {
+        self.pending = Pending::Nothing;
+        self.none.updated = false;
+        self.none.aggregator.reset();
+        evict(&mut self.tallies, &self.overflow);
+        self.count = count_counted(&self.tallies);
+    }
+
+    /// The points of a collection that changes nothing: of the empty set if it was updated, and of
+    /// every entry.
     pub fn collect_readonly(&self, alloc: Global) -> Result<Vec<(Items<KeyValue>, A)>, Fault>
         ensures points { IfOk result (λ given. copies A.meaning given.items ≡ points true self.now.state.table) }
         ensures only_memory { IsOkUnless result Fault.OutOfMemory }
     {
-        let mut points = first_points(alloc, &self.none)?;
-        copy_out(alloc, &self.tallies, &mut points)?;
+        self.points(alloc, true)
+    }
+
+    /// The points of a collection that resets: of what was updated since the last one. Then the map
+    /// forgets all records, and evicts the entries that had none.
+    pub fn collect_and_reset(&mut self, alloc: Global) -> Result<Vec<(Items<KeyValue>, A)>, Fault>
+        ensures points { IfOk result (λ given. copies A.meaning given.items ≡ points false self.old.state.table) }
+        ensures ok { OnOk result (self.new.state ≡ evicted_map self.old.state) }
+        ensures err { OnErr result (self.new.state ≡ self.old.state) }
+        ensures only_memory { IsOkUnless result Fault.OutOfMemory }
+    {
+        let points = self.points(alloc, false)?;
+        self.reset_and_evict();
         Ok(points)
     }
 }

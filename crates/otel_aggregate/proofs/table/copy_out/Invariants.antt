@@ -1,4 +1,4 @@
-use Rattle.std.proofs.Common.{◌≡◌, ◌++◌, map, filter, true, ◌||◌}
+use Rattle.std.proofs.Common.{◌≡◌, ◌++◌, map, filter, ◌||◌}
 use Rattle.otel_model_stream.specs.Entries.{Entry, shown}
 use Rattle.otel_aggregate.specs.Tallies.{entries_of, copies}
 use Rattle.otel_aggregate.proofs.table.copy_out.Given as goal
@@ -7,4 +7,4 @@ use Rattle.otel_aggregate.proofs.table.copy_out.Given as goal
 abbrev pub invariant-loop-set : goal.invariant-loop-set
 invariant-loop-set g l =
     let meaning = g.A.Aggregator.meaning in
-    copies meaning l.points.items ++ map shown (filter (λ (e : Entry). true || e.updated) (entries_of meaning l.set-iterator)) ≡ copies meaning l.fn.points.items ++ map shown (filter (λ (e : Entry). true || e.updated) (entries_of meaning l.fn.tallies.entries))
+    copies meaning l.points.items ++ map shown (filter (λ (e : Entry). l.every || e.updated) (entries_of meaning l.set-iterator)) ≡ copies meaning l.fn.points.items ++ map shown (filter (λ (e : Entry). l.every || e.updated) (entries_of meaning l.fn.tallies.entries))
