@@ -3,3 +3,4 @@ pub mod FoldLaws
 pub mod TallyLemmas
 pub mod PlaceLemmas
 pub mod PendingLemmas
+pub mod WeightLemmas

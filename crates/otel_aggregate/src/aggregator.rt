@@ -2,6 +2,7 @@
 
 ghost use Rattle.std.specs.Prelude.{◌≡◌, List, [], ◌∷◌, ◌++◌, IfOk, refl};
 ghost use Rattle.otel_model_stream.specs.Folds.{Sample, Fold, Total, recorded, cleared, folded};
+ghost use Rattle.otel_model_stream.specs.Totals.{weight};
 
 use crate::number::Number;
 use std::alloc::{AllocError, Global};
@@ -34,6 +35,11 @@ pub trait Aggregator: Drop {
     /// One of the same records.
     fn copy(&self, alloc: Global) -> Result<Self, AllocError>
         ensures { IfOk result (λ made. meaning made ≡ meaning self.now) };
+
+    /// What the records add up to: of a sum its 64 bits, of a histogram their number, of a last value
+    /// nothing.
+    fn weight(&self) -> u64
+        ensures { result ≡ weight (meaning self.now) };
 
     /// Forgets all records.
     fn reset(&mut self)
@@ -72,6 +78,10 @@ impl<T: Number + Drop> Aggregator for Increment<T> {
 
     fn copy(&self, _alloc: Global) -> Result<Increment<T>, AllocError> {
         Ok(Increment { value: self.value })
+    }
+
+    fn weight(&self) -> u64 {
+        self.value.bits()
     }
 
     fn reset(&mut self) {

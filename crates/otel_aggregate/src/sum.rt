@@ -2,9 +2,10 @@
 
 ghost use Rattle.std.specs.Prelude.{◌≡◌, false, is_some, None, Some, IsTrue, IsSome, OnOk, OnErr, IfOk, IsOk, IsOkUnless};
 ghost use Rattle.otel_model_stream.specs.Sets.{AttributeSet, set_of};
-ghost use Rattle.otel_model_stream.specs.Folds.{Sum as SumAggregate};
+ghost use Rattle.otel_model_stream.specs.Folds.{Sum as SumAggregate, wrapped};
+ghost use Rattle.otel_model_stream.specs.Totals.{points_total};
 ghost use Rattle.otel_aggregate.specs.Data.{sum_data};
-ghost use Rattle.otel_aggregate.specs.Streams.{new_stream, resets_of, is_known, recorded_set, recorded_attributes, collected};
+ghost use Rattle.otel_aggregate.specs.Streams.{new_stream, resets_of, is_known, recorded_set, recorded_attributes, collected, points_now};
 
 use crate::aggregator::Increment;
 use crate::number::Number;
@@ -144,6 +145,13 @@ impl<T: Number + Drop> Sum<T> {
             temporality,
             self.is_monotonic,
         ))
+    }
+
+    /// What the points of a collection now would add up to, modulo 2^64.
+    pub fn total(&self) -> u64
+        ensures { result ≡ wrapped (points_total (points_now self.now.state)) }
+    {
+        self.stream.map.total(!self.resets)
     }
 
     /// Ends a collection at a moment whose points were taken: where the stream resets, the sums start

@@ -4,7 +4,9 @@ ghost use Rattle.std.specs.Prelude.{◌≡◌, IfOk, IsOk, is_some, true, false,
 ghost use Rattle.std.specs.List.{IsDistinct, count_by};
 ghost use Rattle.indexmap.specs.IndexMap.{index_map_len, spare, values};
 ghost use Rattle.otel_common.specs.Equality.{set_eq};
-ghost use Rattle.otel_model_stream.specs.Sets.{none_set, over_set};
+ghost use Rattle.otel_model_stream.specs.Folds.{wrapped};
+ghost use Rattle.otel_model_stream.specs.Sets.{AttributeSet, none_set, over_set};
+ghost use Rattle.otel_model_stream.specs.Totals.{points_total};
 ghost use Rattle.otel_model_stream.specs.Entries.{fresh, has, write, shown, reset, stays, number_counted};
 ghost use Rattle.otel_aggregate.specs.Tallies.{entries_of, entry_of, tally_entry, copies, with_entry_at, index_of, sets};
 
@@ -155,6 +157,28 @@ pub fn copy_out<A: Aggregator>(
         }
     }
     Ok(())
+}
+
+/// What the records of a tally add up to, if its point is shown.
+fn weight_shown<A: Aggregator>(tally: &Tally<A>, every: bool) -> u64
+    ensures { (s : AttributeSet) → result ≡ points_total (map shown (filter (λ entry. every || entry.updated) (tally_entry A.meaning s tally.now ∷ []))) }
+{
+    if every || tally.updated {
+        tally.aggregator.weight()
+    } else {
+        0
+    }
+}
+
+/// What the records add up to that the points of the tallies show, modulo 2^64.
+pub fn total_of<A: Aggregator>(tallies: &IndexMap<Vec<KeyValue>, Tally<A>>, every: bool) -> u64
+    ensures { result ≡ wrapped (points_total (map shown (filter (λ entry. every || entry.updated) (entries_of A.meaning tallies.now.entries)))) }
+{
+    let mut total: u64 = 0;
+    for (_, tally) in tallies.iter() {
+        total = total.wrapping_add(weight_shown(tally, every));
+    }
+    total
 }
 
 /// Forgets all records, and the tallies that had none since the last time, but that of the overflow set.

@@ -4,14 +4,16 @@ ghost use Rattle.std.specs.Prelude.{◌≡◌, true, false, is_some, None, Some,
 ghost use Rattle.otel_common.specs.Canonical.{canon};
 ghost use Rattle.otel_model_stream.specs.Entries.{entry_for, points};
 ghost use Rattle.otel_model_stream.specs.Maps.{new_map, with_place, measured, evicted_map};
+ghost use Rattle.otel_model_stream.specs.Folds.{wrapped};
 ghost use Rattle.otel_model_stream.specs.Sets.{AttributeSet};
+ghost use Rattle.otel_model_stream.specs.Totals.{points_total};
 ghost use Rattle.otel_aggregate.specs.Tallies.{IsPlace, copies, knows};
 
 use crate::aggregator::Aggregator;
 use crate::sets::overflow_set;
 use crate::table::{
     Pending, Tally, add, copy_out, count_counted, evict, find, first_points, make_key, make_unused,
-    touch,
+    total_of, touch,
 };
 use indexmap::IndexMap;
 use otel_common::attributes::KeyValue;
@@ -215,6 +217,18 @@ impl<A: Aggregator> ValueMap<A> {
         let mut points = first_points(alloc, &self.none)?;
         copy_out(alloc, &self.tallies, every, &mut points)?;
         Ok(points)
+    }
+
+    /// What the records add up to that `points` shows, modulo 2^64.
+    pub fn total(&self, every: bool) -> u64
+        ensures { result ≡ wrapped (points_total (points every self.now.state.table)) }
+    {
+        let rest = total_of(&self.tallies, every);
+        if self.none.updated {
+            rest.wrapping_add(self.none.aggregator.weight())
+        } else {
+            rest
+        }
     }
 
     /// Forgets all records. An entry that had none since the last time goes, but for the overflow entry.
