@@ -40,7 +40,7 @@ pub record HeldStream : Type 0 where
   pub state : StreamState
   pub pending : Option AttributeSet
 
--- these attributes are none, or they are the set of an entry as they stand and all of them are kept
+-- these attributes are none or, where there is no allow-list, the set of an entry as they stand
 abbrev pub is_known : AllowList → List KeyValue → MapState → Bool
 is_known None l m = knows l m
 is_known (Some allow) l m = set_eq l none_set

@@ -1,11 +1,12 @@
 //! What is kept of the records of one set of attributes.
 
-ghost use Rattle.std.specs.Prelude.{◌≡◌, List, [], ◌∷◌, ◌++◌, IfOk, refl};
+ghost use Rattle.std.specs.Prelude.{◌≡◌, List, [], ◌∷◌, ◌++◌, IfOk, IsOkUnless, refl};
 ghost use Rattle.otel_model_stream.specs.Folds.{Sample, Fold, Total, recorded, cleared, folded};
 ghost use Rattle.otel_model_stream.specs.Totals.{weight};
 
 use crate::number::Number;
-use std::alloc::{AllocError, Global};
+use otel_common::faults::Fault;
+use std::alloc::Global;
 
 /// What is kept of a list of records, one record after the other.
 pub trait Aggregator: Drop {
@@ -25,16 +26,18 @@ pub trait Aggregator: Drop {
     ghost sample: { Self.PreComputedValue → Sample };
 
     /// One with no records.
-    fn create(alloc: Global, config: &Self::InitConfig) -> Result<Self, AllocError>
-        ensures { IfOk result (λ made. meaning made ≡ empty config.now) };
+    fn create(alloc: Global, config: &Self::InitConfig) -> Result<Self, Fault>
+        ensures empty { IfOk result (λ made. meaning made ≡ empty config.now) }
+        ensures only_memory { IsOkUnless result Fault.OutOfMemory };
 
     /// Takes in one more record.
     fn update(&mut self, value: Self::PreComputedValue)
         ensures { meaning self.new ≡ recorded (meaning self.old) (sample value) };
 
     /// One of the same records.
-    fn copy(&self, alloc: Global) -> Result<Self, AllocError>
-        ensures { IfOk result (λ made. meaning made ≡ meaning self.now) };
+    fn copy(&self, alloc: Global) -> Result<Self, Fault>
+        ensures copy { IfOk result (λ made. meaning made ≡ meaning self.now) }
+        ensures only_memory { IsOkUnless result Fault.OutOfMemory };
 
     /// What the records add up to: of a sum its 64 bits, of a histogram their number, of a last value
     /// nothing.
@@ -49,7 +52,7 @@ pub trait Aggregator: Drop {
     ghost cleared_empty: { (config : Self.InitConfig) → cleared (empty config) ≡ empty config };
 }
 
-/// Adds up the records.
+/// Adds up the records (Metrics SDK, "Sum Aggregation").
 #[derive(Drop)]
 pub struct Increment<T> {
     pub value: T,
@@ -68,7 +71,7 @@ impl<T: Number + Drop> Aggregator for Increment<T> {
 
     ghost cleared_empty = { λ _. refl };
 
-    fn create(_alloc: Global, _config: &()) -> Result<Increment<T>, AllocError> {
+    fn create(_alloc: Global, _config: &()) -> Result<Increment<T>, Fault> {
         Ok(Increment { value: T::zero() })
     }
 
@@ -76,7 +79,7 @@ impl<T: Number + Drop> Aggregator for Increment<T> {
         self.value = self.value.add(value);
     }
 
-    fn copy(&self, _alloc: Global) -> Result<Increment<T>, AllocError> {
+    fn copy(&self, _alloc: Global) -> Result<Increment<T>, Fault> {
         Ok(Increment { value: self.value })
     }
 
@@ -90,8 +93,9 @@ impl<T: Number + Drop> Aggregator for Increment<T> {
 }
 
 /// The law that an aggregator as it is made has the meaning of no records.
-pub fn create_fold<A: Aggregator>(alloc: Global, config: &A::InitConfig) -> Result<A, AllocError>
-    ensures { IfOk result (λ made. A.meaning made ≡ folded (A.empty config.now) []) }
+pub fn create_fold<A: Aggregator>(alloc: Global, config: &A::InitConfig) -> Result<A, Fault>
+    ensures fold { IfOk result (λ made. A.meaning made ≡ folded (A.empty config.now) []) }
+    ensures only_memory { IsOkUnless result Fault.OutOfMemory }
 {
     A::create(alloc, config)
 }

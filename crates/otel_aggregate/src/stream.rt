@@ -1,6 +1,6 @@
 //! What all aggregates share.
 
-ghost use Rattle.std.specs.Prelude.{◌≡◌, [], true, None, Some, IsTrue, IfOk, OnOk, IsOk, IsOkUnless};
+ghost use Rattle.std.specs.Prelude.{◌≡◌, [], true, None, Some, IsTrue, IfOk, OnOk, OnErr, IsOk, IsOkUnless};
 ghost use Rattle.otel_model_stream.specs.Sets.{set_of};
 ghost use Rattle.otel_model_stream.specs.Entries.{points};
 ghost use Rattle.otel_model_stream.specs.Maps.{new_map};
@@ -54,6 +54,7 @@ impl<A: Aggregator> Stream<A> {
         ensures allow { self.new.allow ≡ self.old.allow }
         ensures start { self.new.start ≡ self.old.start }
         ensures ready { OnOk result (self.new.map.pending ≡ Some (set_of self.old.allow attributes.now)) }
+        ensures refused { OnErr result (self.new.map.pending ≡ None) }
         ensures known { IsTrue (is_known self.old.allow attributes.now self.old.map.state) → IsOk result }
         ensures only_memory { IsOkUnless result Fault.OutOfMemory }
     {
@@ -63,6 +64,7 @@ impl<A: Aggregator> Stream<A> {
         match &self.allow {
             None => self.map.prepare(attributes),
             Some(allow) => {
+                self.map.give_up();
                 let allowed = allowed_attributes(self.alloc, allow.as_slice(), attributes)?;
                 self.map.prepare(&allowed)
             }

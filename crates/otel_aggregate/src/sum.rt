@@ -1,6 +1,6 @@
 //! Sums.
 
-ghost use Rattle.std.specs.Prelude.{◌≡◌, false, is_some, None, Some, IsTrue, IsSome, OnOk, OnErr, IfOk, IsOk, IsOkUnless};
+ghost use Rattle.std.specs.Prelude.{◌≡◌, cond, is_some, None, Some, IsTrue, IsSome, OnOk, OnErr, IfOk, IsOk, IsOkUnless};
 ghost use Rattle.otel_model_stream.specs.Sets.{AttributeSet, set_of};
 ghost use Rattle.otel_model_stream.specs.Folds.{Sum as SumAggregate, wrapped};
 ghost use Rattle.otel_model_stream.specs.Totals.{points_total};
@@ -62,7 +62,8 @@ impl<T: Number + Drop> Model for Sum<T> {
 
 impl<T: Number + Drop> Sum<T> {
     /// Sums without records. `temporality` is the reader's answer: with `Delta` each collection starts
-    /// the sums again, with any other they go on from `now`, the moment of the making.
+    /// the sums again, with any other they go on from `now`, the moment of the making, in nanoseconds
+    /// since 1970. Any limit is taken: with 0 every set but the empty one goes to the overflow point.
     pub fn new(
         alloc: Global,
         temporality: Temporality,
@@ -92,6 +93,7 @@ impl<T: Number + Drop> Sum<T> {
     pub fn prepare(&mut self, attributes: &[KeyValue]) -> Result<(), Fault>
         ensures same { self.new.state ≡ self.old.state }
         ensures ready { OnOk result (self.new.pending ≡ Some (set_of self.old.state.allow attributes.now)) }
+        ensures refused { OnErr result (self.new.pending ≡ None) }
         ensures known { IsTrue (is_known self.old.state.allow attributes.now self.old.state.map_state) → IsOk result }
         ensures only_memory { IsOkUnless result Fault.OutOfMemory }
     {
@@ -118,6 +120,7 @@ impl<T: Number + Drop> Sum<T> {
     pub fn measure(&mut self, value: T, attributes: &[KeyValue]) -> Result<(), Fault>
         ensures ok { OnOk result (self.new.state ≡ recorded_attributes attributes.now (record { bits = T.bits value; wide = T.wide value }) self.old.state) }
         ensures err { OnErr result (self.new.state ≡ self.old.state) }
+        ensures spent { self.new.pending ≡ None }
         ensures known { IsTrue (is_known self.old.state.allow attributes.now self.old.state.map_state) → IsOk result }
         ensures only_memory { IsOkUnless result Fault.OutOfMemory }
     {
@@ -126,7 +129,8 @@ impl<T: Number + Drop> Sum<T> {
         Ok(())
     }
 
-    /// What a collection at a moment gives: the start, the sums and `now`. The sums stay as they were.
+    /// What a collection at a moment, in nanoseconds since 1970, gives: the start, the sums and `now`. The
+    /// sums stay as they were. It copies each set that is shown.
     pub fn points(&self, alloc: Global, now: u64) -> Result<SumData<T>, Fault>
         ensures sums { self.now.state.aggregate ≡ SumAggregate }
         ensures data { IfOk result (λ given. given ≡ sum_data T.of_bits now self.now.state) }
@@ -154,10 +158,11 @@ impl<T: Number + Drop> Sum<T> {
         self.stream.map.total(!self.resets)
     }
 
-    /// Ends a collection at a moment whose points were taken: where the stream resets, the sums start
-    /// again from `now`.
+    /// Ends a collection whose points were taken, at a moment in nanoseconds since 1970: where the stream
+    /// resets, the sums start again from there, and a record that was prepared is given up.
     pub fn finish(&mut self, now: u64)
-        ensures { self.new.state ≡ collected now self.old.state }
+        ensures state { self.new.state ≡ collected now self.old.state }
+        ensures pending { self.new.pending ≡ cond self.old.state.resets None self.old.pending }
     {
         if self.resets {
             self.stream.map.reset_and_evict();
@@ -165,7 +170,7 @@ impl<T: Number + Drop> Sum<T> {
         }
     }
 
-    /// A collection at a moment.
+    /// A collection at a moment, in nanoseconds since 1970: `points`, and then `finish`.
     pub fn collect(&mut self, alloc: Global, now: u64) -> Result<SumData<T>, Fault>
         ensures data { IfOk result (λ given. given ≡ sum_data T.of_bits now self.old.state) }
         ensures ok { OnOk result (self.new.state ≡ collected now self.old.state) }

@@ -51,6 +51,7 @@ pub fn touch<A: Aggregator>(
     ensures room { spare tallies.new ≡ spare tallies.old }
     ensures unique { IsDistinct set_eq (sets (entries_of A.meaning tallies.old.entries)) }
 {
+    // Tells the prover that no set stands twice.
     let _ = tallies.len();
     let (_, tally) = tallies.pair_mut(at);
     tally.aggregator.update(value);

@@ -26,6 +26,9 @@ use std::mem::replace;
 
 /// A bounded map from sets of attributes to aggregators (Metrics SDK, "Cardinality limits").
 ///
+/// Any limit is taken: with 0 every set but the empty one goes to the overflow entry. Nothing is reserved
+/// by it.
+///
 /// A set that has an entry uses it. A new one gets an entry while their number is below the limit,
 /// and otherwise uses the overflow entry. The empty set has an entry of its own that isn't counted.
 #[derive(Drop)]
@@ -72,7 +75,8 @@ impl<A: Aggregator> Model for ValueMap<A> {
 }
 
 impl<A: Aggregator> ValueMap<A> {
-    /// A map with no entry but that of the empty set.
+    /// A map with no entry but that of the empty set. It takes memory for the set of the overflow entry,
+    /// and what an aggregator takes.
     pub fn new(alloc: Global, config: A::InitConfig, limit: usize) -> Result<Self, Fault>
         ensures made { IfOk result (λ made. made.state ≡ new_map limit (A.empty config)) }
         ensures unprepared { IfOk result (λ made. made.pending ≡ None) }
@@ -130,6 +134,14 @@ impl<A: Aggregator> ValueMap<A> {
         make_key(&mut self.spare_key, self.alloc)?;
         self.pending = Pending::New(set);
         Ok(())
+    }
+
+    /// Gives up the record that is prepared, if there is one.
+    pub fn give_up(&mut self)
+        ensures same { self.new.state ≡ self.old.state }
+        ensures spent { self.new.pending ≡ None }
+    {
+        self.pending = Pending::Nothing;
     }
 
     /// Whether a record is prepared.
@@ -200,6 +212,7 @@ impl<A: Aggregator> ValueMap<A> {
     ) -> Result<(), Fault>
         ensures ok { OnOk result (self.new.state ≡ measured (canon attributes.now) (A.sample value) self.old.state) }
         ensures err { OnErr result (self.new.state ≡ self.old.state) }
+        ensures spent { self.new.pending ≡ None }
         ensures known { IsTrue (knows attributes.now self.old.state) → IsOk result }
         ensures only_memory { IsOkUnless result Fault.OutOfMemory }
     {
@@ -209,7 +222,7 @@ impl<A: Aggregator> ValueMap<A> {
     }
 
     /// The sets with copies of their aggregators: the empty set if it was updated, and then the entries
-    /// in order of making, every one or those that were updated. The map stays as it was.
+    /// in order of making, every one or those that were updated. The map stays as it was. It copies each set that it gives.
     pub fn points(&self, alloc: Global, every: bool) -> Result<Vec<(Items<KeyValue>, A)>, Fault>
         ensures points { IfOk result (λ given. copies A.meaning given.items ≡ points every self.now.state.table) }
         ensures only_memory { IsOkUnless result Fault.OutOfMemory }
