@@ -195,6 +195,11 @@ IsAllShown = (views : Views) (row : Row) (r : ℕ) (d : Demand) (calls : List Ca
     → is_drained d ≡ false → is_delta row d ≡ false
     → wrapped (points_total (window_points row d (history views row r d calls ++ events))) ≡ wrapped (recorded_total (aggregate_of d) (history views row r d calls ++ events))
 
+-- so of what was recorded before a collection that comes now
+abbrev pub HasAllShown : OfReader
+HasAllShown views resource calls replies new r row part = (d : Demand) (events : List Event) → is_drained d ≡ false → is_delta row d ≡ false
+    → wrapped (points_total (window_points row d (history views row r d (made calls replies) ++ events))) ≡ wrapped (recorded_total (aggregate_of d) (history views row r d (made calls replies) ++ events))
+
 -- a collection has at most the limit and two points of a stream
 abbrev pub ArePointsFew : Type 0
 ArePointsFew = (views : Views) (row : Row) (r : ℕ) (d : Demand) (calls : List Call) (events : List Event)

@@ -10,7 +10,6 @@ pub mod PipelineLemmas
 pub mod PipelinesLemmas
 pub mod PlanLemmas
 pub mod Records
-pub mod Refused
 pub mod Runs
 pub mod Shows
 pub mod StepLemmas

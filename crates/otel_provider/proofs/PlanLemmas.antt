@@ -54,26 +54,6 @@ pub planned-new : (demand : Option Demand) (now : ℕ) (keys : List Identity) (x
 planned-new None now keys x k ns e = let q = ap (λ (p : Planned). p.added) e in absurd (cc)
 planned-new (Some demand) now keys x k ns e = new_by (stream_number demand.identity keys) demand now keys x k ns refl e
 
--- with no new stream the instrument feeds streams that are there
-old_by : (o : Option ℕ) (demand : Demand) (now : ℕ) (keys : List Identity) (ns : List ℕ) → stream_number demand.identity keys ≡ o
-    → plan_by o demand now (length keys) ≡ record { feeds = ns; added = None } → All (λ n. n < length keys) ns
-old_by None demand now keys ns s e = let q = ap (λ (p : Planned). p.added) e in absurd (cc)
-old_by (Some n) demand now keys ns s e =
-    let within : n < length keys = position-within (identity_test demand.identity) keys n s in
-    subst (All (λ m. m < length keys)) (ap (λ (p : Planned). p.feeds) e) (one within)
-  where
-    one : n < length keys → All (λ m. m < length keys) (n ∷ [])
-    one h zero d l = h
-    one h (suc j) d l = absurd (omega arith)
-
-pub planned-old : (demand : Option Demand) (now : ℕ) (keys : List Identity) (ns : List ℕ)
-    → planned_from demand now keys ≡ record { feeds = ns; added = None } → All (λ n. n < length keys) ns
-planned-old None now keys ns e = subst (All (λ m. m < length keys)) (ap (λ (p : Planned). p.feeds) e) none
-  where
-    none : All (λ m. m < length keys) []
-    none j d l = absurd (omega arith)
-planned-old (Some demand) now keys ns e = old_by (stream_number demand.identity keys) demand now keys ns refl e
-
 -- one stream and one instrument more
 pub numbers-push : (ks : List Kept) (k : Kept) (feeds : List (List ℕ)) (ns : List ℕ) → All (AreNumbers ks) feeds → ns ≡ length (stream_identities ks) ∷ [] → All (AreNumbers (ks ++ k ∷ [])) (feeds ++ ns ∷ [])
 numbers-push ks k feeds ns all e = All-push (AreNumbers (ks ++ k ∷ [])) feeds ns (λ i d h j d' h'. let q = all i d h j d' h' in omega (arith, length-append {A = Kept})) (subst (AreNumbers (ks ++ k ∷ [])) (sym e) last)
@@ -81,9 +61,6 @@ numbers-push ks k feeds ns all e = All-push (AreNumbers (ks ++ k ∷ [])) feeds 
     last : AreNumbers (ks ++ k ∷ []) (length (stream_identities ks) ∷ [])
     last zero d h = omega (arith, length-append {A = Kept}, length-map {A = Kept} {B = Identity})
     last (suc j) d h = absurd (omega arith)
-
-pub numbers-more : (ks : List Kept) (feeds : List (List ℕ)) (ns : List ℕ) → All (AreNumbers ks) feeds → All (λ n. n < length (stream_identities ks)) ns → All (AreNumbers ks) (feeds ++ ns ∷ [])
-numbers-more ks feeds ns all here = All-push (AreNumbers ks) feeds ns all (λ j d h. let q = here j d h in omega (arith, length-map {A = Kept} {B = Identity}))
 
 pub identities-push : (ks : List Kept) (k : Kept) → stream_identities (ks ++ k ∷ []) ≡ stream_identities ks ++ k.demand.identity ∷ []
 identities-push ks k = map-append (λ (m : Kept). m.demand.identity) ks (k ∷ [])

@@ -28,9 +28,6 @@ pub committed-twice : (value : ℕ) (k : Kept) → committed value (committed va
 committed-twice value k = committed-settled value k.staged k refl
 
 -- ======== one stream ========
-pub only_sort : (sort : InstrumentSort) → sort ≡ U64Counter
-only_sort U64Counter = refl
-
 abbrev value_is : ℕ → Number
 value_is value = record { signed = false; amount = amount value }
 

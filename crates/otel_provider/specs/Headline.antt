@@ -1,4 +1,5 @@
--- The laws of the model, said of a list of calls and its replies, for a provider as `build` gave it.
+-- The laws of the model, said of a list of calls and its replies: for a provider as `build` gave it, but for the
+-- one on the order of attributes.
 use Rattle.std.specs.Prelude.{◌≡◌, ℕ, List, [], ◌∷◌, ◌++◌, map, Some, slice_get}
 use Rattle.otel_common.specs.declared.attributes.KeyValue.{KeyValue}
 use Rattle.otel_model.specs.Calls as model

@@ -29,7 +29,7 @@ pub record Piped : Type 0 where
 abbrev pub stream_identities : List Kept → List Identity
 stream_identities streams = map (λ k. k.demand.identity) streams
 
--- the identities of the streams of these numbers
+-- the identity of the stream of a number, if there is one
 abbrev pub identity_at : List Kept → ℕ → List model.Identity
 identity_at streams n = found (slice_get streams n)
   where
@@ -37,6 +37,7 @@ identity_at streams n = found (slice_get streams n)
     found None = []
     found (Some k) = identity_of k.demand.identity ∷ []
 
+-- the identities of the streams of these numbers
 abbrev pub named : List Kept → List ℕ → List model.Identity
 named streams [] = []
 named streams (n ∷ ns) = identity_at streams n ++ named streams ns
@@ -65,11 +66,12 @@ committed_each value ns streams = fold (λ ss n. changed_at n (committed value) 
 abbrev pub AreNumbers : List Kept → List ℕ → Type 0
 AreNumbers streams ns = All (λ n. n < length streams) ns
 
--- these streams are ready for a record of the set
+-- the stream, if there is one, is ready for a record of the set
 abbrev pub IsStaged : AttributeSet → Option Kept → Type 0
 IsStaged s None = Unit {0}
 IsStaged s (Some k) = k.staged ≡ Some s
 
+-- so are the streams of these numbers
 abbrev pub AreStaged : AttributeSet → List Kept → List ℕ → Type 0
 AreStaged s streams ns = All (λ n. IsStaged s (slice_get streams n)) ns
 

@@ -16,9 +16,9 @@ abbrev pub state_of : {V : Type 0} {H : V → Type 0} → SdkMeterProvider V H �
 state_of p = p.core
 
 -- the boxed readers of a builder
-abbrev pub boxes_of : {V : Type 0} {H : V → Type 0} → MeterProviderBuilder V H → List (DynBox V Global H)
-boxes_of b = b.readers.items
+abbrev pub builder_boxes : {V : Type 0} {H : V → Type 0} → MeterProviderBuilder V H → List (DynBox V Global H)
+builder_boxes b = b.readers.items
 
 -- the boxed readers of a provider
-abbrev pub kept_by : {V : Type 0} {H : V → Type 0} → SdkMeterProvider V H → List (DynBox V Global H)
-kept_by p = p.readers.items
+abbrev pub provider_boxes : {V : Type 0} {H : V → Type 0} → SdkMeterProvider V H → List (DynBox V Global H)
+provider_boxes p = p.readers.items

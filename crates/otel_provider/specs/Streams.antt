@@ -72,7 +72,7 @@ committed_by (Some s) value k = with_record s value k
 abbrev pub committed : ℕ → Kept → Kept
 committed value k = committed_by k.staged value k
 
--- ready for a record of these attributes
+-- with this set in the place of that of the record that is being made
 abbrev pub with_staged : Option AttributeSet → Kept → Kept
 with_staged staged k = record { demand = k.demand; table = k.table; since = k.since; recorded = k.recorded; staged = staged }
 
@@ -80,6 +80,7 @@ with_staged staged k = record { demand = k.demand; table = k.table; since = k.si
 abbrev pub settled : Kept → Kept
 settled k = with_staged None k
 
+-- the set that a record of these attributes has
 abbrev pub staged_set : List KeyValue → AttributeSet
 staged_set attributes = set_of None attributes
 
@@ -87,5 +88,6 @@ staged_set attributes = set_of None attributes
 abbrev pub if_points : model_calls.Metric → Option model_calls.Metric
 if_points m = cond (has_points m) (Some m) None
 
+-- what it gives, with points or without
 abbrev pub shown_metric : ℕ → Kept → model_calls.Metric
 shown_metric now k = metric cumulative_row now k.since [] (demand_of k.demand) (points true k.table)

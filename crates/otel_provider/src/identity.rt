@@ -13,7 +13,7 @@ use std::alloc::{AllocError, Global};
 
 /// What makes two demands name one stream of a reader.
 #[derive(Debug, Drop, PartialEq, Eq, Hash)]
-pub struct Identity {
+pub(crate) struct Identity {
     pub scope: InstrumentationScope,
     pub sort: InstrumentSort,
     pub description: StringValue,
@@ -24,7 +24,7 @@ pub struct Identity {
 
 /// A stream that is demanded. The first demand of an identity decides how its name is spelled.
 #[derive(Debug, Drop)]
-pub struct Demand {
+pub(crate) struct Demand {
     pub identity: Identity,
     pub spelling: StringValue,
 }
@@ -77,7 +77,7 @@ fn text_or_empty(alloc: Global, text: &Option<StringValue>) -> Result<StringValu
 
 impl Demand {
     /// What an instrument demands by itself.
-    pub fn new(
+    pub(crate) fn new(
         alloc: Global,
         scope: &InstrumentationScope,
         sort: InstrumentSort,

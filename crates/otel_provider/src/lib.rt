@@ -6,7 +6,7 @@ pub mod calls;
 mod collecting;
 mod copies;
 mod fresh;
-pub mod identity;
+mod identity;
 mod instrument;
 pub mod meter;
 mod pipeline;

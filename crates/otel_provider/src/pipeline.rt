@@ -187,6 +187,7 @@ impl Pipeline {
         ensures free { attributes.now ≡ [] → IsOk result }
         ensures only_memory { IsOkUnless result Fault.OutOfMemory }
     {
+        // Tells the prover that no identity stands twice.
         let _ = self.identities.len();
         stage_each(
             &mut self.streams,

@@ -3,13 +3,13 @@
 ghost use Rattle.std.specs.Prelude.{◌≡◌, ◌++◌, ◌∷◌, [], map, IfOk, OnErr, IsOkAnd, IsOkUnless};
 ghost use Rattle.otel_common.specs.declared.metrics.Temporality.TheVariants.{Cumulative};
 ghost use Rattle.otel_stream.specs.declared.instrument.InstrumentKind.{InstrumentKind};
-ghost use Rattle.otel_model.specs.Laws.{HasStreamsOfBuilds, HasFeedsOfBuilds, HasPlacesOfHistories, HasCountedOfHistories, IsGivenCollections, IsAnsweredAsOnly, HasRecordedTotal, HasExportedTotal, Conserves, HasAccepted, HasFewPoints};
+ghost use Rattle.otel_model.specs.Laws.{HasStreamsOfBuilds, HasFeedsOfBuilds, HasPlacesOfHistories, HasCountedOfHistories, IsGivenCollections, IsAnsweredAsOnly, HasRecordedTotal, HasExportedTotal, Conserves, HasAccepted, HasAllShown, HasFewPoints};
 ghost use Rattle.otel_model.specs.Machine.{new_state};
 ghost use Rattle.otel_model.specs.Resources.{empty_resource};
 ghost use Rattle.otel_model.specs.Steps.{Step, Run};
 ghost use Rattle.otel_model_laws.specs.Lawful.{Balances};
 ghost use Rattle.otel_provider.specs.Headline.{OfReaders, OfStreams, OfAnswers, InAnyOrder};
-ghost use Rattle.otel_provider.specs.Providers.{state_of, rows_of, boxes_of, kept_by};
+ghost use Rattle.otel_provider.specs.Providers.{state_of, rows_of, builder_boxes, provider_boxes};
 ghost use Rattle.otel_provider.specs.Shown.{call_of, reply_of};
 ghost use Rattle.otel_provider.specs.Streams.{cumulative_row};
 
@@ -20,7 +20,7 @@ use otel_common::faults::Fault;
 use otel_stream::reader::MetricReader;
 use std::alloc::Global;
 
-/// Makes a provider: it collects the readers (Metrics SDK, "MeterProvider Creation").
+/// Makes a provider: it takes in the readers (Metrics SDK, "MeterProvider Creation").
 #[derive(Drop)]
 pub struct MeterProviderBuilder {
     core: FreshCore,
@@ -43,7 +43,7 @@ impl MeterProviderBuilder {
         requires first { rows_of self ≡ [] }
         requires cumulative { (kind : InstrumentKind) → ⟦<Box<dyn MetricReader> as MetricReader>⟧.preference reader kind ≡ Cumulative }
         ensures rows { IfOk result (λ b. rows_of b ≡ rows_of self ++ cumulative_row ∷ []) }
-        ensures kept { IfOk result (λ b. boxes_of b ≡ boxes_of self ++ reader ∷ []) }
+        ensures kept { IfOk result (λ b. builder_boxes b ≡ builder_boxes self ++ reader ∷ []) }
         ensures only_memory { IsOkUnless result Fault.OutOfMemory }
     {
         let MeterProviderBuilder { core, readers } = self;
@@ -57,7 +57,7 @@ impl MeterProviderBuilder {
     /// succeeds, and takes no memory.
     pub fn build(self) -> Result<SdkMeterProvider, Fault>
         ensures state { IsOkAnd result (λ p. state_of p ≡ new_state empty_resource 0 (rows_of self)) }
-        ensures kept { IfOk result (λ p. kept_by p ≡ boxes_of self) }
+        ensures kept { IfOk result (λ p. provider_boxes p ≡ builder_boxes self) }
     {
         let MeterProviderBuilder { core, readers } = self;
         let core = BalancedCore::new(core);
@@ -68,7 +68,8 @@ impl MeterProviderBuilder {
 impl SdkMeterProvider {
     /// A builder of a provider without readers. Takes no memory.
     pub fn builder(alloc: Global) -> MeterProviderBuilder
-        ensures { rows_of result ≡ [] }
+        ensures rows { rows_of result ≡ [] }
+        ensures kept { builder_boxes result ≡ [] }
     {
         MeterProviderBuilder {
             core: FreshCore::new(alloc),
@@ -91,6 +92,7 @@ impl SdkMeterProvider {
     pub fn step(&mut self, call: &Call) -> Reply
         ensures step { Step [] (state_of self.old) (call_of call.now) (reply_of result) (state_of self.new) }
         ensures balances { Balances (state_of self.new) }
+        ensures kept { provider_boxes self.new ≡ provider_boxes self.old }
     {
         self.core.step(call)
     }
@@ -100,24 +102,27 @@ impl SdkMeterProvider {
     /// Room for the replies is made first, in one piece. So where this answers `OutOfMemory` no call was
     /// made, and else each call has its reply, also where it was refused.
     ///
-    /// `run` says what is done, call by call; the clauses from `streams` on say, for a provider as `build`
-    /// gave it, what can be read off the calls and replies alone.
+    /// `run` says what is done, call by call. `order` says, for any provider, that with another order of a
+    /// record's attributes the same replies and state are right. The clauses from `streams` on say, for a
+    /// provider as `build` gave it, what can be read off the calls and replies alone.
     pub fn run(&mut self, alloc: Global, calls: &[Call]) -> Result<Vec<Reply>, Fault>
         ensures run { IfOk result (λ replies. Run [] (state_of self.old) (map call_of calls.now) (map reply_of replies.items) (state_of self.new)) }
         ensures unmade { OnErr result (state_of self.new ≡ state_of self.old) }
         ensures only_memory { IsOkUnless result Fault.OutOfMemory }
         ensures balances { Balances (state_of self.new) }
+        ensures kept { provider_boxes self.new ≡ provider_boxes self.old }
+        ensures order { IfOk result (λ replies. InAnyOrder (state_of self.old) calls.now replies.items (state_of self.new)) }
         ensures streams { IfOk result (λ replies. OfReaders HasStreamsOfBuilds (state_of self.old) calls.now replies.items (state_of self.new)) }
         ensures feeds { IfOk result (λ replies. OfReaders HasFeedsOfBuilds (state_of self.old) calls.now replies.items (state_of self.new)) }
         ensures places { IfOk result (λ replies. OfReaders HasPlacesOfHistories (state_of self.old) calls.now replies.items (state_of self.new)) }
         ensures counted { IfOk result (λ replies. OfReaders HasCountedOfHistories (state_of self.old) calls.now replies.items (state_of self.new)) }
         ensures collections { IfOk result (λ replies. OfAnswers IsGivenCollections (state_of self.old) calls.now replies.items) }
         ensures only_reader { IfOk result (λ replies. OfAnswers IsAnsweredAsOnly (state_of self.old) calls.now replies.items) }
-        ensures order { IfOk result (λ replies. InAnyOrder (state_of self.old) calls.now replies.items (state_of self.new)) }
         ensures recorded { IfOk result (λ replies. OfStreams HasRecordedTotal (state_of self.old) calls.now replies.items (state_of self.new)) }
         ensures exported { IfOk result (λ replies. OfStreams HasExportedTotal (state_of self.old) calls.now replies.items (state_of self.new)) }
         ensures conserved { IfOk result (λ replies. OfStreams Conserves (state_of self.old) calls.now replies.items (state_of self.new)) }
         ensures accepted { IfOk result (λ replies. OfStreams HasAccepted (state_of self.old) calls.now replies.items (state_of self.new)) }
+        ensures all_shown { IfOk result (λ replies. OfReaders HasAllShown (state_of self.old) calls.now replies.items (state_of self.new)) }
         ensures few { IfOk result (λ replies. OfReaders HasFewPoints (state_of self.old) calls.now replies.items (state_of self.new)) }
     {
         self.core.run(alloc, calls)

@@ -1,10 +1,10 @@
 use Rattle.std.proofs.lemmas.Result.{IfOk-weaker}
 use Rattle.otel_model.proofs.Runs.{streams_law, feeds_law, places_law, counted_law, collections_law}
-use Rattle.otel_model.proofs.Shown.{recorded_law, exported_law, conserved_law, few_law}
+use Rattle.otel_model.proofs.Shown.{recorded_law, exported_law, conserved_law, all_shown_law, few_law}
 use Rattle.otel_model.proofs.Single.{as_only}
 use Rattle.otel_model_laws.proofs.Booked.{accepted_law}
 use Rattle.otel_model.specs.History.{made}
-use Rattle.otel_model.specs.Laws.{HasStreamsOfBuilds, HasFeedsOfBuilds, HasPlacesOfHistories, HasCountedOfHistories, IsGivenCollections, IsAnsweredAsOnly, HasRecordedTotal, HasExportedTotal, Conserves, HasAccepted, HasFewPoints}
+use Rattle.otel_model.specs.Laws.{HasStreamsOfBuilds, HasFeedsOfBuilds, HasPlacesOfHistories, HasCountedOfHistories, IsGivenCollections, IsAnsweredAsOnly, HasRecordedTotal, HasExportedTotal, Conserves, HasAccepted, HasAllShown, HasFewPoints}
 use Rattle.otel_provider.proofs.Headlines.{of_readers, of_streams, of_answers, in_any_order}
 use Rattle.otel_provider.proofs.provider.SdkMeterProvider.run.Goals as goal
 
@@ -45,3 +45,8 @@ pub returns-clause-few : goal.returns-clause-few
 returns-clause-few g c =
     IfOk-weaker c.run.result _ _ (λ replies is.
     of_readers HasFewPoints (λ views resource identity rows calls replies new run r row part at found d events. few_law views row r d (made calls replies) events) c.args.self.now.core c.run.new.self c.args.calls.now replies.items is) c.run.ensures.run
+
+pub returns-clause-all_shown : goal.returns-clause-all_shown
+returns-clause-all_shown g c =
+    IfOk-weaker c.run.result _ _ (λ replies is.
+    of_readers HasAllShown (λ views resource identity rows calls replies new run r row part at found d events. all_shown_law views row r d (made calls replies) events) c.args.self.now.core c.run.new.self c.args.calls.now replies.items is) c.run.ensures.run
