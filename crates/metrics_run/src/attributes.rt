@@ -1,7 +1,8 @@
 //! Attributes of a script.
 
-ghost use Rattle.std.specs.Prelude.{◌≡◌, IfOk, codes, if◌then◌else◌};
-ghost use Rattle.metrics_run.specs.Attributes.{IsAttributeWord, IsValueWord, ReadsAttributes};
+ghost use Rattle.std.specs.Prelude.{◌≡◌, IfOk, IfErr, OnErr, IsOkUnless};
+ghost use Rattle.metrics_run.specs.Attributes.{IsAttributeWord, IsTruthWord, IsValueWord, ReadsAttributes};
+ghost use Rattle.metrics_run.specs.Refusals.{StandsForNothing};
 
 use crate::numbers::signed;
 use crate::refusals::Refusal;
@@ -11,7 +12,8 @@ use std::alloc::Global;
 
 /// The attributes of a word: `-` for none, else pairs with commas between them.
 pub fn attributes_of(alloc: Global, word: &str) -> Result<Vec<KeyValue>, Refusal>
-    ensures { IfOk result (λ attributes. ReadsAttributes word.now attributes.items) }
+    ensures attributes { IfOk result (λ attributes. ReadsAttributes word.now attributes.items) }
+    ensures meaningless { IfErr result (λ refusal. refusal ≡ Refusal.BadCommand → StandsForNothing ReadsAttributes word.now) }
 {
     let mut attributes = Vec::new(alloc);
     if word == "-" {
@@ -25,7 +27,8 @@ pub fn attributes_of(alloc: Global, word: &str) -> Result<Vec<KeyValue>, Refusal
 
 /// A key and a value, with the pair's first `=` between them.
 fn attribute_of(alloc: Global, pair: &str) -> Result<KeyValue, Refusal>
-    ensures { IfOk result (IsAttributeWord pair.now) }
+    ensures attribute { IfOk result (IsAttributeWord pair.now) }
+    ensures meaningless { IfErr result (λ refusal. refusal ≡ Refusal.BadCommand → StandsForNothing IsAttributeWord pair.now) }
 {
     let Some((key, value)) = pair.split_once('=') else {
         return Err(Refusal::BadCommand);
@@ -38,7 +41,8 @@ fn attribute_of(alloc: Global, pair: &str) -> Result<KeyValue, Refusal>
 
 /// A truth value, a signed number or a text.
 fn value_of(alloc: Global, word: &str) -> Result<Value, Refusal>
-    ensures { IfOk result (IsValueWord word.now) }
+    ensures value { IfOk result (IsValueWord word.now) }
+    ensures meaningless { IfErr result (λ refusal. refusal ≡ Refusal.BadCommand → StandsForNothing IsValueWord word.now) }
 {
     let Some((kind, rest)) = word.split_once(':') else {
         return Err(Refusal::BadCommand);
@@ -53,7 +57,9 @@ fn value_of(alloc: Global, word: &str) -> Result<Value, Refusal>
 
 /// `true` or `false`.
 fn truth_of(word: &str) -> Result<bool, Refusal>
-    ensures { IfOk result (λ truth. word.now ≡ (if truth then codes "true" else codes "false")) }
+    ensures truth { IfOk result (IsTruthWord word.now) }
+    ensures meaningless { OnErr result (StandsForNothing IsTruthWord word.now) }
+    ensures refused { IsOkUnless result Refusal.BadCommand }
 {
     match word {
         "true" => Ok(true),

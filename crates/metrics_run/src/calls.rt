@@ -1,8 +1,10 @@
 //! The lines of a script that are calls.
 
-ghost use Rattle.std.specs.Prelude.{◌≡◌, None, [], codes, IfOk, OnOk};
+ghost use Rattle.std.specs.Prelude.{◌≡◌, None, [], codes, IfSome, IfOk, OnErr, OkIff, IsOkUnless};
 ghost use Rattle.std.specs.Option.{option_map};
+ghost use Rattle.std.specs.Str.{IsUtf8};
 ghost use Rattle.metrics_run.specs.Calls.{IsMeterWord};
+ghost use Rattle.metrics_run.specs.Refusals.{StandsForNothing};
 ghost use Rattle.metrics_run.specs.Texts.{text_of_word};
 
 use crate::attributes::attributes_of;
@@ -56,7 +58,8 @@ fn scope_of(
     name: &str,
     version: Option<&str>,
 ) -> Result<InstrumentationScope, Refusal>
-    ensures { IfOk result (λ scope. scope ≡ record { name = text_of_word name.now; version = option_map (λ word. text_of_word word.now) version.entry; schema_url = None; attributes = [] }) }
+    ensures scope { IfOk result (λ scope. scope ≡ record { name = text_of_word name.now; version = option_map (λ word. text_of_word word.now) version.entry; schema_url = None; attributes = [] }) }
+    ensures utf8 { IsUtf8 (text_of_word name.now) → IfSome version.entry (λ word. IsUtf8 (text_of_word word.now)) → IsOkUnless result Refusal.OutOfMemory }
 {
     let builder = InstrumentationScope::builder(alloc, text_of_word(alloc, name)?);
     let builder = match version {
@@ -68,7 +71,9 @@ fn scope_of(
 
 /// The number of a meter, or `none`.
 fn meter_of(word: &str) -> Result<Option<usize>, Refusal>
-    ensures { IfOk result (IsMeterWord word.now) }
+    ensures meter { IfOk result (IsMeterWord word.now) }
+    ensures meaningless { OnErr result (StandsForNothing IsMeterWord word.now) }
+    ensures refused { IsOkUnless result Refusal.BadCommand }
 {
     match word {
         "none" => Ok(None),
@@ -78,7 +83,8 @@ fn meter_of(word: &str) -> Result<Option<usize>, Refusal>
 
 /// The sort of an instrument, by the name of its builder.
 fn sort_of(word: &str) -> Result<InstrumentSort, Refusal>
-    ensures { OnOk result (word.now ≡ codes "u64_counter") }
+    ensures sort { OkIff result (word.now ≡ codes "u64_counter") InstrumentSort.U64Counter }
+    ensures refused { IsOkUnless result Refusal.BadCommand }
 {
     match word {
         "u64_counter" => Ok(InstrumentSort::U64Counter),

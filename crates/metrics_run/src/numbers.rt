@@ -1,8 +1,9 @@
 //! Numbers of a script.
 
-ghost use Rattle.std.specs.Prelude.{OkIff, IfOk, IsOkUnless};
+ghost use Rattle.std.specs.Prelude.{OkIff, IfOk, OnErr, IsOkUnless};
 ghost use Rattle.std.specs.Str.Parse.{digits_value, signed_digits_value};
 ghost use Rattle.metrics_run.specs.Numbers.{IsUnsigned, IsSigned, IsNumberWord};
+ghost use Rattle.metrics_run.specs.Refusals.{StandsForNothing};
 
 use crate::refusals::Refusal;
 use opentelemetry_sdk::metrics::provider::NumberValue;
@@ -49,6 +50,7 @@ pub fn index(word: &str) -> Result<usize, Refusal>
 /// A value: `u:` and a number without a sign, or `i:` and one with an optional minus.
 pub fn value(word: &str) -> Result<NumberValue, Refusal>
     ensures number { IfOk result (IsNumberWord word.now) }
+    ensures meaningless { OnErr result (StandsForNothing IsNumberWord word.now) }
     ensures refused { IsOkUnless result Refusal.BadCommand }
 {
     match word.split_once(':') {

@@ -9,7 +9,11 @@ use std::alloc::Global;
 use std::io::{BufWriter, ErrorKind, Read, Write};
 
 /// Reads a script, runs it and prints the replies: all input is read and all lines are tested
-/// before anything is run. Answers the status.
+/// before anything is run.
+///
+/// Answers the status: 0 where the script ran to its end, also if calls were refused; 2 for a bad
+/// line; 3 for want of memory for something that is no call's reply; 4 for a read or a write that
+/// failed.
 pub fn script<R: Read + Drop, W: Write + Drop, E: Write + Drop>(
     alloc: Global,
     input: R,
@@ -33,9 +37,9 @@ fn run_script<R: Read + Drop, W: Write + Drop>(
     output: W,
 ) -> Result<(), Failure> {
     let bytes = read_all(alloc, input)?;
-    let Script { reader, calls } = script_of(alloc, bytes.as_slice())?;
+    let Script { readers, calls } = script_of(alloc, bytes.as_slice())?;
     let mut builder = SdkMeterProvider::builder(alloc);
-    if let Some(reader) = reader {
+    for reader in readers {
         builder = builder.with_reader(Box::new(alloc, reader)?)?;
     }
     let mut provider = builder.build()?;

@@ -1,16 +1,20 @@
 //! A whole script: what stands before `go`, and the calls after it.
 
+ghost use Rattle.std.specs.Prelude.{◌≡◌, Ok, Err, MatchResult};
+ghost use Rattle.otel_common.specs.Temporalities.{temporality_named};
+
 use crate::calls::call_of;
 use crate::failures::Failure;
 use crate::refusals::Refusal;
-use opentelemetry_sdk::metrics::ManualReader;
 use opentelemetry_sdk::metrics::provider::Call;
+use opentelemetry_sdk::metrics::{ManualReader, Temporality};
 use std::alloc::{AllocError, Global};
+use std::str::FromStr;
 
-/// What a script asks for: the provider's reader, if it has one, and the calls.
+/// What a script asks for: the provider's readers, and the calls.
 #[derive(Drop)]
 pub struct Script {
-    pub reader: Option<ManualReader>,
+    pub readers: Vec<ManualReader>,
     pub calls: Vec<Call>,
 }
 
@@ -28,7 +32,7 @@ struct Reading {
 pub fn script_of(alloc: Global, input: &[u8]) -> Result<Script, Failure> {
     let mut reading = Reading {
         script: Script {
-            reader: None,
+            readers: Vec::new(alloc),
             calls: Vec::new(alloc),
         },
         is_started: false,
@@ -64,6 +68,20 @@ fn words_of(alloc: Global, line: &str) -> Result<Vec<&str>, AllocError> {
         .collect(alloc)
 }
 
+/// The reader of this temporality.
+fn reader_of(word: &str) -> Result<ManualReader, Refusal>
+    ensures reader { MatchResult result (λ reader. temporality_named word.now ≡ Ok reader) (λ refusal. (refusal ≡ Refusal.BadCommand) × (temporality_named word.now ≡ Err tt)) }
+{
+    match Temporality::from_str(word) {
+        Ok(temporality) => Ok(
+            ManualReader::builder()
+                .with_temporality(temporality)
+                .build(),
+        ),
+        Err(()) => Err(Refusal::BadCommand),
+    }
+}
+
 impl Reading {
     /// Takes in the next line.
     fn add_line(&mut self, alloc: Global, line: &[u8]) -> Result<(), Refusal> {
@@ -85,8 +103,8 @@ impl Reading {
     /// Takes in the words of a line before `go`, or of `go` itself.
     fn set_up(&mut self, words: &[&str]) -> Result<(), Refusal> {
         match words {
-            ["reader", "cumulative"] if self.script.reader.is_none() => {
-                self.script.reader = Some(ManualReader::default());
+            ["reader", temporality] => {
+                self.script.readers.push(reader_of(temporality)?)?;
                 Ok(())
             }
             ["go"] => {

@@ -10,4 +10,4 @@ pub use otel_provider::meter;
 pub use otel_provider::provider::{MeterProviderBuilder, SdkMeterProvider};
 pub use otel_stream::instrument;
 pub use otel_stream::instrument::InstrumentKind;
-pub use otel_stream::manual_reader::ManualReader;
+pub use otel_stream::manual_reader::{ManualReader, ManualReaderBuilder};

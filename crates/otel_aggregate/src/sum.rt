@@ -151,6 +151,13 @@ impl<T: Number + Drop> Sum<T> {
         ))
     }
 
+    /// Whether each collection starts the sums again.
+    pub fn resets(&self) -> bool
+        ensures { result ≡ self.now.state.resets }
+    {
+        self.resets
+    }
+
     /// What the points of a collection now would add up to, modulo 2^64.
     pub fn total(&self) -> u64
         ensures { result ≡ wrapped (points_total (points_now self.now.state)) }

@@ -1,6 +1,6 @@
 -- When attributes are equal: exactly if their contents are.
-use Rattle.std.specs.Prelude.{◌≡◌, ◌≢◌, ℕ, ℤ, Bool, true, false, ◌&&◌, ◌==◌, List, refl}
-use Rattle.std.proofs.Common.{sym, ap, subst, ◌∙◌, true≢false}
+use Rattle.std.specs.Prelude.{◌≡◌, ◌≢◌, ℕ, Bool, true, false, ◌&&◌, ◌==◌, List, refl}
+use Rattle.std.proofs.Common.{sym, ap, true≢false}
 use Rattle.std.specs.Bool.{Decides, beq}
 use Rattle.std.specs.Ordering.{int_eq}
 use Rattle.std.specs.Cmp.{IsEquivalence, decided, booleans_Decides, signed_Decides}

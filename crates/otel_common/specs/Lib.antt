@@ -3,3 +3,4 @@ pub mod Equality
 pub mod Faults
 pub mod Hashes
 pub mod Scopes
+pub mod Temporalities

@@ -1,9 +1,10 @@
-//! Attributes, sets of them, scopes, and the faults of all calls.
+//! Attributes, sets of them, scopes, their laws, and the faults of all calls.
 
 pub use crate::attributes::{Array, KeyValue, Value};
 pub use crate::canonical::{canonical, canonical_laws};
 pub use crate::faults::Fault;
 pub use crate::keys::Key;
+pub use crate::laws::{copied_attributes, copied_scope, equal_attributes, equal_scopes};
 pub use crate::lists::Items;
 pub use crate::scopes::{InstrumentationScope, InstrumentationScopeBuilder};
 pub use crate::strings::StringValue;

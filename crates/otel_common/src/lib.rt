@@ -9,6 +9,7 @@ pub mod canonical;
 pub mod common;
 pub mod faults;
 pub mod keys;
+pub mod laws;
 pub mod lists;
 pub mod metrics;
 pub mod scopes;

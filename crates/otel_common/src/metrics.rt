@@ -1,5 +1,9 @@
 //! What all metrics share: temporality, and errors of configuration.
 
+ghost use Rattle.std.specs.Prelude.{◌≡◌};
+ghost use Rattle.otel_common.specs.Temporalities.{temporality_named};
+
+use std::str::FromStr;
 use thiserror::Error;
 
 /// How the points of one collection relate to those of the next (Metrics data model, "Temporality").
@@ -10,17 +14,40 @@ pub enum Temporality {
     Cumulative,
     /// Each collection gives what was recorded since the one before.
     Delta,
-    /// Delta for counters and histograms, cumulative for the other kinds.
+    /// Delta for `Counter` and `Histogram`, cumulative for the other kinds.
     LowMemory,
+}
+
+impl FromStr for Temporality {
+    type Err = ();
+
+    ghost from_str_gives = { λ s r. r ≡ temporality_named s };
+
+    /// Reads `cumulative`, `delta` or `lowmemory`, ASCII case ignored. Takes no memory.
+    fn from_str(s: &str) -> Result<Temporality, ()> {
+        if s.eq_ignore_ascii_case("cumulative") {
+            return Ok(Temporality::Cumulative);
+        }
+        if s.eq_ignore_ascii_case("delta") {
+            return Ok(Temporality::Delta);
+        }
+        if s.eq_ignore_ascii_case("lowmemory") {
+            return Ok(Temporality::LowMemory);
+        }
+        Err(())
+    }
 }
 
 /// Why a configuration is refused.
 #[derive(Debug, Drop, Error)]
 pub enum MetricError {
+    /// For a reason that has no variant of its own.
     #[error("Metrics error: {0}")]
     Other(&'static str),
+    /// Settings that are not allowed.
     #[error("Config error {0}")]
     Config(&'static str),
+    /// A name, a unit or a setting of an instrument that is not allowed.
     #[error("Invalid instrument configuration: {0}")]
     InvalidInstrumentConfiguration(&'static str),
 }

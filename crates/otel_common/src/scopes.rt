@@ -13,9 +13,10 @@ use crate::strings::StringValue;
 use std::alloc::Global;
 use std::slice::Iter;
 
-/// What the instruments of a meter belong to: a library, or a part of a program.
+/// What the instruments of a meter belong to: a library, or a part of a program (Common
+/// specification, "Instrumentation scope").
 ///
-/// Two scopes are equal exactly if their four parts are. (Common concepts, "Instrumentation scope".)
+/// Two scopes are equal exactly if their four parts are.
 #[derive(Clone, Debug, Drop, PartialEq, Eq, Hash)]
 pub struct InstrumentationScope {
     name: StringValue,
@@ -123,7 +124,7 @@ impl InstrumentationScopeBuilder {
 
     /// The scope. Its attributes are sorted stably by key, and doubled keys stay.
     ///
-    /// Refused only for want of memory: the sort takes a buffer.
+    /// Copies no attribute. Refused only for want of memory: the sort takes a buffer.
     pub fn build(self) -> Result<InstrumentationScope, Fault>
         ensures rest { IfOk result (λ s. s ≡ record self.scope { attributes = s.attributes }) }
         ensures sorted { IfOk result (λ s. IsStablySorted self.scope.attributes s.attributes) }

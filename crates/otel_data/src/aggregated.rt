@@ -4,9 +4,10 @@ ghost use Rattle.std.specs.Prelude.{◌≡◌};
 
 use crate::sums::Sum;
 
-/// The points of one metric.
+/// The points of one metric (Metrics data model, "Metric points").
 #[derive(Clone, Debug, Drop)]
 pub enum MetricData<T> {
+    /// Of a sum.
     Sum(Sum<T>),
 }
 
@@ -20,9 +21,10 @@ impl<T> From<Sum<T>> for MetricData<T> {
     }
 }
 
-/// The points of one metric, of either number type.
+/// The points of one metric, of either number type (Metrics data model, "Metric points").
 #[derive(Clone, Debug, Drop)]
 pub enum AggregatedMetrics {
+    /// Of unsigned numbers of 64 bits.
     U64(MetricData<u64>),
 }
 

@@ -10,7 +10,7 @@ use otel_common::strings::StringValue;
 use std::alloc::Global;
 use std::slice::Iter;
 
-/// A metric of one collection.
+/// A metric of one collection (Metrics data model).
 #[derive(Clone, Debug, Drop)]
 pub struct Metric {
     name: StringValue,
@@ -66,7 +66,7 @@ impl Metric {
     }
 }
 
-/// The metrics of one scope.
+/// The metrics of one scope (Metrics data model).
 #[derive(Clone, Debug, Drop)]
 pub struct ScopeMetrics {
     scope: InstrumentationScope,
@@ -106,7 +106,7 @@ impl ScopeMetrics {
     }
 }
 
-/// All that one collection gives.
+/// All that one collection gives (Metrics data model).
 #[derive(Clone, Debug, Drop)]
 pub struct ResourceMetrics {
     scope_metrics: Items<ScopeMetrics>,

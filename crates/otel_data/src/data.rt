@@ -1,7 +1,11 @@
-//! What a collection gives: metrics with their points, by scope.
+//! What a collection gives: metrics with their points, by scope; and laws of these.
 
 pub use crate::aggregated::{AggregatedMetrics, MetricData};
 pub use crate::collections::{Metric, ResourceMetrics, ScopeMetrics};
+pub use crate::copies::{
+    copied_aggregated, copied_collection, copied_data, copied_metric, copied_points, copied_scope,
+    copied_sum, equal_points,
+};
 pub use crate::numbers::NumberValue;
 pub use crate::points::{Exemplar, SumDataPoint};
 pub use crate::sums::Sum;

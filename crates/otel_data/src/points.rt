@@ -10,10 +10,12 @@ use std::slice::Iter;
 /// A value that was recorded, kept as an example (Metrics SDK, "Exemplar").
 #[derive(Clone, Debug, Drop, PartialEq)]
 pub struct Exemplar<T> {
+    /// The value that was recorded.
     pub value: T,
 }
 
-/// A point of a sum: what the records of one set of attributes add up to.
+/// A point of a sum: what the records of one set of attributes add up to (Metrics data model,
+/// "Sums").
 #[derive(Clone, Debug, Drop, PartialEq)]
 pub struct SumDataPoint<T> {
     attributes: Items<KeyValue>,
@@ -40,7 +42,7 @@ impl<T> SumDataPoint<T> {
         self.attributes.as_slice().iter()
     }
 
-    /// The exemplars.
+    /// The exemplars. No exemplars are kept: there are none in a collection.
     pub fn exemplars(&self) -> Iter<'_, Exemplar<T>>
         ensures { iter_rest result ≡ self.now.exemplars }
     {

@@ -19,7 +19,7 @@ pub struct Sum<T> {
 }
 
 impl<T> Sum<T> {
-    /// A sum of these parts.
+    /// A sum of these parts, its moments in nanoseconds since 1970.
     pub fn new(
         data_points: Items<SumDataPoint<T>>,
         start_time: u64,
@@ -45,14 +45,14 @@ impl<T> Sum<T> {
         self.data_points.as_slice().iter()
     }
 
-    /// The moment from which on records are in the points.
+    /// The moment from which on records are in the points, in nanoseconds since 1970.
     pub fn start_time(&self) -> u64
         ensures { result ≡ self.now.start_time }
     {
         self.start_time
     }
 
-    /// The moment of the collection.
+    /// The moment of the collection, in nanoseconds since 1970.
     pub fn time(&self) -> u64
         ensures { result ≡ self.now.time }
     {

@@ -19,9 +19,6 @@ use Rattle.otel_model_laws.proofs.Feeding.{is_one, fed_demanded}
 or_false : (a b : Bool) → a ≡ false → b ≡ false → (a || b) ≡ false
 or_false a b e f = λ i. e i || f i
 
-swap_false : (x y : Identity) → identity_eq y x ≡ false → identity_eq x y ≡ false
-swap_false x y e = ⊎_elim (λ t. absurd (true≢false (sym (identity_eq_self x) ∙ (ap (λ z. identity_eq z x) (identity_eq_true x y t) ∙ e)))) (λ t. t) (cases_Bool (identity_eq x y))
-
 -- what was seen doesn't come again
 unseen : (seen xs : List Identity) (y : Identity) → has_identity seen y ≡ true → has_identity (each_once seen xs) y ≡ false
 unseen seen [] y e = refl

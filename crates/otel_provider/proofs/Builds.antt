@@ -12,8 +12,10 @@ use Rattle.otel_model.specs.State.{ReaderPart}
 use Rattle.otel_model.specs.Machine as machine
 use Rattle.otel_provider.specs.Identities.{identity_test, identity_of, demand_of, demand_by}
 use Rattle.otel_provider.specs.Shown.{about}
-use Rattle.otel_provider.specs.Streams.{cumulative_row, Kept, stream_of, new_kept}
-use Rattle.otel_provider.specs.Pipelines.{Piped, part_of, named, stream_identities, stream_number, plan_by, planned, built, built_by}
+use Rattle.otel_provider.specs.Streams.{Kept, stream_of, new_kept}
+use Rattle.otel_provider.specs.Pipelines.{Piped, part_of, named, stream_identities, stream_number, plan_by, planned, resets_at, built, built_by}
+use Rattle.otel_provider.specs.Rows.{row_of}
+use Rattle.otel_provider.specs.declared.answers.Answers.{Answers}
 use Rattle.otel_provider.specs.declared.identity.Demand.{Demand}
 use Rattle.otel_provider.specs.declared.identity.Identity.{Identity}
 use Rattle.otel_provider.specs.declared.sorts.InstrumentSort.{InstrumentSort}
@@ -63,12 +65,12 @@ keeps_more [] d x = not_dropped d (model.identity_eq (identity_of d.identity) x)
 keeps_more (k ∷ ks) d x = not_dropped k.demand (model.identity_eq (identity_of k.demand.identity) x) (model.fate_of (fates ks ++ demand_of d ∷ []) x) (keeps_more ks d x)
 
 -- ======== the demand ========
-pub demand-is : (scope : InstrumentationScope) (sort : InstrumentSort) (name : List ℕ) (description unit : Option (List ℕ))
-    → model.own_demand cumulative_row scope (about sort name description unit) ≡ demand_of (demand_by scope sort name description unit)
-demand-is scope U64Counter name None None = refl
-demand-is scope U64Counter name None (Some unit) = refl
-demand-is scope U64Counter name (Some description) None = refl
-demand-is scope U64Counter name (Some description) (Some unit) = refl
+pub demand-is : (answers : Answers) (scope : InstrumentationScope) (sort : InstrumentSort) (name : List ℕ) (description unit : Option (List ℕ))
+    → model.own_demand (row_of answers) scope (about sort name description unit) ≡ demand_of (demand_by scope sort name description unit)
+demand-is answers scope U64Counter name None None = refl
+demand-is answers scope U64Counter name None (Some unit) = refl
+demand-is answers scope U64Counter name (Some description) None = refl
+demand-is answers scope U64Counter name (Some description) (Some unit) = refl
 
 -- ======== what is known ========
 -- the place of the first that passes, by cases on the list
@@ -131,8 +133,8 @@ one_demand now p d b e a r = λ i. record {
   feeds = p.feeds ++ (cond (not (r i)) (d.identity ∷ []) []) ∷ [];
 }
 
-new-is : (demand : Demand) (now : ℕ) (sort : InstrumentSort) → demand.identity.sort ≡ sort → stream_of (new_kept demand now) ≡ machine.new_stream now (demand_of demand)
-new-is demand now U64Counter e = rw e refl
+new-is : (resets : Bool) (demand : Demand) (now : ℕ) (sort : InstrumentSort) → demand.identity.sort ≡ sort → stream_of (new_kept resets demand now) ≡ machine.new_stream now (demand_of demand)
+new-is resets demand now U64Counter e = rw e refl
 
 enter_keeps : (ks : List Kept) (d : Demand) (x : model.Identity) (b : Bool) → model.is_dropped (cond b (fates ks) (fates ks ++ demand_of d ∷ [])) x ≡ false
 enter_keeps ks d x true = keeps ks x
@@ -145,8 +147,11 @@ module _ (now : ℕ) (demand : Demand) (p : Piped) (numbers : AreAllNumbers p.fe
   abbrev d : model.Demand
   d = demand_of demand
 
+  abbrev fresh : Kept
+  fresh = new_kept (resets_at p.answers demand) demand now
+
   demand_kept : (b : Bool) → model.is_known part.fates d.identity ≡ b → machine.with_feeds (d ∷ []) (machine.demanded now part d) ≡ record {
-    row = cumulative_row;
+    row = row_of p.answers;
     fates = cond b part.fates (part.fates ++ d ∷ []);
     streams = cond b part.streams (part.streams ++ machine.new_stream now d ∷ []);
     feeds = part.feeds ++ (d.identity ∷ []) ∷ [];
@@ -156,24 +161,24 @@ module _ (now : ℕ) (demand : Demand) (p : Piped) (numbers : AreAllNumbers p.fe
   abbrev count : ℕ
   count = length (stream_identities p.streams)
 
-  last-is : slice_get (p.streams ++ new_kept demand now ∷ []) count ≡ Some (new_kept demand now)
-  last-is = rw (length-map {A = Kept} {B = Identity}) (get-last p.streams (new_kept demand now))
+  last-is : slice_get (p.streams ++ fresh ∷ []) count ≡ Some fresh
+  last-is = rw (length-map {A = Kept} {B = Identity}) (get-last p.streams fresh)
 
-  as_planned : (o : Option ℕ) → stream_number demand.identity (stream_identities p.streams) ≡ o → part_of (built_by (Some (plan_by o demand now count)) p) ≡ machine.with_feeds (d ∷ []) (machine.demanded now part d)
+  as_planned : (o : Option ℕ) → stream_number demand.identity (stream_identities p.streams) ≡ o → part_of (built_by (Some (plan_by p.answers o demand now count)) p) ≡ machine.with_feeds (d ∷ []) (machine.demanded now part d)
   as_planned None e =
       (λ i. record {
-        row = cumulative_row;
-        fates = map-append (λ (k : Kept). demand_of k.demand) p.streams (new_kept demand now ∷ []) i;
-        streams = (map-append stream_of p.streams (new_kept demand now ∷ []) ∙ ap (λ s. map stream_of p.streams ++ s ∷ []) (new-is demand now demand.identity.sort refl)) i;
-        feeds = (map-append (named (p.streams ++ new_kept demand now ∷ [])) p.feeds ((count ∷ []) ∷ [])
-            ∙ λ j. all_named-front p.streams (new_kept demand now) p.feeds numbers j
-            ++ (ap (λ xs. xs ++ []) (identity_at-is (p.streams ++ new_kept demand now ∷ []) count (new_kept demand now) last-is) j) ∷ []) i;
+        row = row_of p.answers;
+        fates = map-append (λ (k : Kept). demand_of k.demand) p.streams (fresh ∷ []) i;
+        streams = (map-append stream_of p.streams (fresh ∷ []) ∙ ap (λ s. map stream_of p.streams ++ s ∷ []) (new-is (resets_at p.answers demand) demand now demand.identity.sort refl)) i;
+        feeds = (map-append (named (p.streams ++ fresh ∷ [])) p.feeds ((count ∷ []) ∷ [])
+            ∙ λ j. all_named-front p.streams fresh p.feeds numbers j
+            ++ (ap (λ xs. xs ++ []) (identity_at-is (p.streams ++ fresh ∷ []) count fresh last-is) j) ∷ []) i;
       })
       ∙ sym (demand_kept false (known demand.identity p.streams ∙ ap is_some e))
   as_planned (Some n) e =
       let f = found demand.identity p.streams n e in
       (λ i. record {
-        row = cumulative_row;
+        row = row_of p.answers;
         fates = part.fates;
         streams = part.streams;
         feeds = (map-append (named p.streams) p.feeds ((n ∷ []) ∷ [])
@@ -184,7 +189,7 @@ module _ (now : ℕ) (demand : Demand) (p : Piped) (numbers : AreAllNumbers p.fe
 -- a good build on a meter
 pub built-good : (now : ℕ) (scope : InstrumentationScope) (sort : InstrumentSort) (name : List ℕ) (description unit : Option (List ℕ)) (p : Piped) → AreAllNumbers p.feeds p.streams
     → model.is_good (about sort name description unit) ≡ true
-    → p.plan ≡ Some (planned (Some (demand_by scope sort name description unit)) now p.streams)
+    → p.plan ≡ Some (planned p.answers (Some (demand_by scope sort name description unit)) now p.streams)
     → part_of (built p) ≡ machine.built [] (Some scope) (about sort name description unit) now (part_of p)
 built-good now scope sort name description unit p numbers good plan =
     ap (λ o. part_of (built_by o p)) plan
@@ -192,20 +197,20 @@ built-good now scope sort name description unit p numbers good plan =
     ∙ sym (ap (λ ds. machine.with_feeds ds (fold (machine.demanded now) (part_of p) ds)) demands)
   where
     demands : machine.build_demands [] (part_of p) (Some scope) (about sort name description unit) ≡ demand_of (demand_by scope sort name description unit) ∷ []
-    demands = rw good (ap (λ d. d ∷ []) (demand-is scope sort name description unit))
+    demands = rw good (ap (λ d. d ∷ []) (demand-is p.answers scope sort name description unit))
 
 -- a build that demands nothing: without a meter, or of a bad name or unit
 nothing_built : (scope : Option InstrumentationScope) (a : About) (now : ℕ) (p : Piped) → machine.build_demands [] (part_of p) scope a ≡ []
-    → p.plan ≡ Some (planned None now p.streams) → part_of (built p) ≡ machine.built [] scope a now (part_of p)
+    → p.plan ≡ Some (planned p.answers None now p.streams) → part_of (built p) ≡ machine.built [] scope a now (part_of p)
 nothing_built scope a now p none plan =
     ap (λ o. part_of (built_by o p)) plan
-    ∙ (λ i. record { row = cumulative_row; fates = (part_of p).fates; streams = (part_of p).streams; feeds = map-append (named p.streams) p.feeds ([] ∷ []) i })
+    ∙ (λ i. record { row = row_of p.answers; fates = (part_of p).fates; streams = (part_of p).streams; feeds = map-append (named p.streams) p.feeds ([] ∷ []) i })
     ∙ sym (ap (λ ds. machine.with_feeds ds (fold (machine.demanded now) (part_of p) ds)) none)
 
 pub built-bad : (scope : Option InstrumentationScope) (a : About) (now : ℕ) (p : Piped) → model.is_good a ≡ false
-    → p.plan ≡ Some (planned None now p.streams) → part_of (built p) ≡ machine.built [] scope a now (part_of p)
+    → p.plan ≡ Some (planned p.answers None now p.streams) → part_of (built p) ≡ machine.built [] scope a now (part_of p)
 built-bad None a now p bad plan = nothing_built None a now p refl plan
 built-bad (Some scope) a now p bad plan = nothing_built (Some scope) a now p (rw bad refl) plan
 
-pub built-without : (a : About) (now : ℕ) (p : Piped) → p.plan ≡ Some (planned None now p.streams) → part_of (built p) ≡ machine.built [] None a now (part_of p)
+pub built-without : (a : About) (now : ℕ) (p : Piped) → p.plan ≡ Some (planned p.answers None now p.streams) → part_of (built p) ≡ machine.built [] None a now (part_of p)
 built-without a now p plan = nothing_built None a now p refl plan

@@ -1,59 +1,162 @@
--- Collections that the provider makes are the model's, and change nothing.
-use Rattle.std.proofs.Common.{◌≡◌, ◌<◌, ◌≤◌, ℕ, zero, suc, true, false, cond, List, [], ◌∷◌, map, length, slice_get, nat_lt, Some, None, option_map, refl, sym, ◌∙◌, ap, arith}
+-- Collections that the provider makes are the model's.
+use Rattle.std.proofs.Common.{◌≡◌, ◌<◌, ◌≤◌, ◌+◌, ℕ, zero, suc, Bool, true, false, not, cond, List, [], ◌∷◌, ◌++◌, map, length, set, slice_get, slice_index_or, nat_lt, Some, None, option_map, refl, sym, ◌∙◌, ap, arith}
 use Rattle.std.proofs.lemmas.Bool.{lt-ltb, le-ltb}
 use Rattle.std.proofs.lemmas.List.{length-map}
 use Rattle.std.proofs.lemmas.Option.{slice_get-map}
 use Rattle.std.specs.Prelude.{filter}
 use Rattle.otel_common.specs.declared.scopes.InstrumentationScope.{InstrumentationScope}
+use Rattle.otel_model_stream.specs.Entries.{points as points_in}
+use Rattle.otel_model_stream.specs.Events.{Kind, Delta, Cumulative}
+use Rattle.otel_model_stream.specs.Folds.{wrapped}
+use Rattle.otel_model_stream.specs.Machine.{shows_all, collected}
+use Rattle.otel_model_stream.specs.Totals.{points_total}
 use Rattle.otel_model.specs.Calls as model
-use Rattle.otel_model.specs.Collections.{metric, in_scope, has_metrics, ScopedMetric}
+use Rattle.otel_model.specs.Collections.{metric, value_point, in_scope, has_metrics, ScopedMetric}
 use Rattle.otel_model.specs.Demands.{Identity}
 use Rattle.otel_model.specs.Machine.{changed_at, part_sent, points_at, stream_after, accepted_after}
 use Rattle.otel_model.specs.Refusals.{refusal}
 use Rattle.otel_model.specs.Resources.{empty_resource}
-use Rattle.otel_model.specs.State.{InstrumentState, Stream}
-use Rattle.otel_model.specs.Steps.{collect_from, collect_reply, reply_by, after_by}
-use Rattle.otel_provider.specs.Collections.{scoped, scopes_shown}
-use Rattle.otel_provider.specs.Pipelines.{Piped, part_of, named}
+use Rattle.otel_model.specs.State.{InstrumentState, ReaderPart, Stream}
+use Rattle.otel_model.specs.Steps.{collect_reply, reply_by, after_by}
+use Rattle.otel_model.specs.Streams.{is_monotonic_kind}
+use Rattle.otel_provider.specs.Collections.{scoped, scopes_shown, IsCollectedFrom}
+use Rattle.otel_provider.specs.Identities.{demand_of}
+use Rattle.otel_provider.specs.Pipelines.{Piped, part_of, part_by, named, identity_at, resets_at, AreAnswered, all_settled, finished_all}
+use Rattle.otel_provider.specs.Rows.{row_of}
+use Rattle.otel_provider.specs.Sorts.{kind_of, is_signed}
 use Rattle.otel_provider.specs.States.{shared_of, state_of, IsMade}
-use Rattle.otel_provider.specs.Streams.{cumulative_row, Kept, stream_of, shown_metric}
+use Rattle.otel_provider.specs.Streams.{Kept, stream_of, shown_metric, restarted}
+use Rattle.otel_provider.specs.declared.answers.Answers.{Answers}
 use Rattle.otel_provider.specs.declared.sorts.InstrumentSort.{InstrumentSort}
 use Rattle.otel_provider.specs.declared.sorts.InstrumentSort.TheVariants.{U64Counter}
+use Rattle.otel_provider.proofs.Answered.{finishes}
+use Rattle.otel_provider.proofs.PipelineLemmas.{part-settled}
 
-metric_by : (now : ℕ) (feeds : List (List Identity)) (k : Kept) (sort : InstrumentSort) → k.demand.identity.sort ≡ sort
-    → metric cumulative_row now k.since [] (stream_of k).demand (points_at cumulative_row feeds [] (stream_of k)) ≡ shown_metric now k
-metric_by now feeds k U64Counter e = rw e refl
+abbrev when : Bool → Kind
+when delta = cond delta Delta Cumulative
 
-metrics_are : (now : ℕ) (feeds : List (List Identity)) (ks : List Kept)
-    → map (λ (q : Stream). (q.demand.identity.scope, metric cumulative_row now q.since q.reported q.demand (points_at cumulative_row feeds [] q))) (map stream_of ks) ≡ map (scoped now) ks
-metrics_are now feeds [] = refl
-metrics_are now feeds (k ∷ ks) = λ i. (k.demand.identity.scope, metric_by now feeds k k.demand.identity.sort refl i) ∷ metrics_are now feeds ks i
+shows-when : (b : Bool) → shows_all (when b) ≡ not b
+shows-when true = refl
+shows-when false = refl
 
--- a collection has the scopes that are shown
-pub collected-is : (meters : List InstrumentationScope) (instruments : List InstrumentState) (now : ℕ) (p : Piped) (c : model.Collection)
-    → c.resource ≡ empty_resource → c.scopes ≡ scopes_shown now p.streams meters → c ≡ collect_from (shared_of meters instruments) now [] (part_of p)
-collected-is meters instruments now p c r e = λ i. record {
-  resource = r i;
-  scopes = (e ∙ ap (λ (ms : List ScopedMetric). filter has_metrics (map (in_scope ms) meters)) (sym (metrics_are now (map (named p.streams) p.feeds) p.streams))) i;
+-- ======== what is shown ========
+-- the metric of a stream that is delta or not
+abbrev metric_when : ℕ → Kept → Bool → model.Metric
+metric_when now k delta = record {
+  name = k.demand.spelling;
+  description = k.demand.identity.description;
+  unit = k.demand.identity.unit;
+  signed = is_signed k.demand.identity.sort;
+  content = model.Content.Sum delta (is_monotonic_kind (kind_of k.demand.identity.sort)) (map value_point (points_in (shows_all (when delta)) k.table));
+  start = k.since;
+  time = now;
 }
 
-kept_by : (next r now : ℕ) (feeds : List (List Identity)) (k : Kept) (sort : InstrumentSort) → k.demand.identity.sort ≡ sort
-    → stream_after cumulative_row feeds next (model.Call.Collect r now []) (stream_of k) ≡ stream_of k
-kept_by next r now feeds k U64Counter e = rw e refl
+metric_by : (answers : Answers) (now : ℕ) (feeds : List (List Identity)) (k : Kept) (sort : InstrumentSort) → k.demand.identity.sort ≡ sort
+    → metric (row_of answers) now k.since [] (stream_of k).demand (points_at (row_of answers) feeds [] (stream_of k)) ≡ metric_when now k (resets_at answers k.demand)
+metric_by answers now feeds k U64Counter e = rw e refl
 
-streams_kept : (next r now : ℕ) (feeds : List (List Identity)) (ks : List Kept) → map (stream_after cumulative_row feeds next (model.Call.Collect r now [])) (map stream_of ks) ≡ map stream_of ks
-streams_kept next r now feeds [] = refl
-streams_kept next r now feeds (k ∷ ks) = λ i. kept_by next r now feeds k k.demand.identity.sort refl i ∷ streams_kept next r now feeds ks i
+metric-is : (answers : Answers) (now : ℕ) (feeds : List (List Identity)) (k : Kept) → k.resets ≡ resets_at answers k.demand
+    → metric (row_of answers) now k.since [] (stream_of k).demand (points_at (row_of answers) feeds [] (stream_of k)) ≡ shown_metric now k
+metric-is answers now feeds k is =
+    metric_by answers now feeds k k.demand.identity.sort refl
+    ∙ ap (metric_when now k) (sym is)
+    ∙ λ i. record (metric_when now k k.resets) { content = model.Content.Sum k.resets (is_monotonic_kind (kind_of k.demand.identity.sort)) (map value_point (points_in (shows-when k.resets i) k.table)) }
 
-part_kept : (next r now : ℕ) (p : Piped) → part_sent next (model.Call.Collect r now []) (part_of p) ≡ part_of p
-part_kept next r now p = λ i. record (part_of p) { streams = streams_kept next r now (map (named p.streams) p.feeds) p.streams i }
+metrics_are : (answers : Answers) (now : ℕ) (feeds : List (List Identity)) (ks : List Kept) → AreAnswered answers ks
+    → map (λ (q : Stream). (q.demand.identity.scope, metric (row_of answers) now q.since q.reported q.demand (points_at (row_of answers) feeds [] q))) (map stream_of ks) ≡ map (scoped now) ks
+metrics_are answers now feeds [] all = refl
+metrics_are answers now feeds (k ∷ ks) all = λ i. (k.demand.identity.scope, metric-is answers now feeds k all.0 i) ∷ metrics_are answers now feeds ks all.1 i
 
--- a cumulative reader's collection changes nothing
-pub collecting-keeps : (next r now at : ℕ) (ps : List Piped) → changed_at at (part_sent next (model.Call.Collect r now [])) (map part_of ps) ≡ map part_of ps
-collecting-keeps next r now at [] = refl
-collecting-keeps next r now zero (p ∷ ps) = ap (λ q. q ∷ map part_of ps) (part_kept next r now p)
-collecting-keeps next r now (suc at) (p ∷ ps) = ap (λ qs. part_of p ∷ qs) (collecting-keeps next r now at ps)
+-- a collection has the scopes that are shown
+pub collected-is : (meters : List InstrumentationScope) (now : ℕ) (answers : Answers) (ks : List Kept) (feeds : List (List ℕ)) (c : model.Collection) → AreAnswered answers ks
+    → c.resource ≡ empty_resource → c.scopes ≡ scopes_shown now ks meters → IsCollectedFrom meters now (part_by answers ks feeds) c
+collected-is meters now answers ks feeds c all r e instruments = λ i. record {
+  resource = r i;
+  scopes = (e ∙ ap (λ (ms : List ScopedMetric). filter has_metrics (map (in_scope ms) meters)) (sym (metrics_are answers now (map (named ks) feeds) ks all))) i;
+}
 
+-- ======== what it leaves ========
+-- a stream after a collection, as it is delta or not
+abbrev stream_when : ℕ → Kept → Bool → Stream
+stream_when now k delta = record {
+  demand = demand_of k.demand;
+  machine = collected (when delta) (record { table = k.table; live = [] });
+  since = cond delta now k.since;
+  reported = [];
+  recorded = k.recorded;
+  exported = cond delta (wrapped (k.exported + points_total (points_in (shows_all (when delta)) k.table))) k.exported;
+}
+
+stream_by : (answers : Answers) (next r now : ℕ) (feeds : List (List Identity)) (k : Kept) (sort : InstrumentSort) → k.demand.identity.sort ≡ sort
+    → stream_after (row_of answers) feeds next (model.Call.Collect r now []) (stream_of k) ≡ stream_when now k (resets_at answers k.demand)
+stream_by answers next r now feeds k U64Counter e = rw e refl
+
+stream_left : (now : ℕ) (k : Kept) (b : Bool) → stream_when now k b ≡ stream_of (cond b (restarted now k) k)
+stream_left now k true = refl
+stream_left now k false = refl
+
+streams-finished : (answers : Answers) (next r now : ℕ) (feeds : List (List Identity)) (ks : List Kept) → AreAnswered answers ks
+    → map (stream_after (row_of answers) feeds next (model.Call.Collect r now [])) (map stream_of ks) ≡ map stream_of (finished_all now ks)
+streams-finished answers next r now feeds [] all = refl
+streams-finished answers next r now feeds (k ∷ ks) all =
+    λ i. (stream_by answers next r now feeds k k.demand.identity.sort refl ∙ ap (stream_when now k) (sym all.0) ∙ stream_left now k k.resets) i
+    ∷ streams-finished answers next r now feeds ks all.1 i
+
+demands-finished : (now : ℕ) (ks : List Kept) → map (λ (k : Kept). demand_of k.demand) (finished_all now ks) ≡ map (λ (k : Kept). demand_of k.demand) ks
+demands-finished now [] = refl
+demands-finished now (k ∷ ks) = λ i. demand_of ((finishes now k.resets k).1 i) ∷ demands-finished now ks i
+
+identity_at-finished : (now : ℕ) (ks : List Kept) (n : ℕ) → identity_at (finished_all now ks) n ≡ identity_at ks n
+identity_at-finished now [] n = refl
+identity_at-finished now (k ∷ ks) zero = λ i. (demand_of ((finishes now k.resets k).1 i)).identity ∷ []
+identity_at-finished now (k ∷ ks) (suc n) = identity_at-finished now ks n
+
+named-finished : (now : ℕ) (ks : List Kept) (ns : List ℕ) → named (finished_all now ks) ns ≡ named ks ns
+named-finished now ks [] = refl
+named-finished now ks (n ∷ ns) = λ i. identity_at-finished now ks n i ++ named-finished now ks ns i
+
+feeds-finished : (now : ℕ) (ks : List Kept) (feeds : List (List ℕ)) → map (named (finished_all now ks)) feeds ≡ map (named ks) feeds
+feeds-finished now ks [] = refl
+feeds-finished now ks (ns ∷ feeds) = λ i. named-finished now ks ns i ∷ feeds-finished now ks feeds i
+
+-- a reader's part after its collection
+pub part-finished : (answers : Answers) (next r now : ℕ) (old new : List Kept) (feeds : List (List ℕ)) → AreAnswered answers old → all_settled new ≡ all_settled (finished_all now old)
+    → part_by answers new feeds ≡ part_sent next (model.Call.Collect r now []) (part_by answers old feeds)
+part-finished answers next r now old new feeds all e =
+    sym (part-settled answers new feeds)
+    ∙ ap (λ ks. part_by answers ks feeds) e
+    ∙ part-settled answers (finished_all now old) feeds
+    ∙ λ i. record {
+      row = row_of answers;
+      fates = demands-finished now old i;
+      streams = sym (streams-finished answers next r now (map (named old) feeds) old all) i;
+      feeds = feeds-finished now old feeds i;
+    }
+
+-- ======== one reader of several ========
+pub get-at : (ps : List Piped) (r : ℕ) (p : Piped) → r < length ps → p ≡ slice_index_or ps r p → slice_get ps r ≡ Some p
+get-at [] r p h e = absurd (omega arith)
+get-at (q ∷ ps) zero p h e = ap Some (sym e)
+get-at (q ∷ ps) (suc r) p h e = get-at ps r p (omega arith) e
+
+-- a reader is changed, as the model sees it
+pub set-seen : (f : ReaderPart → ReaderPart) (ps : List Piped) (r : ℕ) (p new : Piped) → slice_get ps r ≡ Some p → part_of new ≡ f (part_of p) → map part_of (set ps r new) ≡ changed_at r f (map part_of ps)
+set-seen f [] r p new at e = absurd (cc)
+set-seen f (q ∷ ps) zero p new at e =
+    let same : q ≡ p = cc in
+    ap (λ x. x ∷ map part_of ps) (e ∙ ap (λ (x : Piped). f (part_of x)) (sym same))
+set-seen f (q ∷ ps) (suc r) p new at e = ap (λ xs. part_of q ∷ xs) (set-seen f ps r p new at e)
+
+changed-not : (r : ℕ) (xs : List ReaderPart) → changed_at r (λ x. x) xs ≡ xs
+changed-not r [] = refl
+changed-not zero (x ∷ xs) = refl
+changed-not (suc r) (x ∷ xs) = ap (λ ys. x ∷ ys) (changed-not r xs)
+
+pub set-unseen : (ps : List Piped) (r : ℕ) (p new : Piped) → slice_get ps r ≡ Some p → part_of new ≡ part_of p → map part_of (set ps r new) ≡ map part_of ps
+set-unseen ps r p new at e = set-seen (λ x. x) ps r p new at e ∙ changed-not r (map part_of ps)
+
+-- ======== whole calls ========
 get-some : (ps : List Piped) (r : ℕ) (p : Piped) → slice_get ps r ≡ Some p → r < length ps
 get-some [] r p e = absurd (cc)
 get-some (q ∷ ps) zero p e = omega arith
@@ -65,16 +168,16 @@ get-none (q ∷ ps) zero e = absurd (cc)
 get-none (q ∷ ps) (suc r) e = omega (arith, get-none ps r e)
 
 -- a collection of a reader that is there
-pub collection-made : (meters : List InstrumentationScope) (instruments : List InstrumentState) (ps : List Piped) (r now : ℕ) (p : Piped) (c : model.Collection)
-    → slice_get ps r ≡ Some p → c.resource ≡ empty_resource → c.scopes ≡ scopes_shown now p.streams meters
-    → IsMade (state_of meters instruments ps) (model.Call.Collect r now []) (model.Reply.Collected c) (state_of meters instruments ps)
-collection-made meters instruments ps r now p c at res e =
+pub collection-made : (meters : List InstrumentationScope) (instruments : List InstrumentState) (ps : List Piped) (readers : List ReaderPart) (r now : ℕ) (p : Piped) (c : model.Collection)
+    → slice_get ps r ≡ Some p → IsCollectedFrom meters now (part_of p) c → readers ≡ changed_at r (part_sent 0 (model.Call.Collect r now [])) (map part_of ps)
+    → IsMade (state_of meters instruments ps) (model.Call.Collect r now []) (model.Reply.Collected c) (record { shared = shared_of meters instruments; readers = readers })
+collection-made meters instruments ps readers r now p c at given left =
     let known : nat_lt r (length (map part_of ps)) ≡ true = lt-ltb r (length (map part_of ps)) (rw length-map (get-some ps r p at)) in
     let found : slice_get (map part_of ps) r ≡ Some (part_of p) = slice_get-map part_of ps r ∙ ap (option_map part_of) at in
     record {
-      answer = ap model.Reply.Collected (collected-is meters instruments now p c res e)
+      answer = ap model.Reply.Collected (given instruments)
           ∙ sym (λ i. reply_by (cond (known i) None (Some model.Fault.UnknownReader)) (collect_reply (shared_of meters instruments) now [] (found i)));
-      state = (λ i. record { shared = shared_of meters instruments; readers = sym (collecting-keeps 0 r now r ps) i })
+      state = (λ i. record { shared = shared_of meters instruments; readers = left i })
           ∙ sym (λ i. after_by (cond (known i) None (Some model.Fault.UnknownReader)) (state_of meters instruments ps) (accepted_after [] (state_of meters instruments ps) (model.Call.Collect r now [])));
     }
 

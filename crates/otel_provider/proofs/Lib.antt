@@ -1,3 +1,4 @@
+pub mod Answered
 pub mod Builds
 pub mod Collects
 pub mod Commits

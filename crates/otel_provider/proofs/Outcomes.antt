@@ -1,5 +1,5 @@
 -- What holds where a call succeeds.
-use Rattle.std.specs.Prelude.{◌≡◌, Option, None, Result, Ok, Err, OnOk, IfOk, IfErr, IsOkUnless}
+use Rattle.std.specs.Prelude.{◌≡◌, Option, None, Result, Ok, Err, OnOk, OnErr, IfOk, IfErr, IsOkUnless}
 use Rattle.std.proofs.Common.{sym, subst}
 use Rattle.otel_common.specs.declared.faults.Fault.{Fault}
 use Rattle.otel_common.specs.declared.faults.Fault.TheVariants as fault
@@ -18,3 +18,11 @@ IfOk-weaker (Err e) f p = p
 pub IfErr-memory : {T : Type 0} (r : Result T Fault) (o : Option model.Fault) → o ≡ None → IsOkUnless r fault.OutOfMemory → IfErr r (IsFault o)
 IfErr-memory (Ok x) o none h = tt
 IfErr-memory (Err e) o none h = let P : Fault → Type 0 = λ f. IsFault o f in subst P (sym h) none
+
+pub IfOk-both : {T E : Type 0} (r : Result T E) {P R : T → Type 0} {Q : Type 0} → ((x : T) → P x → Q → R x) → IfOk r P → OnOk r Q → IfOk r R
+IfOk-both (Ok x) f p q = f x p q
+IfOk-both (Err e) f p q = tt
+
+pub OnErr-weaker : {T E : Type 0} (r : Result T E) {P Q : Type 0} → (P → Q) → OnErr r P → OnErr r Q
+OnErr-weaker (Ok x) f p = p
+OnErr-weaker (Err e) f p = f p

@@ -1,12 +1,14 @@
 -- What records leave of a reader's streams: their identities, and so their number.
-use Rattle.std.proofs.Common.{Bool, true, ◌&&◌, ◌≡◌, ℕ, List, [], ◌∷◌, ◌++◌, map, length, Option, Some, None, refl, ◌∙◌, ap, arith, zero, suc}
+use Rattle.std.proofs.Common.{Bool, true, false, cond, ◌&&◌, ◌≡◌, ℕ, List, [], ◌∷◌, ◌++◌, map, length, Option, Some, None, refl, ◌∙◌, ap, arith, zero, suc}
 use Rattle.std.specs.Prelude.{All}
 use Rattle.std.proofs.lemmas.List.{length-map}
 use Rattle.otel_model_stream.specs.Sets.{AttributeSet}
 use Rattle.otel_model.specs.Machine.{changed_at}
 use Rattle.otel_provider.specs.Identities.{demand_of}
-use Rattle.otel_provider.specs.Pipelines.{AreNumbers, all_settled, committed_each, stream_identities, part_by, named, identity_at}
-use Rattle.otel_provider.specs.Streams.{cumulative_row, Kept, stream_of, committed, committed_by}
+use Rattle.otel_provider.specs.Pipelines.{AreNumbers, all_settled, committed_each, finished_all, stream_identities, part_by, named, identity_at}
+use Rattle.otel_provider.specs.Streams.{Kept, stream_of, committed, committed_by, restarted}
+use Rattle.otel_provider.specs.Rows.{row_of}
+use Rattle.otel_provider.specs.declared.answers.Answers.{Answers}
 use Rattle.otel_provider.specs.declared.identity.Identity.{Identity}
 
 pub identities-settled : (ks : List Kept) → stream_identities (all_settled ks) ≡ stream_identities ks
@@ -26,6 +28,14 @@ pub identities-committed : (value : ℕ) (ns : List ℕ) (ks : List Kept) → st
 identities-committed value [] ks = refl
 identities-committed value (n ∷ ns) ks = identities-committed value ns (changed_at n (committed value) ks) ∙ identities-changed value n ks
 
+finished-identity : (now : ℕ) (b : Bool) (k : Kept) → (cond b (restarted now k) k).demand.identity ≡ k.demand.identity
+finished-identity now true k = refl
+finished-identity now false k = refl
+
+pub identities-finished : (now : ℕ) (ks : List Kept) → stream_identities (finished_all now ks) ≡ stream_identities ks
+identities-finished now [] = refl
+identities-finished now (k ∷ ks) = λ i. finished-identity now k.resets k i ∷ identities-finished now ks i
+
 pub length-from : (a b : List Kept) → stream_identities a ≡ stream_identities b → length a ≡ length b
 length-from a b e = omega (arith, ap length e, length-map {A = Kept} {B = Identity})
 
@@ -38,8 +48,8 @@ all_true a b c p q r = λ i. p i && (q i && r i)
 
 -- ======== the model's part ========
 -- the model does not see which streams are ready
-pub part-same : (a b : List Kept) (feeds more : List (List ℕ)) → a ≡ b → feeds ≡ more → part_by a feeds ≡ part_by b more
-part-same a b feeds more e f = λ i. part_by (e i) (f i)
+pub part-same : (answers : Answers) (a b : List Kept) (feeds more : List (List ℕ)) → a ≡ b → feeds ≡ more → part_by answers a feeds ≡ part_by answers b more
+part-same answers a b feeds more e f = λ i. part_by answers (e i) (f i)
 
 streams-settled : (ks : List Kept) → map stream_of (all_settled ks) ≡ map stream_of ks
 streams-settled [] = refl
@@ -62,5 +72,5 @@ feeds-settled : (ks : List Kept) (feeds : List (List ℕ)) → map (named (all_s
 feeds-settled ks [] = refl
 feeds-settled ks (ns ∷ feeds) = λ i. named-settled ks ns i ∷ feeds-settled ks feeds i
 
-pub part-settled : (ks : List Kept) (feeds : List (List ℕ)) → part_by (all_settled ks) feeds ≡ part_by ks feeds
-part-settled ks feeds = λ i. record { row = cumulative_row; fates = demands-settled ks i; streams = streams-settled ks i; feeds = feeds-settled ks feeds i }
+pub part-settled : (answers : Answers) (ks : List Kept) (feeds : List (List ℕ)) → part_by answers (all_settled ks) feeds ≡ part_by answers ks feeds
+part-settled answers ks feeds = λ i. record { row = row_of answers; fates = demands-settled ks i; streams = streams-settled ks i; feeds = feeds-settled ks feeds i }

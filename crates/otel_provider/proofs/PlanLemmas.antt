@@ -5,9 +5,10 @@ use Rattle.std.specs.List.{list_any}
 use Rattle.std.proofs.lemmas.List.{length-map, map-append, length-append}
 use Rattle.std.proofs.lemmas.List.Elements.{All-push}
 use Rattle.otel_provider.specs.Identities.{identity_test}
-use Rattle.otel_provider.specs.Pipelines.{part_by, part_of, built, with_added, Planned, planned_from, plan_by, stream_number, stream_identities, AreNumbers}
+use Rattle.otel_provider.specs.Pipelines.{part_by, part_of, built, with_added, Planned, planned_from, plan_by, stream_number, stream_identities, resets_at, AreNumbers}
 use Rattle.otel_provider.specs.Streams.{Kept, new_kept}
 use Rattle.otel_provider.specs.Plans.{planned_of}
+use Rattle.otel_provider.specs.declared.answers.Answers.{Answers}
 use Rattle.otel_provider.specs.declared.pipeline.Plan.{Plan}
 use Rattle.otel_provider.specs.declared.identity.Demand.{Demand}
 use Rattle.otel_provider.specs.declared.identity.Identity.{Identity}
@@ -28,31 +29,33 @@ position-within p (x ∷ xs) n e = next (p x) (position p xs) (λ m q. position-
     next false (Some m) rest q = let z : suc m ≡ n = cc in let r = rest m refl in omega arith
 
 -- a new stream: its identity is that of its demand, it isn't there yet, and the instrument feeds it alone
-pub record IsNew (x : Identity) (k : Kept) (ns : List ℕ) (keys : List Identity) : Type 0 where
+pub record IsNew (answers : Answers) (x : Identity) (k : Kept) (ns : List ℕ) (keys : List Identity) : Type 0 where
   pub key : x ≡ k.demand.identity
   pub absent : list_any (identity_test x) keys ≡ false
   pub feeds : ns ≡ length keys ∷ []
+  pub resets : k.resets ≡ resets_at answers k.demand
 
-new_by : (o : Option ℕ) (demand : Demand) (now : ℕ) (keys : List Identity) (x : Identity) (k : Kept) (ns : List ℕ) → stream_number demand.identity keys ≡ o
-    → plan_by o demand now (length keys) ≡ record { feeds = ns; added = Some (x, k) } → IsNew x k ns keys
-new_by (Some n) demand now keys x k ns s e = let q = ap (λ (p : Planned). p.added) e in absurd (cc)
-new_by None demand now keys x k ns s e =
-    let both : (demand.identity, new_kept demand now) ≡ (x, k) = some_pair _ _ (ap (λ (p : Planned). p.added) e) in
+new_by : (answers : Answers) (o : Option ℕ) (demand : Demand) (now : ℕ) (keys : List Identity) (x : Identity) (k : Kept) (ns : List ℕ) → stream_number demand.identity keys ≡ o
+    → plan_by answers o demand now (length keys) ≡ record { feeds = ns; added = Some (x, k) } → IsNew answers x k ns keys
+new_by answers (Some n) demand now keys x k ns s e = let q = ap (λ (p : Planned). p.added) e in absurd (cc)
+new_by answers None demand now keys x k ns s e =
+    let both : (demand.identity, new_kept (resets_at answers demand) demand now) ≡ (x, k) = some_pair _ _ (ap (λ (p : Planned). p.added) e) in
     let is_x : demand.identity ≡ x = ap (λ (p : Identity × Kept). p.0) both in
-    let is_k : new_kept demand now ≡ k = ap (λ (p : Identity × Kept). p.1) both in
+    let is_k : new_kept (resets_at answers demand) demand now ≡ k = ap (λ (p : Identity × Kept). p.1) both in
     record {
       key = sym is_x ∙ ap (λ (m : Kept). m.demand.identity) is_k;
       absent = ap (λ z. list_any (identity_test z) keys) (sym is_x) ∙ (sym (any-position (identity_test demand.identity) keys) ∙ ap is_some s);
       feeds = sym (ap (λ (p : Planned). p.feeds) e);
+      resets = sym (ap (λ (m : Kept). m.resets) is_k) ∙ ap (λ (m : Kept). resets_at answers m.demand) is_k;
     }
   where
     some_pair : (a b : Identity × Kept) → Some a ≡ Some b → a ≡ b
     some_pair a b q = cc
 
-pub planned-new : (demand : Option Demand) (now : ℕ) (keys : List Identity) (x : Identity) (k : Kept) (ns : List ℕ)
-    → planned_from demand now keys ≡ record { feeds = ns; added = Some (x, k) } → IsNew x k ns keys
-planned-new None now keys x k ns e = let q = ap (λ (p : Planned). p.added) e in absurd (cc)
-planned-new (Some demand) now keys x k ns e = new_by (stream_number demand.identity keys) demand now keys x k ns refl e
+pub planned-new : (answers : Answers) (demand : Option Demand) (now : ℕ) (keys : List Identity) (x : Identity) (k : Kept) (ns : List ℕ)
+    → planned_from answers demand now keys ≡ record { feeds = ns; added = Some (x, k) } → IsNew answers x k ns keys
+planned-new answers None now keys x k ns e = let q = ap (λ (p : Planned). p.added) e in absurd (cc)
+planned-new answers (Some demand) now keys x k ns e = new_by answers (stream_number demand.identity keys) demand now keys x k ns refl e
 
 -- one stream and one instrument more
 pub numbers-push : (ks : List Kept) (k : Kept) (feeds : List (List ℕ)) (ns : List ℕ) → All (AreNumbers ks) feeds → ns ≡ length (stream_identities ks) ∷ [] → All (AreNumbers (ks ++ k ∷ [])) (feeds ++ ns ∷ [])
@@ -75,8 +78,8 @@ taken-is o plan made added held took e =
     (sym held ∙ (ap (option_map planned_of) (sym took) ∙ λ i. Some (record { feeds = plan.feeds; added = e i })))
 
 -- carrying out a plan with a new stream
-pub built-from : (streams : List Kept) (feeds : List (List ℕ)) (o : Option Plan) (room : Bool) (plan : Plan) (added : Identity × Kept) → Some plan ≡ o → plan.added ≡ Some added
-    → part_by (streams ++ added.1 ∷ []) (feeds ++ plan.feeds ∷ []) ≡ part_of (built (record { streams = streams; feeds = feeds; plan = option_map planned_of o; room = room }))
-built-from streams feeds o room plan added took e =
-    ap (λ a. part_by (with_added a streams) (feeds ++ plan.feeds ∷ [])) (sym e)
-    ∙ ap (λ (q : Option Plan). part_of (built (record { streams = streams; feeds = feeds; plan = option_map planned_of q; room = room }))) took
+pub built-from : (answers : Answers) (streams : List Kept) (feeds : List (List ℕ)) (o : Option Plan) (room : Bool) (plan : Plan) (added : Identity × Kept) → Some plan ≡ o → plan.added ≡ Some added
+    → part_by answers (streams ++ added.1 ∷ []) (feeds ++ plan.feeds ∷ []) ≡ part_of (built (record { answers = answers; streams = streams; feeds = feeds; plan = option_map planned_of o; room = room }))
+built-from answers streams feeds o room plan added took e =
+    ap (λ a. part_by answers (with_added a streams) (feeds ++ plan.feeds ∷ [])) (sym e)
+    ∙ ap (λ (q : Option Plan). part_of (built (record { answers = answers; streams = streams; feeds = feeds; plan = option_map planned_of q; room = room }))) took

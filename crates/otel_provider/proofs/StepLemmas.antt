@@ -20,8 +20,9 @@ use Rattle.otel_model.proofs.Gather.{identity_eq_true, identity_eq_self}
 use Rattle.otel_provider.specs.Identities.{identity_of, identity_test, demand_of, demand_by}
 use Rattle.otel_provider.specs.Shown.{about}
 use Rattle.otel_provider.specs.States.{wanted, IsMade, IsFault, IsNoMeter, state_of, shared_of}
-use Rattle.otel_provider.specs.Streams.{cumulative_row, Kept, committed, committed_by, amount, staged_set}
+use Rattle.otel_provider.specs.Streams.{Kept, committed, committed_by, amount, staged_set}
 use Rattle.otel_provider.specs.Pipelines.{Piped, part_of, named, identity_at, built, planned, recorded, fed_by, committed_each, stream_identities, AreNumbers, AreStaged, IsStaged, IsReadyFor, IsStagedFor}
+use Rattle.otel_provider.specs.Rows.{row_of}
 use Rattle.otel_provider.specs.declared.identity.Demand.{Demand}
 use Rattle.otel_provider.specs.declared.identity.Identity.{Identity}
 use Rattle.otel_provider.specs.declared.sorts.InstrumentSort.{InstrumentSort}
@@ -100,8 +101,8 @@ built-wanted None sort name description unit now p ready = built-without (about 
 built-wanted (Some scope) sort name description unit now p ready = by (demands.is_good (about sort name description unit)) refl
   where
     by : (b : Bool) → demands.is_good (about sort name description unit) ≡ b → part_of (built p) ≡ machine.built [] (Some scope) (about sort name description unit) now (part_of p)
-    by true good = built-good now scope sort name description unit p (all_numbers-named p.streams p.feeds ready.lawful.numbers) good (ready.plan ∙ ap (λ b. Some (planned (cond b (Some (demand_by scope sort name description unit)) None) now p.streams)) good)
-    by false bad = built-bad (Some scope) (about sort name description unit) now p bad (ready.plan ∙ ap (λ b. Some (planned (cond b (Some (demand_by scope sort name description unit)) None) now p.streams)) bad)
+    by true good = built-good now scope sort name description unit p (all_numbers-named p.streams p.feeds ready.lawful.numbers) good (ready.plan ∙ ap (λ b. Some (planned p.answers (cond b (Some (demand_by scope sort name description unit)) None) now p.streams)) good)
+    by false bad = built-bad (Some scope) (about sort name description unit) now p bad (ready.plan ∙ ap (λ b. Some (planned p.answers (cond b (Some (demand_by scope sort name description unit)) None) now p.streams)) bad)
 
 pub all_built : (scope : Option InstrumentationScope) (sort : InstrumentSort) (name : List ℕ) (description unit : Option (List ℕ)) (now : ℕ) (ps : List Piped)
     → All (IsReadyFor (wanted scope sort name description unit) now) ps → map (λ (p : Piped). part_of (built p)) ps ≡ map (machine.built [] scope (about sort name description unit) now) (map part_of ps)
@@ -196,9 +197,9 @@ pub recorded-sent : (next n value : ℕ) (l : List KeyValue) (p : Piped) → IsS
 recorded-sent next n value l p staged =
     let same : demands_of (committed_each value (fed_by n p) p.streams) ≡ demands_of p.streams = demands-committed value (fed_by n p) p.streams in
     λ i. record {
-      row = cumulative_row;
+      row = row_of p.answers;
       fates = (fates-demands (committed_each value (fed_by n p) p.streams) ∙ (ap (map demand_of) same ∙ sym (fates-demands p.streams))) i;
-      streams = sym (records.all_sent identity_eq_self p.streams (are_apart p.streams staged.lawful.apart) p.feeds next n value l (fed-numbers p.streams p.feeds n staged.lawful.numbers) (staged-at (staged_set l) p.streams (fed_by n p) staged.staged)) i;
+      streams = sym (records.all_sent (row_of p.answers) identity_eq_self p.streams (are_apart p.streams staged.lawful.apart) p.feeds next n value l (fed-numbers p.streams p.feeds n staged.lawful.numbers) (staged-at (staged_set l) p.streams (fed_by n p) staged.staged)) i;
       feeds = feeds-same (committed_each value (fed_by n p) p.streams) p.streams same p.feeds i;
     }
 

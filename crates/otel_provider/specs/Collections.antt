@@ -1,9 +1,12 @@
 -- What a collection gives of one reader's streams, scope by scope.
-use Rattle.std.specs.Prelude.{ℕ, Bool, true, false, ◌&&◌, List, [], ◌∷◌, map, filter}
+use Rattle.std.specs.Prelude.{◌≡◌, ℕ, Bool, true, false, ◌&&◌, List, [], ◌∷◌, map, filter}
 use Rattle.otel_common.specs.Scopes.{scope_eq}
 use Rattle.otel_common.specs.declared.scopes.InstrumentationScope.{InstrumentationScope}
 use Rattle.otel_model.specs.Calls as model
 use Rattle.otel_model.specs.Collections.{ScopedMetric, in_scope, has_points, has_metrics}
+use Rattle.otel_model.specs.State.{InstrumentState, ReaderPart}
+use Rattle.otel_model.specs.Steps.{collect_from}
+use Rattle.otel_provider.specs.States.{shared_of}
 use Rattle.otel_provider.specs.Streams.{Kept, shown_metric}
 
 -- the metric of a stream, with its scope
@@ -28,3 +31,7 @@ scope_shown now streams scope = in_scope (map (scoped now) streams) scope
 -- the scopes that have metrics
 abbrev pub scopes_shown : ℕ → List Kept → List InstrumentationScope → List model.ScopeMetrics
 scopes_shown now streams meters = filter has_metrics (map (scope_shown now streams) meters)
+
+-- what a collection of this reader gives, by the scopes of these meters
+abbrev pub IsCollectedFrom : List InstrumentationScope → ℕ → ReaderPart → model.Collection → Type 0
+IsCollectedFrom meters now part c = (instruments : List InstrumentState) → c ≡ collect_from (shared_of meters instruments) now [] part

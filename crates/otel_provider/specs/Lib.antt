@@ -5,6 +5,7 @@ pub mod Instruments
 pub mod Pipelines
 pub mod Plans
 pub mod Providers
+pub mod Rows
 pub mod Shown
 pub mod Sorts
 pub mod States

@@ -1,14 +1,17 @@
 -- One reader's streams, as the provider keeps them and as the model's part of a reader.
 use Rattle.std.specs.Prelude.{◌≡◌, ◌<◌, ℕ, Bool, List, [], ◌∷◌, ◌++◌, map, fold, length, All, IsTrue, Option, None, Some, slice_get, position}
-use Rattle.std.specs.List.{IsDistinct}
+use Rattle.std.specs.List.{IsDistinct, AllByRecursion}
 use Rattle.otel_common.specs.declared.attributes.KeyValue.{KeyValue}
 use Rattle.otel_model_stream.specs.Sets.{AttributeSet}
 use Rattle.otel_model.specs.Calls.{or_else}
 use Rattle.otel_model.specs.Demands as model
 use Rattle.otel_model.specs.State.{ReaderPart}
 use Rattle.otel_model.specs.Machine.{changed_at}
+use Rattle.otel_model.specs.Streams.{is_delta}
 use Rattle.otel_provider.specs.Identities.{identity_of, identity_test, demand_of}
-use Rattle.otel_provider.specs.Streams.{cumulative_row, Kept, stream_of, new_kept, committed, settled, staged_set}
+use Rattle.otel_provider.specs.Rows.{row_of}
+use Rattle.otel_provider.specs.Streams.{Kept, stream_of, new_kept, committed, settled, finished, staged_set}
+use Rattle.otel_provider.specs.declared.answers.Answers.{Answers}
 use Rattle.otel_provider.specs.declared.identity.Demand.{Demand}
 use Rattle.otel_provider.specs.declared.identity.Identity.{Identity}
 
@@ -18,9 +21,10 @@ pub record Planned : Type 0 where
   pub feeds : List ℕ
   pub added : Option (Identity × Kept)
 
--- a reader's streams in order of making, for each instrument the numbers of those that it feeds, what is
+-- a reader's answers, its streams in order of making, for each instrument the numbers of those that it feeds, what is
 -- planned, and whether there is room for a stream and an instrument more
 pub record Piped : Type 0 where
+  pub answers : Answers
   pub streams : List Kept
   pub feeds : List (List ℕ)
   pub plan : Option Planned
@@ -42,17 +46,17 @@ abbrev pub named : List Kept → List ℕ → List model.Identity
 named streams [] = []
 named streams (n ∷ ns) = identity_at streams n ++ named streams ns
 
--- the model's part of a reader with these streams, which the instruments feed by these numbers
-abbrev pub part_by : List Kept → List (List ℕ) → ReaderPart
-part_by streams feeds = record {
-  row = cumulative_row;
+-- the model's part of a reader with these answers and streams, which the instruments feed by these numbers
+abbrev pub part_by : Answers → List Kept → List (List ℕ) → ReaderPart
+part_by answers streams feeds = record {
+  row = row_of answers;
   fates = map (λ k. demand_of k.demand) streams;
   streams = map stream_of streams;
   feeds = map (named streams) feeds;
 }
 
 abbrev pub part_of : Piped → ReaderPart
-part_of p = part_by p.streams p.feeds
+part_of p = part_by p.answers p.streams p.feeds
 
 -- the numbers of the streams that an instrument feeds
 abbrev pub fed_by : ℕ → Piped → List ℕ
@@ -85,7 +89,7 @@ with_added (Some added) streams = streams ++ added.1 ∷ []
 
 abbrev pub built_by : Option Planned → Piped → Piped
 built_by None p = p
-built_by (Some plan) p = record { streams = with_added plan.added p.streams; feeds = p.feeds ++ plan.feeds ∷ []; plan = None; room = p.room }
+built_by (Some plan) p = record { answers = p.answers; streams = with_added plan.added p.streams; feeds = p.feeds ++ plan.feeds ∷ []; plan = None; room = p.room }
 
 -- what was planned, carried out
 abbrev pub built : Piped → Piped
@@ -95,24 +99,28 @@ built p = built_by p.plan p
 abbrev pub stream_number : Identity → List Identity → Option ℕ
 stream_number x keys = position (identity_test x) keys
 
-abbrev pub plan_by : Option ℕ → Demand → ℕ → ℕ → Planned
-plan_by None demand now count = record { feeds = count ∷ []; added = Some (demand.identity, new_kept demand now) }
-plan_by (Some n) demand now count = record { feeds = n ∷ []; added = None }
+-- whether the reader's answer has a stream of this demand reset
+abbrev pub resets_at : Answers → Demand → Bool
+resets_at answers demand = is_delta (row_of answers) (demand_of demand)
+
+abbrev pub plan_by : Answers → Option ℕ → Demand → ℕ → ℕ → Planned
+plan_by answers None demand now count = record { feeds = count ∷ []; added = Some (demand.identity, new_kept (resets_at answers demand) demand now) }
+plan_by answers (Some n) demand now count = record { feeds = n ∷ []; added = None }
 
 -- what a build that demands this, or nothing, plans, where there are streams of these identities: the
 -- instrument feeds the stream of the identity, which is new if there was none
-abbrev pub planned_from : Option Demand → ℕ → List Identity → Planned
-planned_from None now keys = record { feeds = []; added = None }
-planned_from (Some demand) now keys = plan_by (stream_number demand.identity keys) demand now (length keys)
+abbrev pub planned_from : Answers → Option Demand → ℕ → List Identity → Planned
+planned_from answers None now keys = record { feeds = []; added = None }
+planned_from answers (Some demand) now keys = plan_by answers (stream_number demand.identity keys) demand now (length keys)
 
-abbrev pub planned : Option Demand → ℕ → List Kept → Planned
-planned demand now streams = planned_from demand now (stream_identities streams)
+abbrev pub planned : Answers → Option Demand → ℕ → List Kept → Planned
+planned answers demand now streams = planned_from answers demand now (stream_identities streams)
 
 -- there is a plan, and room to carry it out
 pub record IsPlanned (p : Piped) : Type 0 where
   pub demand : Option Demand
   pub now : ℕ
-  pub plan : p.plan ≡ Some (planned demand now p.streams)
+  pub plan : p.plan ≡ Some (planned p.answers demand now p.streams)
   pub room : IsTrue p.room
 
 -- the streams have identities of their own, and the instruments feed streams that are there
@@ -123,7 +131,7 @@ pub record IsLawful (p : Piped) : Type 0 where
 -- ready for a build that demands this, or nothing
 pub record IsReadyFor (demand : Option Demand) (now : ℕ) (p : Piped) : Type 0 where
   pub lawful : IsLawful p
-  pub plan : p.plan ≡ Some (planned demand now p.streams)
+  pub plan : p.plan ≡ Some (planned p.answers demand now p.streams)
   pub room : IsTrue p.room
 
 -- ready for a record of these attributes at the instrument
@@ -133,4 +141,12 @@ pub record IsStagedFor (instrument : ℕ) (attributes : List KeyValue) (p : Pipe
 
 -- the record is made in the streams that the instrument feeds
 abbrev pub recorded : ℕ → ℕ → Piped → ReaderPart
-recorded instrument value p = part_by (committed_each value (fed_by instrument p) p.streams) p.feeds
+recorded instrument value p = part_by p.answers (committed_each value (fed_by instrument p) p.streams) p.feeds
+
+-- the streams reset as the reader's answers say
+abbrev pub AreAnswered : Answers → List Kept → Type 0
+AreAnswered answers streams = AllByRecursion (λ k. k.resets ≡ resets_at answers k.demand) streams
+
+-- the streams after a collection at a moment
+abbrev pub finished_all : ℕ → List Kept → List Kept
+finished_all now streams = map (finished now) streams

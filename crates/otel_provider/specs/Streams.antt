@@ -1,43 +1,43 @@
 -- One stream of a reader, as the provider keeps it and as the model's stream.
-use Rattle.std.specs.Prelude.{ℕ, pos, ◌+◌, true, false, cond, replicate, List, [], Option, None, Some}
+use Rattle.std.specs.Prelude.{ℕ, pos, ◌+◌, Bool, true, false, not, cond, List, [], map, Option, None, Some}
 use Rattle.otel_common.specs.declared.attributes.KeyValue.{KeyValue}
 use Rattle.otel_model_stream.specs.Sets.{AttributeSet, set_of}
 use Rattle.otel_model_stream.specs.Folds.{Aggregate, Amount, empty_of, sample_of, wrapped}
-use Rattle.otel_model_stream.specs.Entries.{Table, new_table, place, recorded_at, points}
+use Rattle.otel_model_stream.specs.Entries.{Table, Point, new_table, place, recorded_at, points, evicted}
+use Rattle.otel_model_stream.specs.Totals.{points_total}
 use Rattle.otel_aggregate.specs.Streams.{StreamState}
 use Rattle.otel_model.specs.Demands.{default_limit}
 use Rattle.otel_model.specs.Calls as model_calls
-use Rattle.otel_model.specs.Collections.{metric, has_points}
-use Rattle.otel_model.specs.Demands as model_demands
+use Rattle.otel_model.specs.Collections.{has_points, value_point}
+use Rattle.otel_model.specs.Streams.{is_monotonic_kind}
 use Rattle.otel_model.specs.State as model
 use Rattle.otel_provider.specs.Identities.{demand_of}
+use Rattle.otel_provider.specs.Sorts.{kind_of, is_signed}
 use Rattle.otel_provider.specs.declared.identity.Demand.{Demand}
 
--- a reader that answers `Cumulative` for every kind
-abbrev pub cumulative_row : model_demands.Row
-cumulative_row = replicate 7 model_demands.no_answer
-
 -- the sums of a stream with these entries and this start
-abbrev pub default_sums : Table → ℕ → StreamState
-default_sums table start = record {
+abbrev pub default_sums : Bool → Table → ℕ → StreamState
+default_sums resets table start = record {
   map_state = record { limit = default_limit; empty = empty_of Aggregate.Sum; table = table };
   aggregate = Aggregate.Sum;
   is_monotonic = true;
   allow = None;
-  resets = false;
+  resets = resets;
   start = start;
 }
 
--- what a stream keeps: its demand, its entries, its start, the total of its records, and the set of the
--- record that is being made
+-- what a stream keeps: its demand, its entries, its start, whether collections reset it, the totals of what was
+-- recorded and exported, and the set of the record that is being made
 pub record Kept : Type 0 where
   pub demand : Demand
   pub table : Table
   pub since : ℕ
+  pub resets : Bool
   pub recorded : ℕ
+  pub exported : ℕ
   pub staged : Option AttributeSet
 
--- a cumulative stream without handles
+-- a stream of synchronous instruments, without handles
 abbrev pub stream_of : Kept → model.Stream
 stream_of k = record {
   demand = demand_of k.demand;
@@ -45,11 +45,11 @@ stream_of k = record {
   since = k.since;
   reported = [];
   recorded = k.recorded;
-  exported = 0;
+  exported = k.exported;
 }
 
-abbrev pub new_kept : Demand → ℕ → Kept
-new_kept demand now = record { demand = demand; table = new_table (empty_of Aggregate.Sum); since = now; recorded = 0; staged = None }
+abbrev pub new_kept : Bool → Demand → ℕ → Kept
+new_kept resets demand now = record { demand = demand; table = new_table (empty_of Aggregate.Sum); since = now; resets = resets; recorded = 0; exported = 0; staged = None }
 
 abbrev pub amount : ℕ → Amount
 amount n = record { bits = n; wide = pos n }
@@ -60,7 +60,9 @@ with_record s value k = record {
   demand = k.demand;
   table = recorded_at s (sample_of Aggregate.Sum (amount value)) (place default_limit (empty_of Aggregate.Sum) s k.table);
   since = k.since;
+  resets = k.resets;
   recorded = wrapped (k.recorded + value);
+  exported = k.exported;
   staged = None;
 }
 
@@ -74,7 +76,7 @@ committed value k = committed_by k.staged value k
 
 -- with this set in the place of that of the record that is being made
 abbrev pub with_staged : Option AttributeSet → Kept → Kept
-with_staged staged k = record { demand = k.demand; table = k.table; since = k.since; recorded = k.recorded; staged = staged }
+with_staged staged k = record { demand = k.demand; table = k.table; since = k.since; resets = k.resets; recorded = k.recorded; exported = k.exported; staged = staged }
 
 -- but for the set of the record that is being made
 abbrev pub settled : Kept → Kept
@@ -84,10 +86,38 @@ settled k = with_staged None k
 abbrev pub staged_set : List KeyValue → AttributeSet
 staged_set attributes = set_of None attributes
 
+-- the points that a collection shows
+abbrev pub shown_points : Kept → List Point
+shown_points k = points (not k.resets) k.table
+
+-- a stream that resets starts again at the moment of a collection
+abbrev pub restarted : ℕ → Kept → Kept
+restarted now k = record {
+  demand = k.demand;
+  table = evicted k.table;
+  since = now;
+  resets = k.resets;
+  recorded = k.recorded;
+  exported = wrapped (k.exported + points_total (points false k.table));
+  staged = k.staged;
+}
+
+-- a stream after a collection at a moment
+abbrev pub finished : ℕ → Kept → Kept
+finished now k = cond k.resets (restarted now k) k
+
 -- what a collection at a moment gives of the stream, if it has points
 abbrev pub if_points : model_calls.Metric → Option model_calls.Metric
 if_points m = cond (has_points m) (Some m) None
 
 -- what it gives, with points or without
 abbrev pub shown_metric : ℕ → Kept → model_calls.Metric
-shown_metric now k = metric cumulative_row now k.since [] (demand_of k.demand) (points true k.table)
+shown_metric now k = record {
+  name = k.demand.spelling;
+  description = k.demand.identity.description;
+  unit = k.demand.identity.unit;
+  signed = is_signed k.demand.identity.sort;
+  content = model_calls.Content.Sum k.resets (is_monotonic_kind (kind_of k.demand.identity.sort)) (map value_point (shown_points k));
+  start = k.since;
+  time = now;
+}

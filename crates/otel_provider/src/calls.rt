@@ -16,8 +16,11 @@ pub enum Call {
     Meter {
         scope: InstrumentationScope,
     },
-    /// Builds an instrument of a meter; without a meter it ignores its records. `now` is the
-    /// moment of the build, in nanoseconds since 1970.
+    /// Builds an instrument of a meter. Without a meter, and with a name or unit that
+    /// `validate_instrument_name` or `validate_instrument_unit` refuses, it ignores its records. An
+    /// absent description or unit is the empty text. Instruments of one meter that agree in sort,
+    /// description, unit and, but for the case of ASCII letters, name share a stream at each reader.
+    /// `now` is the moment of the build, in nanoseconds since 1970.
     Build {
         meter: Option<usize>,
         sort: InstrumentSort,
@@ -43,7 +46,7 @@ pub enum Call {
 /// What a call is answered.
 #[derive(Clone, Debug, Drop)]
 pub enum Reply {
-    /// The number of the meter.
+    /// The number of the meter. There always is one as long as a provider can't be shut down.
     Meter(Option<usize>),
     /// The number of the new instrument.
     Instrument(usize),

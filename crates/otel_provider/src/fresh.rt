@@ -3,8 +3,9 @@
 ghost use Rattle.std.specs.Prelude.{◌≡◌, ◌++◌, ◌∷◌, [], IfOk, IsOkUnless};
 ghost use Rattle.otel_model.specs.Machine.{new_state};
 ghost use Rattle.otel_model.specs.Resources.{empty_resource};
-ghost use Rattle.otel_provider.specs.Streams.{cumulative_row};
+ghost use Rattle.otel_provider.specs.Rows.{row_of};
 
+use crate::answers::Answers;
 use crate::provider_core::Core;
 use otel_common::faults::Fault;
 use std::alloc::Global;
@@ -39,13 +40,13 @@ impl FreshCore {
         }
     }
 
-    /// With a reader more, which answers `Cumulative` for every kind.
-    pub(crate) fn with_reader(self) -> Result<FreshCore, Fault>
-        ensures rows { IfOk result (λ f. f ≡ self ++ cumulative_row ∷ []) }
+    /// With a reader more, which answered this.
+    pub(crate) fn with_reader(self, answers: Answers) -> Result<FreshCore, Fault>
+        ensures rows { IfOk result (λ f. f ≡ self ++ row_of answers ∷ []) }
         ensures only_memory { IsOkUnless result Fault.OutOfMemory }
     {
         let FreshCore { core } = self;
-        let core = core.with_reader()?;
+        let core = core.with_reader(answers)?;
         Ok(FreshCore { core })
     }
 

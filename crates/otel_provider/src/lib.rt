@@ -1,6 +1,7 @@
 //! The provider: meters, instruments and, for each reader, streams.
 #![tactic(auto)]
 
+mod answers;
 mod balanced;
 pub mod calls;
 mod collecting;

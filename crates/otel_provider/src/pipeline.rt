@@ -1,20 +1,23 @@
 //! The streams of one reader.
 
-ghost use Rattle.std.specs.Prelude.{◌≡◌, ◌<◌, [], ◌∷◌, ◌++◌, Some, None, false, IsTrue, IfOk, OnOk, IsOk, IsOkUnless, slice_get};
+ghost use Rattle.std.specs.Prelude.{◌≡◌, ◌<◌, [], ◌∷◌, ◌++◌, Some, None, false, IsTrue, ℕ, IfOk, OnOk, OnErr, IsOk, IsOkUnless, slice_get};
+ghost use Rattle.otel_model.specs.Calls as model;
 ghost use Rattle.otel_model.specs.Calls.{or_else};
+ghost use Rattle.otel_model.specs.Machine.{part_sent};
 ghost use Rattle.std.specs.List.{list_any};
 ghost use Rattle.std.specs.Option.{option_map};
 ghost use Rattle.indexmap.specs.IndexSet.{spare};
-ghost use Rattle.otel_provider.specs.Collections.{scopes_shown};
+ghost use Rattle.otel_provider.specs.Collections.{IsCollectedFrom};
 ghost use Rattle.otel_provider.specs.Identities.{identity_test};
 ghost use Rattle.otel_provider.specs.Pipelines.{part_of, planned_from, built, IsPlanned, IsReadyFor, IsStagedFor, recorded};
 ghost use Rattle.otel_provider.specs.Plans.{planned_of};
 ghost use Rattle.otel_provider.specs.Shown.{collection_of};
 
+use crate::answers::Answers;
 use crate::collecting::scopes_of;
 use crate::identity::{Demand, Identity};
 use crate::stream::Stream;
-use crate::streams::{commit_each, stage_each};
+use crate::streams::{commit_each, finish_each, stage_each};
 use indexmap::IndexSet;
 use otel_common::attributes::KeyValue;
 use otel_common::faults::Fault;
@@ -32,10 +35,11 @@ pub(crate) struct Plan {
     added: Option<(Identity, Stream)>,
 }
 
-/// The streams of one reader in order of making, and for each instrument those that it feeds.
+/// What one reader answered, its streams in order of making, and for each instrument those that it feeds.
 #[derive(Drop)]
 pub(crate) struct Pipeline {
     alloc: Global,
+    answers: Answers,
     identities: IndexSet<Identity>,
     streams: Vec<Stream>,
     feeds: Vec<Items<usize>>,
@@ -62,11 +66,12 @@ fn one_feed(alloc: Global, number: usize) -> Result<Items<usize>, Fault>
 /// What a build that demands this stream plans.
 fn plan_stream(
     alloc: Global,
+    answers: Answers,
     identities: &IndexSet<Identity>,
     demand: &Demand,
     now: u64,
 ) -> Result<Plan, Fault>
-    ensures plan { IfOk result (λ plan. planned_of plan ≡ planned_from (Some demand.now) now identities.now.keys) }
+    ensures plan { IfOk result (λ plan. planned_of plan ≡ planned_from answers (Some demand.now) now identities.now.keys) }
     ensures only_memory { IsOkUnless result Fault.OutOfMemory }
 {
     match identities.get_index_of(&demand.identity) {
@@ -77,7 +82,8 @@ fn plan_stream(
         None => {
             let feeds = one_feed(alloc, identities.len())?;
             let identity = demand.identity.clone()?;
-            let stream = Stream::new(alloc, demand.clone()?, now)?;
+            let temporality = answers.at(identity.sort);
+            let stream = Stream::new(alloc, temporality, demand.clone()?, now)?;
             Ok(Plan {
                 feeds,
                 added: Some((identity, stream)),
@@ -89,15 +95,16 @@ fn plan_stream(
 /// What a build that demands this, or nothing, plans.
 fn make_plan(
     alloc: Global,
+    answers: Answers,
     identities: &IndexSet<Identity>,
     demand: Option<&Demand>,
     now: u64,
 ) -> Result<Plan, Fault>
-    ensures plan { IfOk result (λ plan. planned_of plan ≡ planned_from (option_map (λ d. d.now) demand.entry) now identities.now.keys) }
+    ensures plan { IfOk result (λ plan. planned_of plan ≡ planned_from answers (option_map (λ d. d.now) demand.entry) now identities.now.keys) }
     ensures only_memory { IsOkUnless result Fault.OutOfMemory }
 {
     match demand {
-        Some(demand) => plan_stream(alloc, identities, demand, now),
+        Some(demand) => plan_stream(alloc, answers, identities, demand, now),
         None => Ok(Plan {
             feeds: Items::from(Vec::new(alloc)),
             added: None,
@@ -119,29 +126,32 @@ impl Model for Pipeline {
     ghost use Rattle.std.specs.Prelude.{◌≡◌, ◌&&◌, nat_lt, All, vec_len, vec_capacity};
     ghost use Rattle.std.specs.Option.{option_map};
     ghost use Rattle.indexmap.specs.IndexSet.{spare};
-    ghost use Rattle.otel_provider.specs.Pipelines.{Piped, AreNumbers, stream_identities};
+    ghost use Rattle.otel_provider.specs.Pipelines.{Piped, AreNumbers, AreAnswered, stream_identities};
     ghost use Rattle.otel_provider.specs.Plans.{planned_of};
 
     ghost Value = { Piped };
 
     ghost view = { λ p. record {
+      answers = p.answers;
       streams = p.streams.items;
       feeds = p.feeds.items;
       plan = option_map planned_of p.plan;
       room = nat_lt 0 (spare p.identities) && (nat_lt (vec_len p.streams) (vec_capacity p.streams) && nat_lt (vec_len p.feeds) (vec_capacity p.feeds));
     } };
 
-    ghost invariant = { λ p. (p.identities.keys ≡ stream_identities p.streams.items) × All (AreNumbers p.streams.items) p.feeds.items };
+    ghost invariant = { λ p. (p.identities.keys ≡ stream_identities p.streams.items) × All (AreNumbers p.streams.items) p.feeds.items × AreAnswered p.answers p.streams.items };
 }
 
 impl Pipeline {
     /// No streams.
-    pub(crate) fn new(alloc: Global) -> Pipeline
+    pub(crate) fn new(alloc: Global, answers: Answers) -> Pipeline
+        ensures answers { result.answers ≡ answers }
         ensures streams { result.streams ≡ [] }
         ensures feeds { result.feeds ≡ [] }
     {
         Pipeline {
             alloc,
+            answers,
             identities: IndexSet::new(alloc),
             streams: Vec::new(alloc),
             feeds: Vec::new(alloc),
@@ -155,7 +165,7 @@ impl Pipeline {
         ensures ready { OnOk result (IsReadyFor (option_map (λ d. d.now) demand.entry) now self.new) }
         ensures only_memory { IsOkUnless result Fault.OutOfMemory }
     {
-        let plan = make_plan(self.alloc, &self.identities, demand, now)?;
+        let plan = make_plan(self.alloc, self.answers, &self.identities, demand, now)?;
         self.plan = Some(plan);
         self.identities.reserve(1)?;
         self.streams.reserve(1)?;
@@ -207,16 +217,19 @@ impl Pipeline {
         );
     }
 
-    /// What a collection at a moment gives, by the scopes of these meters.
+    /// Makes a collection at a moment, by the scopes of these meters.
     pub(crate) fn collect(
-        &self,
+        &mut self,
         meters: &IndexSet<InstrumentationScope>,
         now: u64,
     ) -> Result<ResourceMetrics, Fault>
-        ensures collection { IfOk result (λ c. (collection_of c).scopes ≡ scopes_shown now self.now.streams meters.now.keys) }
+        ensures collection { IfOk result (λ c. IsCollectedFrom meters.now.keys now (part_of self.old) (collection_of c)) }
+        ensures ok { OnOk result ((r : ℕ) → part_of self.new ≡ part_sent 0 (model.Call.Collect r now []) (part_of self.old)) }
+        ensures err { OnErr result (part_of self.new ≡ part_of self.old) }
         ensures only_memory { IsOkUnless result Fault.OutOfMemory }
     {
         let scopes = scopes_of(self.alloc, &self.streams, meters, now)?;
+        finish_each(&mut self.streams, now);
         Ok(ResourceMetrics::new(scopes))
     }
 }

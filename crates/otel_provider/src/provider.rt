@@ -1,8 +1,6 @@
 //! The provider and its builder.
 
 ghost use Rattle.std.specs.Prelude.{◌≡◌, ◌++◌, ◌∷◌, [], map, IfOk, OnErr, IsOkAnd, IsOkUnless};
-ghost use Rattle.otel_common.specs.declared.metrics.Temporality.TheVariants.{Cumulative};
-ghost use Rattle.otel_stream.specs.declared.instrument.InstrumentKind.{InstrumentKind};
 ghost use Rattle.otel_model.specs.Laws.{HasStreamsOfBuilds, HasFeedsOfBuilds, HasPlacesOfHistories, HasCountedOfHistories, IsGivenCollections, IsAnsweredAsOnly, HasRecordedTotal, HasExportedTotal, Conserves, HasAccepted, HasAllShown, HasFewPoints};
 ghost use Rattle.otel_model.specs.Machine.{new_state};
 ghost use Rattle.otel_model.specs.Resources.{empty_resource};
@@ -11,8 +9,9 @@ ghost use Rattle.otel_model_laws.specs.Lawful.{Balances};
 ghost use Rattle.otel_provider.specs.Headline.{OfReaders, OfStreams, OfAnswers, InAnyOrder};
 ghost use Rattle.otel_provider.specs.Providers.{state_of, rows_of, builder_boxes, provider_boxes};
 ghost use Rattle.otel_provider.specs.Shown.{call_of, reply_of};
-ghost use Rattle.otel_provider.specs.Streams.{cumulative_row};
+ghost use Rattle.otel_provider.specs.Rows.{row_of, answers_of};
 
+use crate::answers::Answers;
 use crate::balanced::BalancedCore;
 use crate::calls::{Call, Reply};
 use crate::fresh::FreshCore;
@@ -36,18 +35,17 @@ pub struct SdkMeterProvider {
 }
 
 impl MeterProviderBuilder {
-    /// Adds the reader. For now a provider has at most one, which answers `Cumulative` for every kind.
+    /// Adds the reader, and asks it for the temporality that it wants for each kind of instrument. Readers
+    /// are numbered from 0, in order of adding.
     ///
     /// Refused only for want of memory; then the builder is given up. Takes memory twice at most.
     pub fn with_reader(self, reader: Box<dyn MetricReader>) -> Result<Self, Fault>
-        requires first { rows_of self ≡ [] }
-        requires cumulative { (kind : InstrumentKind) → ⟦<Box<dyn MetricReader> as MetricReader>⟧.preference reader kind ≡ Cumulative }
-        ensures rows { IfOk result (λ b. rows_of b ≡ rows_of self ++ cumulative_row ∷ []) }
+        ensures rows { IfOk result (λ b. rows_of b ≡ rows_of self ++ row_of (answers_of (⟦<Box<dyn MetricReader> as MetricReader>⟧.preference reader)) ∷ []) }
         ensures kept { IfOk result (λ b. builder_boxes b ≡ builder_boxes self ++ reader ∷ []) }
         ensures only_memory { IsOkUnless result Fault.OutOfMemory }
     {
         let MeterProviderBuilder { core, readers } = self;
-        let core = core.with_reader()?;
+        let core = core.with_reader(Answers::of(&reader))?;
         let mut readers = readers;
         readers.push(reader)?;
         Ok(MeterProviderBuilder { core, readers })
@@ -88,7 +86,8 @@ impl SdkMeterProvider {
     ///   that up, and a new set takes memory besides. Without attributes there is no look-up, and the call
     ///   is never refused for memory. It is made in all streams or in none.
     /// - `Collect` goes over the reader's streams once for each meter, and copies each set that is shown.
-    ///   It changes nothing.
+    ///   Then the streams whose reader wants `Delta` start again, which takes no memory; nothing else
+    ///   changes, and other readers' streams never.
     pub fn step(&mut self, call: &Call) -> Reply
         ensures step { Step [] (state_of self.old) (call_of call.now) (reply_of result) (state_of self.new) }
         ensures balances { Balances (state_of self.new) }

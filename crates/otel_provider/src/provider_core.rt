@@ -11,8 +11,9 @@ ghost use Rattle.otel_model.specs.Steps.{Step, Run};
 ghost use Rattle.otel_provider.specs.Shown.{about, number_of, call_of, reply_of, collection_of};
 ghost use Rattle.otel_provider.specs.States.{IsMade, IsFault, IsFaultOf, IsNamed, IsBuilt, IsScopeOf, IsNoMeter, IsValueFor, wanted};
 ghost use Rattle.otel_provider.specs.declared.sorts.InstrumentSort.{InstrumentSort};
-ghost use Rattle.otel_provider.specs.Streams.{cumulative_row};
+ghost use Rattle.otel_provider.specs.Rows.{row_of};
 
+use crate::answers::Answers;
 use crate::calls::{Call, Reply};
 use crate::copies::copy_scope;
 use crate::identity::Demand;
@@ -113,13 +114,6 @@ fn value_for(
     }
 }
 
-/// The streams of the reader of this number.
-fn pipeline_at(pipelines: &[Pipeline], reader: usize) -> Option<&Pipeline>
-    ensures { option_map (λ p. p.now) result ≡ slice_get pipelines.now reader }
-{
-    pipelines.get(reader)
-}
-
 impl Core {
     /// No meters, no instruments and no readers. Takes no memory.
     pub(crate) fn new(alloc: Global) -> Core
@@ -133,13 +127,13 @@ impl Core {
         }
     }
 
-    /// A reader more, without streams, which answers `Cumulative` for every kind.
-    pub(crate) fn with_reader(self) -> Result<Core, Fault>
-        ensures reader { IfOk result (λ core. core ≡ record { shared = self.shared; readers = self.readers ++ new_part cumulative_row ∷ [] }) }
+    /// A reader more, without streams, which answered this.
+    pub(crate) fn with_reader(self, answers: Answers) -> Result<Core, Fault>
+        ensures reader { IfOk result (λ core. core ≡ record { shared = self.shared; readers = self.readers ++ new_part (row_of answers) ∷ [] }) }
         ensures only_memory { IsOkUnless result Fault.OutOfMemory }
     {
         let mut core = self;
-        core.pipelines.push(Pipeline::new(core.alloc))?;
+        core.pipelines.push(Pipeline::new(core.alloc, answers))?;
         Ok(core)
     }
 
@@ -216,15 +210,16 @@ impl Core {
         Ok(())
     }
 
-    /// What a collection of a reader at a moment gives.
-    fn collect(&self, reader: usize, now: u64) -> Result<ResourceMetrics, Fault>
-        ensures ok { IfOk result (λ c. IsMade self.now (model.Call.Collect reader now []) (model.Reply.Collected (collection_of c)) self.now) }
-        ensures fault { IfErr result (IsFaultOf self.now (model.Call.Collect reader now [])) }
+    /// Makes a collection of a reader at a moment.
+    fn collect(&mut self, reader: usize, now: u64) -> Result<ResourceMetrics, Fault>
+        ensures ok { IfOk result (λ c. IsMade self.old (model.Call.Collect reader now []) (model.Reply.Collected (collection_of c)) self.new) }
+        ensures err { OnErr result (self.new ≡ self.old) }
+        ensures fault { IfErr result (IsFaultOf self.old (model.Call.Collect reader now [])) }
     {
-        match pipeline_at(&self.pipelines, reader) {
-            Some(pipeline) => pipeline.collect(&self.meters, now),
-            None => Err(Fault::UnknownReader),
-        }
+        let Some(pipeline) = self.pipelines.get_mut(reader) else {
+            return Err(Fault::UnknownReader);
+        };
+        pipeline.collect(&self.meters, now)
     }
 
     fn step_meter(&mut self, scope: &InstrumentationScope) -> Reply
@@ -267,8 +262,8 @@ impl Core {
         }
     }
 
-    fn step_collect(&self, reader: usize, now: u64) -> Reply
-        ensures { Step [] self.now (model.Call.Collect reader now []) (reply_of result) self.now }
+    fn step_collect(&mut self, reader: usize, now: u64) -> Reply
+        ensures { Step [] self.old (model.Call.Collect reader now []) (reply_of result) self.new }
     {
         match self.collect(reader, now) {
             Ok(metrics) => Reply::Collected(metrics),

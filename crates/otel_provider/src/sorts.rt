@@ -10,6 +10,7 @@ use std::hash::{Hash, Hasher};
 /// What a build makes: a kind of instrument, and the type of its values.
 #[derive(Clone, Copy, Debug)]
 pub enum InstrumentSort {
+    /// A counter of `u64`, whose sums are monotonic (Metrics API, "Counter").
     U64Counter,
 }
 

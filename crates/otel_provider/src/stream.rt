@@ -3,7 +3,8 @@
 ghost use Rattle.std.specs.Prelude.{◌≡◌, [], Some, IfOk, IsOk, OnOk, IsOkUnless};
 ghost use Rattle.std.specs.Option.{option_map};
 ghost use Rattle.otel_provider.specs.Shown.{metric_of};
-ghost use Rattle.otel_provider.specs.Streams.{new_kept, staged_set, settled, committed, shown_metric, if_points};
+ghost use Rattle.otel_provider.specs.Streams.{new_kept, staged_set, settled, committed, finished, shown_metric, if_points};
+ghost use Rattle.otel_aggregate.specs.Streams.{resets_of};
 
 use crate::copies::copy_text;
 use crate::identity::Demand;
@@ -26,6 +27,8 @@ pub(crate) struct Stream {
     sum: Sum<u64>,
     /// The sum of all records, modulo 2^64.
     recorded: u64,
+    /// The sum of all points that collections gave which then reset the stream, modulo 2^64.
+    exported: u64,
 }
 
 impl Model for Stream {
@@ -38,31 +41,32 @@ impl Model for Stream {
       demand = s.demand;
       table = s.sum.state.map_state.table;
       since = s.sum.state.start;
+      resets = s.sum.state.resets;
       recorded = s.recorded;
+      exported = s.exported;
       staged = s.sum.pending;
     } };
 
-    ghost invariant = { λ s. s.sum.state ≡ default_sums s.sum.state.map_state.table s.sum.state.start };
+    ghost invariant = { λ s. s.sum.state ≡ default_sums s.sum.state.resets s.sum.state.map_state.table s.sum.state.start };
 }
 
 impl Stream {
-    /// A stream with no records, made at a moment.
-    pub(crate) fn new(alloc: Global, demand: Demand, now: u64) -> Result<Stream, Fault>
-        ensures made { IfOk result (λ s. s ≡ new_kept demand now) }
+    /// A stream with no records, made at a moment, where the reader answered this.
+    pub(crate) fn new(
+        alloc: Global,
+        temporality: Temporality,
+        demand: Demand,
+        now: u64,
+    ) -> Result<Stream, Fault>
+        ensures made { IfOk result (λ s. s ≡ new_kept (resets_of temporality) demand now) }
         ensures only_memory { IsOkUnless result Fault.OutOfMemory }
     {
-        let sum = Sum::new(
-            alloc,
-            Temporality::Cumulative,
-            None,
-            DEFAULT_LIMIT,
-            now,
-            true,
-        )?;
+        let sum = Sum::new(alloc, temporality, None, DEFAULT_LIMIT, now, true)?;
         Ok(Stream {
             demand,
             sum,
             recorded: 0,
+            exported: 0,
         })
     }
 
@@ -91,6 +95,16 @@ impl Stream {
             self.recorded = self.recorded.wrapping_add(value);
             self.sum.measure_ready(value);
         }
+    }
+
+    /// Ends a collection at a moment that gave the stream's points.
+    pub(crate) fn finish(&mut self, now: u64)
+        ensures { settled self.new ≡ settled (finished now self.old) }
+    {
+        if self.sum.resets() {
+            self.exported = self.exported.wrapping_add(self.sum.total());
+        }
+        self.sum.finish(now);
     }
 
     /// What a collection at a moment gives of the stream, if it has points.

@@ -1,7 +1,7 @@
 //! What is done to the streams of one reader, one after another.
 
 ghost use Rattle.std.specs.Prelude.{◌≡◌, ◌<◌, [], ◌++◌, All, map, filter, length, IfOk, OnOk, IsOk, IsOkUnless};
-ghost use Rattle.otel_provider.specs.Pipelines.{AreNumbers, AreStaged, all_settled, committed_each};
+ghost use Rattle.otel_provider.specs.Pipelines.{AreNumbers, AreStaged, all_settled, committed_each, finished_all};
 ghost use Rattle.otel_provider.specs.Streams.{staged_set};
 
 use crate::stream::Stream;
@@ -24,6 +24,15 @@ pub(crate) fn stage_each(
         streams[*k].stage(attributes)?;
     }
     Ok(())
+}
+
+/// Ends a collection at a moment that gave the points of all streams.
+pub(crate) fn finish_each(streams: &mut Vec<Stream>, now: u64)
+    ensures { all_settled streams.new.items ≡ all_settled (finished_all now streams.old.items) }
+{
+    for i in 0..streams.len() {
+        streams[i].finish(now);
+    }
 }
 
 /// Makes the record in each of these streams.

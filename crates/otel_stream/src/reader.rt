@@ -7,9 +7,10 @@ ghost use Rattle.otel_stream.specs.declared.instrument.InstrumentKind.{Instrumen
 use crate::instrument::InstrumentKind;
 use otel_common::metrics::Temporality;
 
-/// What collects the metrics of a provider (Metrics SDK, "MetricReader").
+/// Whom a provider collects for (Metrics SDK, "MetricReader").
 ///
-/// A provider keeps what a reader answered when it was handed in.
+/// A provider asks a reader once for each kind of instrument, when it is handed in, and keeps the
+/// answers.
 pub trait MetricReader: Drop + Send {
     /// The temporality that the reader wants for each kind of instrument.
     ghost preference: { Self → InstrumentKind → Temporality };

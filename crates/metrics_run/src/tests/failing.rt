@@ -1,8 +1,11 @@
 //! Readers and writers that fail.
 
+use super::assert_prints;
 use crate::script::script;
+use std::alloc::Global;
 use std::io;
 use std::io::{ErrorKind, Read, Write};
+use std::process::Abort;
 use std::test::Fail;
 
 /// Gives some bytes, and then fails.
@@ -21,19 +24,48 @@ impl Read for FailingReader<'_> {
     }
 }
 
-/// Takes some bytes, and fails at the first write that has no room for all of its bytes.
+/// Takes some bytes, and fails at a write that has no room for all of its bytes.
 #[derive(Drop)]
 struct FailingWriter {
     taken: Vec<u8>,
     room: usize,
+    /// Whether `flush` fails.
+    is_stuck: bool,
     failures: u32,
+    /// How many calls came after one that failed.
+    calls_after_failure: u32,
+}
+
+impl FailingWriter {
+    fn new(alloc: Global, room: usize, is_stuck: bool) -> FailingWriter {
+        FailingWriter {
+            taken: Vec::new(alloc),
+            room,
+            is_stuck,
+            failures: 0,
+            calls_after_failure: 0,
+        }
+    }
+
+    /// Counts the call if one failed before it.
+    fn count_call(&mut self) {
+        if self.failures > 0 {
+            self.calls_after_failure = self.calls_after_failure.saturating_add(1);
+        }
+    }
+
+    /// Counts a failure, and gives its error.
+    fn failure(&mut self) -> io::Error {
+        self.failures = self.failures.saturating_add(1);
+        ErrorKind::BrokenPipe.into()
+    }
 }
 
 impl Write for FailingWriter {
     fn write(&mut self, buf: &[u8]) -> io::Result<usize> {
+        self.count_call();
         if self.room < buf.len() {
-            self.failures = self.failures.saturating_add(1);
-            return Err(ErrorKind::BrokenPipe.into());
+            return Err(self.failure());
         }
         self.room -= buf.len();
         self.taken.extend_from_slice(buf)?;
@@ -41,11 +73,35 @@ impl Write for FailingWriter {
     }
 
     fn flush(&mut self) -> io::Result<()> {
+        self.count_call();
+        if self.is_stuck {
+            return Err(self.failure());
+        }
         Ok(())
     }
 }
 
 const SCRIPT: &[u8] = b"go\nmeter a\nmeter b\n";
+
+/// A script, and what it prints.
+#[derive(Drop)]
+struct Example {
+    script: String,
+    output: String,
+}
+
+/// A script that prints more than two buffers of the program hold.
+fn long_example(alloc: Global) -> Result<Example, Fail> {
+    let mut script = String::from_str(alloc, "go\n")?;
+    let mut output = String::new(alloc);
+    for number in 0..2000u32 {
+        let line = format!(in alloc; "meter a{number}\n")?;
+        script.push_str(line.as_str())?;
+        let line = format!(in alloc; "meter {number}\n")?;
+        output.push_str(line.as_str())?;
+    }
+    Ok(Example { script, output })
+}
 
 /// A read fails in mid-stream: nothing is run.
 #[test]
@@ -67,21 +123,59 @@ fn read_fails(rt: HostRuntime) -> Result<(), Fail> {
     Ok(())
 }
 
-/// A write fails: nothing more is written, and standard error says so.
-#[test]
-fn write_fails(rt: HostRuntime) -> Result<(), Fail> {
-    let mut output = FailingWriter {
-        taken: Vec::new(rt.alloc()),
-        room: 3,
-        failures: 0,
-    };
-    let mut errors = Vec::new(rt.alloc());
-    assert_eq!(rt; script(rt.alloc(), SCRIPT, &mut output, &mut errors), 4);
+/// Asserts that this script ends with the status of a failed write, that standard error says so,
+/// and that after the failure the writer wasn't called any more.
+fn assert_fails(
+    rt: &impl Abort,
+    alloc: Global,
+    input: &[u8],
+    output: &mut FailingWriter,
+) -> Result<(), Fail> {
+    let mut errors = Vec::new(alloc);
+    assert_eq!(rt; script(alloc, input, &mut *output, &mut errors), 4);
     assert_eq!(rt; output.failures, 1);
-    assert!(rt; output.taken.is_empty());
+    assert_eq!(rt; output.calls_after_failure, 0);
     assert_eq!(rt;
         str::from_utf8(errors.as_slice())?,
         "input or output failed\n"
+    );
+    Ok(())
+}
+
+/// The first write fails: nothing is written.
+#[test]
+fn write_fails(rt: HostRuntime) -> Result<(), Fail> {
+    let mut output = FailingWriter::new(rt.alloc(), 3, false);
+    assert_fails(&rt, rt.alloc(), SCRIPT, &mut output)?;
+    assert!(rt; output.taken.is_empty());
+    Ok(())
+}
+
+/// A write fails after others: what was written before it is the beginning of the output.
+#[test]
+fn later_write_fails(rt: HostRuntime) -> Result<(), Fail> {
+    let example = long_example(rt.alloc())?;
+    let input = example.script.as_bytes();
+    let whole = example.output.as_bytes();
+    assert_prints(&rt, rt.alloc(), input, example.output.as_str())?;
+    for room in [10_000, 18_000] {
+        let mut output = FailingWriter::new(rt.alloc(), room, false);
+        assert_fails(&rt, rt.alloc(), input, &mut output)?;
+        assert!(rt; !output.taken.is_empty());
+        assert!(rt; output.taken.len() < whole.len());
+        assert!(rt; whole.starts_with(output.taken.as_slice()));
+    }
+    Ok(())
+}
+
+/// The whole output is written, and what takes it fails to pass it on.
+#[test]
+fn flush_fails(rt: HostRuntime) -> Result<(), Fail> {
+    let mut output = FailingWriter::new(rt.alloc(), 100, true);
+    assert_fails(&rt, rt.alloc(), SCRIPT, &mut output)?;
+    assert_eq!(rt;
+        str::from_utf8(output.taken.as_slice())?,
+        "meter 0\nmeter 1\n"
     );
     Ok(())
 }
@@ -90,11 +184,7 @@ fn write_fails(rt: HostRuntime) -> Result<(), Fail> {
 #[test]
 fn error_write_fails(rt: HostRuntime) -> Result<(), Fail> {
     let mut output = Vec::new(rt.alloc());
-    let mut errors = FailingWriter {
-        taken: Vec::new(rt.alloc()),
-        room: 0,
-        failures: 0,
-    };
+    let mut errors = FailingWriter::new(rt.alloc(), 0, false);
     assert_eq!(rt;
         script(rt.alloc(), b"gone".as_slice(), &mut output, &mut errors),
         2

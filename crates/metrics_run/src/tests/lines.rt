@@ -6,15 +6,13 @@ use std::test::Fail;
 /// A script with these lines before `go`, and its first bad line.
 #[test]
 fn before_go(rt: HostRuntime) -> Result<(), Fail> {
-    let scripts: [(&[u8], u64); 14] = [
-        (b"", 1),
+    let scripts: [(&[u8], u64); 12] = [
         (b"\n", 2),
         (b"# \xff\n   \n#go", 4),
         (b"reader cumulative", 2),
         (b"reader cumulative\ngone", 2),
-        (b"reader cumulative\nreader cumulative\ngo", 2),
-        (b"reader delta\ngone", 1),
-        (b"reader Cumulative\ngo", 1),
+        (b"reader gauge\ngo", 1),
+        (b"reader\ngo", 1),
         (b"reader cumulative cumulative\ngo", 1),
         (b"view requests name=hits\ngo", 1),
         (b"meter app\ngo", 1),
@@ -26,6 +24,13 @@ fn before_go(rt: HostRuntime) -> Result<(), Fail> {
         assert_is_bad(&rt, rt.alloc(), script, line)?;
     }
     Ok(())
+}
+
+/// A line before `go` that is none, and the empty input.
+#[test]
+fn script_s3(rt: HostRuntime) -> Result<(), Fail> {
+    assert_is_bad(&rt, rt.alloc(), b"reader delta\ngone\n", 2)?;
+    assert_is_bad(&rt, rt.alloc(), b"", 1)
 }
 
 /// Lines after `go` with too many or too few words, or with a word that isn't there yet.

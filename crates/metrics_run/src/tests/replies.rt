@@ -25,6 +25,39 @@ fn script_s1(rt: HostRuntime) -> Result<(), Fail> {
     )
 }
 
+/// The script of `examples/requests.script`, and what the README says that it prints.
+#[test]
+fn example(rt: HostRuntime) -> Result<(), Fail> {
+    assert_prints(
+        &rt,
+        rt.alloc(),
+        b"# A shop counts its requests, and collects twice.\n\
+          reader cumulative\n\
+          go\n\
+          meter shop 1.0\n\
+          build 0 u64_counter requests 100 unit=1\n\
+          record 0 u:3 path=s:/cart,ok=b:true\n\
+          record 0 u:4 ok=b:true,path=s:/cart\n\
+          collect 0 200\n\
+          record 0 u:1 -\n\
+          record 0 i:1 -\n\
+          record 7 u:1 -\n\
+          collect 0 300\n",
+        "meter 0\n\
+         instrument 0\n\
+         ok\n\
+         ok\n\
+         collected 1\n\
+         point shop requests sum cumulative monotonic 100 200 ok=b:true,path=s:/cart 7\n\
+         ok\n\
+         refused 6 wrong number type\n\
+         refused 3 unknown instrument\n\
+         collected 2\n\
+         point shop requests sum cumulative monotonic 100 300 - 1\n\
+         point shop requests sum cumulative monotonic 100 300 ok=b:true,path=s:/cart 7\n",
+    )
+}
+
 /// Escapes and the special word of names; three meters, since an absent version is no empty one.
 #[test]
 fn texts(rt: HostRuntime) -> Result<(), Fail> {
@@ -139,6 +172,43 @@ fn refused_calls(rt: HostRuntime) -> Result<(), Fail> {
          refused 6 wrong number type\n\
          ok\n\
          refused 3 unknown instrument\n\
+         collected 0\n\
+         refused 5 unknown reader\n",
+    )
+}
+
+/// Readers of each temporality, in any case of letters: each gives the sums in its own way.
+#[test]
+fn readers(rt: HostRuntime) -> Result<(), Fail> {
+    assert_prints(
+        &rt,
+        rt.alloc(),
+        b"reader DELTA\n\
+          reader cumulative\n\
+          reader LowMemory\n\
+          go\n\
+          meter app\n\
+          build 0 u64_counter requests 100\n\
+          record 0 u:3 -\n\
+          collect 0 200\n\
+          record 0 u:4 -\n\
+          collect 0 300\n\
+          collect 1 300\n\
+          collect 2 300\n\
+          collect 2 400\n\
+          collect 3 400\n",
+        "meter 0\n\
+         instrument 0\n\
+         ok\n\
+         collected 1\n\
+         point app requests sum delta monotonic 100 200 - 3\n\
+         ok\n\
+         collected 1\n\
+         point app requests sum delta monotonic 200 300 - 4\n\
+         collected 1\n\
+         point app requests sum cumulative monotonic 100 300 - 7\n\
+         collected 1\n\
+         point app requests sum delta monotonic 100 300 - 7\n\
          collected 0\n\
          refused 5 unknown reader\n",
     )

@@ -1,4 +1,4 @@
 //! Readers.
 
-pub use otel_stream::manual_reader::ManualReader;
+pub use otel_stream::manual_reader::{ManualReader, ManualReaderBuilder};
 pub use otel_stream::reader::MetricReader;

@@ -5,7 +5,7 @@ use crate::metrics::data::{
     AggregatedMetrics, Metric, MetricData, ResourceMetrics, ScopeMetrics, Sum,
 };
 use crate::metrics::provider::{Call, InstrumentSort, NumberValue, Reply};
-use crate::metrics::{ManualReader, SdkMeterProvider};
+use crate::metrics::{ManualReader, SdkMeterProvider, Temporality};
 use std::alloc::Global;
 use std::process::Abort;
 use std::slice::Iter;
@@ -178,26 +178,44 @@ pub fn text_of(alloc: Global, reply: &Reply) -> Result<String, Fail> {
     }
 }
 
-/// The replies of a new provider with one reader.
-pub fn replies_of(alloc: Global, steps: &[(Step<'_>, &str)]) -> Result<Vec<Reply>, Fail> {
+/// The replies of a new provider with these readers.
+pub fn replies_of(
+    alloc: Global,
+    readers: &[Temporality],
+    steps: &[(Step<'_>, &str)],
+) -> Result<Vec<Reply>, Fail> {
     let mut calls = Vec::new(alloc);
     for (step, _) in steps {
         calls.push(call_of(alloc, step)?)?;
     }
-    let reader = Box::new(alloc, ManualReader::default())?;
-    let mut provider = SdkMeterProvider::builder(alloc)
-        .with_reader(reader)?
-        .build()?;
+    let mut builder = SdkMeterProvider::builder(alloc);
+    for temporality in readers {
+        let reader = ManualReader::builder()
+            .with_temporality(*temporality)
+            .build();
+        builder = builder.with_reader(Box::new(alloc, reader)?)?;
+    }
+    let mut provider = builder.build()?;
     Ok(provider.run(alloc, calls.as_slice())?)
 }
 
-/// Runs the steps at a new provider with one reader, and asserts that each reply has its text.
+/// Runs the steps at a new provider with one cumulative reader, and asserts that each reply has its text.
 pub fn assert_replies(
     rt: &impl Abort,
     alloc: Global,
     steps: &[(Step<'_>, &str)],
 ) -> Result<(), Fail> {
-    let replies = replies_of(alloc, steps)?;
+    assert_replies_at(rt, alloc, &[Temporality::Cumulative], steps)
+}
+
+/// The same with these readers.
+pub fn assert_replies_at(
+    rt: &impl Abort,
+    alloc: Global,
+    readers: &[Temporality],
+    steps: &[(Step<'_>, &str)],
+) -> Result<(), Fail> {
+    let replies = replies_of(alloc, readers, steps)?;
     assert_eq!(rt; replies.len(), steps.len());
     for (reply, (_, wanted)) in replies.iter().zip(steps) {
         assert_eq!(rt; text_of(alloc, reply)?.as_str(), *wanted);

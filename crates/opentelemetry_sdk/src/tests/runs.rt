@@ -1,12 +1,13 @@
 //! Runs of a provider.
 
 use super::replies::Step::{Build, Collect, Meter, Record};
-use super::replies::{assert_replies, call_of, points_of, replies_of, text_of};
+use super::replies::{assert_replies, assert_replies_at, call_of, points_of, replies_of, text_of};
 use crate::metrics::provider::NumberValue::{I64, U64};
 use crate::metrics::provider::Reply;
-use crate::metrics::{ManualReader, SdkMeterProvider};
+use crate::metrics::{ManualReader, SdkMeterProvider, Temporality};
 use std::test::Fail;
 
+/// The order of attributes doesn't matter, and of a doubled key the first value stays.
 #[test]
 fn row_10(rt: HostRuntime) -> Result<(), Fail> {
     let steps = [
@@ -21,6 +22,77 @@ fn row_10(rt: HostRuntime) -> Result<(), Fail> {
         ),
     ];
     assert_replies(&rt, rt.alloc(), steps.as_slice())
+}
+
+/// Two delta readers, each of which gives what was recorded since its own last collection.
+#[test]
+fn row_6(rt: HostRuntime) -> Result<(), Fail> {
+    let steps = [
+        (Meter("app", None), "meter 0"),
+        (Build(Some(0), "requests"), "instrument 0"),
+        (Record(0, U64(3), &[]), "done"),
+        (Collect(0, 200), "collected | app requests 100 200 - 3"),
+        (Record(0, U64(4), &[]), "done"),
+        (Collect(1, 300), "collected | app requests 100 300 - 7"),
+        (Collect(0, 400), "collected | app requests 200 400 - 4"),
+    ];
+    let readers = [Temporality::Delta, Temporality::Delta];
+    assert_replies_at(&rt, rt.alloc(), readers.as_slice(), steps.as_slice())
+}
+
+/// A delta collection without points moves the start too.
+#[test]
+fn row_14(rt: HostRuntime) -> Result<(), Fail> {
+    let steps = [
+        (Meter("app", None), "meter 0"),
+        (Build(Some(0), "requests"), "instrument 0"),
+        (Collect(0, 200), "collected"),
+        (Record(0, U64(1), &[]), "done"),
+        (Collect(0, 300), "collected | app requests 200 300 - 1"),
+    ];
+    assert_replies_at(&rt, rt.alloc(), &[Temporality::Delta], steps.as_slice())
+}
+
+/// A reader that wants little memory gets a counter's sums as differences.
+#[test]
+fn row_19(rt: HostRuntime) -> Result<(), Fail> {
+    let steps = [
+        (Meter("app", None), "meter 0"),
+        (Build(Some(0), "requests"), "instrument 0"),
+        (Record(0, U64(1), &[]), "done"),
+        (Collect(0, 200), "collected | app requests 100 200 - 1"),
+        (Collect(0, 300), "collected"),
+    ];
+    assert_replies_at(&rt, rt.alloc(), &[Temporality::LowMemory], steps.as_slice())
+}
+
+/// A record of a new set at two readers for which memory is refused: neither has it. Memory is refused by
+/// hand: `rt try --test --fail-alloc N`.
+#[test]
+fn row_17(rt: HostRuntime) -> Result<(), Fail> {
+    let steps = [
+        (Meter("app", None), "meter 0"),
+        (Build(Some(0), "requests"), "instrument 0"),
+        (Record(0, U64(1), &[("a", 1)]), "done"),
+        (Collect(0, 200), "collected"),
+        (Collect(1, 200), "collected"),
+    ];
+    let readers = [Temporality::Cumulative, Temporality::Delta];
+    let mut replies = String::new(rt.alloc());
+    for reply in replies_of(rt.alloc(), readers.as_slice(), steps.as_slice())? {
+        write!(replies, "{};", text_of(rt.alloc(), &reply)?.as_str())?;
+    }
+    let outcomes = [
+        "meter 0;instrument 0;done;collected | app requests 100 200 a=1 1;collected | app requests 100 200 a=1 1;",
+        "refused 1;refused 2;refused 3;collected;collected;",
+        "meter 0;refused 1;refused 3;collected;collected;",
+        "meter 0;instrument 0;refused 1;collected;collected;",
+        "meter 0;instrument 0;done;refused 1;collected | app requests 100 200 a=1 1;",
+        "meter 0;instrument 0;done;collected | app requests 100 200 a=1 1;refused 1;",
+    ];
+    let known = outcomes.iter().any(|outcome| replies.as_str() == *outcome);
+    assert!(rt; known, "replies {}", replies.as_str());
+    Ok(())
 }
 
 /// What is refused changes nothing.
@@ -148,7 +220,8 @@ fn refused_memory(rt: HostRuntime) -> Result<(), Fail> {
         (Collect(0, 200), "collected"),
     ];
     let mut replies = String::new(rt.alloc());
-    for reply in replies_of(rt.alloc(), steps.as_slice())? {
+    let readers = [Temporality::Cumulative];
+    for reply in replies_of(rt.alloc(), readers.as_slice(), steps.as_slice())? {
         write!(replies, "{};", text_of(rt.alloc(), &reply)?.as_str())?;
     }
     let outcomes = [

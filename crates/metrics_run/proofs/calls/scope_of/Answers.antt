@@ -14,8 +14,8 @@ none_sorted given (x ∷ xs) h e =
     let no : ⊥ = omega (arith, same, none) in
     absurd no
 
-pub returns : goal.returns
-returns c =
+pub returns-clause-scope : goal.returns-clause-scope
+returns-clause-scope c =
     let sorted = c.in_ok-build.ensures.sorted in
     elim c.match-version.branch [
       | in-Some+in_ok-text_of_word-in-Some w ↦

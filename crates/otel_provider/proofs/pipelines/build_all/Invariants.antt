@@ -4,4 +4,4 @@ use Rattle.otel_provider.proofs.pipelines.build_all.Given as goal
 
 -- what was planned is carried out at the readers so far
 abbrev pub invariant-loop-i : goal.invariant-loop-i
-invariant-loop-i l = IsDoneUpto (λ p. part_of (built p)) l.initial.pipelines l.pipelines l.i
+invariant-loop-i l = IsDoneUpto part_of (λ p. part_of (built p)) l.initial.pipelines l.pipelines l.i

@@ -1,13 +1,13 @@
 use Rattle.std.proofs.Common.{arith}
-use Rattle.otel_provider.specs.Pipelines.{recorded}
+use Rattle.otel_provider.specs.Pipelines.{part_of, recorded}
 use Rattle.otel_provider.proofs.PipelinesLemmas.{done-none, done-more, done-all}
 use Rattle.otel_provider.proofs.pipelines.commit_all.Goals as goal
 
 pub loop-i-init : goal.loop-i-init
-loop-i-init c = done-none (recorded c.args.instrument c.args.value) c.args.pipelines.now
+loop-i-init c = done-none part_of (recorded c.args.instrument c.args.value) c.args.pipelines.now
 
 pub loop-i-preserved : goal.loop-i-preserved
-loop-i-preserved c = done-more (recorded c.args.instrument c.args.value) c.args.pipelines.now c.loop-i.pipelines c.loop-i.i c.index-pipelines-i.result c.commit.new.self (omega arith) c.commit.ensures c.loop-i.invariant
+loop-i-preserved c = done-more part_of (recorded c.args.instrument c.args.value) c.args.pipelines.now c.loop-i.pipelines c.loop-i.i c.index-pipelines-i.result c.commit.new.self (omega arith) c.commit.ensures c.loop-i.invariant
 
 pub returns : goal.returns
-returns c = done-all (recorded c.args.instrument c.args.value) c.args.pipelines.now c.loop-i.pipelines c.loop-i.i (omega arith) c.loop-i.invariant
+returns c = done-all part_of (recorded c.args.instrument c.args.value) c.args.pipelines.now c.loop-i.pipelines c.loop-i.i (omega arith) c.loop-i.invariant

@@ -25,18 +25,18 @@ returns-clause-ready c =
         apart = subst (IsDistinct identity_test) (kept ∙ are) unique;
         numbers = rw c.in_ok-reserve-3.ensures.items (numbers-kept c.self.inside.streams.items c.reserve-2.new.self.items c.self.inside.feeds.items (ap length (sym same)) c.self.invariant.1);
       };
-      plan = ap Some (c.in_ok-plan.ensures.plan ∙ ap (planned_from _ c.args.now) are);
+      plan = ap Some (c.in_ok-plan.ensures.plan ∙ ap (planned_from c.self.inside.answers _ c.args.now) are);
       room = all_true _ _ _ (lt-ltb _ _ key_fits) (lt-ltb _ _ stream_fits) (lt-ltb _ _ feeds_fit);
     }
 
 pub returns-in_err-reserve-3-clause-same : goal.returns-in_err-reserve-3-clause-same
-returns-in_err-reserve-3-clause-same c = rw (← c.self.view_is) (part-same _ _ _ _ c.reserve-2.ensures.items c.reserve-3.ensures.items)
+returns-in_err-reserve-3-clause-same c = rw (← c.self.view_is) (part-same _ _ _ _ _ c.reserve-2.ensures.items c.reserve-3.ensures.items)
 
 pub returns-clause-same : goal.returns-clause-same
-returns-clause-same c = rw (← c.self.view_is) (part-same _ _ _ _ c.reserve-2.ensures.items c.reserve-3.ensures.items)
+returns-clause-same c = rw (← c.self.view_is) (part-same _ _ _ _ _ c.reserve-2.ensures.items c.reserve-3.ensures.items)
 
 pub returns-in_err-reserve-clause-same : goal.returns-in_err-reserve-clause-same
 returns-in_err-reserve-clause-same c = rw (← c.self.view_is) refl
 
 pub returns-in_err-reserve-2-clause-same : goal.returns-in_err-reserve-2-clause-same
-returns-in_err-reserve-2-clause-same c = rw (← c.self.view_is) (part-same _ _ _ _ c.reserve-2.ensures.items refl)
+returns-in_err-reserve-2-clause-same c = rw (← c.self.view_is) (part-same _ _ _ _ _ c.reserve-2.ensures.items refl)

@@ -4,6 +4,7 @@ use Rattle.otel_provider.specs.Identities.{identity_test}
 use Rattle.otel_model.specs.Calls.{or_else}
 use Rattle.otel_provider.specs.Pipelines.{stream_identities, AreStaged, part_by}
 use Rattle.otel_provider.specs.Streams.{staged_set}
+use Rattle.otel_provider.proofs.Answered.{answered-settled}
 use Rattle.otel_provider.proofs.Outcomes.{OnOk-weaker}
 use Rattle.otel_provider.proofs.PipelineLemmas.{part-settled, identities-settled, length-from, numbers-kept}
 use Rattle.otel_provider.proofs.pipeline.Pipeline.stage.Goals as goal
@@ -14,7 +15,7 @@ invariant_of-self c =
     let old = c.self.inside.streams.items in
     let new = c.stage_each.new.streams.items in
     let same : stream_identities old ≡ stream_identities new = sym (identities-settled old) ∙ ap stream_identities (sym c.stage_each.ensures.same) ∙ identities-settled new in
-    (c.self.invariant.0 ∙ same, numbers-kept old new c.self.inside.feeds.items (length-from old new same) c.self.invariant.1)
+    (c.self.invariant.0 ∙ same, numbers-kept old new c.self.inside.feeds.items (length-from old new same) c.self.invariant.1, answered-settled c.self.inside.answers new old c.stage_each.ensures.same c.self.invariant.2)
 
 -- the keys are the identities of the streams, also afterwards
 pub returns-clause-staged : goal.returns-clause-staged
@@ -31,4 +32,4 @@ returns-clause-same c =
     let old = c.self.inside.streams.items in
     let new = c.stage_each.new.streams.items in
     let feeds = c.self.inside.feeds.items in
-    rw (← c.self.view_is) (sym (part-settled new feeds) ∙ (ap (λ ks. part_by ks feeds) c.stage_each.ensures.same ∙ part-settled old feeds))
+    rw (← c.self.view_is) (sym (part-settled c.self.inside.answers new feeds) ∙ (ap (λ ks. part_by c.self.inside.answers ks feeds) c.stage_each.ensures.same ∙ part-settled c.self.inside.answers old feeds))

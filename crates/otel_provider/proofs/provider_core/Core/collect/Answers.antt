@@ -1,22 +1,21 @@
-use Rattle.std.proofs.Common.{◌≡◌, ◌∙◌, ap, sym, refl, Some, None, slice_get}
-use Rattle.otel_provider.proofs.Outcomes.{IfOk-weaker, IfErr-memory}
-use Rattle.otel_provider.proofs.Collects.{collection-made, collection-refused, collection-allowed}
+use Rattle.std.proofs.Common.{◌≡◌, refl, Some, slice_get, arith}
+use Rattle.otel_provider.proofs.Outcomes.{IfOk-both, OnErr-weaker}
+use Rattle.otel_provider.proofs.Collects.{get-at, collection-made, set-seen, set-unseen}
 use Rattle.otel_provider.specs.Shown.{collection_of}
+use Rattle.otel_provider.specs.States.{shared_of}
 use Rattle.otel_provider.proofs.provider_core.Core.collect.Goals as goal
 
-pub returns-in-Some-clause-ok : goal.returns-in-Some-clause-ok
-returns-in-Some-clause-ok c =
-    let found : Some c.in-Some.pipeline.now ≡ slice_get c.deref.result.now c.args.reader = c.in-Some.ensures in
-    let at : slice_get c.self.inside.pipelines.items c.args.reader ≡ Some c.in-Some.pipeline.now = sym (found ∙ ap (λ ps. slice_get ps c.args.reader) c.deref.ensures.value) in
-    rw (← c.self.view_is) (IfOk-weaker c.collect.result (λ x e. collection-made c.self.inside.meters.keys c.self.inside.instruments.items c.self.inside.pipelines.items c.args.reader c.args.now c.in-Some.pipeline.now (collection_of x) at refl e) c.collect.ensures.collection)
+pub returns-clause-ok : goal.returns-clause-ok
+returns-clause-ok c =
+    let ps = c.self.inside.pipelines.items in
+    let at : slice_get ps c.args.reader ≡ Some c.in-Some.pipeline.now = get-at ps c.args.reader c.in-Some.pipeline.now (omega (arith, c.in-Some.ensures.variant.0 refl, c.self.inside.pipelines.ok.0)) c.in-Some.ensures.value in
+    rw (← c.self.view_is)
+    (IfOk-both c.collect.result (λ x given left. collection-made c.self.inside.meters.keys c.self.inside.instruments.items ps _ c.args.reader c.args.now c.in-Some.pipeline.now (collection_of x) at given (set-seen _ ps c.args.reader c.in-Some.pipeline.now c.collect.new.self at (left c.args.reader)))
+    c.collect.ensures.collection c.collect.ensures.ok)
 
-pub returns-in-Some-clause-fault : goal.returns-in-Some-clause-fault
-returns-in-Some-clause-fault c =
-    let found : Some c.in-Some.pipeline.now ≡ slice_get c.deref.result.now c.args.reader = c.in-Some.ensures in
-    let at : slice_get c.self.inside.pipelines.items c.args.reader ≡ Some c.in-Some.pipeline.now = sym (found ∙ ap (λ ps. slice_get ps c.args.reader) c.deref.ensures.value) in
-    rw (← c.self.view_is) (IfErr-memory c.collect.result _ (collection-allowed c.self.inside.meters.keys c.self.inside.instruments.items c.self.inside.pipelines.items c.args.reader c.args.now c.in-Some.pipeline.now at) c.collect.ensures.only_memory)
-
-pub returns-in-None-clause-fault : goal.returns-in-None-clause-fault
-returns-in-None-clause-fault c =
-    let found : None ≡ slice_get c.deref.result.now c.args.reader = c.in-None.ensures in
-    rw (← c.self.view_is) (collection-refused c.self.inside.meters.keys c.self.inside.instruments.items c.self.inside.pipelines.items c.args.reader c.args.now (sym (found ∙ ap (λ ps. slice_get ps c.args.reader) c.deref.ensures.value)))
+pub returns-clause-err : goal.returns-clause-err
+returns-clause-err c =
+    let ps = c.self.inside.pipelines.items in
+    let at : slice_get ps c.args.reader ≡ Some c.in-Some.pipeline.now = get-at ps c.args.reader c.in-Some.pipeline.now (omega (arith, c.in-Some.ensures.variant.0 refl, c.self.inside.pipelines.ok.0)) c.in-Some.ensures.value in
+    rw (← c.self.view_is)
+    (OnErr-weaker c.collect.result (λ same. λ i. record { shared = shared_of c.self.inside.meters.keys c.self.inside.instruments.items; readers = set-unseen ps c.args.reader c.in-Some.pipeline.now c.collect.new.self at same i }) c.collect.ensures.err)

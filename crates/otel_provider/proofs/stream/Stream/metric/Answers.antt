@@ -10,7 +10,7 @@ use Rattle.otel_provider.proofs.stream.Stream.metric.Goals as goal
 -- the parts are those of the stream, and its sums have points
 pub returns-clause-metric : goal.returns-clause-metric
 returns-clause-metric c =
-    let k : Kept = record { demand = c.self.inside.demand; table = c.self.inside.sum.state.map_state.table; since = c.self.inside.sum.state.start; recorded = c.self.inside.recorded; staged = c.self.inside.sum.pending } in
+    let k : Kept = record { demand = c.self.inside.demand; table = c.self.inside.sum.state.map_state.table; since = c.self.inside.sum.state.start; resets = c.self.inside.sum.state.resets; recorded = c.self.inside.recorded; exported = c.self.inside.exported; staged = c.self.inside.sum.pending } in
     let sum = c.in_ok-sum.sum in
     let parts : c.new.result ≡ made_of k sum =
     c.new.ensures ∙ (λ i. record { name = c.in_ok-copy_text.ensures i; description = c.in_ok-copy_text-2.ensures i; unit = c.in_ok-copy_text-3.ensures i; content = (c.from-2.ensures ∙ ap metrics.U64 c.from.ensures) i }) in

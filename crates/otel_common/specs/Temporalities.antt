@@ -1,0 +1,17 @@
+-- The names of temporalities.
+use Rattle.std.specs.Prelude.{ℕ, List, map, cond, codes, Result, Ok, Err}
+use Rattle.std.specs.Char.{to_ascii_lowercase}
+use Rattle.otel_common.specs.Equality.{bytes_eq}
+use Rattle.otel_common.specs.declared.metrics.Temporality.{Temporality}
+use Rattle.otel_common.specs.declared.metrics.Temporality.TheVariants.{Cumulative, Delta, LowMemory}
+
+-- a text with its ASCII letters lowered
+abbrev pub lowered_name : List ℕ → List ℕ
+lowered_name s = map to_ascii_lowercase s
+
+-- the temporality of a name, ASCII case ignored, if it has one
+abbrev pub temporality_named : List ℕ → Result Temporality (Unit {0})
+temporality_named s =
+    cond (bytes_eq (lowered_name s) (codes "cumulative")) (Ok Cumulative)
+    (cond (bytes_eq (lowered_name s) (codes "delta")) (Ok Delta)
+    (cond (bytes_eq (lowered_name s) (codes "lowmemory")) (Ok LowMemory) (Err tt)))

@@ -1,0 +1,41 @@
+//! Laws: a copy equals its source, and values are equal exactly if their contents are.
+//!
+//! These functions do nothing. A function whose contract needs the law of a copy or a comparison
+//! calls the one of its type first.
+
+ghost use Rattle.std.specs.Prelude.{◌≡◌, ℕ, List};
+ghost use Rattle.std.specs.Bool.{Decides};
+ghost use Rattle.otel_common.specs.declared.attributes.Array.{Array};
+ghost use Rattle.otel_common.specs.declared.attributes.KeyValue.{KeyValue};
+ghost use Rattle.otel_common.specs.declared.attributes.Value.{Value};
+ghost use Rattle.otel_common.specs.declared.scopes.InstrumentationScope.{InstrumentationScope};
+
+use crate::attributes::{Array, KeyValue, Value};
+use crate::keys::Key;
+use crate::scopes::InstrumentationScope;
+
+/// What a copy of a key, a value or an attribute gives equals its source.
+pub fn copied_attributes()
+    ensures key { (x y : List ℕ) → ⟦<Key as Clone>⟧.is_clone x y → y ≡ x }
+    ensures array { (x y : Array) → ⟦<Array as Clone>⟧.is_clone x y → y ≡ x }
+    ensures value { (x y : Value) → ⟦<Value as Clone>⟧.is_clone x y → y ≡ x }
+    ensures attribute { (x y : KeyValue) → ⟦<KeyValue as Clone>⟧.is_clone x y → y ≡ x }
+{}
+
+/// What a copy of a scope gives equals its source.
+pub fn copied_scope()
+    ensures scope { (x y : InstrumentationScope) → ⟦<InstrumentationScope as Clone>⟧.is_clone x y → y ≡ x }
+{}
+
+/// Keys, values or attributes are equal exactly if their contents are.
+pub fn equal_attributes()
+    ensures key { (x y : List ℕ) → Decides (⟦<Key as PartialEq>⟧.eq x y) (x ≡ y) }
+    ensures array { (x y : Array) → Decides (⟦<Array as PartialEq>⟧.eq x y) (x ≡ y) }
+    ensures value { (x y : Value) → Decides (⟦<Value as PartialEq>⟧.eq x y) (x ≡ y) }
+    ensures attribute { (x y : KeyValue) → Decides (⟦<KeyValue as PartialEq>⟧.eq x y) (x ≡ y) }
+{}
+
+/// Two scopes are equal exactly if their four parts are.
+pub fn equal_scopes()
+    ensures scope { (x y : InstrumentationScope) → Decides (⟦<InstrumentationScope as PartialEq>⟧.eq x y) (x ≡ y) }
+{}

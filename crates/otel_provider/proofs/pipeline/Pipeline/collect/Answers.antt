@@ -1,0 +1,30 @@
+use Rattle.std.proofs.Common.{◌≡◌, ◌∙◌, ap, sym, subst, refl, rules}
+use Rattle.otel_provider.specs.Collections.{scopes_shown, IsCollectedFrom}
+use Rattle.otel_provider.specs.Pipelines.{Piped, part_of, stream_identities, finished_all}
+use Rattle.otel_provider.specs.Shown.{collection_of}
+use Rattle.otel_provider.proofs.Answered.{answered-settled, answered-finished}
+use Rattle.otel_provider.proofs.Collects.{collected-is, part-finished}
+use Rattle.otel_provider.proofs.PipelineLemmas.{identities-settled, identities-finished, length-from, numbers-kept}
+use Rattle.otel_provider.proofs.pipeline.Pipeline.collect.Goals as goal
+
+-- a collection keeps the identities of the streams
+pub invariant_of-self : goal.invariant_of-self
+invariant_of-self c =
+    let old = c.self.inside.streams.items in
+    let new = c.finish_each.new.streams.items in
+    let answers = c.self.inside.answers in
+    let same : stream_identities old ≡ stream_identities new =
+    sym (identities-finished c.args.now old) ∙ sym (identities-settled (finished_all c.args.now old)) ∙ ap stream_identities (sym c.finish_each.ensures) ∙ identities-settled new in (
+      c.self.invariant.0 ∙ same,
+      numbers-kept old new c.self.inside.feeds.items (length-from old new same) c.self.invariant.1,
+      answered-settled answers new (finished_all c.args.now old) c.finish_each.ensures (answered-finished answers c.args.now old c.self.invariant.2),
+    )
+
+pub returns-clause-collection : goal.returns-clause-collection
+returns-clause-collection c =
+    let scopes : (collection_of c.new.result).scopes ≡ scopes_shown c.args.now c.self.inside.streams.items c.args.meters.now.keys = search rules in
+    subst (λ (p : Piped). IsCollectedFrom c.args.meters.now.keys c.args.now (part_of p) (collection_of c.new.result)) c.self.view_is
+    (collected-is c.args.meters.now.keys c.args.now c.self.inside.answers c.self.inside.streams.items c.self.inside.feeds.items (collection_of c.new.result) c.self.invariant.2 refl scopes)
+
+pub returns-clause-ok : goal.returns-clause-ok
+returns-clause-ok c = λ r. rw (← c.self.view_is) (part-finished c.self.inside.answers 0 r c.args.now c.self.inside.streams.items c.finish_each.new.streams.items c.self.inside.feeds.items c.self.invariant.2 c.finish_each.ensures)
