@@ -1,5 +1,5 @@
--- The names of temporalities.
-use Rattle.std.specs.Prelude.{ℕ, List, map, cond, codes, Result, Ok, Err}
+-- Temporalities: their names, and which of them reset.
+use Rattle.std.specs.Prelude.{ℕ, Bool, true, false, List, map, cond, codes, Result, Ok, Err}
 use Rattle.std.specs.Char.{to_ascii_lowercase}
 use Rattle.otel_common.specs.Equality.{bytes_eq}
 use Rattle.otel_common.specs.declared.metrics.Temporality.{Temporality}
@@ -15,3 +15,9 @@ temporality_named s =
     cond (bytes_eq (lowered_name s) (codes "cumulative")) (Ok Cumulative)
     (cond (bytes_eq (lowered_name s) (codes "delta")) (Ok Delta)
     (cond (bytes_eq (lowered_name s) (codes "lowmemory")) (Ok LowMemory) (Err tt)))
+
+-- whether a collection of a reader that wants this starts streams again (Metrics SDK, "MetricReader"): only `Delta` does
+abbrev pub resets : Temporality → Bool
+resets Cumulative = false
+resets Delta = true
+resets LowMemory = false

@@ -8,10 +8,15 @@ ghost use Rattle.std.specs.Bool.{Decides};
 ghost use Rattle.otel_common.specs.declared.attributes.Array.{Array};
 ghost use Rattle.otel_common.specs.declared.attributes.KeyValue.{KeyValue};
 ghost use Rattle.otel_common.specs.declared.attributes.Value.{Value};
+ghost use Rattle.otel_common.specs.declared.metrics.Temporality.{Temporality};
+ghost use Rattle.otel_common.specs.declared.metrics.Temporality.TheVariants.{Cumulative};
+ghost use Rattle.otel_common.specs.declared.resource.Resource.{Resource};
 ghost use Rattle.otel_common.specs.declared.scopes.InstrumentationScope.{InstrumentationScope};
 
 use crate::attributes::{Array, KeyValue, Value};
 use crate::keys::Key;
+use crate::metrics::Temporality;
+use crate::resource::Resource;
 use crate::scopes::InstrumentationScope;
 
 /// What a copy of a key, a value or an attribute gives equals its source.
@@ -38,4 +43,20 @@ pub fn equal_attributes()
 /// Two scopes are equal exactly if their four parts are.
 pub fn equal_scopes()
     ensures scope { (x y : InstrumentationScope) → Decides (⟦<InstrumentationScope as PartialEq>⟧.eq x y) (x ≡ y) }
+{}
+
+/// What a copy of a resource gives equals its source, and two resources are equal exactly if their
+/// attributes and URLs are.
+pub fn resource_laws()
+    ensures copy { (x y : Resource) → ⟦<Resource as Clone>⟧.is_clone x y → y ≡ x }
+    ensures equal { (x y : Resource) → Decides (⟦<Resource as PartialEq>⟧.eq x y) (x ≡ y) }
+{
+    copied_attributes();
+    equal_attributes();
+}
+
+/// Two temporalities are equal exactly if they are the same; one that nobody chose is cumulative.
+pub fn temporality_laws()
+    ensures equal { (x y : Temporality) → Decides (⟦<Temporality as PartialEq>⟧.eq x y) (x ≡ y) }
+    ensures default { (x : Temporality) → ⟦<Temporality as Default>⟧.is_default x → x ≡ Cumulative }
 {}

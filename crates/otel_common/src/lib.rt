@@ -12,5 +12,6 @@ pub mod keys;
 pub mod laws;
 pub mod lists;
 pub mod metrics;
+pub mod resource;
 pub mod scopes;
 pub mod strings;

@@ -2,13 +2,29 @@
 
 ghost use Rattle.std.specs.Prelude.{◌≡◌};
 
+use crate::gauges::Gauge;
+use crate::histograms::Histogram;
 use crate::sums::Sum;
 
 /// The points of one metric (Metrics data model, "Metric points").
 #[derive(Clone, Debug, Drop)]
 pub enum MetricData<T> {
+    /// Of a gauge.
+    Gauge(Gauge<T>),
     /// Of a sum.
     Sum(Sum<T>),
+    /// Of a histogram.
+    Histogram(Histogram<T>),
+}
+
+impl<T> From<Gauge<T>> for MetricData<T> {
+    ghost use Rattle.otel_data.specs.declared.aggregated.MetricData.TheVariants as made;
+
+    ghost from_gives = { λ gauge points. points ≡ made.Gauge gauge };
+
+    fn from(gauge: Gauge<T>) -> MetricData<T> {
+        MetricData::Gauge(gauge)
+    }
 }
 
 impl<T> From<Sum<T>> for MetricData<T> {
@@ -21,11 +37,23 @@ impl<T> From<Sum<T>> for MetricData<T> {
     }
 }
 
+impl<T> From<Histogram<T>> for MetricData<T> {
+    ghost use Rattle.otel_data.specs.declared.aggregated.MetricData.TheVariants as made;
+
+    ghost from_gives = { λ histogram points. points ≡ made.Histogram histogram };
+
+    fn from(histogram: Histogram<T>) -> MetricData<T> {
+        MetricData::Histogram(histogram)
+    }
+}
+
 /// The points of one metric, of either number type (Metrics data model, "Metric points").
 #[derive(Clone, Debug, Drop)]
 pub enum AggregatedMetrics {
     /// Of unsigned numbers of 64 bits.
     U64(MetricData<u64>),
+    /// Of signed numbers of 64 bits.
+    I64(MetricData<i64>),
 }
 
 impl From<MetricData<u64>> for AggregatedMetrics {
@@ -35,5 +63,15 @@ impl From<MetricData<u64>> for AggregatedMetrics {
 
     fn from(points: MetricData<u64>) -> AggregatedMetrics {
         AggregatedMetrics::U64(points)
+    }
+}
+
+impl From<MetricData<i64>> for AggregatedMetrics {
+    ghost use Rattle.otel_data.specs.declared.aggregated.AggregatedMetrics.TheVariants as made;
+
+    ghost from_gives = { λ points metrics. metrics ≡ made.I64 points };
+
+    fn from(points: MetricData<i64>) -> AggregatedMetrics {
+        AggregatedMetrics::I64(points)
     }
 }

@@ -1,10 +1,11 @@
 //! What one collection gives.
 
-ghost use Rattle.std.specs.Prelude.{◌≡◌, []};
+ghost use Rattle.std.specs.Prelude.{◌≡◌, [], None};
 ghost use Rattle.std.specs.Slice.Iter.{iter_rest};
 
 use crate::aggregated::AggregatedMetrics;
 use otel_common::lists::Items;
+use otel_common::resource::Resource;
 use otel_common::scopes::InstrumentationScope;
 use otel_common::strings::StringValue;
 use std::alloc::Global;
@@ -109,24 +110,36 @@ impl ScopeMetrics {
 /// All that one collection gives (Metrics data model).
 #[derive(Clone, Debug, Drop)]
 pub struct ResourceMetrics {
+    resource: Resource,
     scope_metrics: Items<ScopeMetrics>,
 }
 
 impl ResourceMetrics {
-    /// The metrics of these scopes.
-    pub fn new(scope_metrics: Items<ScopeMetrics>) -> ResourceMetrics
-        ensures { result ≡ record { scope_metrics = scope_metrics } }
-    {
-        ResourceMetrics { scope_metrics }
-    }
-
-    /// No metrics. Takes no memory.
-    pub fn default(alloc: Global) -> ResourceMetrics
-        ensures { result ≡ record { scope_metrics = [] } }
+    /// The metrics of these scopes, which come from the resource.
+    pub fn new(resource: Resource, scope_metrics: Items<ScopeMetrics>) -> ResourceMetrics
+        ensures { result ≡ record { resource = resource; scope_metrics = scope_metrics } }
     {
         ResourceMetrics {
+            resource,
+            scope_metrics,
+        }
+    }
+
+    /// No metrics, of the empty resource. Takes no memory.
+    pub fn default(alloc: Global) -> ResourceMetrics
+        ensures { result ≡ record { resource = record { attributes = []; schema_url = None }; scope_metrics = [] } }
+    {
+        ResourceMetrics {
+            resource: Resource::builder_empty(alloc).build(),
             scope_metrics: Items::from(Vec::new(alloc)),
         }
+    }
+
+    /// What the metrics come from.
+    pub fn resource(&self) -> &Resource
+        ensures { result.now ≡ self.now.resource }
+    {
+        &self.resource
     }
 
     /// The scopes that have metrics, each with its metrics.

@@ -3,46 +3,78 @@
 //! These functions do nothing. A function whose contract needs the law of a copy or a comparison
 //! calls the one of its type first.
 
-ghost use Rattle.std.specs.Prelude.{◌≡◌, ℕ};
+ghost use Rattle.std.specs.Prelude.{◌≡◌, ℕ, ℤ};
 ghost use Rattle.std.specs.Bool.{Decides};
 ghost use Rattle.otel_data.specs.declared.aggregated.AggregatedMetrics.{AggregatedMetrics};
 ghost use Rattle.otel_data.specs.declared.aggregated.MetricData.{MetricData};
 ghost use Rattle.otel_data.specs.declared.collections.Metric.{Metric};
 ghost use Rattle.otel_data.specs.declared.collections.ResourceMetrics.{ResourceMetrics};
 ghost use Rattle.otel_data.specs.declared.collections.ScopeMetrics.{ScopeMetrics};
+ghost use Rattle.otel_data.specs.declared.gauges.Gauge.{Gauge};
+ghost use Rattle.otel_data.specs.declared.histograms.Histogram.{Histogram};
 ghost use Rattle.otel_data.specs.declared.points.Exemplar.{Exemplar};
+ghost use Rattle.otel_data.specs.declared.points.GaugeDataPoint.{GaugeDataPoint};
+ghost use Rattle.otel_data.specs.declared.points.HistogramDataPoint.{HistogramDataPoint};
 ghost use Rattle.otel_data.specs.declared.points.SumDataPoint.{SumDataPoint};
 ghost use Rattle.otel_data.specs.declared.sums.Sum.{Sum};
 
 use crate::aggregated::{AggregatedMetrics, MetricData};
 use crate::collections::{Metric, ResourceMetrics, ScopeMetrics};
-use crate::points::{Exemplar, SumDataPoint};
+use crate::gauges::Gauge;
+use crate::histograms::Histogram;
+use crate::points::{Exemplar, GaugeDataPoint, HistogramDataPoint, SumDataPoint};
 use crate::sums::Sum;
+use otel_common::laws::resource_laws;
 
-/// Two points, or two exemplars, are equal exactly if their parts are.
+/// Two points, or two exemplars, of unsigned numbers are equal exactly if their parts are.
 pub fn equal_points()
     ensures exemplar { (x y : Exemplar ℕ) → Decides (⟦<Exemplar<u64> as PartialEq>⟧.eq x y) (x ≡ y) }
+    ensures gauge { (x y : GaugeDataPoint ℕ) → Decides (⟦<GaugeDataPoint<u64> as PartialEq>⟧.eq x y) (x ≡ y) }
     ensures point { (x y : SumDataPoint ℕ) → Decides (⟦<SumDataPoint<u64> as PartialEq>⟧.eq x y) (x ≡ y) }
+    ensures histogram { (x y : HistogramDataPoint ℕ) → Decides (⟦<HistogramDataPoint<u64> as PartialEq>⟧.eq x y) (x ≡ y) }
 {}
 
 /// What a copy of a point or of an exemplar gives equals its source.
 pub fn copied_points()
     ensures exemplar { (x y : Exemplar ℕ) → ⟦<Exemplar<u64> as Clone>⟧.is_clone x y → y ≡ x }
+    ensures gauge { (x y : GaugeDataPoint ℕ) → ⟦<GaugeDataPoint<u64> as Clone>⟧.is_clone x y → y ≡ x }
     ensures point { (x y : SumDataPoint ℕ) → ⟦<SumDataPoint<u64> as Clone>⟧.is_clone x y → y ≡ x }
+    ensures histogram { (x y : HistogramDataPoint ℕ) → ⟦<HistogramDataPoint<u64> as Clone>⟧.is_clone x y → y ≡ x }
 {}
 
-/// What a copy of a sum gives equals its source.
-pub fn copied_sum()
-    ensures { (x y : Sum ℕ) → ⟦<Sum<u64> as Clone>⟧.is_clone x y → y ≡ x }
+/// So of signed numbers.
+pub fn copied_signed_points()
+    ensures exemplar { (x y : Exemplar ℤ) → ⟦<Exemplar<i64> as Clone>⟧.is_clone x y → y ≡ x }
+    ensures gauge { (x y : GaugeDataPoint ℤ) → ⟦<GaugeDataPoint<i64> as Clone>⟧.is_clone x y → y ≡ x }
+    ensures point { (x y : SumDataPoint ℤ) → ⟦<SumDataPoint<i64> as Clone>⟧.is_clone x y → y ≡ x }
+    ensures histogram { (x y : HistogramDataPoint ℤ) → ⟦<HistogramDataPoint<i64> as Clone>⟧.is_clone x y → y ≡ x }
+{}
+
+/// What a copy of the points of a gauge, a sum or a histogram gives equals its source.
+pub fn copied_lists()
+    ensures gauge { (x y : Gauge ℕ) → ⟦<Gauge<u64> as Clone>⟧.is_clone x y → y ≡ x }
+    ensures sum { (x y : Sum ℕ) → ⟦<Sum<u64> as Clone>⟧.is_clone x y → y ≡ x }
+    ensures histogram { (x y : Histogram ℕ) → ⟦<Histogram<u64> as Clone>⟧.is_clone x y → y ≡ x }
 {
     copied_points();
 }
 
+/// So of signed numbers.
+pub fn copied_signed_lists()
+    ensures gauge { (x y : Gauge ℤ) → ⟦<Gauge<i64> as Clone>⟧.is_clone x y → y ≡ x }
+    ensures sum { (x y : Sum ℤ) → ⟦<Sum<i64> as Clone>⟧.is_clone x y → y ≡ x }
+    ensures histogram { (x y : Histogram ℤ) → ⟦<Histogram<i64> as Clone>⟧.is_clone x y → y ≡ x }
+{
+    copied_signed_points();
+}
+
 /// What a copy of the points of a metric gives equals its source.
 pub fn copied_data()
-    ensures { (x y : MetricData ℕ) → ⟦<MetricData<u64> as Clone>⟧.is_clone x y → y ≡ x }
+    ensures unsigned { (x y : MetricData ℕ) → ⟦<MetricData<u64> as Clone>⟧.is_clone x y → y ≡ x }
+    ensures signed { (x y : MetricData ℤ) → ⟦<MetricData<i64> as Clone>⟧.is_clone x y → y ≡ x }
 {
-    copied_sum();
+    copied_lists();
+    copied_signed_lists();
 }
 
 /// What a copy of the points of a metric of either number type gives equals its source.
@@ -70,5 +102,6 @@ pub fn copied_scope()
 pub fn copied_collection()
     ensures { (x y : ResourceMetrics) → ⟦<ResourceMetrics as Clone>⟧.is_clone x y → y ≡ x }
 {
+    resource_laws();
     copied_scope();
 }

@@ -7,6 +7,8 @@ pub mod aggregated;
 pub mod collections;
 pub mod copies;
 pub mod data;
+pub mod gauges;
+pub mod histograms;
 pub mod numbers;
 pub mod points;
 pub mod sums;

@@ -58,3 +58,151 @@ impl<T> SumDataPoint<T> {
         self.value
     }
 }
+
+/// A point of a gauge: the last value of one set of attributes (Metrics data model, "Gauge").
+#[derive(Clone, Debug, Drop, PartialEq)]
+pub struct GaugeDataPoint<T> {
+    attributes: Items<KeyValue>,
+    exemplars: Items<Exemplar<T>>,
+    value: T,
+}
+
+impl<T> GaugeDataPoint<T> {
+    /// A point of these parts.
+    pub fn new(attributes: Items<KeyValue>, exemplars: Items<Exemplar<T>>, value: T) -> Self
+        ensures { result ≡ record { attributes = attributes; exemplars = exemplars; value = value } }
+    {
+        GaugeDataPoint {
+            attributes,
+            exemplars,
+            value,
+        }
+    }
+
+    /// The attributes, in byte order of their keys.
+    pub fn attributes(&self) -> Iter<'_, KeyValue>
+        ensures { iter_rest result ≡ self.now.attributes }
+    {
+        self.attributes.as_slice().iter()
+    }
+
+    /// The exemplars. No exemplars are kept: there are none in a collection.
+    pub fn exemplars(&self) -> Iter<'_, Exemplar<T>>
+        ensures { iter_rest result ≡ self.now.exemplars }
+    {
+        self.exemplars.as_slice().iter()
+    }
+
+    /// The value.
+    pub fn value(&self) -> T
+    where
+        T: Copy,
+        ensures { result ≡ self.now.value }
+    {
+        self.value
+    }
+}
+
+/// A point of a histogram: how the records of one set of attributes spread (Metrics data model,
+/// "Histogram").
+#[derive(Clone, Debug, Drop, PartialEq)]
+pub struct HistogramDataPoint<T> {
+    attributes: Items<KeyValue>,
+    exemplars: Items<Exemplar<T>>,
+    bounds: Items<i64>,
+    bucket_counts: Items<u64>,
+    count: u64,
+    min: Option<T>,
+    max: Option<T>,
+    sum: T,
+}
+
+impl<T> HistogramDataPoint<T> {
+    /// A point of these parts.
+    pub fn new(
+        attributes: Items<KeyValue>,
+        exemplars: Items<Exemplar<T>>,
+        bounds: Items<i64>,
+        bucket_counts: Items<u64>,
+        count: u64,
+        min: Option<T>,
+        max: Option<T>,
+        sum: T,
+    ) -> Self
+        ensures { result ≡ record { attributes = attributes; exemplars = exemplars; bounds = bounds; bucket_counts = bucket_counts; count = count; min = min; max = max; sum = sum } }
+    {
+        HistogramDataPoint {
+            attributes,
+            exemplars,
+            bounds,
+            bucket_counts,
+            count,
+            min,
+            max,
+            sum,
+        }
+    }
+
+    /// The attributes, in byte order of their keys.
+    pub fn attributes(&self) -> Iter<'_, KeyValue>
+        ensures { iter_rest result ≡ self.now.attributes }
+    {
+        self.attributes.as_slice().iter()
+    }
+
+    /// The exemplars. No exemplars are kept: there are none in a collection.
+    pub fn exemplars(&self) -> Iter<'_, Exemplar<T>>
+        ensures { iter_rest result ≡ self.now.exemplars }
+    {
+        self.exemplars.as_slice().iter()
+    }
+
+    /// The bounds of the buckets, rising. A value falls into the bucket whose number is how many bounds
+    /// are less than it.
+    pub fn bounds(&self) -> Iter<'_, i64>
+        ensures { iter_rest result ≡ self.now.bounds }
+    {
+        self.bounds.as_slice().iter()
+    }
+
+    /// How many values fell into each bucket: one more than there are bounds, or none without bounds.
+    pub fn bucket_counts(&self) -> Iter<'_, u64>
+        ensures { iter_rest result ≡ self.now.bucket_counts }
+    {
+        self.bucket_counts.as_slice().iter()
+    }
+
+    /// How many values were recorded, modulo 2^64.
+    pub fn count(&self) -> u64
+        ensures { result ≡ self.now.count }
+    {
+        self.count
+    }
+
+    /// The least value. There is none without values, and where the histogram keeps none.
+    pub fn min(&self) -> Option<T>
+    where
+        T: Copy,
+        ensures { result ≡ self.now.min }
+    {
+        self.min
+    }
+
+    /// The greatest value. There is none without values, and where the histogram keeps none.
+    pub fn max(&self) -> Option<T>
+    where
+        T: Copy,
+        ensures { result ≡ self.now.max }
+    {
+        self.max
+    }
+
+    /// The sum of the values modulo 2^64. It is 0 for up-down counters and observable gauges.
+    pub fn sum(&self) -> T
+    where
+        T: Copy,
+        ensures { result ≡ self.now.sum }
+    {
+        self.sum
+    }
+}

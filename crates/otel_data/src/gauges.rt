@@ -1,0 +1,50 @@
+//! The points of a gauge.
+
+ghost use Rattle.std.specs.Prelude.{◌≡◌, Some};
+ghost use Rattle.std.specs.Slice.Iter.{iter_rest};
+
+use crate::points::GaugeDataPoint;
+use otel_common::lists::Items;
+use std::slice::Iter;
+
+/// The points of a gauge at one collection, with its moments (Metrics data model, "Gauge").
+#[derive(Clone, Debug, Drop)]
+pub struct Gauge<T> {
+    data_points: Items<GaugeDataPoint<T>>,
+    start_time: u64,
+    time: u64,
+}
+
+impl<T> Gauge<T> {
+    /// A gauge of these parts, its moments in nanoseconds since 1970.
+    pub fn new(data_points: Items<GaugeDataPoint<T>>, start_time: u64, time: u64) -> Self
+        ensures { result ≡ record { data_points = data_points; start_time = start_time; time = time } }
+    {
+        Gauge {
+            data_points,
+            start_time,
+            time,
+        }
+    }
+
+    /// The points.
+    pub fn data_points(&self) -> Iter<'_, GaugeDataPoint<T>>
+        ensures { iter_rest result ≡ self.now.data_points }
+    {
+        self.data_points.as_slice().iter()
+    }
+
+    /// The moment from which on records are in the points, in nanoseconds since 1970. There always is one.
+    pub fn start_time(&self) -> Option<u64>
+        ensures { result ≡ Some self.now.start_time }
+    {
+        Some(self.start_time)
+    }
+
+    /// The moment of the collection, in nanoseconds since 1970.
+    pub fn time(&self) -> u64
+        ensures { result ≡ self.now.time }
+    {
+        self.time
+    }
+}

@@ -1,0 +1,65 @@
+//! The points of a histogram.
+
+ghost use Rattle.std.specs.Prelude.{◌≡◌};
+ghost use Rattle.std.specs.Slice.Iter.{iter_rest};
+
+use crate::points::HistogramDataPoint;
+use otel_common::lists::Items;
+use otel_common::metrics::Temporality;
+use std::slice::Iter;
+
+/// The points of a histogram at one collection, with its moments (Metrics data model, "Histogram").
+#[derive(Clone, Debug, Drop)]
+pub struct Histogram<T> {
+    data_points: Items<HistogramDataPoint<T>>,
+    start_time: u64,
+    time: u64,
+    temporality: Temporality,
+}
+
+impl<T> Histogram<T> {
+    /// A histogram of these parts, its moments in nanoseconds since 1970.
+    pub fn new(
+        data_points: Items<HistogramDataPoint<T>>,
+        start_time: u64,
+        time: u64,
+        temporality: Temporality,
+    ) -> Self
+        ensures { result ≡ record { data_points = data_points; start_time = start_time; time = time; temporality = temporality } }
+    {
+        Histogram {
+            data_points,
+            start_time,
+            time,
+            temporality,
+        }
+    }
+
+    /// The points.
+    pub fn data_points(&self) -> Iter<'_, HistogramDataPoint<T>>
+        ensures { iter_rest result ≡ self.now.data_points }
+    {
+        self.data_points.as_slice().iter()
+    }
+
+    /// The moment from which on records are in the points, in nanoseconds since 1970.
+    pub fn start_time(&self) -> u64
+        ensures { result ≡ self.now.start_time }
+    {
+        self.start_time
+    }
+
+    /// The moment of the collection, in nanoseconds since 1970.
+    pub fn time(&self) -> u64
+        ensures { result ≡ self.now.time }
+    {
+        self.time
+    }
+
+    /// How the points relate to those of the collection before.
+    pub fn temporality(&self) -> Temporality
+        ensures { result ≡ self.now.temporality }
+    {
+        self.temporality
+    }
+}
