@@ -2,7 +2,7 @@
 use Rattle.std.proofs.Common.{◌≡◌, ⊎_elim, ℕ, zero, suc, Bool, true, false, List, [], ◌∷◌, ◌++◌, map, refl, sym, ◌∙◌, ap, Some, cond, subst, ◌||◌}
 use Rattle.std.specs.Prelude.{slice_get, fold, filter, not}
 use Rattle.std.proofs.lemmas.Bool.{cases_Bool, true≢false, or_parts}
-use Rattle.otel_model.specs.Demands.{Identity, identity_eq, Demand, Views, Row, is_known, is_drop, has_identity}
+use Rattle.otel_model.specs.Demands.{Identity, identity_eq, Demand, Views, ReaderAnswers, is_known, is_drop, has_identity}
 use Rattle.otel_model.specs.History.{Built, gather, new_demand, firsts, demands_of, streams_of}
 use Rattle.otel_model.specs.Laws.{AreApart, AreNumbered, names}
 use Rattle.otel_model.specs.State.{Stream}
@@ -135,5 +135,5 @@ apart_filter p (d ∷ ds) a = go (p d) (apart_filter p ds a.1)
     go true ih = (absent_filter p ds d.identity a.0, ih)
     go false ih = ih
 
-pub streams_apart : (views : Views) (row : Row) (is : List Built) → AreApart (ids (streams_of views row is))
-streams_apart views row is = apart_filter (λ d. not (is_drop d.aggregation)) (firsts (demands_of views row [] is)) (firsts_apart [] (demands_of views row [] is))
+pub streams_apart : (views : Views) (answers : ReaderAnswers) (is : List Built) → AreApart (ids (streams_of views answers is))
+streams_apart views answers is = apart_filter (λ d. not (is_drop d.aggregation)) (firsts (demands_of views answers [] is)) (firsts_apart [] (demands_of views answers [] is))

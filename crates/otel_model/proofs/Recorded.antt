@@ -10,7 +10,7 @@ use Rattle.otel_model_stream.specs.Events.{Event, Record, Bind, RecordBound, Unb
 use Rattle.otel_model_stream.specs.Machine.{Machine, begin, step, through, let_go}
 use Rattle.otel_model_stream.specs.Totals.{size, has_number, without_number, recorded_from, recorded_total}
 use Rattle.otel_model.specs.Calls.{InstrumentKind}
-use Rattle.otel_model.specs.Demands.{Aggregation, Demand, Row}
+use Rattle.otel_model.specs.Demands.{Aggregation, Demand, ReaderAnswers}
 use Rattle.otel_model.specs.Streams.{is_sum, observes_sums, is_drained, is_delta, kind_of, aggregate_from, aggregate_of}
 use Rattle.otel_model.specs.Machine.{if_held, recorded_over}
 
@@ -150,11 +150,11 @@ keeps_when true delta e = absurd (true≢false e)
 keeps_when false true e = refl
 keeps_when false false e = refl
 
-pub recorded_is : (row : Row) (d : Demand) (es : List Event) → recorded_over (aggregate_of d) (kind_of row d) d.limit (begin (aggregate_of d)) 0 es ≡ wrapped (recorded_total (aggregate_of d) es)
-recorded_is row d es = ⊎_elim
-    (λ e. subst Claim (sym (drained_last d e)) (last_over (kind_of row d) d.limit es (begin LastValue) 0 ∙ sym (ap wrapped (last_from [] es))))
-    (λ e. over_is (aggregate_of d) (kind_of row d) d.limit (keeps_when (is_drained d) (is_delta row d) e) es (begin (aggregate_of d)) 0 ∙ ap wrapped (zero_plus (recorded_total (aggregate_of d) es)))
+pub recorded_is : (answers : ReaderAnswers) (d : Demand) (es : List Event) → recorded_over (aggregate_of d) (kind_of answers d) d.limit (begin (aggregate_of d)) 0 es ≡ wrapped (recorded_total (aggregate_of d) es)
+recorded_is answers d es = ⊎_elim
+    (λ e. subst Claim (sym (drained_last d e)) (last_over (kind_of answers d) d.limit es (begin LastValue) 0 ∙ sym (ap wrapped (last_from [] es))))
+    (λ e. over_is (aggregate_of d) (kind_of answers d) d.limit (keeps_when (is_drained d) (is_delta answers d) e) es (begin (aggregate_of d)) 0 ∙ ap wrapped (zero_plus (recorded_total (aggregate_of d) es)))
     (cases_Bool (is_drained d))
   where
     Claim : Aggregate → Type 0
-    Claim σ = recorded_over σ (kind_of row d) d.limit (begin σ) 0 es ≡ wrapped (recorded_total σ es)
+    Claim σ = recorded_over σ (kind_of answers d) d.limit (begin σ) 0 es ≡ wrapped (recorded_total σ es)

@@ -13,8 +13,9 @@ use Rattle.otel_model_stream.specs.Events.{Point}
 use Rattle.otel_model_stream.specs.Machine.{run}
 use Rattle.otel_model_stream.specs.Windows.{places_of, counted, uncounted_of}
 use Rattle.otel_model.specs.Resources.{Resource}
-use Rattle.otel_model.specs.Calls.{Observed, Call, Meter, Build, Record, Bind, RecordBound, Unbind, Collect, Flush, Shutdown, Fault, OutOfMemory, UnknownMeter, UnknownInstrument, UnknownHandle, UnknownReader, WrongNumber, WrongKind, AlreadyShutdown, ReaderShutDown, ReadersFailed, Exhausted, LedgerFull, UseWorker, WorkersMissing, Reply, Metric}
-use Rattle.otel_model.specs.Demands.{Demand, Views, Row}
+use Rattle.otel_data.specs.declared.collections.Metric.{Metric}
+use Rattle.otel_model.specs.Calls.{Observed, Call, Meter, Build, Record, Bind, RecordBound, Unbind, Collect, Flush, Shutdown, Fault, OutOfMemory, UnknownMeter, UnknownInstrument, UnknownHandle, UnknownReader, WrongNumber, WrongKind, AlreadyShutdown, ReaderShutDown, ReadersFailed, Exhausted, LedgerFull, UseWorker, WorkersMissing, Reply}
+use Rattle.otel_model.specs.Demands.{Demand, Views, ReaderAnswers}
 use Rattle.otel_model.specs.Streams.{kind_of, aggregate_of}
 use Rattle.otel_model.specs.Collections.{shows_differences, difference, content_of, metric, ScopedMetric, collection}
 use Rattle.otel_model.specs.State.{Shared, Stream, ReaderPart, State}
@@ -119,35 +120,35 @@ not_false : (b : Bool) → not b ≡ false → b ≡ true
 not_false true e = refl
 not_false false e = absurd (true≢false e)
 
-part_follows : (views : Views) (row : Row) (r : ℕ) (past : List Call) (s : Shared) (c : Call) → SharedAgrees past s → is_others r c ≡ false
-    → part_after views s c (part_of views row r past) ≡ part_of views row r (past ++ c ∷ [])
-part_follows views row r past s (Meter scope) a m = part_rests views row r past (Meter scope) refl (λ d. cond_same _ []) (λ d. refl) (λ d. cond_same _ [])
-part_follows views row r past s (Build meter about now) a m = ap (λ ms. built views (scope_of ms meter) about now (part_of views row r past)) a.meters ∙ part_builds views row r past meter about now
-part_follows views row r past s (Record n v l) a m = ap (λ k. part_sent k (Record n v l) (part_of views row r past)) a.next ∙ part_sends views row r past (Record n v l) refl refl
-part_follows views row r past s (Bind n l) a m = ap (λ k. part_sent k (Bind n l) (part_of views row r past)) a.next ∙ part_sends views row r past (Bind n l) refl refl
-part_follows views row r past s (RecordBound h v) a m = ap (λ k. part_sent k (RecordBound h v) (part_of views row r past)) a.next ∙ part_sends views row r past (RecordBound h v) refl refl
-part_follows views row r past s (Unbind h) a m = ap (λ k. part_sent k (Unbind h) (part_of views row r past)) a.next ∙ part_sends views row r past (Unbind h) refl refl
-part_follows views row r past s (Collect q now os) a m = ap (λ k. part_sent k (Collect q now os) (part_of views row r past)) a.next ∙ part_sends views row r past (Collect q now os) refl (not_false (q == r) m)
-part_follows views row r past s Flush a m = part_rests views row r past Flush refl (λ d. cond_same _ []) (λ d. refl) (λ d. cond_same _ [])
-part_follows views row r past s Shutdown a m = part_rests views row r past Shutdown refl (λ d. cond_same _ []) (λ d. refl) (λ d. cond_same _ [])
+part_follows : (views : Views) (answers : ReaderAnswers) (r : ℕ) (past : List Call) (s : Shared) (c : Call) → SharedAgrees past s → is_others r c ≡ false
+    → part_after views s c (part_of views answers r past) ≡ part_of views answers r (past ++ c ∷ [])
+part_follows views answers r past s (Meter scope) a m = part_rests views answers r past (Meter scope) refl (λ d. cond_same _ []) (λ d. refl) (λ d. cond_same _ [])
+part_follows views answers r past s (Build meter about now) a m = ap (λ ms. built views (scope_of ms meter) about now (part_of views answers r past)) a.meters ∙ part_builds views answers r past meter about now
+part_follows views answers r past s (Record n v l) a m = ap (λ k. part_sent k (Record n v l) (part_of views answers r past)) a.next ∙ part_sends views answers r past (Record n v l) refl refl
+part_follows views answers r past s (Bind n l) a m = ap (λ k. part_sent k (Bind n l) (part_of views answers r past)) a.next ∙ part_sends views answers r past (Bind n l) refl refl
+part_follows views answers r past s (RecordBound h v) a m = ap (λ k. part_sent k (RecordBound h v) (part_of views answers r past)) a.next ∙ part_sends views answers r past (RecordBound h v) refl refl
+part_follows views answers r past s (Unbind h) a m = ap (λ k. part_sent k (Unbind h) (part_of views answers r past)) a.next ∙ part_sends views answers r past (Unbind h) refl refl
+part_follows views answers r past s (Collect q now os) a m = ap (λ k. part_sent k (Collect q now os) (part_of views answers r past)) a.next ∙ part_sends views answers r past (Collect q now os) refl (not_false (q == r) m)
+part_follows views answers r past s Flush a m = part_rests views answers r past Flush refl (λ d. cond_same _ []) (λ d. refl) (λ d. cond_same _ [])
+part_follows views answers r past s Shutdown a m = part_rests views answers r past Shutdown refl (λ d. cond_same _ []) (λ d. refl) (λ d. cond_same _ [])
 
-part_waits : (views : Views) (row : Row) (r : ℕ) (past : List Call) (c : Call) → is_others r c ≡ true → part_of views row r past ≡ part_of views row r (past ++ c ∷ [])
-part_waits views row r past (Meter scope) m = absurd (false≢true m)
-part_waits views row r past (Build meter about now) m = absurd (false≢true m)
-part_waits views row r past (Record n v l) m = absurd (false≢true m)
-part_waits views row r past (Bind n l) m = absurd (false≢true m)
-part_waits views row r past (RecordBound h v) m = absurd (false≢true m)
-part_waits views row r past (Unbind h) m = absurd (false≢true m)
-part_waits views row r past (Collect q now os) m = part_unseen views row r past q now os (not_true (q == r) m)
-part_waits views row r past Flush m = absurd (false≢true m)
-part_waits views row r past Shutdown m = absurd (false≢true m)
+part_waits : (views : Views) (answers : ReaderAnswers) (r : ℕ) (past : List Call) (c : Call) → is_others r c ≡ true → part_of views answers r past ≡ part_of views answers r (past ++ c ∷ [])
+part_waits views answers r past (Meter scope) m = absurd (false≢true m)
+part_waits views answers r past (Build meter about now) m = absurd (false≢true m)
+part_waits views answers r past (Record n v l) m = absurd (false≢true m)
+part_waits views answers r past (Bind n l) m = absurd (false≢true m)
+part_waits views answers r past (RecordBound h v) m = absurd (false≢true m)
+part_waits views answers r past (Unbind h) m = absurd (false≢true m)
+part_waits views answers r past (Collect q now os) m = part_unseen views answers r past q now os (not_true (q == r) m)
+part_waits views answers r past Flush m = absurd (false≢true m)
+part_waits views answers r past Shutdown m = absurd (false≢true m)
 
 -- ======== states ========
 -- the state is what is read off the calls made
-pub record Agrees (views : Views) (resource : Resource) (rows : List Row) (past : List Call) (st : State) : Type 0 where
+pub record Agrees (views : Views) (resource : Resource) (readers : List ReaderAnswers) (past : List Call) (st : State) : Type 0 where
   pub told : st.shared.resource ≡ resource
   pub shared : SharedAgrees past st.shared
-  pub parts : (r : ℕ) (row : Row) → slice_get rows r ≡ Some row → slice_get st.readers r ≡ Some (part_of views row r past)
+  pub parts : (r : ℕ) (answers : ReaderAnswers) → slice_get readers r ≡ Some answers → slice_get st.readers r ≡ Some (part_of views answers r past)
 
 same_resource : (s : Shared) (c : Call) → (shared_after s c).resource ≡ s.resource
 same_resource s (Meter scope) = refl
@@ -160,21 +161,21 @@ same_resource s (Collect r now os) = refl
 same_resource s Flush = refl
 same_resource s Shutdown = refl
 
-agrees_after : (views : Views) (resource : Resource) (rows : List Row) (past : List Call) (st : State) (c : Call) → Agrees views resource rows past st → Agrees views resource rows (past ++ c ∷ []) (accepted_after views st c)
-agrees_after views resource rows past st c a = record {
+agrees_after : (views : Views) (resource : Resource) (readers : List ReaderAnswers) (past : List Call) (st : State) (c : Call) → Agrees views resource readers past st → Agrees views resource readers (past ++ c ∷ []) (accepted_after views st c)
+agrees_after views resource readers past st c a = record {
   told = same_resource st.shared c ∙ a.told;
   shared = shared_agrees past st.shared c a.shared;
-  parts = λ r row h. ⊎_elim
-      (λ m. (unconcerned views st.shared c st.readers r m).0 ∙ (a.parts r row h ∙ ap (λ (p : ReaderPart). Some p) (part_waits views row r past c m)))
-      (λ m. concerned views st.shared c st.readers r (part_of views row r past) (a.parts r row h) m ∙ ap (λ (p : ReaderPart). Some p) (part_follows views row r past st.shared c a.shared m))
+  parts = λ r answers h. ⊎_elim
+      (λ m. (unconcerned views st.shared c st.readers r m).0 ∙ (a.parts r answers h ∙ ap (λ (p : ReaderPart). Some p) (part_waits views answers r past c m)))
+      (λ m. concerned views st.shared c st.readers r (part_of views answers r past) (a.parts r answers h) m ∙ ap (λ (p : ReaderPart). Some p) (part_follows views answers r past st.shared c a.shared m))
       (cases_Bool (is_others r c));
 }
 
-agrees_new : (views : Views) (resource : Resource) (identity : ℕ) (rows : List Row) → Agrees views resource rows [] (new_state resource identity rows)
-agrees_new views resource identity rows = record {
+agrees_new : (views : Views) (resource : Resource) (identity : ℕ) (readers : List ReaderAnswers) → Agrees views resource readers [] (new_state resource identity readers)
+agrees_new views resource identity readers = record {
   told = refl;
   shared = record { meters = refl; next = refl; shut = refl };
-  parts = λ r row h. get_map new_part rows r row h;
+  parts = λ r answers h. get_map new_part readers r answers h;
 }
 
 -- ======== steps ========
@@ -268,15 +269,12 @@ step_counted views old new c (Reply.Refused WorkersMissing) s = by_reply views o
 
 -- ======== a collection ========
 -- what isn't shown as differences doesn't look at what was shown before
-metric_kept : (row : Row) (now since : ℕ) (before : List Point) (d : Demand) (ps : List Point) → metric row now since (kept_of row d before) d ps ≡ metric row now since before d ps
-metric_kept row now since before d ps = λ i. record {
+metric_kept : (answers : ReaderAnswers) (now since : ℕ) (before : List Point) (d : Demand) (ps : List Point) → metric answers now since (kept_of answers d before) d ps ≡ metric answers now since before d ps
+metric_kept answers now since before d ps = λ i. record {
   name = d.spelling;
   description = d.identity.description;
   unit = d.identity.unit;
-  signed = d.identity.signed;
-  content = content_of row d d.aggregation (same (shows_differences row d) i);
-  start = since;
-  time = now;
+  content = content_of answers d since now (same (shows_differences answers d) i);
 }
   where
     same : (b : Bool) → cond b (map (difference (cond b before [])) ps) ps ≡ cond b (map (difference before) ps) ps
@@ -286,38 +284,38 @@ metric_kept row now since before d ps = λ i. record {
 abbrev scoped : Demand → Metric → ScopedMetric
 scoped d m = (d.identity.scope, m)
 
-collect_is : (views : Views) (resource : Resource) (rows : List Row) (past : List Call) (st : State) (r : ℕ) (row : Row) (now : ℕ) (os : List Observed) → Agrees views resource rows past st
-    → collect_from st.shared now os (part_of views row r past) ≡ collection_of views resource row r past now os
-collect_is views resource rows past st r row now os a =
-    (λ i. collection (a.told i) (a.shared.meters i) (map_both (λ (q : Stream). scoped q.demand (metric row now q.since q.reported q.demand (points_at row (feeds_of views row [] (builds_in past)) os q))) (stream_in views row r past)
-    (λ (d : Demand). scoped d (metric row now (start_of views row r d past) (reported_of views row r d past) d (window_points row d (history views row r d past ++ observed (feeds_of views row [] (builds_in past)) d os)))) (streams_of views row (builds_in past)) (λ d. ap (scoped d) (same_metric d)) i))
+collect_is : (views : Views) (resource : Resource) (readers : List ReaderAnswers) (past : List Call) (st : State) (r : ℕ) (answers : ReaderAnswers) (now : ℕ) (os : List Observed) → Agrees views resource readers past st
+    → collect_from st.shared now os (part_of views answers r past) ≡ collection_of views resource answers r past now os
+collect_is views resource readers past st r answers now os a =
+    (λ i. collection (a.told i) (a.shared.meters i) (map_both (λ (q : Stream). scoped q.demand (metric answers now q.since q.reported q.demand (points_at answers (feeds_of views answers [] (builds_in past)) os q))) (stream_in views answers r past)
+    (λ (d : Demand). scoped d (metric answers now (start_of views answers r d past) (reported_of views answers r d past) d (window_points answers d (history views answers r d past ++ observed (feeds_of views answers [] (builds_in past)) d os)))) (streams_of views answers (builds_in past)) (λ d. ap (scoped d) (same_metric d)) i))
   where
-    same_metric : (d : Demand) → metric row now (start_of views row r d past) (kept_of row d (reported_of views row r d past)) d (points_at row (feeds_of views row [] (builds_in past)) os (stream_in views row r past d))
-        ≡ metric row now (start_of views row r d past) (reported_of views row r d past) d (window_points row d (history views row r d past ++ observed (feeds_of views row [] (builds_in past)) d os))
-    same_metric d = metric_kept row now (start_of views row r d past) (reported_of views row r d past) d (points_at row (feeds_of views row [] (builds_in past)) os (stream_in views row r past d))
-        ∙ ap (metric row now (start_of views row r d past) (reported_of views row r d past) d) (points_now views row r past os d)
+    same_metric : (d : Demand) → metric answers now (start_of views answers r d past) (kept_of answers d (reported_of views answers r d past)) d (points_at answers (feeds_of views answers [] (builds_in past)) os (stream_in views answers r past d))
+        ≡ metric answers now (start_of views answers r d past) (reported_of views answers r d past) d (window_points answers d (history views answers r d past ++ observed (feeds_of views answers [] (builds_in past)) d os))
+    same_metric d = metric_kept answers now (start_of views answers r d past) (reported_of views answers r d past) d (points_at answers (feeds_of views answers [] (builds_in past)) os (stream_in views answers r past d))
+        ∙ ap (metric answers now (start_of views answers r d past) (reported_of views answers r d past) d) (points_now views answers r past os d)
 
 -- what a call that counts gives the reader
-given_now : (views : Views) (resource : Resource) (rows : List Row) (past : List Call) (st : State) (r : ℕ) (row : Row) (c : Call) (reply : Reply) → Agrees views resource rows past st → slice_get rows r ≡ Some row
-    → (asks_readers c ≡ true) ⊎ (reply ≡ answer_of st c) → collected_by r c reply ≡ made_by views resource row r past c
-given_now views resource rows past st r row (Meter scope) reply a h w = refl
-given_now views resource rows past st r row (Build meter about now) reply a h w = refl
-given_now views resource rows past st r row (Record n v l) reply a h w = refl
-given_now views resource rows past st r row (Bind n l) reply a h w = refl
-given_now views resource rows past st r row (RecordBound k v) reply a h w = refl
-given_now views resource rows past st r row (Unbind k) reply a h w = refl
-given_now views resource rows past st r row (Collect q now os) reply a h w = ⊎_elim (λ m. mine m w) (λ m. ap (λ b. cond b (shown_in reply) []) m ∙ sym (ap (λ b. cond b (collection_of views resource row r past now os ∷ []) []) m)) (cases_Bool (q == r))
+given_now : (views : Views) (resource : Resource) (readers : List ReaderAnswers) (past : List Call) (st : State) (r : ℕ) (answers : ReaderAnswers) (c : Call) (reply : Reply) → Agrees views resource readers past st → slice_get readers r ≡ Some answers
+    → (asks_readers c ≡ true) ⊎ (reply ≡ answer_of st c) → collected_by r c reply ≡ made_by views resource answers r past c
+given_now views resource readers past st r answers (Meter scope) reply a h w = refl
+given_now views resource readers past st r answers (Build meter about now) reply a h w = refl
+given_now views resource readers past st r answers (Record n v l) reply a h w = refl
+given_now views resource readers past st r answers (Bind n l) reply a h w = refl
+given_now views resource readers past st r answers (RecordBound k v) reply a h w = refl
+given_now views resource readers past st r answers (Unbind k) reply a h w = refl
+given_now views resource readers past st r answers (Collect q now os) reply a h w = ⊎_elim (λ m. mine m w) (λ m. ap (λ b. cond b (shown_in reply) []) m ∙ sym (ap (λ b. cond b (collection_of views resource answers r past now os ∷ []) []) m)) (cases_Bool (q == r))
   where
-    answered : q ≡ r → reply ≡ answer_of st (Collect q now os) → shown_in reply ≡ collection_of views resource row r past now os ∷ []
+    answered : q ≡ r → reply ≡ answer_of st (Collect q now os) → shown_in reply ≡ collection_of views resource answers r past now os ∷ []
     answered e t =
-        ap shown_in (t ∙ ap (collect_reply st.shared now os) (ap (slice_get st.readers) e ∙ a.parts r row h))
-        ∙ ap (λ c. c ∷ []) (collect_is views resource rows past st r row now os a)
+        ap shown_in (t ∙ ap (collect_reply st.shared now os) (ap (slice_get st.readers) e ∙ a.parts r answers h))
+        ∙ ap (λ c. c ∷ []) (collect_is views resource readers past st r answers now os a)
 
-    mine : (q == r) ≡ true → (asks_readers (Collect q now os) ≡ true) ⊎ (reply ≡ answer_of st (Collect q now os)) → cond (q == r) (shown_in reply) [] ≡ cond (q == r) (collection_of views resource row r past now os ∷ []) []
+    mine : (q == r) ≡ true → (asks_readers (Collect q now os) ≡ true) ⊎ (reply ≡ answer_of st (Collect q now os)) → cond (q == r) (shown_in reply) [] ≡ cond (q == r) (collection_of views resource answers r past now os ∷ []) []
     mine m (inl e) = absurd (false≢true e)
-    mine m (inr t) = ap (λ b. cond b (shown_in reply) []) m ∙ (answered (eqb-true q r m) t ∙ sym (ap (λ b. cond b (collection_of views resource row r past now os ∷ []) []) m))
-given_now views resource rows past st r row Flush reply a h w = refl
-given_now views resource rows past st r row Shutdown reply a h w = refl
+    mine m (inr t) = ap (λ b. cond b (shown_in reply) []) m ∙ (answered (eqb-true q r m) t ∙ sym (ap (λ b. cond b (collection_of views resource answers r past now os ∷ []) []) m))
+given_now views resource readers past st r answers Flush reply a h w = refl
+given_now views resource readers past st r answers Shutdown reply a h w = refl
 
 -- one that doesn't gives it nothing
 shown_none : (c : Call) (reply : Reply) → counts c reply ≡ false → shown_in reply ≡ []
@@ -340,86 +338,86 @@ given_none r Flush reply e = refl
 given_none r Shutdown reply e = refl
 
 -- ======== runs ========
-abbrev Claim : Views → Resource → List Row → List Call → List Call → List Reply → State → Type 0
-Claim views resource rows past calls replies new =
-    Agrees views resource rows (past ++ made calls replies) new
-    × ((r : ℕ) (row : Row) → slice_get rows r ≡ Some row → given r calls replies ≡ gather (made_by views resource row r) past (made calls replies))
+abbrev Claim : Views → Resource → List ReaderAnswers → List Call → List Call → List Reply → State → Type 0
+Claim views resource readers past calls replies new =
+    Agrees views resource readers (past ++ made calls replies) new
+    × ((r : ℕ) (answers : ReaderAnswers) → slice_get readers r ≡ Some answers → given r calls replies ≡ gather (made_by views resource answers r) past (made calls replies))
 
-run_join : (views : Views) (resource : Resource) (rows : List Row) (past : List Call) (old mid new : State) (c : Call) (reply : Reply) (calls : List Call) (replies : List Reply)
-    → Counted views old c reply mid → Agrees views resource rows past old
-    → ((past : List Call) → Agrees views resource rows past mid → Claim views resource rows past calls replies new)
-    → Claim views resource rows past (c ∷ calls) (reply ∷ replies) new
-run_join views resource rows past old mid new c reply calls replies s a ih = ⊎_elim idle counted s
+run_join : (views : Views) (resource : Resource) (readers : List ReaderAnswers) (past : List Call) (old mid new : State) (c : Call) (reply : Reply) (calls : List Call) (replies : List Reply)
+    → Counted views old c reply mid → Agrees views resource readers past old
+    → ((past : List Call) → Agrees views resource readers past mid → Claim views resource readers past calls replies new)
+    → Claim views resource readers past (c ∷ calls) (reply ∷ replies) new
+run_join views resource readers past old mid new c reply calls replies s a ih = ⊎_elim idle counted s
   where
     -- the claim once it is known whether the call counts
     Known : Bool → Type 0
-    Known b = Agrees views resource rows (past ++ cond b (c ∷ made calls replies) (made calls replies)) new
-        × ((r : ℕ) (row : Row) → slice_get rows r ≡ Some row → collected_by r c reply ++ given r calls replies ≡ gather (made_by views resource row r) past (cond b (c ∷ made calls replies) (made calls replies)))
+    Known b = Agrees views resource readers (past ++ cond b (c ∷ made calls replies) (made calls replies)) new
+        × ((r : ℕ) (answers : ReaderAnswers) → slice_get readers r ≡ Some answers → collected_by r c reply ++ given r calls replies ≡ gather (made_by views resource answers r) past (cond b (c ∷ made calls replies) (made calls replies)))
 
     A : State → Type 0
-    A st = Agrees views resource rows past st
+    A st = Agrees views resource readers past st
 
     B : State → Type 0
-    B st = Agrees views resource rows (past ++ c ∷ []) st
+    B st = Agrees views resource readers (past ++ c ∷ []) st
 
     C : List Call → Type 0
-    C l = Agrees views resource rows l new
+    C l = Agrees views resource readers l new
 
     idle : (counts c reply ≡ false) × (mid ≡ old) → Known (counts c reply)
     idle e =
         let q = ih past (subst A (sym e.1) a) in
-        subst Known (sym e.0) (q.0, λ r row h. ap (λ l. l ++ given r calls replies) (given_none r c reply e.0) ∙ q.1 r row h)
+        subst Known (sym e.0) (q.0, λ r answers h. ap (λ l. l ++ given r calls replies) (given_none r c reply e.0) ∙ q.1 r answers h)
 
     counted : (counts c reply ≡ true) × (mid ≡ accepted_after views old c) × ((asks_readers c ≡ true) ⊎ (reply ≡ answer_of old c)) → Known (counts c reply)
     counted e =
-        let q = ih (past ++ c ∷ []) (subst B (sym e.1) (agrees_after views resource rows past old c a)) in
-        subst Known (sym e.0) (subst C (append_assoc past (c ∷ []) (made calls replies)) q.0, λ r row h. (λ i. given_now views resource rows past old r row c reply a h e.2 i ++ q.1 r row h i))
+        let q = ih (past ++ c ∷ []) (subst B (sym e.1) (agrees_after views resource readers past old c a)) in
+        subst Known (sym e.0) (subst C (append_assoc past (c ∷ []) (made calls replies)) q.0, λ r answers h. (λ i. given_now views resource readers past old r answers c reply a h e.2 i ++ q.1 r answers h i))
 
-pub run_agrees : (views : Views) (resource : Resource) (rows : List Row) (past : List Call) (old new : State) (calls : List Call) (replies : List Reply) → Run views old calls replies new → Agrees views resource rows past old
-    → Claim views resource rows past calls replies new
-run_agrees views resource rows past old new [] [] run a =
-    let P : State → Type 0 = λ st. Agrees views resource rows past st in
-    let Q : List Call → Type 0 = λ l. Agrees views resource rows l new in
-    (subst Q (sym (append-nil past)) (subst P (sym run) a), λ r row h. refl)
-run_agrees views resource rows past old new [] (reply ∷ replies) run a = absurd run
-run_agrees views resource rows past old new (c ∷ calls) [] run a = absurd run
-run_agrees views resource rows past old new (c ∷ calls) (reply ∷ replies) run a =
-    run_join views resource rows past old run.0 new c reply calls replies (step_counted views old run.0 c reply run.1) a (λ p b. run_agrees views resource rows p run.0 new calls replies run.2 b)
+pub run_agrees : (views : Views) (resource : Resource) (readers : List ReaderAnswers) (past : List Call) (old new : State) (calls : List Call) (replies : List Reply) → Run views old calls replies new → Agrees views resource readers past old
+    → Claim views resource readers past calls replies new
+run_agrees views resource readers past old new [] [] run a =
+    let P : State → Type 0 = λ st. Agrees views resource readers past st in
+    let Q : List Call → Type 0 = λ l. Agrees views resource readers l new in
+    (subst Q (sym (append-nil past)) (subst P (sym run) a), λ r answers h. refl)
+run_agrees views resource readers past old new [] (reply ∷ replies) run a = absurd run
+run_agrees views resource readers past old new (c ∷ calls) [] run a = absurd run
+run_agrees views resource readers past old new (c ∷ calls) (reply ∷ replies) run a =
+    run_join views resource readers past old run.0 new c reply calls replies (step_counted views old run.0 c reply run.1) a (λ p b. run_agrees views resource readers p run.0 new calls replies run.2 b)
 
 -- ======== the laws ========
-pub part_is : (views : Views) (resource : Resource) (identity : ℕ) (rows : List Row) (calls : List Call) (replies : List Reply) (new : State) → IsRun views resource identity rows calls replies new
-    → (r : ℕ) (row : Row) (part : ReaderPart) → slice_get rows r ≡ Some row → slice_get new.readers r ≡ Some part → part ≡ part_of views row r (made calls replies)
-part_is views resource identity rows calls replies new run r row part h g =
-    some_is part (part_of views row r (made calls replies)) (sym g ∙ (run_agrees views resource rows [] (new_state resource identity rows) new calls replies run (agrees_new views resource identity rows)).0.parts r row h)
+pub part_is : (views : Views) (resource : Resource) (identity : ℕ) (readers : List ReaderAnswers) (calls : List Call) (replies : List Reply) (new : State) → IsRun views resource identity readers calls replies new
+    → (r : ℕ) (answers : ReaderAnswers) (part : ReaderPart) → slice_get readers r ≡ Some answers → slice_get new.readers r ≡ Some part → part ≡ part_of views answers r (made calls replies)
+part_is views resource identity readers calls replies new run r answers part h g =
+    some_is part (part_of views answers r (made calls replies)) (sym g ∙ (run_agrees views resource readers [] (new_state resource identity readers) new calls replies run (agrees_new views resource identity readers)).0.parts r answers h)
 
 map_same : {X : Type 0} (xs : List X) → map (λ x. x) xs ≡ xs
 map_same [] = refl
 map_same (x ∷ xs) = ap (λ l. x ∷ l) (map_same xs)
 
 pub streams_law : AreStreamsOfBuilds
-streams_law views resource identity rows calls replies new run r row part h g =
-    ap (λ (p : ReaderPart). map (λ (s : Stream). s.demand) p.streams) (part_is views resource identity rows calls replies new run r row part h g)
-    ∙ (map_both (λ (s : Stream). s.demand) (stream_in views row r (made calls replies)) (λ d. d) (streams_of views row (builds_in (made calls replies))) (λ d. refl)
-    ∙ map_same (streams_of views row (builds_in (made calls replies))))
+streams_law views resource identity readers calls replies new run r answers part h g =
+    ap (λ (p : ReaderPart). map (λ (s : Stream). s.demand) p.streams) (part_is views resource identity readers calls replies new run r answers part h g)
+    ∙ (map_both (λ (s : Stream). s.demand) (stream_in views answers r (made calls replies)) (λ d. d) (streams_of views answers (builds_in (made calls replies))) (λ d. refl)
+    ∙ map_same (streams_of views answers (builds_in (made calls replies))))
 
 pub feeds_law : AreFeedsOfBuilds
-feeds_law views resource identity rows calls replies new run r row part h g =
-    ap (λ (p : ReaderPart). p.feeds) (part_is views resource identity rows calls replies new run r row part h g)
+feeds_law views resource identity readers calls replies new run r answers part h g =
+    ap (λ (p : ReaderPart). p.feeds) (part_is views resource identity readers calls replies new run r answers part h g)
 
 pub places_law : ArePlacesOfHistories
-places_law views resource identity rows calls replies new run r row part h g =
-    ap (λ (p : ReaderPart). map (λ (s : Stream). map (λ (e : Entry). e.set) s.machine.table.entries) p.streams) (part_is views resource identity rows calls replies new run r row part h g)
-    ∙ map_both (λ (s : Stream). map (λ (e : Entry). e.set) s.machine.table.entries) (stream_in views row r (made calls replies))
-    (λ (d : Demand). places_of d.limit (window_of row d (history views row r d (made calls replies)))) (streams_of views row (builds_in (made calls replies)))
-    (λ d. places_are (aggregate_of d) (kind_of row d) d.limit (history views row r d (made calls replies)))
+places_law views resource identity readers calls replies new run r answers part h g =
+    ap (λ (p : ReaderPart). map (λ (s : Stream). map (λ (e : Entry). e.set) s.machine.table.entries) p.streams) (part_is views resource identity readers calls replies new run r answers part h g)
+    ∙ map_both (λ (s : Stream). map (λ (e : Entry). e.set) s.machine.table.entries) (stream_in views answers r (made calls replies))
+    (λ (d : Demand). places_of d.limit (window_of answers d (history views answers r d (made calls replies)))) (streams_of views answers (builds_in (made calls replies)))
+    (λ d. places_are (aggregate_of d) (kind_of answers d) d.limit (history views answers r d (made calls replies)))
 
 pub counted_law : AreCountedOfHistories
-counted_law views resource identity rows calls replies new run r row part h g =
-    ap (λ (p : ReaderPart). map (λ (s : Stream). map (λ (e : Entry). e.set) (filter (λ (e : Entry). e.counted) s.machine.table.entries)) p.streams) (part_is views resource identity rows calls replies new run r row part h g)
-    ∙ map_both (λ (s : Stream). map (λ (e : Entry). e.set) (filter (λ (e : Entry). e.counted) s.machine.table.entries)) (stream_in views row r (made calls replies))
-    (λ (d : Demand). counted (uncounted_of d.limit (window_of row d (history views row r d (made calls replies)))) (places_of d.limit (window_of row d (history views row r d (made calls replies))))) (streams_of views row (builds_in (made calls replies)))
-    (λ d. counted_are (aggregate_of d) (kind_of row d) d.limit (history views row r d (made calls replies)))
+counted_law views resource identity readers calls replies new run r answers part h g =
+    ap (λ (p : ReaderPart). map (λ (s : Stream). map (λ (e : Entry). e.set) (filter (λ (e : Entry). e.counted) s.machine.table.entries)) p.streams) (part_is views resource identity readers calls replies new run r answers part h g)
+    ∙ map_both (λ (s : Stream). map (λ (e : Entry). e.set) (filter (λ (e : Entry). e.counted) s.machine.table.entries)) (stream_in views answers r (made calls replies))
+    (λ (d : Demand). counted (uncounted_of d.limit (window_of answers d (history views answers r d (made calls replies)))) (places_of d.limit (window_of answers d (history views answers r d (made calls replies))))) (streams_of views answers (builds_in (made calls replies)))
+    (λ d. counted_are (aggregate_of d) (kind_of answers d) d.limit (history views answers r d (made calls replies)))
 
 pub collections_law : AreCollectionsOfHistories
-collections_law views resource identity rows calls replies new run r row h =
-    (run_agrees views resource rows [] (new_state resource identity rows) new calls replies run (agrees_new views resource identity rows)).1 r row h
+collections_law views resource identity readers calls replies new run r answers h =
+    (run_agrees views resource readers [] (new_state resource identity readers) new calls replies run (agrees_new views resource identity readers)).1 r answers h

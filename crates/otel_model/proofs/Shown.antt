@@ -10,7 +10,7 @@ use Rattle.otel_model_stream.specs.Windows.{Window, opening, more, cut, window, 
 use Rattle.otel_model_stream.specs.Totals.{recorded_total, points_total}
 use Rattle.otel_model.specs.Resources.{Resource}
 use Rattle.otel_model.specs.Calls.{Observed, Call, Meter, Build, Record, Bind, RecordBound, Unbind, Collect, Flush, Shutdown, Reply}
-use Rattle.otel_model.specs.Demands.{Identity, Demand, Views, Row, is_known}
+use Rattle.otel_model.specs.Demands.{Identity, Demand, Views, ReaderAnswers, is_known}
 use Rattle.otel_model.specs.Streams.{is_drained, is_delta, kind_of, aggregate_of}
 use Rattle.otel_model.specs.Collections.{shows_differences, difference}
 use Rattle.otel_model.specs.State.{State, Stream, ReaderPart}
@@ -42,15 +42,15 @@ collections_append a kind limit w (Event.RecordBound h v ∷ es) fs = collection
 collections_append a kind limit w (Event.Unbind h ∷ es) fs = collections_append a kind limit (more w (Event.Unbind h)) es fs
 collections_append a kind limit w (Event.Collect ∷ es) fs = ap (λ l. points_of a kind limit w ∷ l) (collections_append a kind limit (cut kind limit w) es fs)
 
-module _ (views : Views) (row : Row) (r : ℕ) (d : Demand) where
+module _ (views : Views) (answers : ReaderAnswers) (r : ℕ) (d : Demand) where
   abbrev feeds_in : List Call → List (List Identity)
-  feeds_in past = feeds_of views row [] (builds_in past)
+  feeds_in past = feeds_of views answers [] (builds_in past)
 
   abbrev cut_into : Window → List Event → List (List Point)
-  cut_into w es = collections (aggregate_of d) (kind_of row d) d.limit w es
+  cut_into w es = collections (aggregate_of d) (kind_of answers d) d.limit w es
 
   abbrev go_on : Window → List Event → Window
-  go_on w es = window (kind_of row d) d.limit w es
+  go_on w es = window (kind_of answers d) d.limit w es
 
   observed_none : (feeds : List (List Identity)) (os : List Observed) (w : Window) → cut_into w (observed feeds d os) ≡ []
   observed_none feeds [] w = refl
@@ -61,46 +61,46 @@ module _ (views : Views) (row : Row) (r : ℕ) (d : Demand) where
       go false ih = ih w
 
   -- what a call sends is cut into what its collection shows
-  shown_is : (before : List Call) (c : Call) → cut_into (window_of row d (history views row r d before)) (sent (feeds_in before) (binds_in before) d c) ≡ shown_by views row r d before c
+  shown_is : (before : List Call) (c : Call) → cut_into (window_of answers d (history views answers r d before)) (sent (feeds_in before) (binds_in before) d c) ≡ shown_by views answers r d before c
   shown_is before (Meter scope) = refl
   shown_is before (Build meter about now) = refl
   shown_is before (Record n v l) = go (is_fed (feeds_in before) n d.identity)
     where
-      go : (b : Bool) → cut_into (window_of row d (history views row r d before)) (cond b (Event.Record (set_for d l) v.amount ∷ []) []) ≡ []
+      go : (b : Bool) → cut_into (window_of answers d (history views answers r d before)) (cond b (Event.Record (set_for d l) v.amount ∷ []) []) ≡ []
       go true = refl
       go false = refl
   shown_is before (Bind n l) = go (is_fed (feeds_in before) n d.identity)
     where
-      go : (b : Bool) → cut_into (window_of row d (history views row r d before)) (cond b (Event.Bind (binds_in before) (set_for d l) ∷ []) []) ≡ []
+      go : (b : Bool) → cut_into (window_of answers d (history views answers r d before)) (cond b (Event.Bind (binds_in before) (set_for d l) ∷ []) []) ≡ []
       go true = refl
       go false = refl
   shown_is before (RecordBound h v) = refl
   shown_is before (Unbind h) = refl
   shown_is before (Collect q now os) =
-      collections_append (aggregate_of d) (kind_of row d) d.limit (window_of row d (history views row r d before)) (observed (feeds_in before) d os) (Event.Collect ∷ [])
-      ∙ (λ i. observed_none (feeds_in before) os (window_of row d (history views row r d before)) i
-      ++ points_of (aggregate_of d) (kind_of row d) d.limit (sym (window_append (kind_of row d) d.limit opening (history views row r d before) (observed (feeds_in before) d os)) i) ∷ [])
+      collections_append (aggregate_of d) (kind_of answers d) d.limit (window_of answers d (history views answers r d before)) (observed (feeds_in before) d os) (Event.Collect ∷ [])
+      ∙ (λ i. observed_none (feeds_in before) os (window_of answers d (history views answers r d before)) i
+      ++ points_of (aggregate_of d) (kind_of answers d) d.limit (sym (window_append (kind_of answers d) d.limit opening (history views answers r d before) (observed (feeds_in before) d os)) i) ∷ [])
   shown_is before Flush = refl
   shown_is before Shutdown = refl
 
-  shown_at_is : (before : List Call) (c : Call) → cut_into (window_of row d (history views row r d before)) (events_at views row r d before c) ≡ shown_at views row r d before c
-  shown_at_is before c = go (is_known (demands_of views row [] (builds_in before)) d.identity) (concerns r c)
+  shown_at_is : (before : List Call) (c : Call) → cut_into (window_of answers d (history views answers r d before)) (events_at views answers r d before c) ≡ shown_at views answers r d before c
+  shown_at_is before c = go (is_known (demands_of views answers [] (builds_in before)) d.identity) (concerns r c)
     where
-      go : (k m : Bool) → cut_into (window_of row d (history views row r d before)) (cond k (cond m (sent (feeds_in before) (binds_in before) d c) []) []) ≡ cond k (cond m (shown_by views row r d before c) []) []
+      go : (k m : Bool) → cut_into (window_of answers d (history views answers r d before)) (cond k (cond m (sent (feeds_in before) (binds_in before) d c) []) []) ≡ cond k (cond m (shown_by views answers r d before c) []) []
       go true true = shown_is before c
       go true false = refl
       go false m = refl
 
   -- all collections
-  shown_from : (before calls : List Call) → gather (shown_at views row r d) before calls ≡ cut_into (window_of row d (history views row r d before)) (gather (events_at views row r d) before calls)
+  shown_from : (before calls : List Call) → gather (shown_at views answers r d) before calls ≡ cut_into (window_of answers d (history views answers r d before)) (gather (events_at views answers r d) before calls)
   shown_from before [] = refl
   shown_from before (c ∷ cs) =
       (λ i. sym (shown_at_is before c) i ++ shown_from (before ++ c ∷ []) cs i)
-      ∙ sym (collections_append (aggregate_of d) (kind_of row d) d.limit (window_of row d (history views row r d before)) (events_at views row r d before c) (gather (events_at views row r d) (before ++ c ∷ []) cs)
-      ∙ ap (λ w. cut_into (window_of row d (history views row r d before)) (events_at views row r d before c) ++ cut_into w (gather (events_at views row r d) (before ++ c ∷ []) cs))
-      (sym (ap (window_of row d) (gather_push (events_at views row r d) [] before c) ∙ window_append (kind_of row d) d.limit opening (history views row r d before) (events_at views row r d before c))))
+      ∙ sym (collections_append (aggregate_of d) (kind_of answers d) d.limit (window_of answers d (history views answers r d before)) (events_at views answers r d before c) (gather (events_at views answers r d) (before ++ c ∷ []) cs)
+      ∙ ap (λ w. cut_into (window_of answers d (history views answers r d before)) (events_at views answers r d before c) ++ cut_into w (gather (events_at views answers r d) (before ++ c ∷ []) cs))
+      (sym (ap (window_of answers d) (gather_push (events_at views answers r d) [] before c) ∙ window_append (kind_of answers d) d.limit opening (history views answers r d before) (events_at views answers r d before c))))
 
-  pub shown_points_are : (calls : List Call) → shown_points views row r d calls ≡ cut_into opening (history views row r d calls)
+  pub shown_points_are : (calls : List Call) → shown_points views answers r d calls ≡ cut_into opening (history views answers r d calls)
   shown_points_are calls = shown_from [] calls
 
 -- ======== the streams of a run ========
@@ -110,50 +110,50 @@ get_of_map f (x ∷ xs) zero y e = (x, sym (some_is (f x) y e))
 get_of_map f (x ∷ xs) (suc j) y e = get_of_map f xs j y e
 
 -- each stream is read off the calls made
-pub stream_is : (views : Views) (resource : Resource) (identity : ℕ) (rows : List Row) (calls : List Call) (replies : List Reply) (new : State) → IsRun views resource identity rows calls replies new
-    → (r : ℕ) (row : Row) (part : ReaderPart) → slice_get rows r ≡ Some row → slice_get new.readers r ≡ Some part
-    → (j : ℕ) (s : Stream) → slice_get part.streams j ≡ Some s → (d : Demand) × (s ≡ stream_in views row r (made calls replies) d)
-stream_is views resource identity rows calls replies new run r row part h g j s e =
+pub stream_is : (views : Views) (resource : Resource) (identity : ℕ) (readers : List ReaderAnswers) (calls : List Call) (replies : List Reply) (new : State) → IsRun views resource identity readers calls replies new
+    → (r : ℕ) (answers : ReaderAnswers) (part : ReaderPart) → slice_get readers r ≡ Some answers → slice_get new.readers r ≡ Some part
+    → (j : ℕ) (s : Stream) → slice_get part.streams j ≡ Some s → (d : Demand) × (s ≡ stream_in views answers r (made calls replies) d)
+stream_is views resource identity readers calls replies new run r answers part h g j s e =
     let past = made calls replies in
-    get_of_map (stream_in views row r past) (streams_of views row (builds_in past)) j s
-    (sym (ap (λ (p : ReaderPart). slice_get p.streams j) (part_is views resource identity rows calls replies new run r row part h g)) ∙ e)
+    get_of_map (stream_in views answers r past) (streams_of views answers (builds_in past)) j s
+    (sym (ap (λ (p : ReaderPart). slice_get p.streams j) (part_is views resource identity readers calls replies new run r answers part h g)) ∙ e)
 
 -- ======== totals ========
 pub recorded_law : IsRecordedTotal
-recorded_law views resource identity rows calls replies new run r row part h g j s e =
+recorded_law views resource identity readers calls replies new run r answers part h g j s e =
     let past = made calls replies in
-    let q = stream_is views resource identity rows calls replies new run r row part h g j s e in
-    let P : Stream → Type 0 = λ s. s.recorded ≡ wrapped (recorded_in views row r s.demand past) in
-    subst P (sym q.1) (recorded_is row q.0 (history views row r q.0 past))
+    let q = stream_is views resource identity readers calls replies new run r answers part h g j s e in
+    let P : Stream → Type 0 = λ s. s.recorded ≡ wrapped (recorded_in views answers r s.demand past) in
+    subst P (sym q.1) (recorded_is answers q.0 (history views answers r q.0 past))
 
 wrapped_if : (b : Bool) (n : ℕ) → cond b (wrapped n) 0 ≡ wrapped (cond b n 0)
 wrapped_if true n = refl
 wrapped_if false n = refl
 
-exported_is : (views : Views) (row : Row) (r : ℕ) (d : Demand) (past : List Call) → (stream_in views row r past d).exported ≡ wrapped (exported_in views row r d past)
-exported_is views row r d past = wrapped_if (is_delta row d) (sum_by points_total (shown_points views row r d past))
+exported_is : (views : Views) (answers : ReaderAnswers) (r : ℕ) (d : Demand) (past : List Call) → (stream_in views answers r past d).exported ≡ wrapped (exported_in views answers r d past)
+exported_is views answers r d past = wrapped_if (is_delta answers d) (sum_by points_total (shown_points views answers r d past))
 
 pub exported_law : IsExportedTotal
-exported_law views resource identity rows calls replies new run r row part h g j s e =
+exported_law views resource identity readers calls replies new run r answers part h g j s e =
     let past = made calls replies in
-    let q = stream_is views resource identity rows calls replies new run r row part h g j s e in
-    let P : Stream → Type 0 = λ s. s.exported ≡ wrapped (exported_in views row r s.demand past) in
-    subst P (sym q.1) (exported_is views row r q.0 past)
+    let q = stream_is views resource identity readers calls replies new run r answers part h g j s e in
+    let P : Stream → Type 0 = λ s. s.exported ≡ wrapped (exported_in views answers r s.demand past) in
+    subst P (sym q.1) (exported_is views answers r q.0 past)
 
 zero_plus : (n : ℕ) → 0 + n ≡ n
 zero_plus n = omega arith
 
-kind_when : (row : Row) (d : Demand) → is_drained d ≡ false → kind_of row d ≡ cond (is_delta row d) Delta Cumulative
-kind_when row d e = ap (λ b. cond b Drained (cond (is_delta row d) Delta Cumulative)) e
+kind_when : (answers : ReaderAnswers) (d : Demand) → is_drained d ≡ false → kind_of answers d ≡ cond (is_delta answers d) Delta Cumulative
+kind_when answers d e = ap (λ b. cond b Drained (cond (is_delta answers d) Delta Cumulative)) e
 
-conserved_in : (views : Views) (row : Row) (r : ℕ) (d : Demand) (past : List Call) → is_drained d ≡ false
-    → wrapped (exported_in views row r d past + points_total (window_points row d (history views row r d past))) ≡ wrapped (recorded_in views row r d past)
-conserved_in views row r d past e =
-    (λ i. wrapped (cond (is_delta row d) (sum_by points_total (shown_points_are views row r d past i)) 0 + points_total (window_points row d h)))
-    ∙ go (is_delta row d) (kind_of row d) (kind_when row d e)
+conserved_in : (views : Views) (answers : ReaderAnswers) (r : ℕ) (d : Demand) (past : List Call) → is_drained d ≡ false
+    → wrapped (exported_in views answers r d past + points_total (window_points answers d (history views answers r d past))) ≡ wrapped (recorded_in views answers r d past)
+conserved_in views answers r d past e =
+    (λ i. wrapped (cond (is_delta answers d) (sum_by points_total (shown_points_are views answers r d past i)) 0 + points_total (window_points answers d h)))
+    ∙ go (is_delta answers d) (kind_of answers d) (kind_when answers d e)
   where
     h : List Event
-    h = history views row r d past
+    h = history views answers r d past
 
     Claim : Bool → Kind → Type 0
     Claim b k = wrapped (cond b (sum_by points_total (collections (aggregate_of d) k d.limit opening h)) 0 + points_total (points_of (aggregate_of d) k d.limit (window k d.limit opening h)))
@@ -163,27 +163,27 @@ conserved_in views row r d past e =
     go true k e = subst (Claim true) (sym e) (delta_total (aggregate_of d) d.limit h)
     go false k e = subst (Claim false) (sym e) (ap wrapped (zero_plus (points_total (points_of (aggregate_of d) Cumulative d.limit (window Cumulative d.limit opening h)))) ∙ cumulative_total (aggregate_of d) d.limit h)
 
-conserved_stream : (views : Views) (row : Row) (r : ℕ) (d : Demand) (past : List Call) → is_drained d ≡ false
-    → (stream_in views row r past d).recorded ≡ wrapped ((stream_in views row r past d).exported + points_total (points (kind_of row d) (stream_in views row r past d).machine))
-conserved_stream views row r d past e =
-    recorded_is row d (history views row r d past)
-    ∙ (sym (conserved_in views row r d past e)
-    ∙ sym ((λ i. wrapped (exported_is views row r d past i + points_total (points_run row d (history views row r d past) i)))
-    ∙ mod-add-mod (exported_in views row r d past) (2 ^ 64) (points_total (window_points row d (history views row r d past)))))
+conserved_stream : (views : Views) (answers : ReaderAnswers) (r : ℕ) (d : Demand) (past : List Call) → is_drained d ≡ false
+    → (stream_in views answers r past d).recorded ≡ wrapped ((stream_in views answers r past d).exported + points_total (points (kind_of answers d) (stream_in views answers r past d).machine))
+conserved_stream views answers r d past e =
+    recorded_is answers d (history views answers r d past)
+    ∙ (sym (conserved_in views answers r d past e)
+    ∙ sym ((λ i. wrapped (exported_is views answers r d past i + points_total (points_run answers d (history views answers r d past) i)))
+    ∙ mod-add-mod (exported_in views answers r d past) (2 ^ 64) (points_total (window_points answers d (history views answers r d past)))))
 
 pub conserved_law : IsConserved
-conserved_law views resource identity rows calls replies new run r row part h g j s e u =
+conserved_law views resource identity readers calls replies new run r answers part h g j s e u =
     let past = made calls replies in
-    let q = stream_is views resource identity rows calls replies new run r row part h g j s e in
-    let P : Stream → Type 0 = λ s. is_drained s.demand ≡ false → s.recorded ≡ wrapped (s.exported + points_total (points (kind_of row s.demand) s.machine)) in
-    subst P (sym q.1) (conserved_stream views row r q.0 past) u
+    let q = stream_is views resource identity readers calls replies new run r answers part h g j s e in
+    let P : Stream → Type 0 = λ s. is_drained s.demand ≡ false → s.recorded ≡ wrapped (s.exported + points_total (points (kind_of answers s.demand) s.machine)) in
+    subst P (sym q.1) (conserved_stream views answers r q.0 past) u
 
 -- ======== one collection ========
 pub all_shown_law : IsAllShown
-all_shown_law views row r d calls events e f =
-    let es = history views row r d calls ++ events in
+all_shown_law views answers r d calls events e f =
+    let es = history views answers r d calls ++ events in
     let P : Kind → Type 0 = λ k. wrapped (points_total (points_of (aggregate_of d) k d.limit (window k d.limit opening es))) ≡ wrapped (recorded_total (aggregate_of d) es) in
-    subst P (sym (kind_when row d e ∙ ap (λ b. cond b Delta Cumulative) f)) (cumulative_total (aggregate_of d) d.limit es)
+    subst P (sym (kind_when answers d e ∙ ap (λ b. cond b Delta Cumulative) f)) (cumulative_total (aggregate_of d) d.limit es)
 
 -- differences are as many
 few_differences : (b : Bool) (before ps : List Point) (n : ℕ) → length ps ≤ n → length (cond b (map (difference before) ps) ps) ≤ n
@@ -191,5 +191,5 @@ few_differences true before ps n h = rw (length-map ps (difference before)) h
 few_differences false before ps n h = h
 
 pub few_law : ArePointsFew
-few_law views row r d calls events = few_differences (shows_differences row d) (reported_of views row r d calls) (window_points row d (history views row r d calls ++ events)) (d.limit + 2)
-    (few_are (aggregate_of d) (kind_of row d) d.limit (history views row r d calls ++ events))
+few_law views answers r d calls events = few_differences (shows_differences answers d) (reported_of views answers r d calls) (window_points answers d (history views answers r d calls ++ events)) (d.limit + 2)
+    (few_are (aggregate_of d) (kind_of answers d) d.limit (history views answers r d calls ++ events))

@@ -264,5 +264,5 @@ as_alone views old new (call ∷ calls) [] run = absurd run
 as_alone views old new (call ∷ calls) (reply ∷ replies) run = join views old run.0 call reply calls replies (step_cases views old run.0 call reply run.1) (as_alone views run.0 new calls replies run.2)
 
 pub as_only : IsAsOnlyReader
-as_only views resource identity rows calls replies new run r row h =
-    as_alone views (new_state resource identity rows) new calls replies run r (new_part row) (get_map new_part rows r row h)
+as_only views resource identity readers calls replies new run r answers h =
+    as_alone views (new_state resource identity readers) new calls replies run r (new_part answers) (get_map new_part readers r answers h)

@@ -1,11 +1,12 @@
--- The calls of a provider and their replies, as plain data.
+-- The calls of a provider and their replies, as plain data. What a collection gives is the data of `otel_data` itself.
 use Rattle.std.specs.Prelude.{ℕ, ◌+◌, nat_eq, ℤ, Bool, true, false, cond, List, map, Option, Some, None}
 use Rattle.otel_common.specs.declared.attributes.KeyValue.{KeyValue}
 use Rattle.otel_common.specs.declared.scopes.InstrumentationScope.{InstrumentationScope}
-use Rattle.otel_model_stream.specs.Folds.{Amount, Spread}
-use Rattle.otel_model_stream.specs.Sets.{AttributeSet}
+use Rattle.otel_data.specs.declared.collections.ResourceMetrics.{ResourceMetrics}
+pub use Rattle.otel_stream.specs.declared.instrument.InstrumentKind.{InstrumentKind}
+pub use Rattle.otel_stream.specs.declared.instrument.InstrumentKind.TheVariants.{Counter, UpDownCounter, Histogram, ObservableCounter, ObservableUpDownCounter, Gauge, ObservableGauge}
+use Rattle.otel_model_stream.specs.Folds.{Amount}
 use Rattle.otel_model.specs.Checks.{is_within}
-use Rattle.otel_model.specs.Resources.{Resource}
 
 -- the bytes of a text
 abbrev pub Text : Type 0
@@ -21,15 +22,6 @@ or_else None d = d
 or_else (Some x) d = x
 
 -- ======== instruments ========
-pub data InstrumentKind : Type 0 where
-  Counter : InstrumentKind
-  UpDownCounter : InstrumentKind
-  Histogram : InstrumentKind
-  ObservableCounter : InstrumentKind
-  ObservableUpDownCounter : InstrumentKind
-  Gauge : InstrumentKind
-  ObservableGauge : InstrumentKind
-
 -- its place in the list of kinds
 abbrev pub kind_number : InstrumentKind → ℕ
 kind_number Counter = 0
@@ -105,37 +97,11 @@ pub data Fault : Type 0 where
   UseWorker : Fault
   WorkersMissing : Fault
 
--- the points of a metric: a set of attributes, and the 64 bits of its value or the totals of its histogram
-pub data Content : Type 0 where
-  Gauge : (points : List (AttributeSet × ℕ)) → Content
-  Sum : (is_delta : Bool) (is_monotonic : Bool) (points : List (AttributeSet × ℕ)) → Content
-  Histogram : (is_delta : Bool) (bounds : List ℤ) (points : List (AttributeSet × Spread)) → Content
-
--- a stream's part of a collection
-pub record Metric : Type 0 where
-  pub name : Text
-  pub description : Text
-  pub unit : Text
-  pub signed : Bool
-  pub content : Content
-  pub start : ℕ
-  pub time : ℕ
-
--- the metrics of one scope
-pub record ScopeMetrics : Type 0 where
-  pub scope : InstrumentationScope
-  pub metrics : List Metric
-
--- what a collection answers
-pub record Collection : Type 0 where
-  pub resource : Resource
-  pub scopes : List ScopeMetrics
-
 -- what a call answers
 pub data Reply : Type 0 where
   Meter : (number : Option ℕ) → Reply
   Instrument : (number : ℕ) → Reply
   Handle : (number : ℕ) → Reply
   Done : Reply
-  Collected : (collection : Collection) → Reply
+  Collected : (collection : ResourceMetrics) → Reply
   Refused : (fault : Fault) → Reply

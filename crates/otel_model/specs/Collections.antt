@@ -1,17 +1,30 @@
 -- What a collection has (Metrics SDK, "MetricReader" and "Metric points" of the data model).
-use Rattle.std.specs.Prelude.{ℕ, ◌+◌, ◌-◌, ◌^◌, nat_lt, Bool, false, cond, ◌&&◌, List, [], ◌∷◌, map, filter, length}
+use Rattle.std.specs.Prelude.{ℕ, ◌+◌, ◌-◌, ◌^◌, nat_lt, ℤ, pos, negsuc, Bool, true, false, cond, ◌&&◌, List, [], ◌∷◌, map, filter, length}
+use Rattle.std.specs.Int.{cast_signed, w64}
+use Rattle.std.specs.Option.{option_map}
 use Rattle.otel_common.specs.Equality.{set_eq}
 use Rattle.otel_common.specs.Scopes.{scope_eq}
+use Rattle.otel_common.specs.declared.metrics.Temporality.{Temporality}
+use Rattle.otel_common.specs.declared.metrics.Temporality.TheVariants.{Cumulative, Delta}
+use Rattle.otel_common.specs.declared.resource.Resource.{Resource}
 use Rattle.otel_common.specs.declared.scopes.InstrumentationScope.{InstrumentationScope}
+use Rattle.otel_data.specs.declared.aggregated.AggregatedMetrics.{AggregatedMetrics}
+use Rattle.otel_data.specs.declared.aggregated.AggregatedMetrics.TheVariants as AggregatedMetrics
+use Rattle.otel_data.specs.declared.aggregated.MetricData.{MetricData}
+use Rattle.otel_data.specs.declared.aggregated.MetricData.TheVariants as MetricData
+use Rattle.otel_data.specs.declared.collections.Metric.{Metric}
+use Rattle.otel_data.specs.declared.collections.ResourceMetrics.{ResourceMetrics}
+use Rattle.otel_data.specs.declared.collections.ScopeMetrics.{ScopeMetrics}
+use Rattle.otel_data.specs.declared.points.GaugeDataPoint.{GaugeDataPoint}
+use Rattle.otel_data.specs.declared.points.HistogramDataPoint.{HistogramDataPoint}
+use Rattle.otel_data.specs.declared.points.SumDataPoint.{SumDataPoint}
 use Rattle.otel_model_stream.specs.Sets.{AttributeSet}
 use Rattle.otel_model_stream.specs.Folds.{Fold, Total, Last, Spreads, Spread, no_spread, wrapped}
 use Rattle.otel_model_stream.specs.Events.{Point}
-use Rattle.otel_model.specs.Resources.{Resource}
-use Rattle.otel_model.specs.Calls.{Content, Metric, ScopeMetrics, Collection}
-use Rattle.otel_model.specs.Demands.{Aggregation, Row, Demand}
+use Rattle.otel_model.specs.Demands.{Aggregation, ReaderAnswers, Demand}
 use Rattle.otel_model.specs.Streams.{is_drained, is_delta, is_monotonic_kind}
 
--- ======== points ========
+-- ======== folds ========
 -- the value of a sum or of a last value
 abbrev pub value_of : Fold → ℕ
 value_of (Total n) = n
@@ -24,18 +37,10 @@ spread_of (Total n) = no_spread false false 0
 spread_of (Last n) = no_spread false false 0
 spread_of (Spreads s) = s
 
--- a point of a sum or gauge
-abbrev pub value_point : Point → AttributeSet × ℕ
-value_point p = (p.0, value_of p.1)
-
--- a point of a histogram
-abbrev pub spread_point : Point → AttributeSet × Spread
-spread_point p = (p.0, spread_of p.1)
-
 -- ======== differences ========
 -- a sum of values that were summed before shows in a delta stream what was added since its collection before
-abbrev pub shows_differences : Row → Demand → Bool
-shows_differences row d = is_drained d && is_delta row d
+abbrev pub shows_differences : ReaderAnswers → Demand → Bool
+shows_differences answers d = is_drained d && is_delta answers d
 
 -- the value that a set had in the collection before, 0 if it had no point there
 abbrev pub value_before : List Point → AttributeSet → ℕ
@@ -51,34 +56,90 @@ abbrev pub difference : List Point → Point → Point
 difference before p = (p.0, Last (less (value_of p.1) (value_before before p.0)))
 
 -- the points of a stream, as differences where it shows these
-abbrev pub differences : Row → Demand → List Point → List Point → List Point
-differences row d before ps = cond (shows_differences row d) (map (difference before) ps) ps
+abbrev pub differences : ReaderAnswers → Demand → List Point → List Point → List Point
+differences answers d before ps = cond (shows_differences answers d) (map (difference before) ps) ps
+
+-- ======== points ========
+-- the points of a metric, each a set with the fold of its records. No exemplars are kept
+module _ {T : Type 0} (of_bits : ℕ → T) (of_whole : ℤ → T) where
+  abbrev pub gauge_point : Point → GaugeDataPoint T
+  gauge_point p = record { attributes = p.0; exemplars = []; value = of_bits (value_of p.1) }
+
+  abbrev pub sum_point : Point → SumDataPoint T
+  sum_point p = record { attributes = p.0; exemplars = []; value = of_bits (value_of p.1) }
+
+  abbrev pub histogram_point : List ℤ → Point → HistogramDataPoint T
+  histogram_point bounds p = record {
+    attributes = p.0;
+    exemplars = [];
+    bounds = bounds;
+    bucket_counts = (spread_of p.1).counts;
+    count = (spread_of p.1).count;
+    min = option_map of_whole (spread_of p.1).least;
+    max = option_map of_whole (spread_of p.1).greatest;
+    sum = of_bits (spread_of p.1).sum;
+  }
+
+  -- since the moment `since`, collected at the moment `now`
+  abbrev pub gauge_of : ℕ → ℕ → List Point → MetricData T
+  gauge_of since now ps = MetricData.Gauge (record { data_points = map gauge_point ps; start_time = since; time = now })
+
+  abbrev pub sum_of : Temporality → Bool → ℕ → ℕ → List Point → MetricData T
+  sum_of temporality is_monotonic since now ps = MetricData.Sum (record { data_points = map sum_point ps; start_time = since; time = now; temporality = temporality; is_monotonic = is_monotonic })
+
+  abbrev pub histogram_of : Temporality → List ℤ → ℕ → ℕ → List Point → MetricData T
+  histogram_of temporality bounds since now ps = MetricData.Histogram (record { data_points = map (histogram_point bounds) ps; start_time = since; time = now; temporality = temporality })
+
+  -- as the aggregation says. What is dropped or has no aggregation makes no stream
+  abbrev pub data_by : Temporality → Bool → Aggregation → ℕ → ℕ → List Point → MetricData T
+  data_by temporality is_monotonic Aggregation.Drop since now ps = gauge_of since now ps
+  data_by temporality is_monotonic Aggregation.Default since now ps = gauge_of since now ps
+  data_by temporality is_monotonic Aggregation.Sum since now ps = sum_of temporality is_monotonic since now ps
+  data_by temporality is_monotonic Aggregation.LastValue since now ps = gauge_of since now ps
+  data_by temporality is_monotonic (Aggregation.ExplicitBucketHistogram bounds m) since now ps = histogram_of temporality bounds since now ps
 
 -- ======== metrics ========
-abbrev pub content_of : Row → Demand → Aggregation → List Point → Content
-content_of row d Aggregation.Drop ps = Content.Gauge (map value_point ps)
-content_of row d Aggregation.Default ps = Content.Gauge (map value_point ps)
-content_of row d Aggregation.Sum ps = Content.Sum (is_delta row d) (is_monotonic_kind d.identity.kind) (map value_point ps)
-content_of row d Aggregation.LastValue ps = Content.Gauge (map value_point ps)
-content_of row d (Aggregation.ExplicitBucketHistogram bounds m) ps = Content.Histogram (is_delta row d) bounds (map spread_point ps)
+-- what a collection says of a stream's temporality
+abbrev pub exported_temporality : ReaderAnswers → Demand → Temporality
+exported_temporality answers d = cond (is_delta answers d) Delta Cumulative
+
+-- the number of type `u64` that a whole number is
+abbrev pub natural : ℤ → ℕ
+natural (pos n) = n
+natural (negsuc n) = 0
+
+-- the number of type `i64` with these 64 bits
+abbrev pub signed_of : ℕ → ℤ
+signed_of n = cast_signed w64 n
+
+-- the points of a stream, as numbers of its type: signed is `i64`, else `u64`
+abbrev pub aggregated : Bool → Temporality → Bool → Aggregation → ℕ → ℕ → List Point → AggregatedMetrics
+aggregated false temporality is_monotonic a since now ps = AggregatedMetrics.U64 (data_by (λ n. n) natural temporality is_monotonic a since now ps)
+aggregated true temporality is_monotonic a since now ps = AggregatedMetrics.I64 (data_by signed_of (λ z. z) temporality is_monotonic a since now ps)
+
+-- of a demand
+abbrev pub content_of : ReaderAnswers → Demand → ℕ → ℕ → List Point → AggregatedMetrics
+content_of answers d since now ps = aggregated d.identity.signed (exported_temporality answers d) (is_monotonic_kind d.identity.kind) d.aggregation since now ps
 
 -- the metric of a stream: its spelling, the rest of its name from its identity, its points, its moments
-abbrev pub metric : Row → ℕ → ℕ → List Point → Demand → List Point → Metric
-metric row now since before d ps = record {
+abbrev pub metric : ReaderAnswers → ℕ → ℕ → List Point → Demand → List Point → Metric
+metric answers now since before d ps = record {
   name = d.spelling;
   description = d.identity.description;
   unit = d.identity.unit;
-  signed = d.identity.signed;
-  content = content_of row d d.aggregation (differences row d before ps);
-  start = since;
-  time = now;
+  content = content_of answers d since now (differences answers d before ps);
 }
 
 -- how many points a metric has
-abbrev pub number_of_points : Content → ℕ
-number_of_points (Content.Gauge ps) = length ps
-number_of_points (Content.Sum is_delta is_monotonic ps) = length ps
-number_of_points (Content.Histogram is_delta bounds ps) = length ps
+abbrev pub points_in : {T : Type 0} → MetricData T → ℕ
+points_in (MetricData.Gauge gauge) = length gauge.data_points
+points_in (MetricData.Sum sum) = length sum.data_points
+points_in (MetricData.Histogram histogram) = length histogram.data_points
+
+-- of either number type
+abbrev pub number_of_points : AggregatedMetrics → ℕ
+number_of_points (AggregatedMetrics.U64 points) = points_in points
+number_of_points (AggregatedMetrics.I64 points) = points_in points
 
 -- whether it has some
 abbrev pub has_points : Metric → Bool
@@ -98,5 +159,5 @@ abbrev pub has_metrics : ScopeMetrics → Bool
 has_metrics s = nat_lt 0 (length s.metrics)
 
 -- the scopes that have metrics, in order of their meters
-abbrev pub collection : Resource → List InstrumentationScope → List ScopedMetric → Collection
-collection resource meters ms = record { resource = resource; scopes = filter has_metrics (map (in_scope ms) meters) }
+abbrev pub collection : Resource → List InstrumentationScope → List ScopedMetric → ResourceMetrics
+collection resource meters ms = record { resource = resource; scope_metrics = filter has_metrics (map (in_scope ms) meters) }

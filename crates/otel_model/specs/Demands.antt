@@ -4,7 +4,11 @@ use Rattle.std.specs.Bool.{beq}
 use Rattle.std.specs.List.{list_any}
 use Rattle.otel_common.specs.Equality.{bytes_eq}
 use Rattle.otel_common.specs.Scopes.{scope_eq}
+pub use Rattle.otel_common.specs.Temporalities.{resets}
+pub use Rattle.otel_common.specs.declared.metrics.Temporality.{Temporality}
+pub use Rattle.otel_common.specs.declared.metrics.Temporality.TheVariants.{Cumulative, Delta, LowMemory}
 use Rattle.otel_common.specs.declared.scopes.InstrumentationScope.{InstrumentationScope}
+pub use Rattle.otel_stream.specs.Preferences.{temporality_preference}
 use Rattle.otel_model_stream.specs.Sets.{AllowList}
 use Rattle.otel_model.specs.Checks.{is_good_name, optional_unit_fault, rises}
 use Rattle.otel_model.specs.Calls.{Text, lowered, or_else, InstrumentKind, Counter, UpDownCounter, Histogram, ObservableCounter, ObservableUpDownCounter, Gauge, ObservableGauge, kind_number, kind_eq, About}
@@ -99,28 +103,6 @@ View = Instrument → Option StreamSpec
 abbrev pub Views : Type 0
 Views = List View
 
--- what a reader may answer for a kind
-pub data Temporality : Type 0 where
-  Cumulative : Temporality
-  Delta : Temporality
-  LowMemory : Temporality
-
--- only `Delta` resets
-abbrev pub resets : Temporality → Bool
-resets Cumulative = false
-resets Delta = true
-resets LowMemory = false
-
--- what a reader of this temporality prefers for a kind
-abbrev pub temporality_preference : InstrumentKind → Temporality → Temporality
-temporality_preference kind Cumulative = Cumulative
-temporality_preference UpDownCounter Delta = Cumulative
-temporality_preference ObservableUpDownCounter Delta = Cumulative
-temporality_preference kind Delta = Delta
-temporality_preference Counter LowMemory = Delta
-temporality_preference Histogram LowMemory = Delta
-temporality_preference kind LowMemory = Cumulative
-
 -- what a reader answers for one kind: the temporality, and perhaps the limit and the aggregation of streams
 pub record Answer : Type 0 where
   pub temporality : Temporality
@@ -128,24 +110,28 @@ pub record Answer : Type 0 where
   pub aggregation : Option Aggregation
 
 -- its answers for the seven kinds, in the order of `kinds`
-abbrev pub Row : Type 0
-Row = List Answer
+abbrev pub ReaderAnswers : Type 0
+ReaderAnswers = List Answer
 
 -- all kinds, in the order of their numbers
 abbrev pub kinds : List InstrumentKind
 kinds = Counter ∷ UpDownCounter ∷ Histogram ∷ ObservableCounter ∷ ObservableUpDownCounter ∷ Gauge ∷ ObservableGauge ∷ []
 
--- the answers of a reader that says its temporality alone
-abbrev pub preferring : Temporality → Row
-preferring temporality = map (λ kind. record { temporality = temporality_preference kind temporality; limit = None; aggregation = None }) kinds
+-- the answers of a reader that says for each kind this temporality, and no limit and no aggregation
+abbrev pub answers_by : (InstrumentKind → Temporality) → ReaderAnswers
+answers_by temporality = map (λ kind. record { temporality = temporality kind; limit = None; aggregation = None }) kinds
 
--- of a kind that the row does not have
+-- those of a reader that has one temporality
+abbrev pub preferring : Temporality → ReaderAnswers
+preferring temporality = answers_by (λ kind. temporality_preference kind temporality)
+
+-- of a kind for which there is none
 abbrev pub no_answer : Answer
 no_answer = record { temporality = Cumulative; limit = None; aggregation = None }
 
 -- the answer for a kind
-abbrev pub answer_for : Row → InstrumentKind → Answer
-answer_for row kind = or_else (slice_get row (kind_number kind)) no_answer
+abbrev pub answer_for : ReaderAnswers → InstrumentKind → Answer
+answer_for answers kind = or_else (slice_get answers (kind_number kind)) no_answer
 
 -- ======== demands ========
 -- a stream that is demanded of a reader
@@ -163,8 +149,8 @@ default_from kind (Some Default) = kind_default kind
 default_from kind (Some a) = cond (is_valid a && fits kind a) a (kind_default kind)
 
 -- the default aggregation of a kind at a reader with these answers
-abbrev pub reader_default : Row → InstrumentKind → Aggregation
-reader_default row kind = default_from kind (answer_for row kind).aggregation
+abbrev pub reader_default : ReaderAnswers → InstrumentKind → Aggregation
+reader_default answers kind = default_from kind (answer_for answers kind).aggregation
 
 -- a histogram with the instrument's own bounds, if it has some
 abbrev pub with_bounds : Option (List ℤ) → Aggregation → Aggregation
@@ -178,10 +164,10 @@ with_own kind own a = a
 
 -- the aggregation of a demand: what the view gives, where it isn't `Default`; for `Default` the reader's
 -- default; where none is given that default with the histogram's own bounds
-abbrev pub resolved : Row → About → Option Aggregation → Aggregation
-resolved row about None = with_own about.kind about.bounds (reader_default row about.kind)
-resolved row about (Some Default) = reader_default row about.kind
-resolved row about (Some a) = a
+abbrev pub resolved : ReaderAnswers → About → Option Aggregation → Aggregation
+resolved answers about None = with_own about.kind about.bounds (reader_default answers about.kind)
+resolved answers about (Some Default) = reader_default answers about.kind
+resolved answers about (Some a) = a
 
 -- an absent description or unit of an instrument is the empty text
 abbrev pub description_of : About → Text
@@ -200,8 +186,8 @@ abbrev pub default_limit : ℕ
 default_limit = 2000
 
 -- what a view's answer demands of a reader
-abbrev pub demand_of : Row → InstrumentationScope → About → StreamSpec → Demand
-demand_of row scope about s = record {
+abbrev pub demand_of : ReaderAnswers → InstrumentationScope → About → StreamSpec → Demand
+demand_of answers scope about s = record {
   identity = record {
     scope = scope;
     kind = about.kind;
@@ -211,9 +197,9 @@ demand_of row scope about s = record {
     name = lowered (or_else s.name about.name);
   };
   spelling = or_else s.name about.name;
-  aggregation = resolved row about s.aggregation;
+  aggregation = resolved answers about s.aggregation;
   allow = s.allow;
-  limit = or_else s.limit (or_else (answer_for row about.kind).limit default_limit);
+  limit = or_else s.limit (or_else (answer_for answers about.kind).limit default_limit);
 }
 
 -- a view's answer that leaves everything to the instrument
@@ -221,18 +207,18 @@ abbrev pub nothing_said : StreamSpec
 nothing_said = record { name = None; description = None; unit = None; aggregation = None; allow = None; limit = None }
 
 -- the instrument's own default demand
-abbrev pub own_demand : Row → InstrumentationScope → About → Demand
-own_demand row scope about = demand_of row scope about nothing_said
+abbrev pub own_demand : ReaderAnswers → InstrumentationScope → About → Demand
+own_demand answers scope about = demand_of answers scope about nothing_said
 
 -- one view's demand before the others
-abbrev pub add_answer : Row → InstrumentationScope → About → Option StreamSpec → List Demand → List Demand
-add_answer row scope about None ds = ds
-add_answer row scope about (Some s) ds = demand_of row scope about s ∷ ds
+abbrev pub add_answer : ReaderAnswers → InstrumentationScope → About → Option StreamSpec → List Demand → List Demand
+add_answer answers scope about None ds = ds
+add_answer answers scope about (Some s) ds = demand_of answers scope about s ∷ ds
 
 -- each view that answers gives, in order, one demand
-abbrev pub view_demands : Views → Row → InstrumentationScope → About → List Demand
-view_demands [] row scope about = []
-view_demands (view ∷ views) row scope about = add_answer row scope about (view (instrument_of scope about)) (view_demands views row scope about)
+abbrev pub view_demands : Views → ReaderAnswers → InstrumentationScope → About → List Demand
+view_demands [] answers scope about = []
+view_demands (view ∷ views) answers scope about = add_answer answers scope about (view (instrument_of scope about)) (view_demands views answers scope about)
 
 -- whether its aggregation fits its kind
 abbrev pub is_compatible : Demand → Bool
@@ -269,10 +255,10 @@ needs_own dropped ds = is_empty ds || (list_any (λ d. not (is_compatible d)) ds
 
 -- the compatible demands of views and the own default. `dropped` tells which identities have fate `Drop`
 -- once the demands given are made
-abbrev pub demands_with : (List Demand → Identity → Bool) → Views → Row → InstrumentationScope → About → List Demand
-demands_with dropped views row scope about =
-    filter is_compatible (view_demands views row scope about)
-    ++ cond (needs_own (dropped (filter is_compatible (view_demands views row scope about))) (view_demands views row scope about)) (own_demand row scope about ∷ []) []
+abbrev pub demands_with : (List Demand → Identity → Bool) → Views → ReaderAnswers → InstrumentationScope → About → List Demand
+demands_with dropped views answers scope about =
+    filter is_compatible (view_demands views answers scope about)
+    ++ cond (needs_own (dropped (filter is_compatible (view_demands views answers scope about))) (view_demands views answers scope about)) (own_demand answers scope about ∷ []) []
 
 -- bounds are looked at for a histogram alone
 abbrev pub are_good_bounds : InstrumentKind → Option (List ℤ) → Bool
@@ -284,9 +270,9 @@ abbrev pub is_good : About → Bool
 is_good about = is_good_name about.name && (is_none (optional_unit_fault about.unit) && are_good_bounds about.kind about.bounds)
 
 -- the compatible demands of a build: none without a meter, or with a bad name, unit or bounds
-abbrev pub demands_on : (List Demand → Identity → Bool) → Views → Row → Option InstrumentationScope → About → List Demand
-demands_on dropped views row None about = []
-demands_on dropped views row (Some scope) about = cond (is_good about) (demands_with dropped views row scope about) []
+abbrev pub demands_on : (List Demand → Identity → Bool) → Views → ReaderAnswers → Option InstrumentationScope → About → List Demand
+demands_on dropped views answers None about = []
+demands_on dropped views answers (Some scope) about = cond (is_good about) (demands_with dropped views answers scope about) []
 
 -- whether the identity is in the list
 abbrev pub has_identity : List Identity → Identity → Bool

@@ -7,8 +7,9 @@ use Rattle.otel_common.specs.declared.scopes.InstrumentationScope.{Instrumentati
 use Rattle.otel_model_stream.specs.Events.{Event, Point}
 use Rattle.otel_model_stream.specs.Windows.{Window, opening, window, points_of}
 use Rattle.otel_model.specs.Resources.{Resource}
-use Rattle.otel_model.specs.Calls.{About, Observed, Call, Meter, Build, Record, Bind, RecordBound, Unbind, Collect, Flush, Shutdown, Fault, OutOfMemory, UnknownMeter, UnknownInstrument, UnknownHandle, UnknownReader, WrongNumber, WrongKind, AlreadyShutdown, ReaderShutDown, ReadersFailed, Exhausted, LedgerFull, UseWorker, WorkersMissing, Reply, Collection}
-use Rattle.otel_model.specs.Demands.{Identity, Demand, Views, Row, is_known, is_dropped, is_drop, demands_on, fed}
+use Rattle.otel_data.specs.declared.collections.ResourceMetrics.{ResourceMetrics}
+use Rattle.otel_model.specs.Calls.{About, Observed, Call, Meter, Build, Record, Bind, RecordBound, Unbind, Collect, Flush, Shutdown, Fault, OutOfMemory, UnknownMeter, UnknownInstrument, UnknownHandle, UnknownReader, WrongNumber, WrongKind, AlreadyShutdown, ReaderShutDown, ReadersFailed, Exhausted, LedgerFull, UseWorker, WorkersMissing, Reply}
+use Rattle.otel_model.specs.Demands.{Identity, Demand, Views, ReaderAnswers, is_known, is_dropped, is_drop, demands_on, fed}
 use Rattle.otel_model.specs.Streams.{is_delta, kind_of, aggregate_of}
 use Rattle.otel_model.specs.Collections.{metric, collection}
 use Rattle.otel_model.specs.Sent.{has_scope, scope_of, observed, sent}
@@ -125,13 +126,13 @@ builds_in calls = gather build_in [] calls
 
 -- ======== demands, streams, feeding ========
 -- the compatible demands of a build after the demands `earlier`
-abbrev pub demands_after : Views → Row → List Demand → Built → List Demand
-demands_after views row earlier i = demands_on (λ ds. is_dropped (earlier ++ ds)) views row i.scope i.about
+abbrev pub demands_after : Views → ReaderAnswers → List Demand → Built → List Demand
+demands_after views answers earlier i = demands_on (λ ds. is_dropped (earlier ++ ds)) views answers i.scope i.about
 
 -- the compatible demands of a list of builds, after those of earlier builds
-abbrev pub demands_of : Views → Row → List Demand → List Built → List Demand
-demands_of views row earlier [] = earlier
-demands_of views row earlier (i ∷ is) = demands_of views row (earlier ++ demands_after views row earlier i) is
+abbrev pub demands_of : Views → ReaderAnswers → List Demand → List Built → List Demand
+demands_of views answers earlier [] = earlier
+demands_of views answers earlier (i ∷ is) = demands_of views answers (earlier ++ demands_after views answers earlier i) is
 
 -- the first demand of each identity, in order
 abbrev pub new_demand : List Demand → Demand → List Demand
@@ -142,27 +143,27 @@ abbrev pub firsts : List Demand → List Demand
 firsts ds = gather new_demand [] ds
 
 -- the streams of a list of builds: the first demands that do not drop
-abbrev pub streams_of : Views → Row → List Built → List Demand
-streams_of views row is = filter (λ d. not (is_drop d.aggregation)) (firsts (demands_of views row [] is))
+abbrev pub streams_of : Views → ReaderAnswers → List Built → List Demand
+streams_of views answers is = filter (λ d. not (is_drop d.aggregation)) (firsts (demands_of views answers [] is))
 
 -- for each build the identities of the streams that its instrument feeds
-abbrev pub feeds_of : Views → Row → List Demand → List Built → List (List Identity)
-feeds_of views row earlier [] = []
-feeds_of views row earlier (i ∷ is) =
-    fed (is_dropped (earlier ++ demands_after views row earlier i)) (demands_after views row earlier i)
-    ∷ feeds_of views row (earlier ++ demands_after views row earlier i) is
+abbrev pub feeds_of : Views → ReaderAnswers → List Demand → List Built → List (List Identity)
+feeds_of views answers earlier [] = []
+feeds_of views answers earlier (i ∷ is) =
+    fed (is_dropped (earlier ++ demands_after views answers earlier i)) (demands_after views answers earlier i)
+    ∷ feeds_of views answers (earlier ++ demands_after views answers earlier i) is
 
 -- all compatible demands, and what feeds what, after these calls
-abbrev pub demands_by : Views → Row → List Call → List Demand
-demands_by views row calls = demands_of views row [] (builds_in calls)
+abbrev pub demands_by : Views → ReaderAnswers → List Call → List Demand
+demands_by views answers calls = demands_of views answers [] (builds_in calls)
 
 -- for each build the streams that it feeds, after these calls
-abbrev pub feeds_by : Views → Row → List Call → List (List Identity)
-feeds_by views row calls = feeds_of views row [] (builds_in calls)
+abbrev pub feeds_by : Views → ReaderAnswers → List Call → List (List Identity)
+feeds_by views answers calls = feeds_of views answers [] (builds_in calls)
 
 -- whether the stream of d was demanded by then
-abbrev pub is_demanded : Views → Row → Demand → List Call → Bool
-is_demanded views row d calls = is_known (demands_by views row calls) d.identity
+abbrev pub is_demanded : Views → ReaderAnswers → Demand → List Call → Bool
+is_demanded views answers d calls = is_known (demands_by views answers calls) d.identity
 
 -- ======== the history of a stream ========
 -- whether a call concerns reader r
@@ -179,50 +180,50 @@ concerns r Shutdown = true
 
 -- from its making on, the stream of d at reader r gets what the calls send to it: records and binds through the instruments that feed it,
 -- records and unbinds through handles, and the reader's collections, each after its observations
-abbrev pub events_at : Views → Row → ℕ → Demand → List Call → Call → List Event
-events_at views row r d before call =
-    cond (is_demanded views row d before)
-    (cond (concerns r call) (sent (feeds_by views row before) (binds_in before) d call) []) []
+abbrev pub events_at : Views → ReaderAnswers → ℕ → Demand → List Call → Call → List Event
+events_at views answers r d before call =
+    cond (is_demanded views answers d before)
+    (cond (concerns r call) (sent (feeds_by views answers before) (binds_in before) d call) []) []
 
 -- all events of the stream
-abbrev pub history : Views → Row → ℕ → Demand → List Call → List Event
-history views row r d calls = gather (events_at views row r d) [] calls
+abbrev pub history : Views → ReaderAnswers → ℕ → Demand → List Call → List Event
+history views answers r d calls = gather (events_at views answers r d) [] calls
 
 -- the window in which a history ends
-abbrev pub window_of : Row → Demand → List Event → Window
-window_of row d es = window (kind_of row d) d.limit opening es
+abbrev pub window_of : ReaderAnswers → Demand → List Event → Window
+window_of answers d es = window (kind_of answers d) d.limit opening es
 
 -- the window of a stream after these calls
-abbrev pub window_after : Views → Row → ℕ → Demand → List Call → Window
-window_after views row r d calls = window_of row d (history views row r d calls)
+abbrev pub window_after : Views → ReaderAnswers → ℕ → Demand → List Call → Window
+window_after views answers r d calls = window_of answers d (history views answers r d calls)
 
 -- the points of the window in which a history ends
-abbrev pub window_points : Row → Demand → List Event → List Point
-window_points row d es = points_of (aggregate_of d) (kind_of row d) d.limit (window_of row d es)
+abbrev pub window_points : ReaderAnswers → Demand → List Event → List Point
+window_points answers d es = points_of (aggregate_of d) (kind_of answers d) d.limit (window_of answers d es)
 
 -- the points after these calls and the observations of a collection
-abbrev pub points_with : Views → Row → ℕ → Demand → List Call → List Observed → List Point
-points_with views row r d before os = window_points row d (history views row r d before ++ observed (feeds_by views row before) d os)
+abbrev pub points_with : Views → ReaderAnswers → ℕ → Demand → List Call → List Observed → List Point
+points_with views answers r d before os = window_points answers d (history views answers r d before ++ observed (feeds_by views answers before) d os)
 
 -- the points that a collection shows of a stream
-abbrev pub shown_by : Views → Row → ℕ → Demand → List Call → Call → List (List Point)
-shown_by views row r d before (Meter scope) = []
-shown_by views row r d before (Build meter about now) = []
-shown_by views row r d before (Record n v l) = []
-shown_by views row r d before (Bind n l) = []
-shown_by views row r d before (RecordBound h v) = []
-shown_by views row r d before (Unbind h) = []
-shown_by views row r d before (Collect q now os) = points_with views row r d before os ∷ []
-shown_by views row r d before Flush = []
-shown_by views row r d before Shutdown = []
+abbrev pub shown_by : Views → ReaderAnswers → ℕ → Demand → List Call → Call → List (List Point)
+shown_by views answers r d before (Meter scope) = []
+shown_by views answers r d before (Build meter about now) = []
+shown_by views answers r d before (Record n v l) = []
+shown_by views answers r d before (Bind n l) = []
+shown_by views answers r d before (RecordBound h v) = []
+shown_by views answers r d before (Unbind h) = []
+shown_by views answers r d before (Collect q now os) = points_with views answers r d before os ∷ []
+shown_by views answers r d before Flush = []
+shown_by views answers r d before Shutdown = []
 
 -- of a stream that was demanded, at its reader's collections alone
-abbrev pub shown_at : Views → Row → ℕ → Demand → List Call → Call → List (List Point)
-shown_at views row r d before call = cond (is_demanded views row d before) (cond (concerns r call) (shown_by views row r d before call) []) []
+abbrev pub shown_at : Views → ReaderAnswers → ℕ → Demand → List Call → Call → List (List Point)
+shown_at views answers r d before call = cond (is_demanded views answers d before) (cond (concerns r call) (shown_by views answers r d before call) []) []
 
 -- the points of the stream of d in each of reader r's collections
-abbrev pub shown_points : Views → Row → ℕ → Demand → List Call → List (List Point)
-shown_points views row r d calls = gather (shown_at views row r d) [] calls
+abbrev pub shown_points : Views → ReaderAnswers → ℕ → Demand → List Call → List (List Point)
+shown_points views answers r d calls = gather (shown_at views answers r d) [] calls
 
 -- the last element, or else the one given
 abbrev pub last_or : {X : Type 0} → X → List X → X
@@ -230,49 +231,49 @@ last_or x [] = x
 last_or x (y ∷ ys) = last_or y ys
 
 -- the moments of the builds up to its making and, of a delta stream, of the reader's collections since
-abbrev pub moment_at : Views → Row → ℕ → Demand → List Call → Call → List ℕ
-moment_at views row r d before (Meter scope) = []
-moment_at views row r d before (Build meter about now) = cond (is_demanded views row d before) [] (now ∷ [])
-moment_at views row r d before (Record n v l) = []
-moment_at views row r d before (Bind n l) = []
-moment_at views row r d before (RecordBound h v) = []
-moment_at views row r d before (Unbind h) = []
-moment_at views row r d before (Collect q now os) = cond (is_demanded views row d before) (cond (q == r) (cond (is_delta row d) (now ∷ []) []) []) []
-moment_at views row r d before Flush = []
-moment_at views row r d before Shutdown = []
+abbrev pub moment_at : Views → ReaderAnswers → ℕ → Demand → List Call → Call → List ℕ
+moment_at views answers r d before (Meter scope) = []
+moment_at views answers r d before (Build meter about now) = cond (is_demanded views answers d before) [] (now ∷ [])
+moment_at views answers r d before (Record n v l) = []
+moment_at views answers r d before (Bind n l) = []
+moment_at views answers r d before (RecordBound h v) = []
+moment_at views answers r d before (Unbind h) = []
+moment_at views answers r d before (Collect q now os) = cond (is_demanded views answers d before) (cond (q == r) (cond (is_delta answers d) (now ∷ []) []) []) []
+moment_at views answers r d before Flush = []
+moment_at views answers r d before Shutdown = []
 
 -- its start: the last of these moments
-abbrev pub start_of : Views → Row → ℕ → Demand → List Call → ℕ
-start_of views row r d calls = last_or 0 (gather (moment_at views row r d) [] calls)
+abbrev pub start_of : Views → ReaderAnswers → ℕ → Demand → List Call → ℕ
+start_of views answers r d calls = last_or 0 (gather (moment_at views answers r d) [] calls)
 
 -- what the reader's collection before showed of it
-abbrev pub reported_of : Views → Row → ℕ → Demand → List Call → List Point
-reported_of views row r d calls = last_or [] (shown_points views row r d calls)
+abbrev pub reported_of : Views → ReaderAnswers → ℕ → Demand → List Call → List Point
+reported_of views answers r d calls = last_or [] (shown_points views answers r d calls)
 
 -- ======== collections ========
 -- the collection that reader r makes after these calls, with its observations
-abbrev pub collection_of : Views → Resource → Row → ℕ → List Call → ℕ → List Observed → Collection
-collection_of views resource row r before now os = collection resource (meters_in before)
-    (map (λ (d : Demand). (d.identity.scope, metric row now (start_of views row r d before) (reported_of views row r d before) d (points_with views row r d before os))) (streams_of views row (builds_in before)))
+abbrev pub collection_of : Views → Resource → ReaderAnswers → ℕ → List Call → ℕ → List Observed → ResourceMetrics
+collection_of views resource answers r before now os = collection resource (meters_in before)
+    (map (λ (d : Demand). (d.identity.scope, metric answers now (start_of views answers r d before) (reported_of views answers r d before) d (points_with views answers r d before os))) (streams_of views answers (builds_in before)))
 
 -- the collection of reader r that a call makes, if it makes one
-abbrev pub made_by : Views → Resource → Row → ℕ → List Call → Call → List Collection
-made_by views resource row r before (Meter scope) = []
-made_by views resource row r before (Build meter about now) = []
-made_by views resource row r before (Record n v l) = []
-made_by views resource row r before (Bind n l) = []
-made_by views resource row r before (RecordBound h v) = []
-made_by views resource row r before (Unbind h) = []
-made_by views resource row r before (Collect q now os) = cond (q == r) (collection_of views resource row r before now os ∷ []) []
-made_by views resource row r before Flush = []
-made_by views resource row r before Shutdown = []
+abbrev pub made_by : Views → Resource → ReaderAnswers → ℕ → List Call → Call → List ResourceMetrics
+made_by views resource answers r before (Meter scope) = []
+made_by views resource answers r before (Build meter about now) = []
+made_by views resource answers r before (Record n v l) = []
+made_by views resource answers r before (Bind n l) = []
+made_by views resource answers r before (RecordBound h v) = []
+made_by views resource answers r before (Unbind h) = []
+made_by views resource answers r before (Collect q now os) = cond (q == r) (collection_of views resource answers r before now os ∷ []) []
+made_by views resource answers r before Flush = []
+made_by views resource answers r before Shutdown = []
 
 -- the collections of reader r in a list of calls that were made
-abbrev pub collections_of : Views → Resource → Row → ℕ → List Call → List Collection
-collections_of views resource row r calls = gather (made_by views resource row r) [] calls
+abbrev pub collections_of : Views → Resource → ReaderAnswers → ℕ → List Call → List ResourceMetrics
+collections_of views resource answers r calls = gather (made_by views resource answers r) [] calls
 
 -- the collections that reader r was given
-abbrev pub shown_in : Reply → List Collection
+abbrev pub shown_in : Reply → List ResourceMetrics
 shown_in (Reply.Meter n) = []
 shown_in (Reply.Instrument n) = []
 shown_in (Reply.Handle n) = []
@@ -281,7 +282,7 @@ shown_in (Reply.Collected c) = c ∷ []
 shown_in (Reply.Refused f) = []
 
 -- the collection that a call of reader r was given, if it was given one
-abbrev pub collected_by : ℕ → Call → Reply → List Collection
+abbrev pub collected_by : ℕ → Call → Reply → List ResourceMetrics
 collected_by r (Meter scope) reply = []
 collected_by r (Build meter about now) reply = []
 collected_by r (Record n v l) reply = []
@@ -293,7 +294,7 @@ collected_by r Flush reply = []
 collected_by r Shutdown reply = []
 
 -- of a list of calls with these replies
-abbrev pub given : ℕ → List Call → List Reply → List Collection
+abbrev pub given : ℕ → List Call → List Reply → List ResourceMetrics
 given r [] replies = []
 given r (call ∷ calls) [] = []
 given r (call ∷ calls) (reply ∷ replies) = collected_by r call reply ++ given r calls replies

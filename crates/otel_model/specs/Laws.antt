@@ -10,7 +10,7 @@ use Rattle.otel_model_stream.specs.Windows.{Window, places_of, uncounted_of, cou
 use Rattle.otel_model.specs.Resources.{Resource}
 use Rattle.otel_model.specs.Calls.{is_observable, Call, Reply}
 use Rattle.otel_model.specs.Collections.{differences}
-use Rattle.otel_model.specs.Demands.{Identity, Demand, Row, Views, has_identity}
+use Rattle.otel_model.specs.Demands.{Identity, Demand, ReaderAnswers, Views, has_identity}
 use Rattle.otel_model.specs.Streams.{is_drained, is_delta, kind_of, aggregate_of}
 use Rattle.otel_model.specs.State.{ReaderPart, State, Stream}
 use Rattle.otel_model.specs.Sent.{is_fed}
@@ -22,33 +22,33 @@ use Rattle.otel_model.specs.Totals.{exported_in, recorded_in}
 use Rattle.otel_model.specs.Accepted.{accepted_for}
 
 -- a run from a provider as it is built
-abbrev pub IsRun : Views → Resource → ℕ → List Row → List Call → List Reply → State → Type 0
-IsRun views resource identity rows calls replies new = Run views (new_state resource identity rows) calls replies new
+abbrev pub IsRun : Views → Resource → ℕ → List ReaderAnswers → List Call → List Reply → State → Type 0
+IsRun views resource identity readers calls replies new = Run views (new_state resource identity readers) calls replies new
 
 -- what can be said of a reader after calls and replies
 abbrev pub OfReader : Type 1
-OfReader = Views → Resource → List Call → List Reply → State → ℕ → Row → ReaderPart → Type 0
+OfReader = Views → Resource → List Call → List Reply → State → ℕ → ReaderAnswers → ReaderPart → Type 0
 
 -- it holds of each reader after each run
 abbrev pub OfEachReader : OfReader → Type 0
-OfEachReader P = (views : Views) (resource : Resource) (identity : ℕ) (rows : List Row) (calls : List Call) (replies : List Reply) (new : State)
-    → IsRun views resource identity rows calls replies new
-    → (r : ℕ) (row : Row) (part : ReaderPart) → slice_get rows r ≡ Some row → slice_get new.readers r ≡ Some part
-    → P views resource calls replies new r row part
+OfEachReader P = (views : Views) (resource : Resource) (identity : ℕ) (readers : List ReaderAnswers) (calls : List Call) (replies : List Reply) (new : State)
+    → IsRun views resource identity readers calls replies new
+    → (r : ℕ) (answers : ReaderAnswers) (part : ReaderPart) → slice_get readers r ≡ Some answers → slice_get new.readers r ≡ Some part
+    → P views resource calls replies new r answers part
 
 -- ======== each reader as the only one ========
 -- the replies to its collections, and the others that remain, are those of a provider with that reader alone,
 -- over the calls that are left, where memory is never refused
-abbrev pub IsAnsweredAsOnly : Views → Resource → ℕ → List Call → List Reply → ℕ → Row → Type 0
-IsAnsweredAsOnly views resource identity calls replies r row =
-    replies_left r calls replies ≡ without_asking (only r calls replies) (replies_of views (new_state resource identity (row ∷ [])) (only r calls replies))
+abbrev pub IsAnsweredAsOnly : Views → Resource → ℕ → List Call → List Reply → ℕ → ReaderAnswers → Type 0
+IsAnsweredAsOnly views resource identity calls replies r answers =
+    replies_left r calls replies ≡ without_asking (only r calls replies) (replies_of views (new_state resource identity (answers ∷ [])) (only r calls replies))
 
 -- so is each reader after each run
 abbrev pub IsAsOnlyReader : Type 0
-IsAsOnlyReader = (views : Views) (resource : Resource) (identity : ℕ) (rows : List Row) (calls : List Call) (replies : List Reply) (new : State)
-    → IsRun views resource identity rows calls replies new
-    → (r : ℕ) (row : Row) → slice_get rows r ≡ Some row
-    → IsAnsweredAsOnly views resource identity calls replies r row
+IsAsOnlyReader = (views : Views) (resource : Resource) (identity : ℕ) (readers : List ReaderAnswers) (calls : List Call) (replies : List Reply) (new : State)
+    → IsRun views resource identity readers calls replies new
+    → (r : ℕ) (answers : ReaderAnswers) → slice_get readers r ≡ Some answers
+    → IsAnsweredAsOnly views resource identity calls replies r answers
 
 -- so from any state of a provider
 abbrev pub IsAsOnlyReaderFromAny : Type 0
@@ -73,8 +73,8 @@ AreNumbered ns (k ∷ ks) (x ∷ xs) = (slice_get ns k ≡ Some x) × AreNumbere
 -- ======== streams, places, collections ========
 -- each reader's streams are the first demands, that do not drop, of the builds made
 abbrev pub HasStreamsOfBuilds : OfReader
-HasStreamsOfBuilds views resource calls replies new r row part =
-    map (λ (s : Stream). s.demand) part.streams ≡ streams_of views row (builds_in (made calls replies))
+HasStreamsOfBuilds views resource calls replies new r answers part =
+    map (λ (s : Stream). s.demand) part.streams ≡ streams_of views answers (builds_in (made calls replies))
 
 -- after each run
 abbrev pub AreStreamsOfBuilds : Type 0
@@ -82,8 +82,8 @@ AreStreamsOfBuilds = OfEachReader HasStreamsOfBuilds
 
 -- each instrument feeds the streams of its compatible demands, each once
 abbrev pub HasFeedsOfBuilds : OfReader
-HasFeedsOfBuilds views resource calls replies new r row part =
-    part.feeds ≡ feeds_of views row [] (builds_in (made calls replies))
+HasFeedsOfBuilds views resource calls replies new r answers part =
+    part.feeds ≡ feeds_of views answers [] (builds_in (made calls replies))
 
 -- after each run
 abbrev pub AreFeedsOfBuilds : Type 0
@@ -91,24 +91,24 @@ AreFeedsOfBuilds = OfEachReader HasFeedsOfBuilds
 
 -- the identities of a reader's streams are apart
 abbrev pub AreStreamsApart : Type 0
-AreStreamsApart = OfEachReader (λ views resource calls replies new r row part.
+AreStreamsApart = OfEachReader (λ views resource calls replies new r answers part.
     AreApart (names part.streams))
 
 -- so are those of the streams that an instrument feeds
 abbrev pub AreFeedsApart : Type 0
-AreFeedsApart = OfEachReader (λ views resource calls replies new r row part.
+AreFeedsApart = OfEachReader (λ views resource calls replies new r answers part.
     (n : ℕ) (xs : List Identity) → slice_get part.feeds n ≡ Some xs → AreApart xs)
 
 -- and each of these is a stream of the reader
 abbrev pub AreFeedsStreams : Type 0
-AreFeedsStreams = OfEachReader (λ views resource calls replies new r row part.
+AreFeedsStreams = OfEachReader (λ views resource calls replies new r answers part.
     (n : ℕ) (x : Identity) → is_fed part.feeds n x ≡ true → has_identity (names part.streams) x ≡ true)
 
 -- the entries of each stream are the places of its window so far, in order
 abbrev pub HasPlacesOfHistories : OfReader
-HasPlacesOfHistories views resource calls replies new r row part =
+HasPlacesOfHistories views resource calls replies new r answers part =
     map (λ (s : Stream). map (λ (e : Entry). e.set) s.machine.table.entries) part.streams
-    ≡ map (λ (d : Demand). places_of d.limit (window_after views row r d (made calls replies))) (streams_of views row (builds_in (made calls replies)))
+    ≡ map (λ (d : Demand). places_of d.limit (window_after views answers r d (made calls replies))) (streams_of views answers (builds_in (made calls replies)))
 
 -- after each run
 abbrev pub ArePlacesOfHistories : Type 0
@@ -120,39 +120,39 @@ counted_places limit w = counted (uncounted_of limit w) (places_of limit w)
 
 -- and the counted ones are those that the window counts
 abbrev pub HasCountedOfHistories : OfReader
-HasCountedOfHistories views resource calls replies new r row part =
+HasCountedOfHistories views resource calls replies new r answers part =
     map (λ (s : Stream). map (λ (e : Entry). e.set) (filter (λ (e : Entry). e.counted) s.machine.table.entries)) part.streams
-    ≡ map (λ (d : Demand). counted_places d.limit (window_after views row r d (made calls replies))) (streams_of views row (builds_in (made calls replies)))
+    ≡ map (λ (d : Demand). counted_places d.limit (window_after views answers r d (made calls replies))) (streams_of views answers (builds_in (made calls replies)))
 
 -- after each run
 abbrev pub AreCountedOfHistories : Type 0
 AreCountedOfHistories = OfEachReader HasCountedOfHistories
 
 -- each collection has the resource, scopes, headings, moments and points that are read off the calls
-abbrev pub IsGivenCollections : Views → Resource → ℕ → List Call → List Reply → ℕ → Row → Type 0
-IsGivenCollections views resource identity calls replies r row = given r calls replies ≡ collections_of views resource row r (made calls replies)
+abbrev pub IsGivenCollections : Views → Resource → ℕ → List Call → List Reply → ℕ → ReaderAnswers → Type 0
+IsGivenCollections views resource identity calls replies r answers = given r calls replies ≡ collections_of views resource answers r (made calls replies)
 
 -- by each reader of each run
 abbrev pub AreCollectionsOfHistories : Type 0
-AreCollectionsOfHistories = (views : Views) (resource : Resource) (identity : ℕ) (rows : List Row) (calls : List Call) (replies : List Reply) (new : State)
-    → IsRun views resource identity rows calls replies new
-    → (r : ℕ) (row : Row) → slice_get rows r ≡ Some row
-    → IsGivenCollections views resource identity calls replies r row
+AreCollectionsOfHistories = (views : Views) (resource : Resource) (identity : ℕ) (readers : List ReaderAnswers) (calls : List Call) (replies : List Reply) (new : State)
+    → IsRun views resource identity readers calls replies new
+    → (r : ℕ) (answers : ReaderAnswers) → slice_get readers r ≡ Some answers
+    → IsGivenCollections views resource identity calls replies r answers
 
 -- ======== conservation ========
 -- what can be said of a stream of a reader after calls and replies
 abbrev pub OfStream : Type 1
-OfStream = Views → List Call → List Reply → State → ℕ → Row → ReaderPart → Stream → Type 0
+OfStream = Views → List Call → List Reply → State → ℕ → ReaderAnswers → ReaderPart → Stream → Type 0
 
 -- it holds of each stream of each reader after each run
 abbrev pub OfEachStream : OfStream → Type 0
-OfEachStream P = OfEachReader (λ views resource calls replies new r row part.
-    (j : ℕ) (s : Stream) → slice_get part.streams j ≡ Some s → P views calls replies new r row part s)
+OfEachStream P = OfEachReader (λ views resource calls replies new r answers part.
+    (j : ℕ) (s : Stream) → slice_get part.streams j ≡ Some s → P views calls replies new r answers part s)
 
 -- the totals that a stream keeps are those of its history, modulo 2^64
 abbrev pub HasRecordedTotal : OfStream
-HasRecordedTotal views calls replies new r row part s =
-    s.recorded ≡ wrapped (recorded_in views row r s.demand (made calls replies))
+HasRecordedTotal views calls replies new r answers part s =
+    s.recorded ≡ wrapped (recorded_in views answers r s.demand (made calls replies))
 
 -- after each run
 abbrev pub IsRecordedTotal : Type 0
@@ -160,8 +160,8 @@ IsRecordedTotal = OfEachStream HasRecordedTotal
 
 -- and what it exported
 abbrev pub HasExportedTotal : OfStream
-HasExportedTotal views calls replies new r row part s =
-    s.exported ≡ wrapped (exported_in views row r s.demand (made calls replies))
+HasExportedTotal views calls replies new r answers part s =
+    s.exported ≡ wrapped (exported_in views answers r s.demand (made calls replies))
 
 -- after each run
 abbrev pub IsExportedTotal : Type 0
@@ -170,9 +170,9 @@ IsExportedTotal = OfEachStream HasExportedTotal
 -- what a stream recorded is what it exported and what is pending, modulo 2^64. A sum counts values, a
 -- histogram records, a last value nothing
 abbrev pub Conserves : OfStream
-Conserves views calls replies new r row part s =
+Conserves views calls replies new r answers part s =
     is_drained s.demand ≡ false
-    → s.recorded ≡ wrapped (s.exported + points_total (points (kind_of row s.demand) s.machine))
+    → s.recorded ≡ wrapped (s.exported + points_total (points (kind_of answers s.demand) s.machine))
 
 -- after each run
 abbrev pub IsConserved : Type 0
@@ -180,7 +180,7 @@ IsConserved = OfEachStream Conserves
 
 -- what a synchronous stream recorded is what the instruments that feed it accepted
 abbrev pub HasAccepted : OfStream
-HasAccepted views calls replies new r row part s =
+HasAccepted views calls replies new r answers part s =
     is_observable s.demand.identity.kind ≡ false
     → s.recorded ≡ wrapped (accepted_for (aggregate_of s.demand) s.demand.identity part.feeds new.shared.instruments)
 
@@ -191,21 +191,21 @@ IsAccepted = OfEachStream HasAccepted
 -- at each collection of a cumulative stream what was recorded so far is the total of its points. `events`
 -- are the observations of the collection
 abbrev pub IsAllShown : Type 0
-IsAllShown = (views : Views) (row : Row) (r : ℕ) (d : Demand) (calls : List Call) (events : List Event)
-    → is_drained d ≡ false → is_delta row d ≡ false
-    → wrapped (points_total (window_points row d (history views row r d calls ++ events))) ≡ wrapped (recorded_total (aggregate_of d) (history views row r d calls ++ events))
+IsAllShown = (views : Views) (answers : ReaderAnswers) (r : ℕ) (d : Demand) (calls : List Call) (events : List Event)
+    → is_drained d ≡ false → is_delta answers d ≡ false
+    → wrapped (points_total (window_points answers d (history views answers r d calls ++ events))) ≡ wrapped (recorded_total (aggregate_of d) (history views answers r d calls ++ events))
 
 -- so of what was recorded before a collection that comes now
 abbrev pub HasAllShown : OfReader
-HasAllShown views resource calls replies new r row part = (d : Demand) (events : List Event) → is_drained d ≡ false → is_delta row d ≡ false
-    → wrapped (points_total (window_points row d (history views row r d (made calls replies) ++ events))) ≡ wrapped (recorded_total (aggregate_of d) (history views row r d (made calls replies) ++ events))
+HasAllShown views resource calls replies new r answers part = (d : Demand) (events : List Event) → is_drained d ≡ false → is_delta answers d ≡ false
+    → wrapped (points_total (window_points answers d (history views answers r d (made calls replies) ++ events))) ≡ wrapped (recorded_total (aggregate_of d) (history views answers r d (made calls replies) ++ events))
 
 -- a collection has at most the limit and two points of a stream
 abbrev pub ArePointsFew : Type 0
-ArePointsFew = (views : Views) (row : Row) (r : ℕ) (d : Demand) (calls : List Call) (events : List Event)
-    → length (differences row d (reported_of views row r d calls) (window_points row d (history views row r d calls ++ events))) ≤ d.limit + 2
+ArePointsFew = (views : Views) (answers : ReaderAnswers) (r : ℕ) (d : Demand) (calls : List Call) (events : List Event)
+    → length (differences answers d (reported_of views answers r d calls) (window_points answers d (history views answers r d calls ++ events))) ≤ d.limit + 2
 
 -- so at a collection that comes now
 abbrev pub HasFewPoints : OfReader
-HasFewPoints views resource calls replies new r row part = (d : Demand) (events : List Event)
-    → length (differences row d (reported_of views row r d (made calls replies)) (window_points row d (history views row r d (made calls replies) ++ events))) ≤ d.limit + 2
+HasFewPoints views resource calls replies new r answers part = (d : Demand) (events : List Event)
+    → length (differences answers d (reported_of views answers r d (made calls replies)) (window_points answers d (history views answers r d (made calls replies) ++ events))) ≤ d.limit + 2

@@ -9,7 +9,7 @@ use Rattle.otel_model_stream.specs.Machine.{Machine, begin, step, run, points}
 use Rattle.otel_model_stream.specs.Totals.{size, points_total}
 use Rattle.otel_model.specs.Resources.{Resource}
 use Rattle.otel_model.specs.Calls.{About, Observed, Call, Meter, Build, Record, Bind, RecordBound, Unbind, Collect, Flush, Shutdown}
-use Rattle.otel_model.specs.Demands.{Identity, Views, Row, Demand, is_known, is_dropped, is_drop, demands_on, fed}
+use Rattle.otel_model.specs.Demands.{Identity, Views, ReaderAnswers, Demand, is_known, is_dropped, is_drop, demands_on, fed}
 use Rattle.otel_model.specs.Streams.{is_delta, kind_of, aggregate_of}
 use Rattle.otel_model.specs.Collections.{shows_differences}
 use Rattle.otel_model.specs.State.{InstrumentState, LiveHandle, Shared, Stream, ReaderPart, State}
@@ -58,36 +58,36 @@ shared_after s Flush = s
 shared_after s Shutdown = record s { shut = true }
 
 -- ======== a stream ========
-abbrev pub machine_after : Row → Demand → List Event → Machine → Machine
-machine_after row d es m = run (aggregate_of d) (kind_of row d) d.limit m es
+abbrev pub machine_after : ReaderAnswers → Demand → List Event → Machine → Machine
+machine_after answers d es m = run (aggregate_of d) (kind_of answers d) d.limit m es
 
 -- what a stream shows at a collection, once the observations are in
-abbrev pub points_at : Row → List (List Identity) → List Observed → Stream → List Point
-points_at row feeds os s = points (kind_of row s.demand) (machine_after row s.demand (observed feeds s.demand os) s.machine)
+abbrev pub points_at : ReaderAnswers → List (List Identity) → List Observed → Stream → List Point
+points_at answers feeds os s = points (kind_of answers s.demand) (machine_after answers s.demand (observed feeds s.demand os) s.machine)
 
 -- a collection of a delta stream makes its moment the new start
-abbrev pub since_after : Row → Demand → Call → ℕ → ℕ
-since_after row d (Meter scope) since = since
-since_after row d (Build meter about now) since = since
-since_after row d (Record n v l) since = since
-since_after row d (Bind n l) since = since
-since_after row d (RecordBound h v) since = since
-since_after row d (Unbind h) since = since
-since_after row d (Collect r now os) since = cond (is_delta row d) now since
-since_after row d Flush since = since
-since_after row d Shutdown since = since
+abbrev pub since_after : ReaderAnswers → Demand → Call → ℕ → ℕ
+since_after answers d (Meter scope) since = since
+since_after answers d (Build meter about now) since = since
+since_after answers d (Record n v l) since = since
+since_after answers d (Bind n l) since = since
+since_after answers d (RecordBound h v) since = since
+since_after answers d (Unbind h) since = since
+since_after answers d (Collect r now os) since = cond (is_delta answers d) now since
+since_after answers d Flush since = since
+since_after answers d Shutdown since = since
 
 -- what the last collection showed of a stream whose differences are shown
-abbrev pub reported_after : Row → List (List Identity) → Call → Stream → List Point
-reported_after row feeds (Meter scope) s = s.reported
-reported_after row feeds (Build meter about now) s = s.reported
-reported_after row feeds (Record n v l) s = s.reported
-reported_after row feeds (Bind n l) s = s.reported
-reported_after row feeds (RecordBound h v) s = s.reported
-reported_after row feeds (Unbind h) s = s.reported
-reported_after row feeds (Collect r now os) s = cond (shows_differences row s.demand) (points_at row feeds os s) s.reported
-reported_after row feeds Flush s = s.reported
-reported_after row feeds Shutdown s = s.reported
+abbrev pub reported_after : ReaderAnswers → List (List Identity) → Call → Stream → List Point
+reported_after answers feeds (Meter scope) s = s.reported
+reported_after answers feeds (Build meter about now) s = s.reported
+reported_after answers feeds (Record n v l) s = s.reported
+reported_after answers feeds (Bind n l) s = s.reported
+reported_after answers feeds (RecordBound h v) s = s.reported
+reported_after answers feeds (Unbind h) s = s.reported
+reported_after answers feeds (Collect r now os) s = cond (shows_differences answers s.demand) (points_at answers feeds os s) s.reported
+reported_after answers feeds Flush s = s.reported
+reported_after answers feeds Shutdown s = s.reported
 
 -- one or the other, as the handle is there
 abbrev pub if_held : Option AttributeSet → ℕ → ℕ → ℕ
@@ -108,30 +108,30 @@ recorded_over σ kind limit m total [] = total
 recorded_over σ kind limit m total (e ∷ es) = recorded_over σ kind limit (step σ kind limit m e) (recorded_with σ m total e) es
 
 -- after what a call sends
-abbrev pub recorded_after : Row → List Event → Stream → ℕ
-recorded_after row es s = recorded_over (aggregate_of s.demand) (kind_of row s.demand) s.demand.limit s.machine s.recorded es
+abbrev pub recorded_after : ReaderAnswers → List Event → Stream → ℕ
+recorded_after answers es s = recorded_over (aggregate_of s.demand) (kind_of answers s.demand) s.demand.limit s.machine s.recorded es
 
 -- the total of all points that the collections of a delta stream showed
-abbrev pub exported_after : Row → List (List Identity) → Call → Stream → ℕ
-exported_after row feeds (Meter scope) s = s.exported
-exported_after row feeds (Build meter about now) s = s.exported
-exported_after row feeds (Record n v l) s = s.exported
-exported_after row feeds (Bind n l) s = s.exported
-exported_after row feeds (RecordBound h v) s = s.exported
-exported_after row feeds (Unbind h) s = s.exported
-exported_after row feeds (Collect r now os) s = cond (is_delta row s.demand) (wrapped (s.exported + points_total (points_at row feeds os s))) s.exported
-exported_after row feeds Flush s = s.exported
-exported_after row feeds Shutdown s = s.exported
+abbrev pub exported_after : ReaderAnswers → List (List Identity) → Call → Stream → ℕ
+exported_after answers feeds (Meter scope) s = s.exported
+exported_after answers feeds (Build meter about now) s = s.exported
+exported_after answers feeds (Record n v l) s = s.exported
+exported_after answers feeds (Bind n l) s = s.exported
+exported_after answers feeds (RecordBound h v) s = s.exported
+exported_after answers feeds (Unbind h) s = s.exported
+exported_after answers feeds (Collect r now os) s = cond (is_delta answers s.demand) (wrapped (s.exported + points_total (points_at answers feeds os s))) s.exported
+exported_after answers feeds Flush s = s.exported
+exported_after answers feeds Shutdown s = s.exported
 
 -- a stream after a call
-abbrev pub stream_after : Row → List (List Identity) → ℕ → Call → Stream → Stream
-stream_after row feeds next call s = record {
+abbrev pub stream_after : ReaderAnswers → List (List Identity) → ℕ → Call → Stream → Stream
+stream_after answers feeds next call s = record {
   demand = s.demand;
-  machine = machine_after row s.demand (sent feeds next s.demand call) s.machine;
-  since = since_after row s.demand call s.since;
-  reported = reported_after row feeds call s;
-  recorded = recorded_after row (sent feeds next s.demand call) s;
-  exported = exported_after row feeds call s;
+  machine = machine_after answers s.demand (sent feeds next s.demand call) s.machine;
+  since = since_after answers s.demand call s.since;
+  reported = reported_after answers feeds call s;
+  recorded = recorded_after answers (sent feeds next s.demand call) s;
+  exported = exported_after answers feeds call s;
 }
 
 -- ======== a build ========
@@ -152,7 +152,7 @@ demanded now p d = record p { fates = enter p.fates d; streams = make now p.fate
 
 -- the demands of a build, of which the table of fates tells what was dropped
 abbrev pub build_demands : Views → ReaderPart → Option InstrumentationScope → About → List Demand
-build_demands views p scope about = demands_on (λ ds. is_dropped (fold enter p.fates ds)) views p.row scope about
+build_demands views p scope about = demands_on (λ ds. is_dropped (fold enter p.fates ds)) views p.answers scope about
 
 -- and the streams that the new instrument feeds
 abbrev pub with_feeds : List Demand → ReaderPart → ReaderPart
@@ -164,7 +164,7 @@ built views scope about now p = with_feeds (build_demands views p scope about) (
 
 -- ======== all readers: each by itself, and a collection its reader alone ========
 abbrev pub part_sent : ℕ → Call → ReaderPart → ReaderPart
-part_sent next call p = record p { streams = map (stream_after p.row p.feeds next call) p.streams }
+part_sent next call p = record p { streams = map (stream_after p.answers p.feeds next call) p.streams }
 
 -- all readers' parts after a call that isn't refused
 abbrev pub readers_after : Views → Shared → Call → List ReaderPart → List ReaderPart
@@ -183,12 +183,12 @@ abbrev pub accepted_after : Views → State → Call → State
 accepted_after views st call = record { shared = shared_after st.shared call; readers = readers_after views st.shared call st.readers }
 
 -- ======== a provider as it is built ========
-abbrev pub new_part : Row → ReaderPart
-new_part row = record { row = row; fates = []; streams = []; feeds = [] }
+abbrev pub new_part : ReaderAnswers → ReaderPart
+new_part answers = record { answers = answers; fates = []; streams = []; feeds = [] }
 
 -- the provider before its first call
-abbrev pub new_state : Resource → ℕ → List Row → State
-new_state resource identity rows = record {
+abbrev pub new_state : Resource → ℕ → List ReaderAnswers → State
+new_state resource identity readers = record {
   shared = record { resource = resource; identity = identity; meters = []; instruments = []; live = []; next = 0; shut = false };
-  readers = map new_part rows;
+  readers = map new_part readers;
 }

@@ -4,15 +4,8 @@ use Rattle.otel_common.specs.Canonical.{canon, HasRisingKeys}
 use Rattle.otel_common.specs.Equality.{bytes_eq}
 use Rattle.otel_common.specs.declared.attributes.KeyValue.{KeyValue}
 use Rattle.otel_common.specs.declared.attributes.Value.{Value}
-
--- attributes, each key once and in byte order, and perhaps the URL of their schema
-pub record Resource : Type 0 where
-  pub attributes : List KeyValue
-  pub schema_url : Option (List ℕ)
-
--- no attributes and no URL
-abbrev pub empty_resource : Resource
-empty_resource = record { attributes = []; schema_url = None }
+pub use Rattle.otel_common.specs.declared.resource.Resource.{Resource}
+pub use Rattle.otel_common.specs.Resources.{empty_resource}
 
 -- the common URL if both are equal, none if they differ, the only one if one is there
 abbrev pub merged_url : Option (List ℕ) → Option (List ℕ) → Option (List ℕ)

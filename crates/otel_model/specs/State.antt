@@ -5,7 +5,7 @@ use Rattle.otel_model_stream.specs.Events.{Point}
 use Rattle.otel_model_stream.specs.Machine.{Machine}
 use Rattle.otel_model.specs.Resources.{Resource}
 use Rattle.otel_model.specs.Calls.{InstrumentKind}
-use Rattle.otel_model.specs.Demands.{Identity, Demand, Row}
+use Rattle.otel_model.specs.Demands.{Identity, Demand, ReaderAnswers}
 
 -- an instrument, and the number and the sum of the records that it accepted, both modulo 2^64
 pub record InstrumentState : Type 0 where
@@ -42,7 +42,7 @@ pub record Stream : Type 0 where
 -- a reader: what it answered for each kind, the first demand of each identity, its streams in order of
 -- making, and for each instrument the identities of the streams of this reader that it feeds
 pub record ReaderPart : Type 0 where
-  pub row : Row
+  pub answers : ReaderAnswers
   pub fates : List Demand
   pub streams : List Stream
   pub feeds : List (List Identity)

@@ -2,7 +2,8 @@
 use Rattle.std.specs.Prelude.{◌≡◌, ℕ, ◌+◌, Bool, true, false, cond, IsTrue, List, [], ◌∷◌, map, length, Option, Some, None, slice_get}
 use Rattle.otel_common.specs.Scopes.{scope_eq}
 use Rattle.otel_common.specs.declared.scopes.InstrumentationScope.{InstrumentationScope}
-use Rattle.otel_model.specs.Calls.{Observed, Call, Meter, Build, Record, Bind, RecordBound, Unbind, Collect, Flush, Shutdown, Fault, OutOfMemory, UnknownReader, ReadersFailed, Collection, Reply}
+use Rattle.otel_data.specs.declared.collections.ResourceMetrics.{ResourceMetrics}
+use Rattle.otel_model.specs.Calls.{Observed, Call, Meter, Build, Record, Bind, RecordBound, Unbind, Collect, Flush, Shutdown, Fault, OutOfMemory, UnknownReader, ReadersFailed, Reply}
 use Rattle.otel_model.specs.Demands.{Views}
 use Rattle.otel_model.specs.Collections.{metric, collection}
 use Rattle.otel_model.specs.State.{Shared, Stream, ReaderPart, State}
@@ -16,9 +17,9 @@ number_from k scope [] = None
 number_from k scope (m ∷ ms) = cond (scope_eq m scope) (Some k) (number_from (k + 1) scope ms)
 
 -- the collection of a reader
-abbrev pub collect_from : Shared → ℕ → List Observed → ReaderPart → Collection
+abbrev pub collect_from : Shared → ℕ → List Observed → ReaderPart → ResourceMetrics
 collect_from s now os p = collection s.resource s.meters
-    (map (λ (q : Stream). (q.demand.identity.scope, metric p.row now q.since q.reported q.demand (points_at p.row p.feeds os q))) p.streams)
+    (map (λ (q : Stream). (q.demand.identity.scope, metric p.answers now q.since q.reported q.demand (points_at p.answers p.feeds os q))) p.streams)
 
 -- of a reader that is there
 abbrev pub collect_reply : Shared → ℕ → List Observed → Option ReaderPart → Reply

@@ -3,7 +3,7 @@ use Rattle.std.specs.Prelude.{Bool, true, false, cond, ◌&&◌, ◌||◌}
 use Rattle.otel_model_stream.specs.Folds.{Aggregate}
 use Rattle.otel_model_stream.specs.Events.{Kind}
 use Rattle.otel_model.specs.Calls.{InstrumentKind, Counter, UpDownCounter, Histogram, ObservableCounter, ObservableUpDownCounter, Gauge, ObservableGauge}
-use Rattle.otel_model.specs.Demands.{Aggregation, Drop, Default, Sum, LastValue, ExplicitBucketHistogram, Row, answer_for, resets, Demand}
+use Rattle.otel_model.specs.Demands.{Aggregation, Drop, Default, Sum, LastValue, ExplicitBucketHistogram, ReaderAnswers, answer_for, resets, Demand}
 
 -- whether the aggregation is a sum
 abbrev pub is_sum : Aggregation → Bool
@@ -50,12 +50,12 @@ abbrev pub always_resets : Demand → Bool
 always_resets d = is_last_value d.aggregation && observes_last_values d.identity.kind
 
 -- a delta stream: its reader's answer resets, or it always does
-abbrev pub is_delta : Row → Demand → Bool
-is_delta row d = resets (answer_for row d.identity.kind).temporality || always_resets d
+abbrev pub is_delta : ReaderAnswers → Demand → Bool
+is_delta answers d = resets (answer_for answers d.identity.kind).temporality || always_resets d
 
 -- how a stream's history is cut into windows
-abbrev pub kind_of : Row → Demand → Kind
-kind_of row d = cond (is_drained d) Kind.Drained (cond (is_delta row d) Kind.Delta Kind.Cumulative)
+abbrev pub kind_of : ReaderAnswers → Demand → Kind
+kind_of answers d = cond (is_drained d) Kind.Drained (cond (is_delta answers d) Kind.Delta Kind.Cumulative)
 
 -- a histogram of values that may fall has no sum
 abbrev pub has_sum : InstrumentKind → Bool

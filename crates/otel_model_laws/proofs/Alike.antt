@@ -6,7 +6,7 @@ use Rattle.std.proofs.lemmas.Bool.{false≢true}
 use Rattle.std.proofs.lemmas.List.{append-nil, map-append}
 use Rattle.otel_common.specs.declared.scopes.InstrumentationScope.{InstrumentationScope}
 use Rattle.otel_model.specs.Calls.{Text, lowered, or_else, About, InstrumentKind, Counter, UpDownCounter, Histogram, ObservableCounter, ObservableUpDownCounter, Gauge, ObservableGauge}
-use Rattle.otel_model.specs.Demands.{Identity, identity_eq, Demand, Views, View, Row, StreamSpec, nothing_said, Aggregation, Drop, Default, Sum, LastValue, ExplicitBucketHistogram, fits, with_bounds, with_own, reader_default, resolved, instrument_of, demand_of, own_demand, add_answer, view_demands, is_compatible, fate_of, is_drop_fate, is_dropped, is_known, is_empty, needs_own, demands_with, demands_on, is_good, has_identity, each_once, fed}
+use Rattle.otel_model.specs.Demands.{Identity, identity_eq, Demand, Views, View, ReaderAnswers, StreamSpec, nothing_said, Aggregation, Drop, Default, Sum, LastValue, ExplicitBucketHistogram, fits, with_bounds, with_own, reader_default, resolved, instrument_of, demand_of, own_demand, add_answer, view_demands, is_compatible, fate_of, is_drop_fate, is_dropped, is_known, is_empty, needs_own, demands_with, demands_on, is_good, has_identity, each_once, fed}
 use Rattle.otel_model.specs.History.{Built, demands_after, feeds_of, builds_in, made}
 use Rattle.otel_model_laws.specs.Builds.{AreAlike, AlikeFeedTheSame}
 use Rattle.otel_model.proofs.Gather.{known_here}
@@ -64,14 +64,14 @@ needs_is : (dropped : Identity → Bool) (ds : List Demand) → needs_own droppe
 needs_is dropped ds = λ i. empty_is ds i || (incompatible_is ds i && not ((any_ids dropped (filter is_compatible ds) ∙ ap (kept_any dropped) (ids_compatible ds)) i))
 
 -- ======== what views answer ========
-module _ (row : Row) (scope : InstrumentationScope) where
+module _ (answers : ReaderAnswers) (scope : InstrumentationScope) where
   abbrev from_answers : About → List (Option StreamSpec) → List Demand
   from_answers about [] = []
-  from_answers about (o ∷ os) = add_answer row scope about o (from_answers about os)
+  from_answers about (o ∷ os) = add_answer answers scope about o (from_answers about os)
 
-  views_answer : (views : Views) (about : About) → view_demands views row scope about ≡ from_answers about (map (λ (view : View). view (instrument_of scope about)) views)
+  views_answer : (views : Views) (about : About) → view_demands views answers scope about ≡ from_answers about (map (λ (view : View). view (instrument_of scope about)) views)
   views_answer [] about = refl
-  views_answer (view ∷ views) about = ap (add_answer row scope about (view (instrument_of scope about))) (views_answer views about)
+  views_answer (view ∷ views) about = ap (add_answer answers scope about (view (instrument_of scope about))) (views_answer views about)
 
 -- own bounds make no aggregation fit or not fit
 fits_bounds : (k : InstrumentKind) (own : Option (List ℤ)) (a : Aggregation) → fits k (with_bounds own a) ≡ fits k a
@@ -91,18 +91,18 @@ fits_own k ObservableUpDownCounter own a = refl
 fits_own k Gauge own a = refl
 fits_own k ObservableGauge own a = refl
 
-abbrev plainly : Row → InstrumentKind → Option Aggregation → Aggregation
-plainly row kind None = reader_default row kind
-plainly row kind (Some Default) = reader_default row kind
-plainly row kind (Some a) = a
+abbrev plainly : ReaderAnswers → InstrumentKind → Option Aggregation → Aggregation
+plainly answers kind None = reader_default answers kind
+plainly answers kind (Some Default) = reader_default answers kind
+plainly answers kind (Some a) = a
 
-fits_plainly : (row : Row) (about : About) (o : Option Aggregation) → fits about.kind (resolved row about o) ≡ fits about.kind (plainly row about.kind o)
-fits_plainly row about None = fits_own about.kind about.kind about.bounds (reader_default row about.kind)
-fits_plainly row about (Some Default) = refl
-fits_plainly row about (Some Drop) = refl
-fits_plainly row about (Some Sum) = refl
-fits_plainly row about (Some LastValue) = refl
-fits_plainly row about (Some (ExplicitBucketHistogram bounds m)) = refl
+fits_plainly : (answers : ReaderAnswers) (about : About) (o : Option Aggregation) → fits about.kind (resolved answers about o) ≡ fits about.kind (plainly answers about.kind o)
+fits_plainly answers about None = fits_own about.kind about.kind about.bounds (reader_default answers about.kind)
+fits_plainly answers about (Some Default) = refl
+fits_plainly answers about (Some Drop) = refl
+fits_plainly answers about (Some Sum) = refl
+fits_plainly answers about (Some LastValue) = refl
+fits_plainly answers about (Some (ExplicitBucketHistogram bounds m)) = refl
 
 same_name : (o : Option Text) (s t : Text) → lowered s ≡ lowered t → lowered (or_else o s) ≡ lowered (or_else o t)
 same_name None s t e = e
@@ -149,64 +149,64 @@ once_alike p q seen (x ∷ xs) a = go (has_identity seen x) (once_alike p q seen
     go false e f = λ i. cond (not (a.0 i)) (x ∷ f i) (f i)
 
 -- ======== two builds ========
-module _ (views : Views) (row : Row) where
+module _ (views : Views) (answers : ReaderAnswers) where
   -- the demands of a good build on a scope
   abbrev of_views : InstrumentationScope → About → List Demand
-  of_views scope about = filter is_compatible (view_demands views row scope about)
+  of_views scope about = filter is_compatible (view_demands views answers scope about)
 
   abbrev with_own_demand : List Demand → InstrumentationScope → About → List Demand
-  with_own_demand earlier scope about = demands_with (λ ds. is_dropped (earlier ++ ds)) views row scope about
+  with_own_demand earlier scope about = demands_with (λ ds. is_dropped (earlier ++ ds)) views answers scope about
 
-  good_demands : (earlier : List Demand) (i : Built) (scope : InstrumentationScope) → i.scope ≡ Some scope → is_good i.about ≡ true → demands_after views row earlier i ≡ with_own_demand earlier scope i.about
+  good_demands : (earlier : List Demand) (i : Built) (scope : InstrumentationScope) → i.scope ≡ Some scope → is_good i.about ≡ true → demands_after views answers earlier i ≡ with_own_demand earlier scope i.about
   good_demands earlier i scope e g =
-      ap (λ s. demands_on (λ ds. is_dropped (earlier ++ ds)) views row s i.about) e
+      ap (λ s. demands_on (λ ds. is_dropped (earlier ++ ds)) views answers s i.about) e
       ∙ ap (λ b. cond b (with_own_demand earlier scope i.about) []) g
 
   abbrev own_needed : List Demand → InstrumentationScope → About → Bool
-  own_needed earlier scope about = needs_own (is_dropped (earlier ++ of_views scope about)) (view_demands views row scope about)
+  own_needed earlier scope about = needs_own (is_dropped (earlier ++ of_views scope about)) (view_demands views answers scope about)
 
   if_own : (b : Bool) (d : Demand) → ids (cond b (d ∷ []) []) ≡ cond b (d.identity ∷ []) []
   if_own true d = refl
   if_own false d = refl
 
   ids_are : (earlier : List Demand) (scope : InstrumentationScope) (about : About)
-      → ids (with_own_demand earlier scope about) ≡ ids (of_views scope about) ++ cond (own_needed earlier scope about) ((own_demand row scope about).identity ∷ []) []
+      → ids (with_own_demand earlier scope about) ≡ ids (of_views scope about) ++ cond (own_needed earlier scope about) ((own_demand answers scope about).identity ∷ []) []
   ids_are earlier scope about =
-      map-append (λ (d : Demand). d.identity) (of_views scope about) (cond (own_needed earlier scope about) (own_demand row scope about ∷ []) [])
-      ∙ ap (λ l. ids (of_views scope about) ++ l) (if_own (own_needed earlier scope about) (own_demand row scope about))
+      map-append (λ (d : Demand). d.identity) (of_views scope about) (cond (own_needed earlier scope about) (own_demand answers scope about ∷ []) [])
+      ∙ ap (λ l. ids (of_views scope about) ++ l) (if_own (own_needed earlier scope about) (own_demand answers scope about))
 
   module _ (i j : Built) (h : AreAlike views i j) where
-    same_mark : (s : StreamSpec) → mark (demand_of row h.scope i.about s) ≡ mark (demand_of row h.scope j.about s)
+    same_mark : (s : StreamSpec) → mark (demand_of answers h.scope i.about s) ≡ mark (demand_of answers h.scope j.about s)
     same_mark s = λ k. (
       record { scope = h.scope; kind = h.kind k; signed = h.signed k; description = or_else s.description (h.description k); unit = or_else s.unit (h.unit k); name = same_name s.name i.about.name j.about.name h.name k },
-      (fits_plainly row i.about s.aggregation ∙ (ap (λ kind. fits kind (plainly row kind s.aggregation)) h.kind ∙ sym (fits_plainly row j.about s.aggregation))) k,
+      (fits_plainly answers i.about s.aggregation ∙ (ap (λ kind. fits kind (plainly answers kind s.aggregation)) h.kind ∙ sym (fits_plainly answers j.about s.aggregation))) k,
     )
 
-    same_answers : (os : List (Option StreamSpec)) → marks (from_answers row h.scope i.about os) ≡ marks (from_answers row h.scope j.about os)
+    same_answers : (os : List (Option StreamSpec)) → marks (from_answers answers h.scope i.about os) ≡ marks (from_answers answers h.scope j.about os)
     same_answers [] = refl
     same_answers (None ∷ os) = same_answers os
     same_answers (Some s ∷ os) = λ k. same_mark s k ∷ same_answers os k
 
-    same_marks : marks (view_demands views row h.scope i.about) ≡ marks (view_demands views row h.scope j.about)
+    same_marks : marks (view_demands views answers h.scope i.about) ≡ marks (view_demands views answers h.scope j.about)
     same_marks =
-        ap marks (views_answer row h.scope views i.about)
-        ∙ (ap (λ os. marks (from_answers row h.scope i.about os)) h.answers
+        ap marks (views_answer answers h.scope views i.about)
+        ∙ (ap (λ os. marks (from_answers answers h.scope i.about os)) h.answers
         ∙ (same_answers (map (λ (view : View). view (instrument_of h.scope j.about)) views)
-        ∙ sym (ap marks (views_answer row h.scope views j.about))))
+        ∙ sym (ap marks (views_answer answers h.scope views j.about))))
 
     same_ids : ids (of_views h.scope i.about) ≡ ids (of_views h.scope j.about)
-    same_ids = ids_compatible (view_demands views row h.scope i.about) ∙ (ap compatible_ids same_marks ∙ sym (ids_compatible (view_demands views row h.scope j.about)))
+    same_ids = ids_compatible (view_demands views answers h.scope i.about) ∙ (ap compatible_ids same_marks ∙ sym (ids_compatible (view_demands views answers h.scope j.about)))
 
     -- the own default is demanded by both or by none. `more` comes between
-    same_need : (earlier more : List Demand) → own_needed earlier h.scope i.about ≡ needs_own (is_dropped ((earlier ++ of_views h.scope i.about) ++ more)) (view_demands views row h.scope j.about)
+    same_need : (earlier more : List Demand) → own_needed earlier h.scope i.about ≡ needs_own (is_dropped ((earlier ++ of_views h.scope i.about) ++ more)) (view_demands views answers h.scope j.about)
     same_need earlier more =
         needs_is (is_dropped known) vs
         ∙ ((λ k. no_marks (marks vs) || (list_any (λ (m : Mark). not m.1) (marks vs) && not (fates k)))
         ∙ (ap (needs_by (is_dropped (known ++ more))) same_marks
-        ∙ sym (needs_is (is_dropped (known ++ more)) (view_demands views row h.scope j.about))))
+        ∙ sym (needs_is (is_dropped (known ++ more)) (view_demands views answers h.scope j.about))))
       where
         vs : List Demand
-        vs = view_demands views row h.scope i.about
+        vs = view_demands views answers h.scope i.about
 
         known : List Demand
         known = earlier ++ of_views h.scope i.about
@@ -223,11 +223,11 @@ module _ (views : Views) (row : Row) where
 
     -- what comes between the first's view demands and the second's
     abbrev between : List Demand → List Demand → List Demand
-    between earlier more = (cond (own_needed earlier h.scope i.about) (own_demand row h.scope i.about ∷ []) [] ++ more) ++ of_views h.scope j.about
+    between earlier more = (cond (own_needed earlier h.scope i.about) (own_demand answers h.scope i.about ∷ []) [] ++ more) ++ of_views h.scope j.about
 
     regroup : (earlier more : List Demand) → ((earlier ++ with_own_demand earlier h.scope i.about) ++ more) ++ of_views h.scope j.about ≡ (earlier ++ of_views h.scope i.about) ++ between earlier more
     regroup earlier more =
-        let own = cond (own_needed earlier h.scope i.about) (own_demand row h.scope i.about ∷ []) [] in
+        let own = cond (own_needed earlier h.scope i.about) (own_demand answers h.scope i.about ∷ []) [] in
         ap (λ l. (l ++ more) ++ of_views h.scope j.about) (sym (append_assoc earlier (of_views h.scope i.about) own))
         ∙ (ap (λ l. l ++ of_views h.scope j.about) (append_assoc (earlier ++ of_views h.scope i.about) own more)
         ∙ append_assoc (earlier ++ of_views h.scope i.about) (own ++ more) (of_views h.scope j.about))
@@ -235,7 +235,7 @@ module _ (views : Views) (row : Row) where
     same_all : (earlier more : List Demand) → ids (with_own_demand earlier h.scope i.about) ≡ ids (with_own_demand ((earlier ++ with_own_demand earlier h.scope i.about) ++ more) h.scope j.about)
     same_all earlier more =
         ids_are earlier h.scope i.about
-        ∙ ((λ k. same_ids k ++ cond ((same_need earlier (between earlier more) ∙ ap (λ l. needs_own (is_dropped l) (view_demands views row h.scope j.about)) (sym (regroup earlier more))) k) ((same_mark nothing_said k).0 ∷ []) [])
+        ∙ ((λ k. same_ids k ++ cond ((same_need earlier (between earlier more) ∙ ap (λ l. needs_own (is_dropped l) (view_demands views answers h.scope j.about)) (sym (regroup earlier more))) k) ((same_mark nothing_said k).0 ∷ []) [])
         ∙ sym (ids_are ((earlier ++ with_own_demand earlier h.scope i.about) ++ more) h.scope j.about))
 
     -- the streams that the second feeds are those that the first feeds
@@ -259,13 +259,13 @@ module _ (views : Views) (row : Row) where
 
   -- ======== in a list of builds ========
   abbrev fed_at : List Demand → Built → List Identity
-  fed_at earlier i = fed (is_dropped (earlier ++ demands_after views row earlier i)) (demands_after views row earlier i)
+  fed_at earlier i = fed (is_dropped (earlier ++ demands_after views answers earlier i)) (demands_after views answers earlier i)
 
   fed_good : (earlier : List Demand) (i : Built) (scope : InstrumentationScope) → i.scope ≡ Some scope → is_good i.about ≡ true
       → fed_at earlier i ≡ fed (is_dropped (earlier ++ with_own_demand earlier scope i.about)) (with_own_demand earlier scope i.about)
   fed_good earlier i scope e g = ap (λ ds. fed (is_dropped (earlier ++ ds)) ds) (good_demands earlier i scope e g)
 
-  same_at : (i j : Built) → AreAlike views i j → (earlier more : List Demand) → fed_at earlier i ≡ fed_at ((earlier ++ demands_after views row earlier i) ++ more) j
+  same_at : (i j : Built) → AreAlike views i j → (earlier more : List Demand) → fed_at earlier i ≡ fed_at ((earlier ++ demands_after views answers earlier i) ++ more) j
   same_at i j h earlier more =
       fed_good earlier i h.scope h.first_scope h.first_good
       ∙ (same_fed i j h earlier more
@@ -273,12 +273,12 @@ module _ (views : Views) (row : Row) where
       ∙ ap (λ ds. fed_at ((earlier ++ ds) ++ more) j) (sym (good_demands earlier i h.scope h.first_scope h.first_good))))
 
   -- a build later in the list
-  later_at : (earlier : List Demand) (is : List Built) (n : ℕ) (j : Built) → slice_get is n ≡ Some j → (more : List Demand) × (slice_get (feeds_of views row earlier is) n ≡ Some (fed_at (earlier ++ more) j))
+  later_at : (earlier : List Demand) (is : List Built) (n : ℕ) (j : Built) → slice_get is n ≡ Some j → (more : List Demand) × (slice_get (feeds_of views answers earlier is) n ≡ Some (fed_at (earlier ++ more) j))
   later_at earlier [] n j e = absurd (cc)
   later_at earlier (k ∷ is) zero j e = ([], λ x. Some (fed_at (sym (append-nil earlier) x) (some_is k j e x)))
   later_at earlier (k ∷ is) (suc n) j e =
-      let q = later_at (earlier ++ demands_after views row earlier k) is n j e in
-      (demands_after views row earlier k ++ q.0, q.1 ∙ ap (λ ds. Some (fed_at ds j)) (append_assoc earlier (demands_after views row earlier k) q.0))
+      let q = later_at (earlier ++ demands_after views answers earlier k) is n j e in
+      (demands_after views answers earlier k ++ q.0, q.1 ∙ ap (λ ds. Some (fed_at ds j)) (append_assoc earlier (demands_after views answers earlier k) q.0))
 
   turned : (i j : Built) → AreAlike views i j → AreAlike views j i
   turned i j h = record {
@@ -297,20 +297,20 @@ module _ (views : Views) (row : Row) where
 
   -- the first of the list and a later one
   with_first : (earlier : List Demand) (i : Built) (is : List Built) (n : ℕ) (j : Built) → slice_get is n ≡ Some j → AreAlike views i j
-      → Some (fed_at earlier i) ≡ slice_get (feeds_of views row (earlier ++ demands_after views row earlier i) is) n
+      → Some (fed_at earlier i) ≡ slice_get (feeds_of views answers (earlier ++ demands_after views answers earlier i) is) n
   with_first earlier i is n j e h =
-      let q = later_at (earlier ++ demands_after views row earlier i) is n j e in
+      let q = later_at (earlier ++ demands_after views answers earlier i) is n j e in
       ap (λ l. Some l) (same_at i j h earlier q.0) ∙ sym q.1
 
   pub both_at : (earlier : List Demand) (is : List Built) (m n : ℕ) (i j : Built) → slice_get is m ≡ Some i → slice_get is n ≡ Some j → AreAlike views i j
-      → slice_get (feeds_of views row earlier is) m ≡ slice_get (feeds_of views row earlier is) n
+      → slice_get (feeds_of views answers earlier is) m ≡ slice_get (feeds_of views answers earlier is) n
   both_at earlier [] m n i j e f h = absurd (cc)
   both_at earlier (k ∷ is) zero zero i j e f h = refl
   both_at earlier (k ∷ is) zero (suc n) i j e f h = with_first earlier k is n j f (subst (λ x. AreAlike views x j) (sym (some_is k i e)) h)
   both_at earlier (k ∷ is) (suc m) zero i j e f h = sym (with_first earlier k is m i e (subst (λ x. AreAlike views x i) (sym (some_is k j f)) (turned i j h)))
-  both_at earlier (k ∷ is) (suc m) (suc n) i j e f h = both_at (earlier ++ demands_after views row earlier k) is m n i j e f h
+  both_at earlier (k ∷ is) (suc m) (suc n) i j e f h = both_at (earlier ++ demands_after views answers earlier k) is m n i j e f h
 
 pub alike_law : AlikeFeedTheSame
-alike_law views resource identity rows calls replies new run r row part g p m n i j e f h =
-    let same = feeds_law views resource identity rows calls replies new run r row part g p in
-    ap (λ fs. slice_get fs m) same ∙ (both_at views row [] (builds_in (made calls replies)) m n i j e f h ∙ sym (ap (λ fs. slice_get fs n) same))
+alike_law views resource identity readers calls replies new run r answers part g p m n i j e f h =
+    let same = feeds_law views resource identity readers calls replies new run r answers part g p in
+    ap (λ fs. slice_get fs m) same ∙ (both_at views answers [] (builds_in (made calls replies)) m n i j e f h ∙ sym (ap (λ fs. slice_get fs n) same))

@@ -3,7 +3,7 @@ use Rattle.std.proofs.Common.{◌≡◌, ⊎_elim, ℕ, zero, suc, Bool, true, f
 use Rattle.std.specs.Prelude.{filter, not, slice_get}
 use Rattle.std.proofs.lemmas.Bool.{cases_Bool, true≢false, false≢true, or_parts}
 use Rattle.std.proofs.lemmas.List.{append-nil}
-use Rattle.otel_model.specs.Demands.{Identity, identity_eq, Demand, Views, Row, fate_of, is_drop, is_drop_fate, is_dropped, is_known, has_identity, each_once, fed}
+use Rattle.otel_model.specs.Demands.{Identity, identity_eq, Demand, Views, ReaderAnswers, fate_of, is_drop, is_drop_fate, is_dropped, is_known, has_identity, each_once, fed}
 use Rattle.otel_model.specs.History.{Built, firsts, demands_after, demands_of, streams_of, feeds_of, builds_in, made}
 use Rattle.otel_model.specs.Sent.{is_fed}
 use Rattle.otel_model.specs.State.{Stream}
@@ -65,11 +65,11 @@ filter_apart p (x ∷ xs) a = go (p x) (absent_filtered p xs x a.0) (filter_apar
 fed_apart : (dropped : Identity → Bool) (ds : List Demand) → AreApart (fed dropped ds)
 fed_apart dropped ds = filter_apart (λ x. not (dropped x)) (each_once [] (ids ds)) (once_apart [] (ids ds))
 
-feeds_apart : (views : Views) (row : Row) (earlier : List Demand) (is : List Built) (n : ℕ) (xs : List Identity) → slice_get (feeds_of views row earlier is) n ≡ Some xs → AreApart xs
-feeds_apart views row earlier [] n xs e = absurd (cc)
-feeds_apart views row earlier (i ∷ is) zero xs e =
-    subst AreApart (some_is _ xs e) (fed_apart (is_dropped (earlier ++ demands_after views row earlier i)) (demands_after views row earlier i))
-feeds_apart views row earlier (i ∷ is) (suc n) xs e = feeds_apart views row (earlier ++ demands_after views row earlier i) is n xs e
+feeds_apart : (views : Views) (answers : ReaderAnswers) (earlier : List Demand) (is : List Built) (n : ℕ) (xs : List Identity) → slice_get (feeds_of views answers earlier is) n ≡ Some xs → AreApart xs
+feeds_apart views answers earlier [] n xs e = absurd (cc)
+feeds_apart views answers earlier (i ∷ is) zero xs e =
+    subst AreApart (some_is _ xs e) (fed_apart (is_dropped (earlier ++ demands_after views answers earlier i)) (demands_after views answers earlier i))
+feeds_apart views answers earlier (i ∷ is) (suc n) xs e = feeds_apart views answers (earlier ++ demands_after views answers earlier i) is n xs e
 
 -- ======== what is fed is a stream ========
 -- the fate of what is fed is not `Drop`
@@ -131,29 +131,29 @@ known_later (d ∷ ds) more x e = go (identity_eq d.identity x) (known_later ds 
     go false e = e
 
 -- demands only grow
-grown : (views : Views) (row : Row) (earlier : List Demand) (is : List Built) → (more : List Demand) × (demands_of views row earlier is ≡ earlier ++ more)
-grown views row earlier [] = ([], sym (append-nil earlier))
-grown views row earlier (i ∷ is) =
-    let q = grown views row (earlier ++ demands_after views row earlier i) is in
-    (demands_after views row earlier i ++ q.0, q.1 ∙ append_assoc earlier (demands_after views row earlier i) q.0)
+grown : (views : Views) (answers : ReaderAnswers) (earlier : List Demand) (is : List Built) → (more : List Demand) × (demands_of views answers earlier is ≡ earlier ++ more)
+grown views answers earlier [] = ([], sym (append-nil earlier))
+grown views answers earlier (i ∷ is) =
+    let q = grown views answers (earlier ++ demands_after views answers earlier i) is in
+    (demands_after views answers earlier i ++ q.0, q.1 ∙ append_assoc earlier (demands_after views answers earlier i) q.0)
 
 -- what a build feeds is known and not dropped after all builds
-fed_stays : (views : Views) (row : Row) (earlier : List Demand) (is : List Built) (n : ℕ) (x : Identity) → is_fed (feeds_of views row earlier is) n x ≡ true
-    → (is_known (demands_of views row earlier is) x ≡ true) × (is_dropped (demands_of views row earlier is) x ≡ false)
-fed_stays views row earlier [] n x e = absurd (false≢true e)
-fed_stays views row earlier (i ∷ is) zero x e =
-    let now = demands_after views row earlier i in
+fed_stays : (views : Views) (answers : ReaderAnswers) (earlier : List Demand) (is : List Built) (n : ℕ) (x : Identity) → is_fed (feeds_of views answers earlier is) n x ≡ true
+    → (is_known (demands_of views answers earlier is) x ≡ true) × (is_dropped (demands_of views answers earlier is) x ≡ false)
+fed_stays views answers earlier [] n x e = absurd (false≢true e)
+fed_stays views answers earlier (i ∷ is) zero x e =
+    let now = demands_after views answers earlier i in
     let known : is_known (earlier ++ now) x ≡ true = known_later earlier now x (fed_demanded (is_dropped (earlier ++ now)) now x e) in
-    let q = grown views row (earlier ++ now) is in (
+    let q = grown views answers (earlier ++ now) is in (
       ap (λ l. is_known l x) q.1 ∙ known_stays (earlier ++ now) q.0 x known,
       ap (λ l. is_dropped l x) q.1 ∙ (ap is_drop_fate (fate_stays (earlier ++ now) q.0 x known) ∙ not_dropped (is_dropped (earlier ++ now)) (each_once [] (ids now)) x e),
     )
-fed_stays views row earlier (i ∷ is) (suc n) x e = fed_stays views row (earlier ++ demands_after views row earlier i) is n x e
+fed_stays views answers earlier (i ∷ is) (suc n) x e = fed_stays views answers (earlier ++ demands_after views answers earlier i) is n x e
 
-fed_is_stream : (views : Views) (row : Row) (is : List Built) (n : ℕ) (x : Identity) → is_fed (feeds_of views row [] is) n x ≡ true → has_identity (ids (streams_of views row is)) x ≡ true
-fed_is_stream views row is n x e =
-    let ds = demands_of views row [] is in
-    let q = fed_stays views row [] is n x e in
+fed_is_stream : (views : Views) (answers : ReaderAnswers) (is : List Built) (n : ℕ) (x : Identity) → is_fed (feeds_of views answers [] is) n x ≡ true → has_identity (ids (streams_of views answers is)) x ≡ true
+fed_is_stream views answers is n x e =
+    let ds = demands_of views answers [] is in
+    let q = fed_stays views answers [] is n x e in
     let f = fate_there ds x q.0 in
     has_stream (firsts ds) x f.0 (fate_firsts ds x ∙ f.1) (sym (ap is_drop_fate f.1) ∙ q.1)
 
@@ -163,17 +163,17 @@ names_are : (ss : List Stream) → map (λ (s : Stream). s.demand.identity) ss �
 names_are ss = sym (map_both (λ (d : Demand). d.identity) (λ (s : Stream). s.demand) (λ (s : Stream). s.demand.identity) ss (λ s. refl))
 
 pub streams_apart_law : AreStreamsApart
-streams_apart_law views resource identity rows calls replies new run r row part h g =
+streams_apart_law views resource identity readers calls replies new run r answers part h g =
     let is = builds_in (made calls replies) in
-    let same : map (λ (s : Stream). s.demand.identity) part.streams ≡ ids (streams_of views row is) = names_are part.streams ∙ ap ids (streams_law views resource identity rows calls replies new run r row part h g) in
-    subst AreApart (sym same) (streams_apart views row is)
+    let same : map (λ (s : Stream). s.demand.identity) part.streams ≡ ids (streams_of views answers is) = names_are part.streams ∙ ap ids (streams_law views resource identity readers calls replies new run r answers part h g) in
+    subst AreApart (sym same) (streams_apart views answers is)
 
 pub feeds_apart_law : AreFeedsApart
-feeds_apart_law views resource identity rows calls replies new run r row part h g n xs e =
-    feeds_apart views row [] (builds_in (made calls replies)) n xs (sym (ap (λ fs. slice_get fs n) (feeds_law views resource identity rows calls replies new run r row part h g)) ∙ e)
+feeds_apart_law views resource identity readers calls replies new run r answers part h g n xs e =
+    feeds_apart views answers [] (builds_in (made calls replies)) n xs (sym (ap (λ fs. slice_get fs n) (feeds_law views resource identity readers calls replies new run r answers part h g)) ∙ e)
 
 pub feeds_streams_law : AreFeedsStreams
-feeds_streams_law views resource identity rows calls replies new run r row part h g n x e =
+feeds_streams_law views resource identity readers calls replies new run r answers part h g n x e =
     let is = builds_in (made calls replies) in
-    ap (λ l. has_identity l x) (names_are part.streams ∙ ap ids (streams_law views resource identity rows calls replies new run r row part h g))
-    ∙ fed_is_stream views row is n x (sym (ap (λ fs. is_fed fs n x) (feeds_law views resource identity rows calls replies new run r row part h g)) ∙ e)
+    ap (λ l. has_identity l x) (names_are part.streams ∙ ap ids (streams_law views resource identity readers calls replies new run r answers part h g))
+    ∙ fed_is_stream views answers is n x (sym (ap (λ fs. is_fed fs n x) (feeds_law views resource identity readers calls replies new run r answers part h g)) ∙ e)

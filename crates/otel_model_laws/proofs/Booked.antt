@@ -10,7 +10,7 @@ use Rattle.otel_model_stream.specs.Events.{Event, held_by}
 use Rattle.otel_model_stream.specs.Machine.{Machine, run, through}
 use Rattle.otel_model_stream.specs.Totals.{size, has_number, without_number}
 use Rattle.otel_model.specs.Calls.{InstrumentKind, Counter, UpDownCounter, Histogram, ObservableCounter, ObservableUpDownCounter, Gauge, ObservableGauge, is_observable, About, Observed, Call, Meter, Build, Record, Bind, RecordBound, Unbind, Collect, Flush, Shutdown, Fault, UnknownReader, ReaderShutDown, WrongKind}
-use Rattle.otel_model.specs.Demands.{Identity, Demand, Views, Row, is_dropped, fed}
+use Rattle.otel_model.specs.Demands.{Identity, Demand, Views, ReaderAnswers, is_dropped, fed}
 use Rattle.otel_model.specs.Streams.{is_sum, observes_sums, is_drained, is_delta, kind_of, aggregate_of}
 use Rattle.otel_model.specs.State.{InstrumentState, LiveHandle, Shared, Stream, ReaderPart}
 use Rattle.otel_model.specs.Refusals.{refusal, record_refusal, bind_refusal, instrument_held, handle_refusal, held_refusal, number_refusal, observation_refusal, observations_refusal, first_fault}
@@ -24,7 +24,7 @@ use Rattle.otel_model.proofs.Recorded.{held_is, by_unbind, collect_keeps, keeps_
 use Rattle.otel_model_laws.specs.Lawful.{EachOf, HandlesAreSound, numbers, IsAccounted, IsOfEvents, PartIsLawful, IsLawful, IsBalanced, IsPaidFor, IsLawfulAtFirst, EachCallKeepsLawful, EachRunKeepsLawful, LawfulBalances}
 use Rattle.otel_model_laws.proofs.OfEvents.{events_after, events_at_first, balanced_events}
 use Rattle.otel_model_laws.proofs.Amounts.{each_weaker, each_push, each_map, each_at, each_without, not_fed, when_fed, new_adds_nothing, nothing_accepted, kinds_of, same_kinds, same_number, AreDistinct, distinct_push, distinct_without, held_for, held_push, held_when_fed, held_without}
-use Rattle.otel_model_laws.proofs.Feeding.{fed_or_new, known_feed, held_before, none_held, fed_demanded, demands_kind, known_kind, known_after, demanded_known, same_row, same_feeds, streams_after}
+use Rattle.otel_model_laws.proofs.Feeding.{fed_or_new, known_feed, held_before, none_held, fed_demanded, demands_kind, known_kind, known_after, demanded_known, same_answers, same_feeds, streams_after}
 
 -- ======== what is shared ========
 get_lt : {X : Type 0} (xs : List X) (n : ℕ) (x : X) → slice_get xs n ≡ Some x → n < length xs
@@ -120,7 +120,7 @@ synchronous_stays d e = go (is_sum d.aggregation) d.identity.kind e
     go true Gauge e = refl
     go true ObservableGauge e = refl
 
-module _ (row : Row) (feeds : List (List Identity)) (live : List LiveHandle) (is : List InstrumentState) (q : Stream) where
+module _ (answers : ReaderAnswers) (feeds : List (List Identity)) (live : List LiveHandle) (is : List InstrumentState) (q : Stream) where
   abbrev x : Identity
   x = q.demand.identity
 
@@ -128,10 +128,10 @@ module _ (row : Row) (feeds : List (List Identity)) (live : List LiveHandle) (is
   σ = aggregate_of q.demand
 
   abbrev over : List Event → ℕ
-  over es = recorded_over (aggregate_of q.demand) (kind_of row q.demand) q.demand.limit q.machine q.recorded es
+  over es = recorded_over (aggregate_of q.demand) (kind_of answers q.demand) q.demand.limit q.machine q.recorded es
 
   abbrev ran : List Event → Machine
-  ran es = run (aggregate_of q.demand) (kind_of row q.demand) q.demand.limit q.machine es
+  ran es = run (aggregate_of q.demand) (kind_of answers q.demand) q.demand.limit q.machine es
 
   record_stream : (n : ℕ) (v : Amount) (s : AttributeSet) (i : InstrumentState) → slice_get is n ≡ Some i
       → q.recorded ≡ wrapped (accepted_for (aggregate_of q.demand) q.demand.identity feeds is)
@@ -183,7 +183,7 @@ module _ (row : Row) (feeds : List (List Identity)) (live : List LiveHandle) (is
   unbind_stream : (h : ℕ) → AreDistinct live → numbers q.machine.live ≡ held_for feeds q.demand.identity live
       → numbers (ran (Event.Unbind h ∷ [])).live ≡ held_for feeds q.demand.identity (without_handle h live)
   unbind_stream h d l =
-      by_unbind σ (kind_of row q.demand) q.demand.limit q.machine h (held_by h q.machine.live) refl
+      by_unbind σ (kind_of answers q.demand) q.demand.limit q.machine h (held_by h q.machine.live) refl
       ∙ (ap (without_number h) l ∙ sym (held_without feeds x h live d))
 
   -- observations go to other streams
@@ -217,18 +217,18 @@ module _ (row : Row) (feeds : List (List Identity)) (live : List LiveHandle) (is
   collect_stream sync es e =
       let P : List Event → Type 0 = λ l. (numbers (ran (l ++ Event.Collect ∷ [])).live ≡ numbers q.machine.live) × (over (l ++ Event.Collect ∷ []) ≡ q.recorded) in
       subst P (sym e)
-      (ap numbers (collect_keeps σ (kind_of row q.demand) q.demand.limit (kind_of row q.demand) q.machine (keeps_when (is_drained q.demand) (is_delta row q.demand) (synchronous_stays q.demand sync))), refl)
+      (ap numbers (collect_keeps σ (kind_of answers q.demand) q.demand.limit (kind_of answers q.demand) q.machine (keeps_when (is_drained q.demand) (is_delta answers q.demand) (synchronous_stays q.demand sync))), refl)
 
 -- ======== a reader's part ========
 -- a call that only sends to the streams
 sent_sound : (live live' : List LiveHandle) (is is' : List InstrumentState) (p : ReaderPart) (next : ℕ) (c : Call) → PartIsLawful live is p → kinds_of is' ≡ kinds_of is → length is' ≡ length is
-    → ((q : Stream) → IsAccounted p.feeds live is q → IsAccounted p.feeds live' is' (stream_after p.row p.feeds next c q)) → PartIsLawful live' is' (part_sent next c p)
+    → ((q : Stream) → IsAccounted p.feeds live is q → IsAccounted p.feeds live' is' (stream_after p.answers p.feeds next c q)) → PartIsLawful live' is' (part_sent next c p)
 sent_sound live live' is is' p next c a k l each = record {
   known = a.known;
   kinds = λ n y j f g. a.kinds n y j f (sym (ap (λ ks. slice_get ks n) k) ∙ g);
   as_many = a.as_many ∙ sym l;
-  streams = each_map (IsAccounted p.feeds live is) (IsAccounted p.feeds live' is') (stream_after p.row p.feeds next c) p.streams each a.streams;
-  of_events = each_map (IsOfEvents p.row) (IsOfEvents p.row) (stream_after p.row p.feeds next c) p.streams (λ q h. events_after p.row p.feeds next c q h) a.of_events;
+  streams = each_map (IsAccounted p.feeds live is) (IsAccounted p.feeds live' is') (stream_after p.answers p.feeds next c) p.streams each a.streams;
+  of_events = each_map (IsOfEvents p.answers) (IsOfEvents p.answers) (stream_after p.answers p.feeds next c) p.streams (λ q h. events_after p.answers p.feeds next c q h) a.of_events;
 }
 
 -- a build
@@ -248,7 +248,7 @@ with_sound live is p ds about now a b k = record {
       (each_weaker (IsAccounted p.feeds live is) (IsAccounted (p.feeds ++ new ∷ []) live (is ++ new_instrument about ∷ [])) after.streams
       (λ q h sync. ((h sync).0 ∙ sym (held_before p.feeds new q.demand.identity live below), (h sync).1 ∙ sym (ap wrapped (new_adds_nothing (aggregate_of q.demand) q.demand.identity p.feeds is new about a.as_many))))
       (streams_after now (IsAccounted p.feeds live is) (λ y. (n : ℕ) × (is_fed p.feeds n y ≡ true)) begun ds p (λ y h. a.known h.0 y h.1) a.streams));
-  of_events = subst (λ row. EachOf (IsOfEvents row) after.streams) (sym (same_row now ds p)) (streams_after now (IsOfEvents p.row) (λ y. ⊥) (λ d h. events_at_first p.row now d) ds p (λ y h. absurd h) a.of_events);
+  of_events = subst (λ answers. EachOf (IsOfEvents answers) after.streams) (sym (same_answers now ds p)) (streams_after now (IsOfEvents p.answers) (λ y. ⊥) (λ d h. events_at_first p.answers now d) ds p (λ y h. absurd h) a.of_events);
 }
   where
     after : ReaderPart
@@ -285,17 +285,17 @@ part_sound : (views : Views) (s : Shared) (readers : ℕ) (c : Call) (p : Reader
     → PartIsLawful (shared_after s c).live (shared_after s c).instruments (part_after views s c p)
 part_sound views s readers (Meter scope) p e h a = a
 part_sound views s readers (Build meter about now) p e h a =
-    with_sound s.live s.instruments p (build_demands views p (scope_of s.meters meter) about) about now a h.bound (demands_kind (λ ds. is_dropped (fold Rattle.otel_model.specs.Machine.enter p.fates ds)) views p.row (scope_of s.meters meter) about)
+    with_sound s.live s.instruments p (build_demands views p (scope_of s.meters meter) about) about now a h.bound (demands_kind (λ ds. is_dropped (fold Rattle.otel_model.specs.Machine.enter p.fates ds)) views p.answers (scope_of s.meters meter) about)
 part_sound views s readers (Record n v l) p e h a =
     let there = recorded_there (slice_get s.instruments n) v.signed e in
     sent_sound s.live s.live s.instruments (changed_at n (accepted v.amount) s.instruments) p s.next (Record n v l) a (same_kinds n v.amount s.instruments) (same_number n (accepted v.amount) s.instruments)
     (λ q old sync.
-    let g = record_stream p.row p.feeds s.live s.instruments q n v.amount (set_for q.demand l) there.0 there.1 (old sync).1 in
+    let g = record_stream p.answers p.feeds s.live s.instruments q n v.amount (set_for q.demand l) there.0 there.1 (old sync).1 in
     (g.0 ∙ (old sync).0, g.1))
 part_sound views s readers (Bind n l) p e h a =
     sent_sound s.live (s.live ++ (s.next, n) ∷ []) s.instruments s.instruments p s.next (Bind n l) a refl refl
     (λ q old sync.
-    let g = bind_stream p.row p.feeds s.live s.instruments q s.next n (set_for q.demand l) (old sync).0 in
+    let g = bind_stream p.answers p.feeds s.live s.instruments q s.next n (set_for q.demand l) (old sync).0 in
     (g.0, g.1 ∙ (old sync).1))
 part_sound views s readers (RecordBound k v) p e h a =
     let there = handle_there (instrument_held k s.live) s.instruments v.signed e in
@@ -303,16 +303,16 @@ part_sound views s readers (RecordBound k v) p e h a =
     (ap (λ o. kinds_of (accepted_by o v.amount s.instruments)) there.2 ∙ same_kinds there.0 v.amount s.instruments)
     (accepted_number (instrument_held k s.live) v.amount s.instruments)
     (λ q old sync.
-    let g = bound_stream p.row p.feeds s.live s.instruments q k there.0 v.amount there.1 h.distinct there.2 there.3 (old sync).0 (old sync).1 in
+    let g = bound_stream p.answers p.feeds s.live s.instruments q k there.0 v.amount there.1 h.distinct there.2 there.3 (old sync).0 (old sync).1 in
     (g.0 ∙ (old sync).0, g.1))
 part_sound views s readers (Unbind k) p e h a =
     sent_sound s.live (without_handle k s.live) s.instruments s.instruments p s.next (Unbind k) a refl refl
-    (λ q old sync. (unbind_stream p.row p.feeds s.live s.instruments q k h.distinct (old sync).0, (old sync).1))
+    (λ q old sync. (unbind_stream p.answers p.feeds s.live s.instruments q k h.distinct (old sync).0, (old sync).1))
 part_sound views s readers (Collect r now os) p e h a =
     sent_sound s.live s.live s.instruments s.instruments p s.next (Collect r now os) a refl refl
     (λ q old sync.
-    let g = collect_stream p.row p.feeds s.live s.instruments q sync (observed p.feeds q.demand os)
-    (unobserved p.row p.feeds s.live s.instruments q sync (λ n k f t. a.kinds n q.demand.identity k f t) os (observed_fine s readers r now os e)) in
+    let g = collect_stream p.answers p.feeds s.live s.instruments q sync (observed p.feeds q.demand os)
+    (unobserved p.answers p.feeds s.live s.instruments q sync (λ n k f t. a.kinds n q.demand.identity k f t) os (observed_fine s readers r now os e)) in
     (g.0 ∙ (old sync).0, g.1 ∙ (old sync).1))
 part_sound views s readers Flush p e h a = a
 part_sound views s readers Shutdown p e h a = a
@@ -359,25 +359,25 @@ run_lawful views old new (c ∷ calls) (reply ∷ replies) run a =
     (λ s. subst IsLawful (sym s.1) (after_lawful views old c a))
     (step_cases views old run.0 c reply run.1))
 
-first_parts : (rows : List Row) → EachOf (PartIsLawful [] []) (map new_part rows)
+first_parts : (readers : List ReaderAnswers) → EachOf (PartIsLawful [] []) (map new_part readers)
 first_parts [] = tt
-first_parts (row ∷ rows) = (record { known = λ n y f. absurd (false≢true f); kinds = λ n y k f g. absurd (false≢true f); as_many = refl; streams = tt; of_events = tt }, first_parts rows)
+first_parts (answers ∷ readers) = (record { known = λ n y f. absurd (false≢true f); kinds = λ n y k f g. absurd (false≢true f); as_many = refl; streams = tt; of_events = tt }, first_parts readers)
 
 pub first_lawful : IsLawfulAtFirst
-first_lawful resource identity rows = record { handles = record { bound = tt; below = tt; distinct = tt }; parts = first_parts rows }
+first_lawful resource identity readers = record { handles = record { bound = tt; below = tt; distinct = tt }; parts = first_parts readers }
 
 -- ======== balances ========
-both_of : (p : ReaderPart) (feeds : List (List Identity)) (live : List LiveHandle) (is : List InstrumentState) (qs : List Stream) → EachOf (IsAccounted feeds live is) qs → EachOf (IsOfEvents p.row) qs
-    → EachOf (λ (q : Stream). IsBalanced p.row q × IsPaidFor feeds is q) qs
+both_of : (p : ReaderPart) (feeds : List (List Identity)) (live : List LiveHandle) (is : List InstrumentState) (qs : List Stream) → EachOf (IsAccounted feeds live is) qs → EachOf (IsOfEvents p.answers) qs
+    → EachOf (λ (q : Stream). IsBalanced p.answers q × IsPaidFor feeds is q) qs
 both_of p feeds live is [] a b = tt
-both_of p feeds live is (q ∷ qs) a b = ((balanced_events p.row q b.0, λ sync. (a.0 sync).1), both_of p feeds live is qs a.1 b.1)
+both_of p feeds live is (q ∷ qs) a b = ((balanced_events p.answers q b.0, λ sync. (a.0 sync).1), both_of p feeds live is qs a.1 b.1)
 
 pub balances_law : LawfulBalances
-balances_law st a = each_weaker (PartIsLawful st.shared.live st.shared.instruments) (λ (p : ReaderPart). EachOf (λ (q : Stream). IsBalanced p.row q × IsPaidFor p.feeds st.shared.instruments q) p.streams) st.readers
+balances_law st a = each_weaker (PartIsLawful st.shared.live st.shared.instruments) (λ (p : ReaderPart). EachOf (λ (q : Stream). IsBalanced p.answers q × IsPaidFor p.feeds st.shared.instruments q) p.streams) st.readers
     (λ p h. both_of p p.feeds st.shared.live st.shared.instruments p.streams h.streams h.of_events) a.parts
 
 pub accepted_law : IsAccepted
-accepted_law views resource identity rows calls replies new run r row part h g j s e sync =
-    let lawful = run_lawful views (new_state resource identity rows) new calls replies run (first_lawful resource identity rows) in
+accepted_law views resource identity readers calls replies new run r answers part h g j s e sync =
+    let lawful = run_lawful views (new_state resource identity readers) new calls replies run (first_lawful resource identity readers) in
     let part_lawful = each_at (PartIsLawful new.shared.live new.shared.instruments) new.readers r part lawful.parts g in
     (each_at (IsAccounted part.feeds new.shared.live new.shared.instruments) part.streams j s part_lawful.streams e sync).1

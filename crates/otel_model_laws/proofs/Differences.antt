@@ -36,15 +36,15 @@ get_in f (x ∷ xs) zero y e = (x, refl, sym (some_is (f x) y e))
 get_in f (x ∷ xs) (suc k) y e = get_in f xs k y e
 
 pub differences_law : AreDifferences
-differences_law views row r d calls events e k p g =
-    let both = and_parts (is_drained d) (is_delta row d) e in
-    let before = reported_of views row r d calls in
-    let es = history views row r d calls ++ events in
-    let rs = records_of d.limit (window_of row d es) in
-    let sets : List AttributeSet = filter (is_hit rs) (none_set ∷ []) ++ shown_places (kind_of row d) d.limit (window_of row d es) in
-    let shown : slice_get (map (difference before) (window_points row d es)) k ≡ Some p = sym (λ i. slice_get (cond (e i) (map (difference before) (window_points row d es)) (window_points row d es)) k) ∙ g in
-    let z = get_in (difference before) (window_points row d es) k p shown in
+differences_law views answers r d calls events e k p g =
+    let both = and_parts (is_drained d) (is_delta answers d) e in
+    let before = reported_of views answers r d calls in
+    let es = history views answers r d calls ++ events in
+    let rs = records_of d.limit (window_of answers d es) in
+    let sets : List AttributeSet = filter (is_hit rs) (none_set ∷ []) ++ shown_places (kind_of answers d) d.limit (window_of answers d es) in
+    let shown : slice_get (map (difference before) (window_points answers d es)) k ≡ Some p = sym (λ i. slice_get (cond (e i) (map (difference before) (window_points answers d es)) (window_points answers d es)) k) ∙ g in
+    let z = get_in (difference before) (window_points answers d es) k p shown in
     let x = get_of_map (point (aggregate_of d) rs) sets k z.0 z.1 in
-    let P : Point → Type 0 = λ p. wrapped (value_of p.1 + value_before before p.0) ≡ wrapped (last_observed row d es p.0) in
+    let P : Point → Type 0 = λ p. wrapped (value_of p.1 + value_before before p.0) ≡ wrapped (last_observed answers d es p.0) in
     subst P (sym (z.2 ∙ ap (difference before) x.1))
     (less_more (value_of (fold_of (aggregate_of d) (values_of rs x.0))) (value_before before x.0) ∙ ap (λ σ. wrapped (value_of (fold_of σ (values_of rs x.0)))) (drained_last d both.0))

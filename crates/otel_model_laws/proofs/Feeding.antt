@@ -5,7 +5,7 @@ use Rattle.std.proofs.lemmas.Bool.{true≢false, false≢true}
 use Rattle.std.proofs.lemmas.List.{append-nil}
 use Rattle.otel_common.specs.declared.scopes.InstrumentationScope.{InstrumentationScope}
 use Rattle.otel_model.specs.Calls.{About, InstrumentKind}
-use Rattle.otel_model.specs.Demands.{Identity, identity_eq, Demand, Views, Row, instrument_of, StreamSpec, own_demand, add_answer, view_demands, is_compatible, needs_own, demands_with, demands_on, is_good, is_known, is_drop, has_identity, each_once, fed}
+use Rattle.otel_model.specs.Demands.{Identity, identity_eq, Demand, Views, ReaderAnswers, instrument_of, StreamSpec, own_demand, add_answer, view_demands, is_compatible, needs_own, demands_with, demands_on, is_good, is_known, is_drop, has_identity, each_once, fed}
 use Rattle.otel_model.specs.State.{Stream, ReaderPart, LiveHandle}
 use Rattle.otel_model.specs.Sent.{is_fed}
 use Rattle.otel_model.specs.Machine.{new_stream, enter, demanded}
@@ -95,14 +95,14 @@ fed_demanded dropped ds x e =
 abbrev OfKind : InstrumentKind → List Demand → Type 0
 OfKind k ds = EachOf (λ (d : Demand). d.identity.kind ≡ k) ds
 
-module _ (row : Row) (scope : InstrumentationScope) (about : About) where
-  answered_kind : (o : Option StreamSpec) (ds : List Demand) → OfKind about.kind ds → OfKind about.kind (add_answer row scope about o ds)
+module _ (answers : ReaderAnswers) (scope : InstrumentationScope) (about : About) where
+  answered_kind : (o : Option StreamSpec) (ds : List Demand) → OfKind about.kind ds → OfKind about.kind (add_answer answers scope about o ds)
   answered_kind None ds a = a
   answered_kind (Some s) ds a = (refl, a)
 
-  view_kind : (views : Views) → OfKind about.kind (view_demands views row scope about)
+  view_kind : (views : Views) → OfKind about.kind (view_demands views answers scope about)
   view_kind [] = tt
-  view_kind (view ∷ views) = answered_kind (view (instrument_of scope about)) (view_demands views row scope about) (view_kind views)
+  view_kind (view ∷ views) = answered_kind (view (instrument_of scope about)) (view_demands views answers scope about) (view_kind views)
 
 each_filter : {X : Type 0} (P : X → Type 0) (p : X → Bool) (xs : List X) → EachOf P xs → EachOf P (filter p xs)
 each_filter P p [] a = tt
@@ -116,13 +116,13 @@ own_kind : (k : InstrumentKind) (ds : List Demand) (d : Demand) (b : Bool) → O
 own_kind k ds d true a e = each_push (λ (d : Demand). d.identity.kind ≡ k) ds d a e
 own_kind k ds d false a e = subst (OfKind k) (sym (append-nil ds)) a
 
-pub demands_kind : (dropped : List Demand → Identity → Bool) (views : Views) (row : Row) (scope : Option InstrumentationScope) (about : About) → OfKind about.kind (demands_on dropped views row scope about)
-demands_kind dropped views row None about = tt
-demands_kind dropped views row (Some scope) about = go (is_good about)
+pub demands_kind : (dropped : List Demand → Identity → Bool) (views : Views) (answers : ReaderAnswers) (scope : Option InstrumentationScope) (about : About) → OfKind about.kind (demands_on dropped views answers scope about)
+demands_kind dropped views answers None about = tt
+demands_kind dropped views answers (Some scope) about = go (is_good about)
   where
-    go : (b : Bool) → OfKind about.kind (cond b (demands_with dropped views row scope about) [])
-    go true = own_kind about.kind (filter is_compatible (view_demands views row scope about)) (own_demand row scope about) (needs_own (dropped (filter is_compatible (view_demands views row scope about))) (view_demands views row scope about))
-        (each_filter (λ (d : Demand). d.identity.kind ≡ about.kind) is_compatible (view_demands views row scope about) (view_kind row scope about views)) refl
+    go : (b : Bool) → OfKind about.kind (cond b (demands_with dropped views answers scope about) [])
+    go true = own_kind about.kind (filter is_compatible (view_demands views answers scope about)) (own_demand answers scope about) (needs_own (dropped (filter is_compatible (view_demands views answers scope about))) (view_demands views answers scope about))
+        (each_filter (λ (d : Demand). d.identity.kind ≡ about.kind) is_compatible (view_demands views answers scope about) (view_kind answers scope about views)) refl
     go false = tt
 
 pub known_kind : (k : InstrumentKind) (ds : List Demand) (x : Identity) → OfKind k ds → is_known ds x ≡ true → x.kind ≡ k
@@ -159,9 +159,9 @@ module _ (now : ℕ) where
       (λ t. demanded_known ds (demanded now p d) x t)
       (is_one (identity_eq d.identity x) (is_known ds x) e)
 
-  pub same_row : (ds : List Demand) (p : ReaderPart) → (fold (demanded now) p ds).row ≡ p.row
-  same_row [] p = refl
-  same_row (d ∷ ds) p = same_row ds (demanded now p d)
+  pub same_answers : (ds : List Demand) (p : ReaderPart) → (fold (demanded now) p ds).answers ≡ p.answers
+  same_answers [] p = refl
+  same_answers (d ∷ ds) p = same_answers ds (demanded now p d)
 
   pub same_feeds : (ds : List Demand) (p : ReaderPart) → (fold (demanded now) p ds).feeds ≡ p.feeds
   same_feeds [] p = refl

@@ -14,7 +14,7 @@ use Rattle.otel_common.proofs.Permuting.{canon-permutation}
 use Rattle.otel_model_stream.specs.Sets.{AllowList, kept, set_of}
 use Rattle.otel_model_stream.specs.Events.{Event}
 use Rattle.otel_model.specs.Calls.{Number, Observed, Call, Record, Bind, Collect, OutOfMemory, UnknownMeter, UnknownInstrument, UnknownHandle, UnknownReader, WrongNumber, WrongKind, AlreadyShutdown, ReaderShutDown, ReadersFailed, Exhausted, LedgerFull, UseWorker, WorkersMissing, Reply}
-use Rattle.otel_model.specs.Demands.{Identity, Demand, Row, Views}
+use Rattle.otel_model.specs.Demands.{Identity, Demand, ReaderAnswers, Views}
 use Rattle.otel_model.specs.State.{InstrumentState, Shared, Stream, ReaderPart, State}
 use Rattle.otel_model.specs.Refusals.{refusal, observation_refusal, observations_refusal, first_fault}
 use Rattle.otel_model.specs.Sent.{is_fed, set_for, observed, sent}
@@ -108,16 +108,16 @@ alike_run c e h views old new (b ∷ before) later (reply ∷ replies) run = (ru
 
 -- ======== records and binds ========
 -- a stream that is sent the same
-stream_alike : (row : Row) (feeds : List (List Identity)) (next : ℕ) (c e : Call) (s : Stream)
-    → sent feeds next s.demand c ≡ sent feeds next s.demand e → since_after row s.demand c s.since ≡ since_after row s.demand e s.since
-    → reported_after row feeds c s ≡ reported_after row feeds e s → exported_after row feeds c s ≡ exported_after row feeds e s
-    → stream_after row feeds next c s ≡ stream_after row feeds next e s
-stream_alike row feeds next c e s k m p q = λ i. record {
+stream_alike : (answers : ReaderAnswers) (feeds : List (List Identity)) (next : ℕ) (c e : Call) (s : Stream)
+    → sent feeds next s.demand c ≡ sent feeds next s.demand e → since_after answers s.demand c s.since ≡ since_after answers s.demand e s.since
+    → reported_after answers feeds c s ≡ reported_after answers feeds e s → exported_after answers feeds c s ≡ exported_after answers feeds e s
+    → stream_after answers feeds next c s ≡ stream_after answers feeds next e s
+stream_alike answers feeds next c e s k m p q = λ i. record {
   demand = s.demand;
-  machine = machine_after row s.demand (k i) s.machine;
+  machine = machine_after answers s.demand (k i) s.machine;
   since = m i;
   reported = p i;
-  recorded = recorded_after row (k i) s;
+  recorded = recorded_after answers (k i) s;
   exported = q i;
 }
 
@@ -125,8 +125,8 @@ map_alike : {A B : Type 0} (f g : A → B) (xs : List A) → ((x : A) → f x �
 map_alike f g [] e = refl
 map_alike f g (x ∷ xs) e = λ i. e x i ∷ map_alike f g xs e i
 
-part_alike : (next : ℕ) (c e : Call) → ((row : Row) (feeds : List (List Identity)) (s : Stream) → stream_after row feeds next c s ≡ stream_after row feeds next e s) → (p : ReaderPart) → part_sent next c p ≡ part_sent next e p
-part_alike next c e h p = λ i. record p { streams = map_alike (stream_after p.row p.feeds next c) (stream_after p.row p.feeds next e) p.streams (h p.row p.feeds) i }
+part_alike : (next : ℕ) (c e : Call) → ((answers : ReaderAnswers) (feeds : List (List Identity)) (s : Stream) → stream_after answers feeds next c s ≡ stream_after answers feeds next e s) → (p : ReaderPart) → part_sent next c p ≡ part_sent next e p
+part_alike next c e h p = λ i. record p { streams = map_alike (stream_after p.answers p.feeds next c) (stream_after p.answers p.feeds next e) p.streams (h p.answers p.feeds) i }
 
 no_length : (l m : List KeyValue) → IsReordered l m → length m ≡ length l
 no_length l m h = length_permutation l m h.1
@@ -143,7 +143,7 @@ record_alike n v l m h = record {
   answered = λ st. refl;
   left = λ views st. λ i. record {
     shared = shared_after st.shared (Record n v l);
-    readers = map_alike (part_sent st.shared.next (Record n v l)) (part_sent st.shared.next (Record n v m)) st.readers (part_alike st.shared.next (Record n v l) (Record n v m) (λ row feeds s. stream_alike row feeds st.shared.next (Record n v l) (Record n v m) s
+    readers = map_alike (part_sent st.shared.next (Record n v l)) (part_sent st.shared.next (Record n v m)) st.readers (part_alike st.shared.next (Record n v l) (Record n v m) (λ answers feeds s. stream_alike answers feeds st.shared.next (Record n v l) (Record n v m) s
         (λ i. cond (is_fed feeds n s.demand.identity) (Event.Record (set-reordered l m h s.demand i) v.amount ∷ []) []) refl refl refl)) i;
   };
   memory = record_memory n v l m (no_length l m h);
@@ -156,7 +156,7 @@ bind_alike n l m h = record {
   answered = λ st. refl;
   left = λ views st. λ i. record {
     shared = shared_after st.shared (Bind n l);
-    readers = map_alike (part_sent st.shared.next (Bind n l)) (part_sent st.shared.next (Bind n m)) st.readers (part_alike st.shared.next (Bind n l) (Bind n m) (λ row feeds s. stream_alike row feeds st.shared.next (Bind n l) (Bind n m) s
+    readers = map_alike (part_sent st.shared.next (Bind n l)) (part_sent st.shared.next (Bind n m)) st.readers (part_alike st.shared.next (Bind n l) (Bind n m) (λ answers feeds s. stream_alike answers feeds st.shared.next (Bind n l) (Bind n m) s
         (λ i. cond (is_fed feeds n s.demand.identity) (Event.Bind st.shared.next (set-reordered l m h s.demand i) ∷ []) []) refl refl refl)) i;
   };
   memory = refl;
@@ -179,8 +179,8 @@ module _ (os ps : List Observed) (o : Observed) (m : List KeyValue) (h : IsReord
   refused_alike is [] = refl
   refused_alike is (q ∷ qs) = ap (first_fault (observation_refusal (slice_get is q.instrument) q.value.signed)) (refused_alike is qs)
 
-  points_alike : (row : Row) (feeds : List (List Identity)) (s : Stream) → points_at row feeds these s ≡ points_at row feeds those s
-  points_alike row feeds s = λ i. Rattle.otel_model_stream.specs.Machine.points (Rattle.otel_model.specs.Streams.kind_of row s.demand) (machine_after row s.demand (observed_alike feeds s.demand os i) s.machine)
+  points_alike : (answers : ReaderAnswers) (feeds : List (List Identity)) (s : Stream) → points_at answers feeds these s ≡ points_at answers feeds those s
+  points_alike answers feeds s = λ i. Rattle.otel_model_stream.specs.Machine.points (Rattle.otel_model.specs.Streams.kind_of answers s.demand) (machine_after answers s.demand (observed_alike feeds s.demand os i) s.machine)
 
   collect_alike : (r now : ℕ) → IsAlike (Collect r now these) (Collect r now those)
   collect_alike r now = record {
@@ -188,10 +188,10 @@ module _ (os ps : List Observed) (o : Observed) (m : List KeyValue) (h : IsReord
     answered = λ st. same_reply st.shared (slice_get st.readers r);
     left = λ views st. λ i. record {
       shared = st.shared;
-      readers = same_change r st.readers (part_alike st.shared.next (Collect r now these) (Collect r now those) (λ row feeds s. stream_alike row feeds st.shared.next (Collect r now these) (Collect r now those) s
+      readers = same_change r st.readers (part_alike st.shared.next (Collect r now these) (Collect r now those) (λ answers feeds s. stream_alike answers feeds st.shared.next (Collect r now these) (Collect r now those) s
           (λ i. observed_alike feeds s.demand os i ++ Event.Collect ∷ []) refl
-          (λ i. cond (Rattle.otel_model.specs.Collections.shows_differences row s.demand) (points_alike row feeds s i) s.reported)
-          (λ i. cond (Rattle.otel_model.specs.Streams.is_delta row s.demand) (Rattle.otel_model_stream.specs.Folds.wrapped (s.exported + Rattle.otel_model_stream.specs.Totals.points_total (points_alike row feeds s i))) s.exported))) i;
+          (λ i. cond (Rattle.otel_model.specs.Collections.shows_differences answers s.demand) (points_alike answers feeds s i) s.reported)
+          (λ i. cond (Rattle.otel_model.specs.Streams.is_delta answers s.demand) (Rattle.otel_model_stream.specs.Folds.wrapped (s.exported + Rattle.otel_model_stream.specs.Totals.points_total (points_alike answers feeds s i))) s.exported))) i;
     };
     memory = refl;
     asks = refl;
@@ -204,7 +204,7 @@ module _ (os ps : List Observed) (o : Observed) (m : List KeyValue) (h : IsReord
 
       same_collection : (s : Shared) (p : ReaderPart) → collect_from s now these p ≡ collect_from s now those p
       same_collection s p = λ i. Rattle.otel_model.specs.Collections.collection s.resource s.meters
-          (map_alike _ _ p.streams (λ (q : Stream). ap (λ ps. let m : Rattle.otel_model.specs.Collections.ScopedMetric = (q.demand.identity.scope, Rattle.otel_model.specs.Collections.metric p.row now q.since q.reported q.demand ps) in m) (points_alike p.row p.feeds q)) i)
+          (map_alike _ _ p.streams (λ (q : Stream). ap (λ ps. let m : Rattle.otel_model.specs.Collections.ScopedMetric = (q.demand.identity.scope, Rattle.otel_model.specs.Collections.metric p.answers now q.since q.reported q.demand ps) in m) (points_alike p.answers p.feeds q)) i)
 
       same_reply : (s : Shared) (o : Option ReaderPart) → collect_reply s now these o ≡ collect_reply s now those o
       same_reply s None = refl

@@ -6,8 +6,11 @@ use Rattle.otel_common.specs.declared.attributes.Value.TheVariants as value
 use Rattle.otel_common.specs.declared.scopes.InstrumentationScope.{InstrumentationScope}
 use Rattle.otel_model_stream.specs.Sets.{AttributeSet}
 use Rattle.otel_model.specs.Resources.{empty_resource}
-use Rattle.otel_model.specs.Calls.{Text, InstrumentKind, kind_number, Number, About, Observed, Call, Meter, Build, Record, Content, Metric, ScopeMetrics, Collection, Reply}
-use Rattle.otel_model.specs.Demands.{Aggregation, StreamSpec, View, Views, Answer, Row, nothing_said}
+use Rattle.otel_data.specs.declared.collections.Metric.{Metric}
+use Rattle.otel_data.specs.declared.collections.ScopeMetrics.{ScopeMetrics}
+use Rattle.otel_data.specs.declared.collections.ResourceMetrics.{ResourceMetrics}
+use Rattle.otel_model.specs.Calls.{Text, InstrumentKind, kind_number, Number, About, Observed, Call, Meter, Build, Record, Reply}
+use Rattle.otel_model.specs.Demands.{Aggregation, StreamSpec, View, Views, Answer, ReaderAnswers, nothing_said}
 use Rattle.otel_model.specs.Machine.{changed_at, new_state}
 use Rattle.otel_model.specs.Steps.{replies_of}
 use Rattle.otel_model.specs.History.{collections_of, given, made}
@@ -68,8 +71,8 @@ abbrev pub aggregating : Aggregation → StreamSpec
 aggregating aggregation = record nothing_said { aggregation = Some aggregation }
 
 -- ======== readers ========
-abbrev pub but_for : InstrumentKind → (Answer → Answer) → Row → Row
-but_for kind f row = changed_at (kind_number kind) f row
+abbrev pub but_for : InstrumentKind → (Answer → Answer) → ReaderAnswers → ReaderAnswers
+but_for kind f answers = changed_at (kind_number kind) f answers
 
 abbrev pub limit_of : ℕ → Answer → Answer
 limit_of n answer = record answer { limit = Some n }
@@ -89,31 +92,31 @@ flat (x ∷ xs) = x ++ flat xs
 abbrev pub seen_metric : Metric → Text × Content
 seen_metric x = (x.name, x.content)
 
-abbrev pub seen : Collection → Seen
+abbrev pub seen : ResourceMetrics → Seen
 seen c = flat (map (λ (s : ScopeMetrics). map seen_metric s.metrics) c.scopes)
 
 -- the replies of the machine, and the calls that count by them
-abbrev pub replies : Views → List Row → List Call → List Reply
-replies views rows calls = replies_of views (new_state empty_resource 0 rows) calls
+abbrev pub replies : Views → List ReaderAnswers → List Call → List Reply
+replies views readers calls = replies_of views (new_state empty_resource 0 readers) calls
 
 -- reader r's collections by the machine
-abbrev pub by_machine : Views → List Row → ℕ → List Call → List Collection
-by_machine views rows r calls = given r calls (replies views rows calls)
+abbrev pub by_machine : Views → List ReaderAnswers → ℕ → List Call → List ResourceMetrics
+by_machine views readers r calls = given r calls (replies views readers calls)
 
 -- and as they are read off the calls
-abbrev pub by_windows : Views → List Row → ℕ → Row → List Call → List Collection
-by_windows views rows r row calls = collections_of views empty_resource row r (made calls (replies views rows calls))
+abbrev pub by_windows : Views → List ReaderAnswers → ℕ → ReaderAnswers → List Call → List ResourceMetrics
+by_windows views readers r answers calls = collections_of views empty_resource answers r (made calls (replies views readers calls))
 
 -- both show this of reader r, whose answers are `row`
-abbrev pub Shows : Views → List Row → ℕ → Row → List Call → List Seen → Type 0
-Shows views rows r row calls collections = (map seen (by_machine views rows r calls) ≡ collections) × (map seen (by_windows views rows r row calls) ≡ collections)
+abbrev pub Shows : Views → List ReaderAnswers → ℕ → ReaderAnswers → List Call → List Seen → Type 0
+Shows views readers r answers calls collections = (map seen (by_machine views readers r calls) ≡ collections) × (map seen (by_windows views readers r answers calls) ≡ collections)
 
 -- start and time of each metric
-abbrev pub moments : Collection → List (ℕ × ℕ)
+abbrev pub moments : ResourceMetrics → List (ℕ × ℕ)
 moments c = flat (map (λ (s : ScopeMetrics). map (λ (x : Metric). let p : ℕ × ℕ = (x.start, x.time) in p) s.metrics) c.scopes)
 
-abbrev pub HasMoments : Views → List Row → ℕ → Row → List Call → List (List (ℕ × ℕ)) → Type 0
-HasMoments views rows r row calls times = (map moments (by_machine views rows r calls) ≡ times) × (map moments (by_windows views rows r row calls) ≡ times)
+abbrev pub HasMoments : Views → List ReaderAnswers → ℕ → ReaderAnswers → List Call → List (List (ℕ × ℕ)) → Type 0
+HasMoments views readers r answers calls times = (map moments (by_machine views readers r calls) ≡ times) × (map moments (by_windows views readers r answers calls) ≡ times)
 
 -- one metric
 abbrev pub one : Text → Content → Seen

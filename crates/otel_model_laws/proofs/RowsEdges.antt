@@ -6,8 +6,8 @@ use Rattle.otel_common.specs.declared.attributes.KeyValue.{KeyValue}
 use Rattle.otel_common.specs.declared.attributes.Value.TheVariants as value
 use Rattle.otel_model_stream.specs.Sets.{over_set}
 use Rattle.otel_model_stream.specs.Folds.{Spread}
-use Rattle.otel_model.specs.Calls.{Counter, UpDownCounter, Histogram, ObservableCounter, Gauge, Call, Meter, Build, Record, Bind, RecordBound, Unbind, Collect, Shutdown, UnknownInstrument, UnknownMeter, UnknownHandle, WrongKind, WrongNumber, Content, Reply}
-use Rattle.otel_model.specs.Demands.{Drop, LastValue, ExplicitBucketHistogram, Views, Row, Delta, Cumulative, preferring}
+use Rattle.otel_model.specs.Calls.{Counter, UpDownCounter, Histogram, ObservableCounter, Gauge, Call, Meter, Build, Record, Bind, RecordBound, Unbind, Collect, Shutdown, UnknownInstrument, UnknownMeter, UnknownHandle, WrongKind, WrongNumber, Reply}
+use Rattle.otel_model.specs.Demands.{Drop, LastValue, ExplicitBucketHistogram, Views, ReaderAnswers, Delta, Cumulative, preferring}
 use Rattle.otel_model.specs.Calls.{Flush, OutOfMemory, Exhausted, AlreadyShutdown, ReaderShutDown, ReadersFailed}
 use Rattle.otel_model.specs.Resources.{empty_resource}
 use Rattle.otel_model.specs.State.{State}
@@ -17,14 +17,14 @@ use Rattle.otel_model.specs.Only.{only}
 use Rattle.otel_model.specs.History.{made}
 use Rattle.otel_model_laws.proofs.Rows.{Seen, a, m, about, with_own_bounds, u64, i64, x1, y1, pair, if_named, limited, named, aggregating, but_for, default_of, Shows, replies, one, delta_sum, cumulative_sum, on, add, observe}
 
-abbrev delta : Row
+abbrev delta : ReaderAnswers
 delta = preferring Delta
 
-abbrev cumulative : Row
+abbrev cumulative : ReaderAnswers
 cumulative = preferring Cumulative
 
-abbrev Shown : Views → Row → List Call → List Seen → Type 0
-Shown views row calls collections = Shows views (row ∷ []) 0 row calls collections
+abbrev Shown : Views → ReaderAnswers → List Call → List Seen → Type 0
+Shown views answers calls collections = Shows views (answers ∷ []) 0 answers calls collections
 
 -- ======== sets and places ========
 abbrev a_is : ℕ → List KeyValue

@@ -3,22 +3,22 @@ use Rattle.std.specs.Prelude.{◌≡◌, ℕ, ℤ, pos, negsuc, true, false, Lis
 use Rattle.std.proofs.Common.{refl}
 use Rattle.otel_common.specs.Canonical.{canon}
 use Rattle.otel_model_stream.specs.Folds.{Spread}
-use Rattle.otel_model.specs.Calls.{Counter, UpDownCounter, Histogram, ObservableCounter, Gauge, ObservableGauge, About, Call, Meter, Build, Record, Bind, RecordBound, Unbind, Collect, Flush, Shutdown, UnknownHandle, WrongKind, WrongNumber, AlreadyShutdown, ReaderShutDown, UnknownReader, Content, Reply}
-use Rattle.otel_model.specs.Demands.{Row, Delta, Cumulative, LowMemory, preferring, default_bounds}
+use Rattle.otel_model.specs.Calls.{Counter, UpDownCounter, Histogram, ObservableCounter, Gauge, ObservableGauge, About, Call, Meter, Build, Record, Bind, RecordBound, Unbind, Collect, Flush, Shutdown, UnknownHandle, WrongKind, WrongNumber, AlreadyShutdown, ReaderShutDown, UnknownReader, Reply}
+use Rattle.otel_model.specs.Demands.{ReaderAnswers, Delta, Cumulative, LowMemory, preferring, default_bounds}
 use Rattle.otel_model_laws.proofs.Rows.{Seen, a, b, m, scope_named, about, with_own_bounds, u64, i64, x1, Shows, HasMoments, replies, one, delta_sum, cumulative_sum, on, add, observe}
 
-abbrev delta : Row
+abbrev delta : ReaderAnswers
 delta = preferring Delta
 
-abbrev cumulative : Row
+abbrev cumulative : ReaderAnswers
 cumulative = preferring Cumulative
 
-abbrev low_memory : Row
+abbrev low_memory : ReaderAnswers
 low_memory = preferring LowMemory
 
 -- one reader without views
-abbrev Shown : Row → List Call → List Seen → Type 0
-Shown row calls collections = Shows [] (row ∷ []) 0 row calls collections
+abbrev Shown : ReaderAnswers → List Call → List Seen → Type 0
+Shown answers calls collections = Shows [] (answers ∷ []) 0 answers calls collections
 
 abbrev adds : List ℕ → List Call
 adds ns = map (λ n. add n []) ns
@@ -123,7 +123,7 @@ unfolding canon
 row_40_fault = refl
 
 -- ======== several readers ========
-abbrev two : List Row
+abbrev two : List ReaderAnswers
 two = delta ∷ delta ∷ []
 
 abbrev calls_6 : List Call

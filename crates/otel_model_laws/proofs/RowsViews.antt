@@ -4,14 +4,14 @@ use Rattle.std.proofs.Common.{refl}
 use Rattle.otel_common.specs.Canonical.{canon}
 use Rattle.otel_model_stream.specs.Sets.{over_set}
 use Rattle.otel_model_stream.specs.Folds.{Spread}
-use Rattle.otel_model.specs.Calls.{Counter, UpDownCounter, Histogram, ObservableCounter, Call, Build, Record, Collect, Content}
-use Rattle.otel_model.specs.Demands.{Aggregation, Drop, Default, Sum, LastValue, ExplicitBucketHistogram, Views, Row, Delta, Cumulative, preferring}
+use Rattle.otel_model.specs.Calls.{Counter, UpDownCounter, Histogram, ObservableCounter, Call, Build, Record, Collect}
+use Rattle.otel_model.specs.Demands.{Aggregation, Drop, Default, Sum, LastValue, ExplicitBucketHistogram, Views, ReaderAnswers, Delta, Cumulative, preferring}
 use Rattle.otel_model_laws.proofs.Rows.{Seen, a, b, about, with_own_bounds, u64, x1, y1, if_named, limited, named, aggregating, but_for, limit_of, default_of, Shows, one, delta_sum, cumulative_sum, on, add, observe}
 
-abbrev delta : Row
+abbrev delta : ReaderAnswers
 delta = preferring Delta
 
-abbrev cumulative : Row
+abbrev cumulative : ReaderAnswers
 cumulative = preferring Cumulative
 
 -- one cumulative reader
@@ -19,8 +19,8 @@ abbrev CumulativeShows : Views → List Call → List Seen → Type 0
 CumulativeShows views calls collections = Shows views (cumulative ∷ []) 0 cumulative calls collections
 
 -- one delta reader with these answers
-abbrev AloneShows : Views → Row → List Call → List Seen → Type 0
-AloneShows views row calls collections = Shows views (row ∷ []) 0 row calls collections
+abbrev AloneShows : Views → ReaderAnswers → List Call → List Seen → Type 0
+AloneShows views answers calls collections = Shows views (answers ∷ []) 0 answers calls collections
 
 -- ======== views ========
 abbrev Foo : List ℕ
@@ -72,7 +72,7 @@ unfolding canon
 nothing_where_all_dropped = (refl, refl)
 
 -- ======== limits of readers ========
-abbrev limited_delta : Row
+abbrev limited_delta : ReaderAnswers
 limited_delta = but_for Counter (limit_of 1) delta
 
 abbrev calls_42 : List Call
@@ -103,10 +103,10 @@ unfolding canon
 row_45 = (refl, refl)
 
 -- ======== aggregations of readers ========
-abbrev counters_by : Aggregation → Row
+abbrev counters_by : Aggregation → ReaderAnswers
 counters_by aggregation = but_for Counter (default_of aggregation) cumulative
 
-abbrev histograms_by : Aggregation → Row
+abbrev histograms_by : Aggregation → ReaderAnswers
 histograms_by aggregation = but_for Histogram (default_of aggregation) cumulative
 
 abbrev calls_46 : List Call
@@ -132,7 +132,7 @@ ten = pos 10 ∷ []
 abbrev five : List ℤ
 five = pos 5 ∷ []
 
-abbrev rows_47 : List Row
+abbrev rows_47 : List ReaderAnswers
 rows_47 = histograms_by Sum ∷ histograms_by (plain ten) ∷ []
 
 abbrev calls_47 : List Call
@@ -172,7 +172,7 @@ pub row_50 : AloneShows [] (counters_by LastValue) (on (about Counter a) (add 2 
 unfolding canon
 row_50 = (refl, refl)
 
-abbrev dropping : Row
+abbrev dropping : ReaderAnswers
 dropping = but_for ObservableCounter (default_of Drop) delta
 
 abbrev calls_51 : List Call

@@ -23,6 +23,6 @@ pub record AreAlike (views : Views) (i j : Built) : Type 0 where
 
 -- they feed the same streams
 abbrev pub AlikeFeedTheSame : Type 0
-AlikeFeedTheSame = OfEachReader (λ views resource calls replies new r row part.
+AlikeFeedTheSame = OfEachReader (λ views resource calls replies new r answers part.
     (m n : ℕ) (i j : Built) → slice_get (builds_in (made calls replies)) m ≡ Some i → slice_get (builds_in (made calls replies)) n ≡ Some j → AreAlike views i j
     → slice_get part.feeds m ≡ slice_get part.feeds n)

@@ -6,7 +6,7 @@ use Rattle.otel_model_stream.specs.Machine.{begin, run, answers, points}
 use Rattle.otel_model_stream.specs.Totals.{has_number, points_total}
 use Rattle.otel_model.specs.Resources.{Resource}
 use Rattle.otel_model.specs.Calls.{InstrumentKind, is_observable, Call, Reply}
-use Rattle.otel_model.specs.Demands.{Identity, Row, Views, is_known}
+use Rattle.otel_model.specs.Demands.{Identity, ReaderAnswers, Views, is_known}
 use Rattle.otel_model.specs.Streams.{is_drained, is_delta, kind_of, aggregate_of}
 use Rattle.otel_model.specs.State.{InstrumentState, LiveHandle, Shared, Stream, ReaderPart, State}
 use Rattle.otel_model.specs.Sent.{is_fed}
@@ -21,8 +21,8 @@ EachOf P (x ∷ xs) = P x × EachOf P xs
 
 -- ======== balances ========
 -- what a stream recorded is what it exported and what is pending, modulo 2^64
-abbrev pub IsBalanced : Row → Stream → Type 0
-IsBalanced row q = is_drained q.demand ≡ false → q.recorded ≡ wrapped (q.exported + points_total (points (kind_of row q.demand) q.machine))
+abbrev pub IsBalanced : ReaderAnswers → Stream → Type 0
+IsBalanced answers q = is_drained q.demand ≡ false → q.recorded ≡ wrapped (q.exported + points_total (points (kind_of answers q.demand) q.machine))
 
 -- and what the instruments that feed it accepted
 abbrev pub IsPaidFor : List (List Identity) → List InstrumentState → Stream → Type 0
@@ -30,7 +30,7 @@ IsPaidFor feeds is q = is_observable q.demand.identity.kind ≡ false → q.reco
 
 -- both, of each stream of each reader
 abbrev pub Balances : State → Type 0
-Balances st = EachOf (λ (p : ReaderPart). EachOf (λ (q : Stream). IsBalanced p.row q × IsPaidFor p.feeds st.shared.instruments q) p.streams) st.readers
+Balances st = EachOf (λ (p : ReaderPart). EachOf (λ (q : Stream). IsBalanced p.answers q × IsPaidFor p.feeds st.shared.instruments q) p.streams) st.readers
 
 -- ======== handles ========
 abbrev pub handles_of : List LiveHandle → List ℕ
@@ -61,11 +61,11 @@ IsAccounted feeds live is q = is_observable q.demand.identity.kind ≡ false
     → (numbers q.machine.live ≡ held_for feeds q.demand.identity live) × (q.recorded ≡ wrapped (accepted_for (aggregate_of q.demand) q.demand.identity feeds is))
 
 -- a stream is what some list of events made of it
-pub record IsOfEvents (row : Row) (q : Stream) : Type 0 where
+pub record IsOfEvents (answers : ReaderAnswers) (q : Stream) : Type 0 where
   pub events : List Event
-  pub machine : q.machine ≡ run (aggregate_of q.demand) (kind_of row q.demand) q.demand.limit (begin (aggregate_of q.demand)) events
-  pub recorded : q.recorded ≡ recorded_over (aggregate_of q.demand) (kind_of row q.demand) q.demand.limit (begin (aggregate_of q.demand)) 0 events
-  pub exported : q.exported ≡ cond (is_delta row q.demand) (wrapped (sum_by points_total (answers (aggregate_of q.demand) (kind_of row q.demand) q.demand.limit (begin (aggregate_of q.demand)) events))) 0
+  pub machine : q.machine ≡ run (aggregate_of q.demand) (kind_of answers q.demand) q.demand.limit (begin (aggregate_of q.demand)) events
+  pub recorded : q.recorded ≡ recorded_over (aggregate_of q.demand) (kind_of answers q.demand) q.demand.limit (begin (aggregate_of q.demand)) 0 events
+  pub exported : q.exported ≡ cond (is_delta answers q.demand) (wrapped (sum_by points_total (answers (aggregate_of q.demand) (kind_of answers q.demand) q.demand.limit (begin (aggregate_of q.demand)) events))) 0
 
 -- ======== readers, providers ========
 abbrev pub kinds_of : List InstrumentState → List InstrumentKind
@@ -77,7 +77,7 @@ pub record PartIsLawful (live : List LiveHandle) (is : List InstrumentState) (p 
   pub kinds : (n : ℕ) (y : Identity) (k : InstrumentKind) → is_fed p.feeds n y ≡ true → slice_get (kinds_of is) n ≡ Some k → is_observable k ≡ is_observable y.kind
   pub as_many : length p.feeds ≡ length is
   pub streams : EachOf (IsAccounted p.feeds live is) p.streams
-  pub of_events : EachOf (IsOfEvents p.row) p.streams
+  pub of_events : EachOf (IsOfEvents p.answers) p.streams
 
 -- a provider with such handles and readers
 pub record IsLawful (st : State) : Type 0 where
@@ -87,7 +87,7 @@ pub record IsLawful (st : State) : Type 0 where
 -- ======== laws ========
 -- a provider as it is built is lawful
 abbrev pub IsLawfulAtFirst : Type 0
-IsLawfulAtFirst = (resource : Resource) (identity : ℕ) (rows : List Row) → IsLawful (new_state resource identity rows)
+IsLawfulAtFirst = (resource : Resource) (identity : ℕ) (readers : List ReaderAnswers) → IsLawful (new_state resource identity readers)
 
 -- each call keeps it so
 abbrev pub EachCallKeepsLawful : Type 0

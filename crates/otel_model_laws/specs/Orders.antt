@@ -9,7 +9,7 @@ use Rattle.otel_model_stream.specs.Events.{Event, Point}
 use Rattle.otel_model_stream.specs.Windows.{records_of, values_of}
 use Rattle.otel_model.specs.Calls.{Number, Observed, Call, Record, Bind, Collect, Reply}
 use Rattle.otel_model.specs.Collections.{shows_differences, value_of, value_before, differences}
-use Rattle.otel_model.specs.Demands.{Demand, Row, Views}
+use Rattle.otel_model.specs.Demands.{Demand, ReaderAnswers, Views}
 use Rattle.otel_model.specs.State.{State}
 use Rattle.otel_model.specs.Steps.{Run}
 use Rattle.otel_model.specs.History.{history, window_of, window_points, reported_of}
@@ -35,12 +35,12 @@ ObservationsInAnyOrder = (views : Views) (old new : State) (before later : List 
     → Run views old (before ++ Collect r now (os ++ record o { attributes = m } ∷ ps) ∷ later) replies new
 
 -- the last value of the records of a window that count for a set
-abbrev pub last_observed : Row → Demand → List Event → AttributeSet → ℕ
-last_observed row d events set = value_of (fold_of LastValue (values_of (records_of d.limit (window_of row d events)) set))
+abbrev pub last_observed : ReaderAnswers → Demand → List Event → AttributeSet → ℕ
+last_observed answers d events set = value_of (fold_of LastValue (values_of (records_of d.limit (window_of answers d events)) set))
 
 -- in a delta stream of observed sums a point plus its set's value in the collection before is the last
 -- value observed for the set, modulo 2^64
 abbrev pub AreDifferences : Type 0
-AreDifferences = (views : Views) (row : Row) (r : ℕ) (d : Demand) (calls : List Call) (events : List Event) → shows_differences row d ≡ true
-    → (k : ℕ) (p : Point) → slice_get (differences row d (reported_of views row r d calls) (window_points row d (history views row r d calls ++ events))) k ≡ Some p
-    → wrapped (value_of p.1 + value_before (reported_of views row r d calls) p.0) ≡ wrapped (last_observed row d (history views row r d calls ++ events) p.0)
+AreDifferences = (views : Views) (answers : ReaderAnswers) (r : ℕ) (d : Demand) (calls : List Call) (events : List Event) → shows_differences answers d ≡ true
+    → (k : ℕ) (p : Point) → slice_get (differences answers d (reported_of views answers r d calls) (window_points answers d (history views answers r d calls ++ events))) k ≡ Some p
+    → wrapped (value_of p.1 + value_before (reported_of views answers r d calls) p.0) ≡ wrapped (last_observed answers d (history views answers r d calls ++ events) p.0)

@@ -6,7 +6,7 @@ use Rattle.otel_model_stream.specs.Folds.{wrapped}
 use Rattle.otel_model_stream.specs.Machine.{collected, points}
 use Rattle.otel_model_stream.specs.Totals.{points_total}
 use Rattle.otel_model.specs.Calls.{Number, Observed, Record, Bind, RecordBound, Unbind, Collect, or_else}
-use Rattle.otel_model.specs.Demands.{Identity, Row, has_identity}
+use Rattle.otel_model.specs.Demands.{Identity, ReaderAnswers, has_identity}
 use Rattle.otel_model.specs.Streams.{is_delta, kind_of}
 use Rattle.otel_model.specs.Collections.{shows_differences}
 use Rattle.otel_model.specs.State.{Stream}
@@ -16,16 +16,16 @@ use Rattle.otel_model.specs.Laws.{AreApart, AreNumbered, names}
 use Rattle.otel_model_laws.specs.Lawful.{EachOf}
 
 -- a stream after events among which there is no collection
-abbrev pub stream_with : Row → List Event → Stream → Stream
-stream_with row es s = record s { machine = machine_after row s.demand es s.machine; recorded = recorded_after row es s }
+abbrev pub stream_with : ReaderAnswers → List Event → Stream → Stream
+stream_with answers es s = record s { machine = machine_after answers s.demand es s.machine; recorded = recorded_after answers es s }
 
 -- after a record
-abbrev pub stream_recorded : Row → Number → List KeyValue → Stream → Stream
-stream_recorded row v l s = stream_with row (Event.Record (set_for s.demand l) v.amount ∷ []) s
+abbrev pub stream_recorded : ReaderAnswers → Number → List KeyValue → Stream → Stream
+stream_recorded answers v l s = stream_with answers (Event.Record (set_for s.demand l) v.amount ∷ []) s
 
 -- after a bind that gives this number
-abbrev pub stream_bound : Row → ℕ → List KeyValue → Stream → Stream
-stream_bound row next l s = stream_with row (Event.Bind next (set_for s.demand l) ∷ []) s
+abbrev pub stream_bound : ReaderAnswers → ℕ → List KeyValue → Stream → Stream
+stream_bound answers next l s = stream_with answers (Event.Bind next (set_for s.demand l) ∷ []) s
 
 -- the identities that an instrument feeds
 abbrev pub fed_by : List (List Identity) → ℕ → List Identity
@@ -34,20 +34,20 @@ fed_by feeds n = or_else (slice_get feeds n) []
 -- to record into the streams that an instrument feeds, one after another by their numbers, is what the
 -- call does to all streams
 abbrev pub RecordsByNumber : Type 0
-RecordsByNumber = (row : Row) (feeds : List (List Identity)) (next n : ℕ) (v : Number) (l : List KeyValue) (ss : List Stream) (ks : List ℕ)
+RecordsByNumber = (answers : ReaderAnswers) (feeds : List (List Identity)) (next n : ℕ) (v : Number) (l : List KeyValue) (ss : List Stream) (ks : List ℕ)
     → AreNumbered (names ss) ks (fed_by feeds n) → AreApart (fed_by feeds n) → AreApart (names ss)
-    → fold (λ (ss : List Stream) k. changed_at k (stream_recorded row v l) ss) ss ks ≡ map (stream_after row feeds next (Record n v l)) ss
+    → fold (λ (ss : List Stream) k. changed_at k (stream_recorded answers v l) ss) ss ks ≡ map (stream_after answers feeds next (Record n v l)) ss
 
 -- so to bind
 abbrev pub BindsByNumber : Type 0
-BindsByNumber = (row : Row) (feeds : List (List Identity)) (next n : ℕ) (l : List KeyValue) (ss : List Stream) (ks : List ℕ)
+BindsByNumber = (answers : ReaderAnswers) (feeds : List (List Identity)) (next n : ℕ) (l : List KeyValue) (ss : List Stream) (ks : List ℕ)
     → AreNumbered (names ss) ks (fed_by feeds n) → AreApart (fed_by feeds n) → AreApart (names ss)
-    → fold (λ (ss : List Stream) k. changed_at k (stream_bound row next l) ss) ss ks ≡ map (stream_after row feeds next (Bind n l)) ss
+    → fold (λ (ss : List Stream) k. changed_at k (stream_bound answers next l) ss) ss ks ≡ map (stream_after answers feeds next (Bind n l)) ss
 
 -- a stream without the handle need not be touched by a record through it, or by its end
 abbrev pub UnheldRests : Type 0
-UnheldRests = (row : Row) (feeds : List (List Identity)) (next h : ℕ) (v : Number) (s : Stream) → held_by h s.machine.live ≡ None
-    → (stream_after row feeds next (RecordBound h v) s ≡ s) × (stream_after row feeds next (Unbind h) s ≡ s)
+UnheldRests = (answers : ReaderAnswers) (feeds : List (List Identity)) (next h : ℕ) (v : Number) (s : Stream) → held_by h s.machine.live ≡ None
+    → (stream_after answers feeds next (RecordBound h v) s ≡ s) × (stream_after answers feeds next (Unbind h) s ≡ s)
 
 -- a stream that isn't one of these does not have the handle
 abbrev pub IsHeldOnlyBy : ℕ → List Identity → Stream → Type 0
@@ -55,30 +55,30 @@ IsHeldOnlyBy h xs s = has_identity xs s.demand.identity ≡ false → held_by h 
 
 -- so to record through a handle, or to end it, in some streams, where no other stream has it
 abbrev pub HandlesByNumber : Type 0
-HandlesByNumber = (row : Row) (feeds : List (List Identity)) (next h : ℕ) (v : Number) (ss : List Stream) (ks : List ℕ) (xs : List Identity)
+HandlesByNumber = (answers : ReaderAnswers) (feeds : List (List Identity)) (next h : ℕ) (v : Number) (ss : List Stream) (ks : List ℕ) (xs : List Identity)
     → AreNumbered (names ss) ks xs → AreApart xs → AreApart (names ss) → EachOf (IsHeldOnlyBy h xs) ss
-    → (fold (λ (ss : List Stream) k. changed_at k (stream_with row (Event.RecordBound h v.amount ∷ [])) ss) ss ks ≡ map (stream_after row feeds next (RecordBound h v)) ss)
-    × (fold (λ (ss : List Stream) k. changed_at k (stream_with row (Event.Unbind h ∷ [])) ss) ss ks ≡ map (stream_after row feeds next (Unbind h)) ss)
+    → (fold (λ (ss : List Stream) k. changed_at k (stream_with answers (Event.RecordBound h v.amount ∷ [])) ss) ss ks ≡ map (stream_after answers feeds next (RecordBound h v)) ss)
+    × (fold (λ (ss : List Stream) k. changed_at k (stream_with answers (Event.Unbind h ∷ [])) ss) ss ks ≡ map (stream_after answers feeds next (Unbind h)) ss)
 
 -- ======== collections ========
 -- a stream after a collection, its observations having been recorded
-abbrev pub stream_collected : Row → ℕ → Stream → Stream
-stream_collected row now s = record s {
-  machine = collected (kind_of row s.demand) s.machine;
-  since = cond (is_delta row s.demand) now s.since;
-  reported = cond (shows_differences row s.demand) (points (kind_of row s.demand) s.machine) s.reported;
-  exported = cond (is_delta row s.demand) (wrapped (s.exported + points_total (points (kind_of row s.demand) s.machine))) s.exported;
+abbrev pub stream_collected : ReaderAnswers → ℕ → Stream → Stream
+stream_collected answers now s = record s {
+  machine = collected (kind_of answers s.demand) s.machine;
+  since = cond (is_delta answers s.demand) now s.since;
+  reported = cond (shows_differences answers s.demand) (points (kind_of answers s.demand) s.machine) s.reported;
+  exported = cond (is_delta answers s.demand) (wrapped (s.exported + points_total (points (kind_of answers s.demand) s.machine))) s.exported;
 }
 
 -- a collection is its observations, and then the collection itself
 abbrev pub CollectsAfterObservations : Type 0
-CollectsAfterObservations = (row : Row) (feeds : List (List Identity)) (next r now : ℕ) (os : List Observed) (s : Stream)
-    → stream_after row feeds next (Collect r now os) s ≡ stream_collected row now (stream_with row (observed feeds s.demand os) s)
+CollectsAfterObservations = (answers : ReaderAnswers) (feeds : List (List Identity)) (next r now : ℕ) (os : List Observed) (s : Stream)
+    → stream_after answers feeds next (Collect r now os) s ≡ stream_collected answers now (stream_with answers (observed feeds s.demand os) s)
 
 -- to record the observations one after another, each into the streams that its instrument feeds, is to
 -- record them in each stream. `numbers_of` gives the numbers of the streams that an instrument feeds
 abbrev pub ObservationsByNumber : Type 0
-ObservationsByNumber = (row : Row) (feeds : List (List Identity)) (numbers_of : ℕ → List ℕ) (os : List Observed) (ss : List Stream)
+ObservationsByNumber = (answers : ReaderAnswers) (feeds : List (List Identity)) (numbers_of : ℕ → List ℕ) (os : List Observed) (ss : List Stream)
     → ((n : ℕ) → AreNumbered (names ss) (numbers_of n) (fed_by feeds n)) → ((n : ℕ) → AreApart (fed_by feeds n)) → AreApart (names ss)
-    → fold (λ (ss : List Stream) (o : Observed). fold (λ (ss : List Stream) k. changed_at k (stream_recorded row o.value o.attributes) ss) ss (numbers_of o.instrument)) ss os
-    ≡ map (λ (s : Stream). stream_with row (observed feeds s.demand os) s) ss
+    → fold (λ (ss : List Stream) (o : Observed). fold (λ (ss : List Stream) k. changed_at k (stream_recorded answers o.value o.attributes) ss) ss (numbers_of o.instrument)) ss os
+    ≡ map (λ (s : Stream). stream_with answers (observed feeds s.demand os) s) ss
