@@ -6,3 +6,5 @@ pub mod Runs
 pub mod Recorded
 pub mod Shown
 pub mod Numbers
+pub mod Kept
+pub mod Answered

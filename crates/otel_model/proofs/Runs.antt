@@ -171,7 +171,7 @@ agrees_after views resource readers past st c a = record {
       (cases_Bool (is_others r c));
 }
 
-agrees_new : (views : Views) (resource : Resource) (identity : ℕ) (readers : List ReaderAnswers) → Agrees views resource readers [] (new_state resource identity readers)
+pub agrees_new : (views : Views) (resource : Resource) (identity : ℕ) (readers : List ReaderAnswers) → Agrees views resource readers [] (new_state resource identity readers)
 agrees_new views resource identity readers = record {
   told = refl;
   shared = record { meters = refl; next = refl; shut = refl };
@@ -284,7 +284,7 @@ metric_kept answers now since before d ps = λ i. record {
 abbrev scoped : Demand → Metric → ScopedMetric
 scoped d m = (d.identity.scope, m)
 
-collect_is : (views : Views) (resource : Resource) (readers : List ReaderAnswers) (past : List Call) (st : State) (r : ℕ) (answers : ReaderAnswers) (now : ℕ) (os : List Observed) → Agrees views resource readers past st
+pub collect_is : (views : Views) (resource : Resource) (readers : List ReaderAnswers) (past : List Call) (st : State) (r : ℕ) (answers : ReaderAnswers) (now : ℕ) (os : List Observed) → Agrees views resource readers past st
     → collect_from st.shared now os (part_of views answers r past) ≡ collection_of views resource answers r past now os
 collect_is views resource readers past st r answers now os a =
     (λ i. collection (a.told i) (a.shared.meters i) (map_both (λ (q : Stream). scoped q.demand (metric answers now q.since q.reported q.demand (points_at answers (feeds_of views answers [] (builds_in past)) os q))) (stream_in views answers r past)

@@ -17,7 +17,7 @@ use Rattle.otel_model.specs.State.{State, Stream, ReaderPart}
 use Rattle.otel_model.specs.Sent.{is_fed, set_for, observed, sent}
 use Rattle.otel_model.specs.History.{reported_of, shown_by, shown_at, shown_points, gather, made, builds_in, binds_in, demands_of, feeds_of, streams_of, concerns, events_at, history, window_of, window_points}
 use Rattle.otel_model.specs.Totals.{exported_in, recorded_in}
-use Rattle.otel_model.specs.Laws.{IsRun, IsRecordedTotal, IsExportedTotal, IsConserved, IsAllShown, ArePointsFew}
+use Rattle.otel_model.specs.Laws.{IsRun, IsRecordedTotal, IsExportedTotal, ArePendingPoints, IsConserved, IsBalanceKept, IsAllShown, ArePointsFew}
 use Rattle.otel_model.proofs.StreamFacts.{delta_total, cumulative_total, few_are}
 use Rattle.otel_model.proofs.Single.{some_is}
 use Rattle.otel_model.proofs.Gather.{gather_push}
@@ -171,8 +171,18 @@ conserved_stream views answers r d past e =
     ∙ sym ((λ i. wrapped (exported_is views answers r d past i + points_total (points_run answers d (history views answers r d past) i)))
     ∙ mod-add-mod (exported_in views answers r d past) (2 ^ 64) (points_total (window_points answers d (history views answers r d past)))))
 
+pub pending_law : ArePendingPoints
+pending_law views resource identity readers calls replies new run r answers part h g j s e =
+    let past = made calls replies in
+    let q = stream_is views resource identity readers calls replies new run r answers part h g j s e in
+    let P : Stream → Type 0 = λ s. points (kind_of answers s.demand) s.machine ≡ window_points answers s.demand (history views answers r s.demand past) in
+    subst P (sym q.1) (points_run answers q.0 (history views answers r q.0 past))
+
 pub conserved_law : IsConserved
-conserved_law views resource identity readers calls replies new run r answers part h g j s e u =
+conserved_law views resource identity readers calls replies new run r answers part h g j s e u = sym (conserved_in views answers r s.demand (made calls replies) u)
+
+pub balance_law : IsBalanceKept
+balance_law views resource identity readers calls replies new run r answers part h g j s e u =
     let past = made calls replies in
     let q = stream_is views resource identity readers calls replies new run r answers part h g j s e in
     let P : Stream → Type 0 = λ s. is_drained s.demand ≡ false → s.recorded ≡ wrapped (s.exported + points_total (points (kind_of answers s.demand) s.machine)) in

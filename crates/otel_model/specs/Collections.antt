@@ -90,10 +90,10 @@ module _ {T : Type 0} (of_bits : ℕ → T) (of_whole : ℤ → T) where
   abbrev pub histogram_of : Temporality → List ℤ → ℕ → ℕ → List Point → MetricData T
   histogram_of temporality bounds since now ps = MetricData.Histogram (record { data_points = map (histogram_point bounds) ps; start_time = since; time = now; temporality = temporality })
 
-  -- as the aggregation says. What is dropped or has no aggregation makes no stream
+  -- as the aggregation says. `Drop` and `Default` make no stream
   abbrev pub data_by : Temporality → Bool → Aggregation → ℕ → ℕ → List Point → MetricData T
-  data_by temporality is_monotonic Aggregation.Drop since now ps = gauge_of since now ps
-  data_by temporality is_monotonic Aggregation.Default since now ps = gauge_of since now ps
+  data_by temporality is_monotonic Aggregation.Drop since now ps = sum_of temporality is_monotonic since now ps
+  data_by temporality is_monotonic Aggregation.Default since now ps = sum_of temporality is_monotonic since now ps
   data_by temporality is_monotonic Aggregation.Sum since now ps = sum_of temporality is_monotonic since now ps
   data_by temporality is_monotonic Aggregation.LastValue since now ps = gauge_of since now ps
   data_by temporality is_monotonic (Aggregation.ExplicitBucketHistogram bounds m) since now ps = histogram_of temporality bounds since now ps

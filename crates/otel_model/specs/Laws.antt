@@ -15,11 +15,12 @@ use Rattle.otel_model.specs.Streams.{is_drained, is_delta, kind_of, aggregate_of
 use Rattle.otel_model.specs.State.{ReaderPart, State, Stream}
 use Rattle.otel_model.specs.Sent.{is_fed}
 use Rattle.otel_model.specs.Machine.{new_state}
-use Rattle.otel_model.specs.Steps.{Run, replies_of}
+use Rattle.otel_model.specs.Steps.{Step, Run, replies_of}
 use Rattle.otel_model.specs.Only.{only, replies_left, without_asking, EachAsAlone}
 use Rattle.otel_model.specs.History.{made, builds_in, streams_of, feeds_of, history, window_after, window_points, reported_of, collections_of, given}
 use Rattle.otel_model.specs.Totals.{exported_in, recorded_in}
 use Rattle.otel_model.specs.Accepted.{accepted_for}
+use Rattle.otel_model.specs.Answered.{OfMetric, OfEachMetric, HasFewPoints, ShowsWindow, ShowsAll}
 
 -- a run from a provider as it is built
 abbrev pub IsRun : Views → Resource → ℕ → List ReaderAnswers → List Call → List Reply → State → Type 0
@@ -167,16 +168,36 @@ HasExportedTotal views calls replies new r answers part s =
 abbrev pub IsExportedTotal : Type 0
 IsExportedTotal = OfEachStream HasExportedTotal
 
--- what a stream recorded is what it exported and what is pending, modulo 2^64. A sum counts values, a
--- histogram records, a last value nothing
+-- what is pending are the points of its window
+abbrev pub HasPendingPoints : OfStream
+HasPendingPoints views calls replies new r answers part s =
+    points (kind_of answers s.demand) s.machine ≡ window_points answers s.demand (history views answers r s.demand (made calls replies))
+
+-- after each run
+abbrev pub ArePendingPoints : Type 0
+ArePendingPoints = OfEachStream HasPendingPoints
+
+-- what a stream recorded is what it exported and what is pending, modulo 2^64, each read off the calls. A sum counts
+-- values, a histogram records, a last value nothing
 abbrev pub Conserves : OfStream
 Conserves views calls replies new r answers part s =
     is_drained s.demand ≡ false
-    → s.recorded ≡ wrapped (s.exported + points_total (points (kind_of answers s.demand) s.machine))
+    → wrapped (recorded_in views answers r s.demand (made calls replies))
+    ≡ wrapped (exported_in views answers r s.demand (made calls replies) + points_total (window_points answers s.demand (history views answers r s.demand (made calls replies))))
 
 -- after each run
 abbrev pub IsConserved : Type 0
 IsConserved = OfEachStream Conserves
+
+-- and so it is with the totals and the points that the stream keeps
+abbrev pub KeepsBalance : OfStream
+KeepsBalance views calls replies new r answers part s =
+    is_drained s.demand ≡ false
+    → s.recorded ≡ wrapped (s.exported + points_total (points (kind_of answers s.demand) s.machine))
+
+-- after each run
+abbrev pub IsBalanceKept : Type 0
+IsBalanceKept = OfEachStream KeepsBalance
 
 -- what a synchronous stream recorded is what the instruments that feed it accepted
 abbrev pub HasAccepted : OfStream
@@ -188,24 +209,51 @@ HasAccepted views calls replies new r answers part s =
 abbrev pub IsAccepted : Type 0
 IsAccepted = OfEachStream HasAccepted
 
--- at each collection of a cumulative stream what was recorded so far is the total of its points. `events`
--- are the observations of the collection
+-- ======== answered collections ========
+-- what is said of each metric that a reader was given holds after each run
+abbrev pub OfAnsweredMetrics : (Views → ReaderAnswers → ℕ → OfMetric) → Type 0
+OfAnsweredMetrics P = (views : Views) (resource : Resource) (identity : ℕ) (readers : List ReaderAnswers) (calls : List Call) (replies : List Reply) (new : State)
+    → IsRun views resource identity readers calls replies new
+    → (r : ℕ) (answers : ReaderAnswers) → slice_get readers r ≡ Some answers
+    → OfEachMetric P views resource identity calls replies r answers
+
+-- each metric has at most the limit of its stream and two points
+abbrev pub AreAnsweredFew : Type 0
+AreAnsweredFew = OfAnsweredMetrics HasFewPoints
+
+-- each has the total of its stream's window
+abbrev pub AreAnsweredTotals : Type 0
+AreAnsweredTotals = OfAnsweredMetrics ShowsWindow
+
+-- each of a cumulative stream has all that was recorded before
+abbrev pub IsAllAnswered : Type 0
+IsAllAnswered = OfAnsweredMetrics ShowsAll
+
+-- ======== collections that come now ========
+-- in a cumulative stream the points add up to what was recorded so far. `events` are the observations
 abbrev pub IsAllShown : Type 0
 IsAllShown = (views : Views) (answers : ReaderAnswers) (r : ℕ) (d : Demand) (calls : List Call) (events : List Event)
     → is_drained d ≡ false → is_delta answers d ≡ false
     → wrapped (points_total (window_points answers d (history views answers r d calls ++ events))) ≡ wrapped (recorded_total (aggregate_of d) (history views answers r d calls ++ events))
 
--- so of what was recorded before a collection that comes now
-abbrev pub HasAllShown : OfReader
-HasAllShown views resource calls replies new r answers part = (d : Demand) (events : List Event) → is_drained d ≡ false → is_delta answers d ≡ false
-    → wrapped (points_total (window_points answers d (history views answers r d (made calls replies) ++ events))) ≡ wrapped (recorded_total (aggregate_of d) (history views answers r d (made calls replies) ++ events))
-
--- a collection has at most the limit and two points of a stream
+-- there are at most the limit and two points of a stream
 abbrev pub ArePointsFew : Type 0
 ArePointsFew = (views : Views) (answers : ReaderAnswers) (r : ℕ) (d : Demand) (calls : List Call) (events : List Event)
     → length (differences answers d (reported_of views answers r d calls) (window_points answers d (history views answers r d calls ++ events))) ≤ d.limit + 2
 
--- so at a collection that comes now
-abbrev pub HasFewPoints : OfReader
-HasFewPoints views resource calls replies new r answers part = (d : Demand) (events : List Event)
-    → length (differences answers d (reported_of views answers r d (made calls replies)) (window_points answers d (history views answers r d (made calls replies) ++ events))) ≤ d.limit + 2
+-- ======== readers ========
+-- what the readers of a provider answered, in order
+abbrev pub answers_in : State → List ReaderAnswers
+answers_in st = map (λ (p : ReaderPart). p.answers) st.readers
+
+-- there are as many readers as there were, in order, each with its answers
+abbrev pub KeepsReaders : State → State → Type 0
+KeepsReaders old new = answers_in new ≡ answers_in old
+
+-- whatever is called
+abbrev pub AreReadersKept : Type 0
+AreReadersKept = (views : Views) (old : State) (calls : List Call) (replies : List Reply) (new : State) → Run views old calls replies new → KeepsReaders old new
+
+-- also by one call
+abbrev pub AreReadersKeptAtOnce : Type 0
+AreReadersKeptAtOnce = (views : Views) (old : State) (call : Call) (reply : Reply) (new : State) → Step views old call reply new → KeepsReaders old new

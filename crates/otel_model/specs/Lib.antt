@@ -13,4 +13,5 @@ pub mod Only
 pub mod History
 pub mod Totals
 pub mod Accepted
+pub mod Answered
 pub mod Laws

@@ -1,3 +1,4 @@
+use Rattle.otel_model.proofs.Shown.{pending_law}
 use Rattle.otel_model.proofs.agrees.Goals as goal
 use Rattle.otel_model.proofs.Runs.{streams_law, feeds_law, places_law, counted_law, collections_law}
 
@@ -15,3 +16,6 @@ returns-clause-counted c = counted_law
 
 pub returns-clause-collections : goal.returns-clause-collections
 returns-clause-collections c = collections_law
+
+pub returns-clause-pending : goal.returns-clause-pending
+returns-clause-pending c = pending_law
