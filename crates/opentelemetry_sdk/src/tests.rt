@@ -4,3 +4,4 @@ mod calls;
 mod replies;
 mod runs;
 mod texts;
+mod wholes;

@@ -1,0 +1,260 @@
+//! Whole collections: each heading, moment and point that there is, and nothing else.
+
+ghost use Rattle.std.specs.Prelude.{cond};
+
+use super::replies::{attributes, text};
+use crate::common::{InstrumentationScope, Items, Key, KeyValue, StringValue, Value};
+use crate::metrics::data::{
+    AggregatedMetrics, Metric, MetricData, ResourceMetrics, ScopeMetrics, Sum, SumDataPoint,
+};
+use crate::metrics::provider::{Call, InstrumentSort, NumberValue, Reply};
+use crate::metrics::reader::MetricReader;
+use crate::metrics::{InstrumentKind, ManualReader, SdkMeterProvider, Temporality};
+use otel_common::resource::Resource;
+use std::alloc::Global;
+use std::process::Abort;
+use std::test::Fail;
+
+/// A reader that wants one temporality for counters and another for all other kinds.
+#[derive(Drop)]
+struct Choosy {
+    counters: Temporality,
+    others: Temporality,
+}
+
+impl MetricReader for Choosy {
+    ghost preference = { λ r kind. cond (⟦<InstrumentKind as PartialEq>⟧.eq kind InstrumentKind.Counter) r.counters r.others };
+
+    fn temporality(&self, kind: InstrumentKind) -> Temporality {
+        if kind == InstrumentKind::Counter {
+            self.counters
+        } else {
+            self.others
+        }
+    }
+}
+
+/// A text of this many of these letters.
+fn long(alloc: Global, letter: &str, count: usize) -> Result<StringValue, Fail> {
+    Ok(StringValue::from(letter.repeat(alloc, count)?))
+}
+
+/// This many attributes, in falling order of their keys, of long values.
+fn many(alloc: Global, count: u32) -> Result<Vec<KeyValue>, Fail> {
+    let mut many = Vec::new(alloc);
+    for number in (0..count).rev() {
+        let name = format!(in alloc; "key{:05}", number)?;
+        let key = Key::new(alloc, name.as_str())?;
+        many.push(KeyValue::new(key, Value::String(long(alloc, "v", 200)?)))?;
+    }
+    Ok(many)
+}
+
+/// The same, in rising order.
+fn many_sorted(alloc: Global, count: u32) -> Result<Vec<KeyValue>, Fail> {
+    let mut many = many(alloc, count)?;
+    many.reverse();
+    Ok(many)
+}
+
+/// A scope that has all four parts, its name and its attributes long.
+fn long_scope(alloc: Global) -> Result<InstrumentationScope, Fail> {
+    let name = "scope".repeat(alloc, 1000)?;
+    Ok(InstrumentationScope::builder(alloc, name)
+        .with_version(String::from_str(alloc, "1.2.3")?)
+        .with_schema_url(String::from_str(alloc, "https://example.org/schema")?)
+        .with_attributes(many(alloc, 100)?)
+        .build()?)
+}
+
+/// A scope with a name alone.
+fn short_scope(alloc: Global) -> Result<InstrumentationScope, Fail> {
+    Ok(InstrumentationScope::builder(alloc, String::from_str(alloc, "app")?).build()?)
+}
+
+/// Two meters, and three counters: of the second meter `hits`, made at 110; of the first one of long texts, made
+/// at 120, and `bytes`, made at 130, which has a unit alone. Then records.
+fn calls(alloc: Global) -> Result<Vec<Call>, Fail> {
+    Ok(vec![in alloc;
+        Call::Meter { scope: long_scope(alloc)? },
+        Call::Meter { scope: short_scope(alloc)? },
+        Call::Build {
+            meter: Some(1),
+            sort: InstrumentSort::U64Counter,
+            name: text(alloc, "hits")?,
+            description: Some(text(alloc, "How often")?),
+            unit: Some(text(alloc, "1")?),
+            now: 110,
+        },
+        Call::Build {
+            meter: Some(0),
+            sort: InstrumentSort::U64Counter,
+            name: long(alloc, "Name", 63)?,
+            description: Some(long(alloc, "ö", 5000)?),
+            unit: Some(long(alloc, "u", 63)?),
+            now: 120,
+        },
+        Call::Build {
+            meter: Some(0),
+            sort: InstrumentSort::U64Counter,
+            name: text(alloc, "bytes")?,
+            description: None,
+            unit: Some(text(alloc, "By")?),
+            now: 130,
+        },
+        record(0, 18446744073709551615, attributes(alloc, &[("b", 1), ("a", 2)])?),
+        record(1, 5, many(alloc, 300)?),
+        record(2, 7, Vec::new(alloc)),
+        record(0, 3, attributes(alloc, &[("a", 2), ("b", 1)])?)
+    ]?)
+}
+
+/// A record of a value at an instrument.
+fn record(instrument: usize, value: u64, attributes: Vec<KeyValue>) -> Call {
+    Call::Record {
+        instrument,
+        value: NumberValue::U64(value),
+        attributes: Items::from(attributes),
+    }
+}
+
+/// The sum of one point.
+fn sum_of(
+    alloc: Global,
+    set: Vec<KeyValue>,
+    value: u64,
+    start: u64,
+    time: u64,
+    temporality: Temporality,
+) -> Result<AggregatedMetrics, Fail> {
+    let point = SumDataPoint::new(Items::from(set), Items::from(Vec::new(alloc)), value);
+    let points = Items::from(vec![in alloc; point]?);
+    let sum = Sum::new(points, start, time, temporality, true);
+    Ok(AggregatedMetrics::from(MetricData::from(sum)))
+}
+
+/// The metric of the counter `hits`.
+fn hits(
+    alloc: Global,
+    value: u64,
+    start: u64,
+    time: u64,
+    temporality: Temporality,
+) -> Result<Metric, Fail> {
+    let set = attributes(alloc, &[("a", 2), ("b", 1)])?;
+    let data = sum_of(alloc, set, value, start, time, temporality)?;
+    Ok(Metric::new(
+        text(alloc, "hits")?,
+        text(alloc, "How often")?,
+        text(alloc, "1")?,
+        data,
+    ))
+}
+
+/// The metrics of these scopes, of the empty resource.
+fn whole(alloc: Global, scopes: Vec<ScopeMetrics>) -> ResourceMetrics {
+    ResourceMetrics::new(Resource::builder_empty(alloc).build(), Items::from(scopes))
+}
+
+/// The first collection of a reader at a moment: all that was recorded since the builds.
+fn first(alloc: Global, time: u64, temporality: Temporality) -> Result<ResourceMetrics, Fail> {
+    let long_data = sum_of(alloc, many_sorted(alloc, 300)?, 5, 120, time, temporality)?;
+    let bytes_data = sum_of(alloc, Vec::new(alloc), 7, 130, time, temporality)?;
+    let long_metrics = vec![in alloc;
+        Metric::new(long(alloc, "Name", 63)?, long(alloc, "ö", 5000)?, long(alloc, "u", 63)?, long_data),
+        Metric::new(text(alloc, "bytes")?, text(alloc, "")?, text(alloc, "By")?, bytes_data)
+    ]?;
+    let hits = vec![in alloc; hits(alloc, 2, 110, time, temporality)?]?;
+    let scopes = vec![in alloc;
+        ScopeMetrics::new(long_scope(alloc)?, Items::from(long_metrics)),
+        ScopeMetrics::new(short_scope(alloc)?, Items::from(hits))
+    ]?;
+    Ok(whole(alloc, scopes))
+}
+
+/// One metric of the short scope.
+fn one(alloc: Global, metric: Metric) -> Result<ResourceMetrics, Fail> {
+    let metrics = vec![in alloc; metric]?;
+    let scopes = vec![in alloc; ScopeMetrics::new(short_scope(alloc)?, Items::from(metrics))]?;
+    Ok(whole(alloc, scopes))
+}
+
+/// Asserts that the provider's collection of a reader at a moment is this one.
+fn assert_collected(
+    rt: &impl Abort,
+    alloc: Global,
+    provider: &mut SdkMeterProvider,
+    reader: usize,
+    now: u64,
+    wanted: &ResourceMetrics,
+) -> Result<(), Fail> {
+    let replies = provider.run(alloc, &[Call::Collect { reader, now }])?;
+    assert_eq!(rt; replies.len(), 1);
+    for reply in &replies {
+        let Reply::Collected(collected) = reply else {
+            return Err("no collection".into());
+        };
+        let given = format!(in alloc; "{collected:?}")?;
+        assert_eq!(rt; given, format!(in alloc; "{wanted:?}")?);
+    }
+    Ok(())
+}
+
+/// A provider with a reader of each kind, after the calls.
+fn provider(alloc: Global) -> Result<SdkMeterProvider, Fail> {
+    let delta = ManualReader::builder()
+        .with_temporality(Temporality::Delta)
+        .build();
+    let low_memory = ManualReader::builder()
+        .with_temporality(Temporality::LowMemory)
+        .build();
+    let only_counters = Choosy {
+        counters: Temporality::Delta,
+        others: Temporality::Cumulative,
+    };
+    let all_but_counters = Choosy {
+        counters: Temporality::LowMemory,
+        others: Temporality::Delta,
+    };
+    let mut provider = SdkMeterProvider::builder(alloc)
+        .with_reader(Box::new(alloc, ManualReader::default())?)?
+        .with_reader(Box::new(alloc, delta)?)?
+        .with_reader(Box::new(alloc, low_memory)?)?
+        .with_reader(Box::new(alloc, only_counters)?)?
+        .with_reader(Box::new(alloc, all_but_counters)?)?
+        .build()?;
+    let _ = provider.run(alloc, calls(alloc)?.as_slice())?;
+    Ok(provider)
+}
+
+/// A cumulative collection has all that was recorded since the builds, each time. So has one of a reader that
+/// answers `LowMemory` for the kind: only `Delta` starts a stream again.
+#[test]
+fn cumulative_wholes(rt: HostRuntime) -> Result<(), Fail> {
+    let alloc = rt.alloc();
+    let mut provider = provider(alloc)?;
+    for (reader, now) in [(0, 200), (4, 210), (0, 220), (4, 230)] {
+        let wanted = first(alloc, now, Temporality::Cumulative)?;
+        assert_collected(&rt, alloc, &mut provider, reader, now, &wanted)?;
+    }
+    Ok(())
+}
+
+/// A delta collection has what was recorded since the reader's last one, which is the start. Without records it
+/// has nothing, and the start moves all the same.
+#[test]
+fn delta_wholes(rt: HostRuntime) -> Result<(), Fail> {
+    let alloc = rt.alloc();
+    for reader in 1..4 {
+        let mut provider = provider(alloc)?;
+        let all = first(alloc, 200, Temporality::Delta)?;
+        assert_collected(&rt, alloc, &mut provider, reader, 200, &all)?;
+        let nothing = whole(alloc, Vec::new(alloc));
+        assert_collected(&rt, alloc, &mut provider, reader, 300, &nothing)?;
+        let set = attributes(alloc, &[("b", 1), ("a", 2)])?;
+        let _ = provider.step(&record(0, 9, set));
+        let metric = hits(alloc, 9, 300, 400, Temporality::Delta)?;
+        assert_collected(&rt, alloc, &mut provider, reader, 400, &one(alloc, metric)?)?;
+    }
+    Ok(())
+}
