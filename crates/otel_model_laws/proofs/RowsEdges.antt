@@ -1,11 +1,10 @@
 -- Further worked rows, where definitions are easily misread, on the machine and read off the calls.
-use Rattle.std.specs.Prelude.{◌≡◌, ℕ, ℤ, pos, Bool, true, false, List, [], ◌∷◌, ◌++◌, Some, None, codes}
+use Rattle.std.specs.Prelude.{◌≡◌, ℕ, ℤ, pos, true, false, List, [], ◌∷◌, ◌++◌, Some, None, codes}
 use Rattle.std.proofs.Common.{refl}
 use Rattle.otel_common.specs.Canonical.{canon}
 use Rattle.otel_common.specs.declared.attributes.KeyValue.{KeyValue}
 use Rattle.otel_common.specs.declared.attributes.Value.TheVariants as value
 use Rattle.otel_model_stream.specs.Sets.{over_set}
-use Rattle.otel_model_stream.specs.Folds.{Spread}
 use Rattle.otel_model.specs.Calls.{Counter, UpDownCounter, Histogram, ObservableCounter, Gauge, Call, Meter, Build, Record, Bind, RecordBound, Unbind, Collect, Shutdown, UnknownInstrument, UnknownMeter, UnknownHandle, WrongKind, WrongNumber, Reply}
 use Rattle.otel_model.specs.Demands.{Drop, LastValue, ExplicitBucketHistogram, Views, ReaderAnswers, Delta, Cumulative, preferring}
 use Rattle.otel_model.specs.Calls.{Flush, OutOfMemory, Exhausted, AlreadyShutdown, ReaderShutDown, ReadersFailed}
@@ -15,7 +14,7 @@ use Rattle.otel_model.specs.Machine.{new_instrument, new_state}
 use Rattle.otel_model.specs.Steps.{reply_of, after, Step}
 use Rattle.otel_model.specs.Only.{only}
 use Rattle.otel_model.specs.History.{made}
-use Rattle.otel_model_laws.proofs.Rows.{Seen, a, m, about, with_own_bounds, u64, i64, x1, y1, pair, if_named, limited, named, aggregating, but_for, default_of, Shows, replies, one, delta_sum, cumulative_sum, on, add, observe}
+use Rattle.otel_model_laws.proofs.Rows.{Seen, a, m, about, with_own_bounds, u64, i64, x1, y1, pair, if_named, limited, named, aggregating, but_for, default_of, Shows, replies, one, delta_sum, cumulative_sum, last_values, cumulative_histogram, delta_histogram, spread, on, add, observe}
 
 abbrev delta : ReaderAnswers
 delta = preferring Delta
@@ -54,7 +53,7 @@ unfolding canon
 back_behind = (refl, refl)
 
 -- a gauge that was only bound shows 0
-pub bound_gauge : Shown [] cumulative (on (about Gauge a) (Bind 0 x1 ∷ Collect 0 200 [] ∷ [])) (one a (Content.Gauge ((x1, 0) ∷ [])) ∷ [])
+pub bound_gauge : Shown [] cumulative (on (about Gauge a) (Bind 0 x1 ∷ Collect 0 200 [] ∷ [])) (one a (last_values ((x1, 0) ∷ [])) ∷ [])
 unfolding canon
 bound_gauge = (refl, refl)
 
@@ -65,18 +64,15 @@ ten = pos 10 ∷ []
 abbrev with_buckets : Views
 with_buckets = if_named a (aggregating (ExplicitBucketHistogram ten true)) ∷ []
 
-abbrev spread : ℕ → ℕ → Bool → ℕ → List ℕ → Spread
-spread count sum has_sum value counts = record { has_min_max = true; has_sum = has_sum; count = count; sum = sum; least = Some (pos value); greatest = Some (pos value); counts = counts }
-
 -- observations of a counter seen as a histogram add up, and a delta reader resets it
 pub observed_histogram : Shown with_buckets delta (on (about ObservableCounter a) (Collect 0 200 (observe 0 7 [] ∷ []) ∷ Collect 0 300 (observe 0 7 [] ∷ []) ∷ []))
-    (one a (Content.Histogram true ten (([], spread 1 7 true 7 (1 ∷ 0 ∷ [])) ∷ [])) ∷ one a (Content.Histogram true ten (([], spread 1 7 true 7 (1 ∷ 0 ∷ [])) ∷ [])) ∷ [])
+    (one a (delta_histogram [] (spread ten 1 7 7 7 (1 ∷ 0 ∷ []))) ∷ one a (delta_histogram [] (spread ten 1 7 7 7 (1 ∷ 0 ∷ []))) ∷ [])
 unfolding canon
 observed_histogram = (refl, refl)
 
 -- a histogram on an up-down counter has the sum 0
 pub up_down_histogram : Shown with_buckets cumulative (on (about UpDownCounter a) (add 7 [] ∷ Collect 0 200 [] ∷ []))
-    (one a (Content.Histogram false ten (([], spread 1 0 false 7 (1 ∷ 0 ∷ [])) ∷ [])) ∷ [])
+    (one a (cumulative_histogram [] (spread ten 1 0 7 7 (1 ∷ 0 ∷ []))) ∷ [])
 unfolding canon
 up_down_histogram = (refl, refl)
 
