@@ -15,3 +15,7 @@ pub mod RowsSums
 pub mod RowsViews
 pub mod RowsEdges
 pub mod RowsChecks
+pub mod RowsHeadings
+pub mod RowsKinds
+pub mod RowsIdentities
+pub mod RowsHandles

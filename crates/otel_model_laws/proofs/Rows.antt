@@ -1,16 +1,22 @@
 -- What the worked rows are written in: instruments, values, sets, views and readers, and what is seen of collections.
-use Rattle.std.specs.Prelude.{◌≡◌, ℕ, ℤ, pos, true, false, cond, List, [], ◌∷◌, ◌++◌, map, Some, None}
+use Rattle.std.specs.Prelude.{◌≡◌, ℕ, ℤ, pos, Bool, true, false, cond, List, [], ◌∷◌, ◌++◌, map, Option, Some, None}
+use Rattle.std.specs.Option.{option_map}
 use Rattle.otel_common.specs.Equality.{bytes_eq}
 use Rattle.otel_common.specs.declared.attributes.KeyValue.{KeyValue}
 use Rattle.otel_common.specs.declared.attributes.Value.TheVariants as value
 use Rattle.otel_common.specs.declared.scopes.InstrumentationScope.{InstrumentationScope}
-use Rattle.otel_model_stream.specs.Sets.{AttributeSet}
-use Rattle.otel_model.specs.Resources.{empty_resource}
+use Rattle.otel_data.specs.declared.aggregated.AggregatedMetrics.{AggregatedMetrics}
+use Rattle.otel_data.specs.declared.aggregated.MetricData.{MetricData}
 use Rattle.otel_data.specs.declared.collections.Metric.{Metric}
-use Rattle.otel_data.specs.declared.collections.ScopeMetrics.{ScopeMetrics}
 use Rattle.otel_data.specs.declared.collections.ResourceMetrics.{ResourceMetrics}
+use Rattle.otel_data.specs.declared.collections.ScopeMetrics.{ScopeMetrics}
+use Rattle.otel_data.specs.declared.points.GaugeDataPoint.{GaugeDataPoint}
+use Rattle.otel_data.specs.declared.points.HistogramDataPoint.{HistogramDataPoint}
+use Rattle.otel_data.specs.declared.points.SumDataPoint.{SumDataPoint}
+use Rattle.otel_model_stream.specs.Sets.{AttributeSet}
+use Rattle.otel_model.specs.Resources.{Resource, empty_resource}
 use Rattle.otel_model.specs.Calls.{Text, InstrumentKind, kind_number, Number, About, Observed, Call, Meter, Build, Record, Reply}
-use Rattle.otel_model.specs.Demands.{Aggregation, StreamSpec, View, Views, Answer, ReaderAnswers, nothing_said}
+use Rattle.otel_model.specs.Demands.{Aggregation, StreamSpec, View, Views, Answer, ReaderAnswers, Temporality, Cumulative, Delta, LowMemory, preferring, nothing_said}
 use Rattle.otel_model.specs.Machine.{changed_at, new_state}
 use Rattle.otel_model.specs.Steps.{replies_of}
 use Rattle.otel_model.specs.History.{collections_of, given, made}
@@ -71,6 +77,15 @@ abbrev pub aggregating : Aggregation → StreamSpec
 aggregating aggregation = record nothing_said { aggregation = Some aggregation }
 
 -- ======== readers ========
+abbrev pub cumulative : ReaderAnswers
+cumulative = preferring Cumulative
+
+abbrev pub delta : ReaderAnswers
+delta = preferring Delta
+
+abbrev pub low_memory : ReaderAnswers
+low_memory = preferring LowMemory
+
 abbrev pub but_for : InstrumentKind → (Answer → Answer) → ReaderAnswers → ReaderAnswers
 but_for kind f answers = changed_at (kind_number kind) f answers
 
@@ -81,52 +96,151 @@ abbrev pub default_of : Aggregation → Answer → Answer
 default_of aggregation answer = record answer { aggregation = Some aggregation }
 
 -- ======== what is seen ========
+-- how the records of a set spread
+pub record SeenSpread : Type 0 where
+  pub bounds : List ℤ
+  pub counts : List ℕ
+  pub count : ℕ
+  pub sum : ℤ
+  pub least : Option ℤ
+  pub greatest : Option ℤ
+
+-- the points of a metric, as whole numbers
+pub data SeenPoints : Type 0 where
+  Gauge : (points : List (AttributeSet × ℤ)) → SeenPoints
+  Sum : (temporality : Temporality) (is_monotonic : Bool) (points : List (AttributeSet × ℤ)) → SeenPoints
+  Histogram : (temporality : Temporality) (points : List (AttributeSet × SeenSpread)) → SeenPoints
+
+module _ {T : Type 0} (whole : T → ℤ) where
+  abbrev seen_gauge_point : GaugeDataPoint T → AttributeSet × ℤ
+  seen_gauge_point p = (p.attributes, whole p.value)
+
+  abbrev seen_sum_point : SumDataPoint T → AttributeSet × ℤ
+  seen_sum_point p = (p.attributes, whole p.value)
+
+  abbrev seen_histogram_point : HistogramDataPoint T → AttributeSet × SeenSpread
+  seen_histogram_point p = (
+    p.attributes,
+    record {
+      bounds = p.bounds;
+      counts = p.bucket_counts;
+      count = p.count;
+      sum = whole p.sum;
+      least = option_map whole p.min;
+      greatest = option_map whole p.max;
+    },
+  )
+
+  abbrev seen_data : MetricData T → SeenPoints
+  seen_data (MetricData.Gauge gauge) = SeenPoints.Gauge (map seen_gauge_point gauge.data_points)
+  seen_data (MetricData.Sum sum) = SeenPoints.Sum sum.temporality sum.is_monotonic (map seen_sum_point sum.data_points)
+  seen_data (MetricData.Histogram histogram) = SeenPoints.Histogram histogram.temporality (map seen_histogram_point histogram.data_points)
+
+-- of either number type
+abbrev pub seen_points : AggregatedMetrics → SeenPoints
+seen_points (AggregatedMetrics.U64 points) = seen_data (λ n. pos n) points
+seen_points (AggregatedMetrics.I64 points) = seen_data (λ z. z) points
+
 -- a metric's name and its points
 abbrev pub Seen : Type 0
-Seen = List (Text × Content)
+Seen = List (Text × SeenPoints)
 
 abbrev pub flat : {X : Type 0} → List (List X) → List X
 flat [] = []
 flat (x ∷ xs) = x ++ flat xs
 
-abbrev pub seen_metric : Metric → Text × Content
-seen_metric x = (x.name, x.content)
+abbrev pub seen_metric : Metric → Text × SeenPoints
+seen_metric x = (x.name, seen_points x.content)
 
 abbrev pub seen : ResourceMetrics → Seen
-seen c = flat (map (λ (s : ScopeMetrics). map seen_metric s.metrics) c.scopes)
+seen c = flat (map (λ (s : ScopeMetrics). map seen_metric s.metrics) c.scope_metrics)
 
--- the replies of the machine, and the calls that count by them
-abbrev pub replies : Views → List ReaderAnswers → List Call → List Reply
-replies views readers calls = replies_of views (new_state empty_resource 0 readers) calls
+-- the replies of the machine of a provider with this resource
+abbrev pub replies_at : Resource → Views → List ReaderAnswers → List Call → List Reply
+replies_at resource views readers calls = replies_of views (new_state resource 0 readers) calls
 
 -- reader r's collections by the machine
-abbrev pub by_machine : Views → List ReaderAnswers → ℕ → List Call → List ResourceMetrics
-by_machine views readers r calls = given r calls (replies views readers calls)
+abbrev given_at : Resource → Views → List ReaderAnswers → ℕ → List Call → List ResourceMetrics
+given_at resource views readers r calls = given r calls (replies_at resource views readers calls)
 
--- and as they are read off the calls
-abbrev pub by_windows : Views → List ReaderAnswers → ℕ → ReaderAnswers → List Call → List ResourceMetrics
-by_windows views readers r answers calls = collections_of views empty_resource answers r (made calls (replies views readers calls))
+-- and as they are read off the calls that count by these replies
+abbrev read_at : Resource → Views → List ReaderAnswers → ℕ → ReaderAnswers → List Call → List ResourceMetrics
+read_at resource views readers r answers calls = collections_of views resource answers r (made calls (replies_at resource views readers calls))
 
--- both show this of reader r, whose answers are `row`
+-- both are these collections of the only reader
+abbrev pub Gives : Resource → Views → ReaderAnswers → List Call → List ResourceMetrics → Type 0
+Gives resource views answers calls collections = (given_at resource views (answers ∷ []) 0 calls ≡ collections) × (read_at resource views (answers ∷ []) 0 answers calls ≡ collections)
+
+-- where the resource is empty
+abbrev pub replies : Views → List ReaderAnswers → List Call → List Reply
+replies views readers calls = replies_at empty_resource views readers calls
+
+abbrev by_machine : Views → List ReaderAnswers → ℕ → List Call → List ResourceMetrics
+by_machine views readers r calls = given_at empty_resource views readers r calls
+
+abbrev by_windows : Views → List ReaderAnswers → ℕ → ReaderAnswers → List Call → List ResourceMetrics
+by_windows views readers r answers calls = read_at empty_resource views readers r answers calls
+
+-- both show this of reader r, whose answers are `answers`
 abbrev pub Shows : Views → List ReaderAnswers → ℕ → ReaderAnswers → List Call → List Seen → Type 0
 Shows views readers r answers calls collections = (map seen (by_machine views readers r calls) ≡ collections) × (map seen (by_windows views readers r answers calls) ≡ collections)
 
--- start and time of each metric
+-- of the only reader
+abbrev pub AloneShows : Views → ReaderAnswers → List Call → List Seen → Type 0
+AloneShows views answers calls collections = Shows views (answers ∷ []) 0 answers calls collections
+
+-- start and time
+abbrev data_moments : {T : Type 0} → MetricData T → ℕ × ℕ
+data_moments (MetricData.Gauge gauge) = (gauge.start_time, gauge.time)
+data_moments (MetricData.Sum sum) = (sum.start_time, sum.time)
+data_moments (MetricData.Histogram histogram) = (histogram.start_time, histogram.time)
+
+abbrev metric_moments : AggregatedMetrics → ℕ × ℕ
+metric_moments (AggregatedMetrics.U64 points) = data_moments points
+metric_moments (AggregatedMetrics.I64 points) = data_moments points
+
+-- of each metric
 abbrev pub moments : ResourceMetrics → List (ℕ × ℕ)
-moments c = flat (map (λ (s : ScopeMetrics). map (λ (x : Metric). let p : ℕ × ℕ = (x.start, x.time) in p) s.metrics) c.scopes)
+moments c = flat (map (λ (s : ScopeMetrics). map (λ (x : Metric). metric_moments x.content) s.metrics) c.scope_metrics)
 
 abbrev pub HasMoments : Views → List ReaderAnswers → ℕ → ReaderAnswers → List Call → List (List (ℕ × ℕ)) → Type 0
 HasMoments views readers r answers calls times = (map moments (by_machine views readers r calls) ≡ times) × (map moments (by_windows views readers r answers calls) ≡ times)
 
 -- one metric
-abbrev pub one : Text → Content → Seen
-one name content = (name, content) ∷ []
+abbrev pub one : Text → SeenPoints → Seen
+one name points = (name, points) ∷ []
 
-abbrev pub delta_sum : List (AttributeSet × ℕ) → Content
-delta_sum points = Content.Sum true true points
+abbrev natural_points : List (AttributeSet × ℕ) → List (AttributeSet × ℤ)
+natural_points points = map (λ (p : AttributeSet × ℕ). let q : AttributeSet × ℤ = (p.0, pos p.1) in q) points
 
-abbrev pub cumulative_sum : List (AttributeSet × ℕ) → Content
-cumulative_sum points = Content.Sum false true points
+-- of a counter
+abbrev pub delta_sum : List (AttributeSet × ℕ) → SeenPoints
+delta_sum points = SeenPoints.Sum Delta true (natural_points points)
+
+abbrev pub cumulative_sum : List (AttributeSet × ℕ) → SeenPoints
+cumulative_sum points = SeenPoints.Sum Cumulative true (natural_points points)
+
+-- of an up-down counter
+abbrev pub plain_sum : List (AttributeSet × ℕ) → SeenPoints
+plain_sum points = SeenPoints.Sum Cumulative false (natural_points points)
+
+abbrev pub last_values : List (AttributeSet × ℕ) → SeenPoints
+last_values points = SeenPoints.Gauge (natural_points points)
+
+-- a histogram of one set
+abbrev pub cumulative_histogram : AttributeSet → SeenSpread → SeenPoints
+cumulative_histogram set s = SeenPoints.Histogram Cumulative ((set, s) ∷ [])
+
+abbrev pub delta_histogram : AttributeSet → SeenSpread → SeenPoints
+delta_histogram set s = SeenPoints.Histogram Delta ((set, s) ∷ [])
+
+-- without min and max
+abbrev pub plain_spread : List ℤ → ℕ → ℕ → List ℕ → SeenSpread
+plain_spread bounds count sum counts = record { bounds = bounds; counts = counts; count = count; sum = pos sum; least = None; greatest = None }
+
+-- with them
+abbrev pub spread : List ℤ → ℕ → ℕ → ℕ → ℕ → List ℕ → SeenSpread
+spread bounds count sum least greatest counts = record { bounds = bounds; counts = counts; count = count; sum = pos sum; least = Some (pos least); greatest = Some (pos greatest) }
 
 -- calls on one meter and one instrument
 abbrev pub on : About → List Call → List Call

@@ -5,14 +5,8 @@ use Rattle.otel_common.specs.Canonical.{canon}
 use Rattle.otel_common.specs.declared.attributes.KeyValue.{KeyValue}
 use Rattle.otel_model_stream.specs.Sets.{over_set}
 use Rattle.otel_model.specs.Calls.{Counter, ObservableCounter, Call, Bind, RecordBound, Collect}
-use Rattle.otel_model.specs.Demands.{Views, ReaderAnswers, Delta, Cumulative, preferring, nothing_said}
-use Rattle.otel_model_laws.proofs.Rows.{a, b, m, about, u64, x1, y1, z1, pair, if_named, limited, Shows, one, delta_sum, cumulative_sum, on, add, observe}
-
-abbrev delta : ReaderAnswers
-delta = preferring Delta
-
-abbrev cumulative : ReaderAnswers
-cumulative = preferring Cumulative
+use Rattle.otel_model.specs.Demands.{Views, nothing_said}
+use Rattle.otel_model_laws.proofs.Rows.{Seen, a, about, u64, x1, y1, z1, pair, if_named, limited, cumulative, delta, Shows, one, delta_sum, cumulative_sum, on, add, observe}
 
 abbrev limit_1 : Views
 limit_1 = if_named a (limited 1) ∷ []
@@ -20,7 +14,7 @@ limit_1 = if_named a (limited 1) ∷ []
 abbrev limit_2 : Views
 limit_2 = if_named a (limited 2) ∷ []
 
-abbrev DeltaCounterShows : Views → List Call → List (Rattle.otel_model_laws.proofs.Rows.Seen) → Type 0
+abbrev DeltaCounterShows : Views → List Call → List Seen → Type 0
 DeltaCounterShows views calls collections = Shows views (delta ∷ []) 0 delta (on (about Counter a) calls) collections
 
 pub row_3 : DeltaCounterShows limit_2 (add 1 x1 ∷ add 2 y1 ∷ add 4 z1 ∷ add 8 x1 ∷ Collect 0 200 [] ∷ [])

@@ -2,19 +2,9 @@
 use Rattle.std.specs.Prelude.{◌≡◌, ℕ, ℤ, pos, negsuc, true, false, List, [], ◌∷◌, ◌++◌, map, Option, Some, None}
 use Rattle.std.proofs.Common.{refl}
 use Rattle.otel_common.specs.Canonical.{canon}
-use Rattle.otel_model_stream.specs.Folds.{Spread}
 use Rattle.otel_model.specs.Calls.{Counter, UpDownCounter, Histogram, ObservableCounter, Gauge, ObservableGauge, About, Call, Meter, Build, Record, Bind, RecordBound, Unbind, Collect, Flush, Shutdown, UnknownHandle, WrongKind, WrongNumber, AlreadyShutdown, ReaderShutDown, UnknownReader, Reply}
-use Rattle.otel_model.specs.Demands.{ReaderAnswers, Delta, Cumulative, LowMemory, preferring, default_bounds}
-use Rattle.otel_model_laws.proofs.Rows.{Seen, a, b, m, scope_named, about, with_own_bounds, u64, i64, x1, Shows, HasMoments, replies, one, delta_sum, cumulative_sum, on, add, observe}
-
-abbrev delta : ReaderAnswers
-delta = preferring Delta
-
-abbrev cumulative : ReaderAnswers
-cumulative = preferring Cumulative
-
-abbrev low_memory : ReaderAnswers
-low_memory = preferring LowMemory
+use Rattle.otel_model.specs.Demands.{ReaderAnswers, Cumulative, default_bounds}
+use Rattle.otel_model_laws.proofs.Rows.{Seen, SeenPoints, a, b, m, scope_named, about, with_own_bounds, u64, i64, x1, cumulative, delta, low_memory, Shows, HasMoments, replies, one, delta_sum, cumulative_sum, plain_sum, last_values, cumulative_histogram, plain_spread, spread, on, add, observe}
 
 -- one reader without views
 abbrev Shown : ReaderAnswers → List Call → List Seen → Type 0
@@ -23,39 +13,33 @@ Shown answers calls collections = Shows [] (answers ∷ []) 0 answers calls coll
 abbrev adds : List ℕ → List Call
 adds ns = map (λ n. add n []) ns
 
-abbrev spread : ℕ → ℕ → Option ℤ → Option ℤ → List ℕ → Spread
-spread count sum least greatest counts = record { has_min_max = true; has_sum = true; count = count; sum = sum; least = least; greatest = greatest; counts = counts }
-
-abbrev histogram : List ℤ → Spread → Content
-histogram bounds s = Content.Histogram false bounds (([], s) ∷ [])
-
 -- ======== histograms ========
 abbrev bounds_1 : List ℤ
 bounds_1 = pos 1 ∷ pos 3 ∷ pos 6 ∷ []
 
 pub row_1 : Shown cumulative (on (with_own_bounds bounds_1 (about Histogram a)) (adds (1 ∷ 2 ∷ 3 ∷ 4 ∷ 5 ∷ 6 ∷ 7 ∷ 8 ∷ 9 ∷ 10 ∷ []) ++ Collect 0 200 [] ∷ []))
-    (one a (histogram bounds_1 (spread 10 55 (Some (pos 1)) (Some (pos 10)) (1 ∷ 2 ∷ 3 ∷ 4 ∷ []))) ∷ [])
+    (one a (cumulative_histogram [] (spread bounds_1 10 55 1 10 (1 ∷ 2 ∷ 3 ∷ 4 ∷ []))) ∷ [])
 unfolding canon
 row_1 = (refl, refl)
 
 pub row_2 : Shown cumulative (on (about Histogram a) (adds (0 ∷ 5 ∷ 6 ∷ 10001 ∷ []) ++ Collect 0 200 [] ∷ []))
-    (one a (histogram default_bounds (spread 4 10012 (Some (pos 0)) (Some (pos 10001)) (1 ∷ 1 ∷ 1 ∷ 0 ∷ 0 ∷ 0 ∷ 0 ∷ 0 ∷ 0 ∷ 0 ∷ 0 ∷ 0 ∷ 0 ∷ 0 ∷ 0 ∷ 1 ∷ []))) ∷ [])
+    (one a (cumulative_histogram [] (spread default_bounds 4 10012 0 10001 (1 ∷ 1 ∷ 1 ∷ 0 ∷ 0 ∷ 0 ∷ 0 ∷ 0 ∷ 0 ∷ 0 ∷ 0 ∷ 0 ∷ 0 ∷ 0 ∷ 0 ∷ 1 ∷ []))) ∷ [])
 unfolding canon
 row_2 = (refl, refl)
 
 -- an entry that was only bound
 pub row_9 : Shown cumulative (on (about Histogram a) (Bind 0 x1 ∷ Collect 0 200 [] ∷ []))
-    (one a (Content.Histogram false default_bounds ((x1, spread 0 0 None None (0 ∷ 0 ∷ 0 ∷ 0 ∷ 0 ∷ 0 ∷ 0 ∷ 0 ∷ 0 ∷ 0 ∷ 0 ∷ 0 ∷ 0 ∷ 0 ∷ 0 ∷ 0 ∷ [])) ∷ [])) ∷ [])
+    (one a (cumulative_histogram x1 (plain_spread default_bounds 0 0 (0 ∷ 0 ∷ 0 ∷ 0 ∷ 0 ∷ 0 ∷ 0 ∷ 0 ∷ 0 ∷ 0 ∷ 0 ∷ 0 ∷ 0 ∷ 0 ∷ 0 ∷ 0 ∷ []))) ∷ [])
 unfolding canon
 row_9 = (refl, refl)
 
 pub row_38 : Shown cumulative (on (with_own_bounds (pos 9223372036854775807 ∷ []) (about Histogram a)) (adds (18446744073709551615 ∷ 9223372036854775807 ∷ []) ++ Collect 0 200 [] ∷ []))
-    (one a (histogram (pos 9223372036854775807 ∷ []) (spread 2 9223372036854775806 (Some (pos 9223372036854775807)) (Some (pos 18446744073709551615)) (1 ∷ 1 ∷ []))) ∷ [])
+    (one a (cumulative_histogram [] (spread (pos 9223372036854775807 ∷ []) 2 9223372036854775806 9223372036854775807 18446744073709551615 (1 ∷ 1 ∷ []))) ∷ [])
 unfolding canon
 row_38 = (refl, refl)
 
 pub row_39 : Shown cumulative (on (with_own_bounds (negsuc 4 ∷ pos 0 ∷ []) (about Histogram a)) (Build (Some 0) (with_own_bounds [] (about Histogram b)) 100 ∷ add 0 [] ∷ Record 1 (u64 7) [] ∷ Collect 0 200 [] ∷ []))
-    ((one a (histogram (negsuc 4 ∷ pos 0 ∷ []) (spread 1 0 (Some (pos 0)) (Some (pos 0)) (0 ∷ 1 ∷ 0 ∷ []))) ++ one b (histogram [] (spread 1 7 (Some (pos 7)) (Some (pos 7)) []))) ∷ [])
+    ((one a (cumulative_histogram [] (spread (negsuc 4 ∷ pos 0 ∷ []) 1 0 0 0 (0 ∷ 1 ∷ 0 ∷ []))) ++ one b (cumulative_histogram [] (spread [] 1 7 7 7 []))) ∷ [])
 unfolding canon
 row_39 = (refl, refl)
 
@@ -63,9 +47,8 @@ row_39 = (refl, refl)
 abbrev signed_counter : About
 signed_counter = record (about UpDownCounter a) { signed = true }
 
--- -9223372036854775808 has the bits of 2^63
 pub row_13 : Shown cumulative (on signed_counter (Record 0 (i64 9223372036854775807 (pos 9223372036854775807)) [] ∷ Record 0 (i64 1 (pos 1)) [] ∷ Collect 0 200 [] ∷ []))
-    (one a (Content.Sum false false (([], 9223372036854775808) ∷ [])) ∷ [])
+    (one a (SeenPoints.Sum Cumulative false (([], negsuc 9223372036854775807) ∷ [])) ∷ [])
 unfolding canon
 row_13 = (refl, refl)
 
@@ -74,18 +57,18 @@ unfolding canon
 row_19 = (refl, refl)
 
 pub row_19_up_down : Shown low_memory (on (about UpDownCounter a) (add 1 [] ∷ Collect 0 200 [] ∷ Collect 0 300 [] ∷ []))
-    (one a (Content.Sum false false (([], 1) ∷ [])) ∷ one a (Content.Sum false false (([], 1) ∷ [])) ∷ [])
+    (one a (plain_sum (([], 1) ∷ [])) ∷ one a (plain_sum (([], 1) ∷ [])) ∷ [])
 unfolding canon
 row_19_up_down = (refl, refl)
 
-pub row_27 : Shown cumulative (on (about Gauge a) (Bind 0 x1 ∷ RecordBound 0 (u64 7) ∷ RecordBound 0 (u64 42) ∷ Collect 0 200 [] ∷ [])) (one a (Content.Gauge ((x1, 42) ∷ [])) ∷ [])
+pub row_27 : Shown cumulative (on (about Gauge a) (Bind 0 x1 ∷ RecordBound 0 (u64 7) ∷ RecordBound 0 (u64 42) ∷ Collect 0 200 [] ∷ [])) (one a (last_values ((x1, 42) ∷ [])) ∷ [])
 unfolding canon
 row_27 = (refl, refl)
 
 -- two names that differ in ASCII case are one identity, another kind is another
 pub row_37 : Shown cumulative (on (about Counter (72 ∷ 105 ∷ [])) (Build (Some 0) (about Counter (104 ∷ 73 ∷ [])) 100 ∷ Build (Some 0) (about UpDownCounter (104 ∷ 105 ∷ [])) 100
     ∷ add 1 [] ∷ Record 1 (u64 2) [] ∷ Record 2 (u64 4) [] ∷ Collect 0 200 [] ∷ []))
-    ((one (72 ∷ 105 ∷ []) (cumulative_sum (([], 3) ∷ [])) ++ one (104 ∷ 105 ∷ []) (Content.Sum false false (([], 4) ∷ []))) ∷ [])
+    ((one (72 ∷ 105 ∷ []) (cumulative_sum (([], 3) ∷ [])) ++ one (104 ∷ 105 ∷ []) (plain_sum (([], 4) ∷ []))) ∷ [])
 unfolding canon
 row_37 = (refl, refl)
 

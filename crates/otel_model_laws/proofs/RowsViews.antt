@@ -1,26 +1,15 @@
 -- Worked rows on views, fates, and the limits and aggregations of readers, on the machine and read off the calls.
-use Rattle.std.specs.Prelude.{ℕ, ℤ, pos, true, false, List, [], ◌∷◌, ◌++◌, Some, None}
+use Rattle.std.specs.Prelude.{ℕ, ℤ, pos, true, false, List, [], ◌∷◌, ◌++◌, Some}
 use Rattle.std.proofs.Common.{refl}
 use Rattle.otel_common.specs.Canonical.{canon}
 use Rattle.otel_model_stream.specs.Sets.{over_set}
-use Rattle.otel_model_stream.specs.Folds.{Spread}
 use Rattle.otel_model.specs.Calls.{Counter, UpDownCounter, Histogram, ObservableCounter, Call, Build, Record, Collect}
-use Rattle.otel_model.specs.Demands.{Aggregation, Drop, Default, Sum, LastValue, ExplicitBucketHistogram, Views, ReaderAnswers, Delta, Cumulative, preferring}
-use Rattle.otel_model_laws.proofs.Rows.{Seen, a, b, about, with_own_bounds, u64, x1, y1, if_named, limited, named, aggregating, but_for, limit_of, default_of, Shows, one, delta_sum, cumulative_sum, on, add, observe}
-
-abbrev delta : ReaderAnswers
-delta = preferring Delta
-
-abbrev cumulative : ReaderAnswers
-cumulative = preferring Cumulative
+use Rattle.otel_model.specs.Demands.{Aggregation, Drop, Default, Sum, LastValue, ExplicitBucketHistogram, Views, ReaderAnswers}
+use Rattle.otel_model_laws.proofs.Rows.{Seen, a, b, about, with_own_bounds, u64, x1, y1, if_named, limited, named, aggregating, but_for, limit_of, default_of, cumulative, delta, AloneShows, Shows, one, delta_sum, cumulative_sum, plain_sum, cumulative_histogram, plain_spread, spread, on, add, observe}
 
 -- one cumulative reader
 abbrev CumulativeShows : Views → List Call → List Seen → Type 0
 CumulativeShows views calls collections = Shows views (cumulative ∷ []) 0 cumulative calls collections
-
--- one delta reader with these answers
-abbrev AloneShows : Views → ReaderAnswers → List Call → List Seen → Type 0
-AloneShows views answers calls collections = Shows views (answers ∷ []) 0 answers calls collections
 
 -- ======== views ========
 abbrev Foo : List ℕ
@@ -94,7 +83,7 @@ unfolding canon
 row_43 = (refl, refl)
 
 -- an up-down counter is cumulative at a delta reader
-pub row_44 : AloneShows [] limited_delta (on (about UpDownCounter a) (add 1 x1 ∷ add 2 y1 ∷ Collect 0 200 [] ∷ [])) (one a (Content.Sum false false ((x1, 1) ∷ (y1, 2) ∷ [])) ∷ [])
+pub row_44 : AloneShows [] limited_delta (on (about UpDownCounter a) (add 1 x1 ∷ add 2 y1 ∷ Collect 0 200 [] ∷ [])) (one a (plain_sum ((x1, 1) ∷ (y1, 2) ∷ [])) ∷ [])
 unfolding canon
 row_44 = (refl, refl)
 
@@ -123,48 +112,45 @@ row_46_other = (refl, refl)
 abbrev plain : List ℤ → Aggregation
 plain bounds = ExplicitBucketHistogram bounds false
 
-abbrev plain_spread : ℕ → ℕ → List ℕ → Spread
-plain_spread count sum counts = record { has_min_max = false; has_sum = true; count = count; sum = sum; least = None; greatest = None; counts = counts }
-
 abbrev ten : List ℤ
 ten = pos 10 ∷ []
 
 abbrev five : List ℤ
 five = pos 5 ∷ []
 
-abbrev rows_47 : List ReaderAnswers
-rows_47 = histograms_by Sum ∷ histograms_by (plain ten) ∷ []
+abbrev readers_47 : List ReaderAnswers
+readers_47 = histograms_by Sum ∷ histograms_by (plain ten) ∷ []
 
 abbrev calls_47 : List Call
 calls_47 = on (about Histogram a) (add 10 [] ∷ add 11 [] ∷ Collect 0 200 [] ∷ Collect 1 300 [] ∷ [])
 
-pub row_47 : Shows [] rows_47 0 (histograms_by Sum) calls_47 (one a (cumulative_sum (([], 21) ∷ [])) ∷ [])
+pub row_47 : Shows [] readers_47 0 (histograms_by Sum) calls_47 (one a (cumulative_sum (([], 21) ∷ [])) ∷ [])
 unfolding canon
 row_47 = (refl, refl)
 
-pub row_47_other : Shows [] rows_47 1 (histograms_by (plain ten)) calls_47 (one a (Content.Histogram false ten (([], plain_spread 2 21 (1 ∷ 1 ∷ [])) ∷ [])) ∷ [])
+pub row_47_other : Shows [] readers_47 1 (histograms_by (plain ten)) calls_47 (one a (cumulative_histogram [] (plain_spread ten 2 21 (1 ∷ 1 ∷ []))) ∷ [])
 unfolding canon
 row_47_other = (refl, refl)
 
 abbrev calls_48 : List Call
 calls_48 = on (with_own_bounds five (about Histogram a)) (add 10 [] ∷ add 11 [] ∷ Collect 0 200 [] ∷ Collect 1 300 [] ∷ [])
 
-pub row_48 : Shows [] rows_47 0 (histograms_by Sum) calls_48 (one a (cumulative_sum (([], 21) ∷ [])) ∷ [])
+pub row_48 : Shows [] readers_47 0 (histograms_by Sum) calls_48 (one a (cumulative_sum (([], 21) ∷ [])) ∷ [])
 unfolding canon
 row_48 = (refl, refl)
 
-pub row_48_other : Shows [] rows_47 1 (histograms_by (plain ten)) calls_48 (one a (Content.Histogram false five (([], plain_spread 2 21 (0 ∷ 2 ∷ [])) ∷ [])) ∷ [])
+pub row_48_other : Shows [] readers_47 1 (histograms_by (plain ten)) calls_48 (one a (cumulative_histogram [] (plain_spread five 2 21 (0 ∷ 2 ∷ []))) ∷ [])
 unfolding canon
 row_48_other = (refl, refl)
 
 abbrev default_view : Views
 default_view = if_named a (aggregating Default) ∷ []
 
-pub row_49 : Shows default_view rows_47 0 (histograms_by Sum) calls_48 (one a (cumulative_sum (([], 21) ∷ [])) ∷ [])
+pub row_49 : Shows default_view readers_47 0 (histograms_by Sum) calls_48 (one a (cumulative_sum (([], 21) ∷ [])) ∷ [])
 unfolding canon
 row_49 = (refl, refl)
 
-pub row_49_other : Shows default_view rows_47 1 (histograms_by (plain ten)) calls_48 (one a (Content.Histogram false ten (([], plain_spread 2 21 (1 ∷ 1 ∷ [])) ∷ [])) ∷ [])
+pub row_49_other : Shows default_view readers_47 1 (histograms_by (plain ten)) calls_48 (one a (cumulative_histogram [] (plain_spread ten 2 21 (1 ∷ 1 ∷ []))) ∷ [])
 unfolding canon
 row_49_other = (refl, refl)
 
@@ -187,12 +173,12 @@ unfolding canon
 row_51_other = (refl, refl)
 
 pub row_52 : AloneShows [] (counters_by (ExplicitBucketHistogram ten true)) (on (about Counter a) (add 10 [] ∷ add 11 [] ∷ Collect 0 200 [] ∷ []))
-    (one a (Content.Histogram false ten (([], record { has_min_max = true; has_sum = true; count = 2; sum = 21; least = Some (pos 10); greatest = Some (pos 11); counts = 1 ∷ 1 ∷ [] }) ∷ [])) ∷ [])
+    (one a (cumulative_histogram [] (spread ten 2 21 10 11 (1 ∷ 1 ∷ []))) ∷ [])
 unfolding canon
 row_52 = (refl, refl)
 
 -- own bounds are lost where the reader's default is no histogram; a default that is not valid is the kind's
 pub own_bounds_of_invalid_default : AloneShows [] (histograms_by (plain (pos 2 ∷ pos 1 ∷ []))) (on (with_own_bounds five (about Histogram a)) (add 10 [] ∷ Collect 0 200 [] ∷ []))
-    (one a (Content.Histogram false five (([], record { has_min_max = true; has_sum = true; count = 1; sum = 10; least = Some (pos 10); greatest = Some (pos 10); counts = 0 ∷ 1 ∷ [] }) ∷ [])) ∷ [])
+    (one a (cumulative_histogram [] (spread five 1 10 10 10 (0 ∷ 1 ∷ []))) ∷ [])
 unfolding canon
 own_bounds_of_invalid_default = (refl, refl)

@@ -2,7 +2,7 @@
 use Rattle.std.specs.Prelude.{◌≡◌, ℕ, ◌+◌, ◌<◌, true, false, cond, List, [], ◌∷◌, map, filter, length, Some, slice_get, sum_by}
 use Rattle.otel_model_stream.specs.Events.{Event, Handles}
 use Rattle.otel_model_stream.specs.Folds.{wrapped}
-use Rattle.otel_model_stream.specs.Machine.{begin, run, answers, points}
+use Rattle.otel_model_stream.specs.Machine.{begin, run, answers as points_given, points}
 use Rattle.otel_model_stream.specs.Totals.{has_number, points_total}
 use Rattle.otel_model.specs.Resources.{Resource}
 use Rattle.otel_model.specs.Calls.{InstrumentKind, is_observable, Call, Reply}
@@ -65,7 +65,7 @@ pub record IsOfEvents (answers : ReaderAnswers) (q : Stream) : Type 0 where
   pub events : List Event
   pub machine : q.machine ≡ run (aggregate_of q.demand) (kind_of answers q.demand) q.demand.limit (begin (aggregate_of q.demand)) events
   pub recorded : q.recorded ≡ recorded_over (aggregate_of q.demand) (kind_of answers q.demand) q.demand.limit (begin (aggregate_of q.demand)) 0 events
-  pub exported : q.exported ≡ cond (is_delta answers q.demand) (wrapped (sum_by points_total (answers (aggregate_of q.demand) (kind_of answers q.demand) q.demand.limit (begin (aggregate_of q.demand)) events))) 0
+  pub exported : q.exported ≡ cond (is_delta answers q.demand) (wrapped (sum_by points_total (points_given (aggregate_of q.demand) (kind_of answers q.demand) q.demand.limit (begin (aggregate_of q.demand)) events))) 0
 
 -- ======== readers, providers ========
 abbrev pub kinds_of : List InstrumentState → List InstrumentKind
