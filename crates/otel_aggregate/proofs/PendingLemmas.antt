@@ -8,7 +8,8 @@ use Rattle.otel_common.proofs.CanonLaws.{canon-canon}
 use Rattle.otel_model_stream.specs.Folds.{Fold}
 use Rattle.otel_model_stream.specs.Sets.{none_set}
 use Rattle.otel_model_stream.specs.Entries.{Entry, is_of, has, stays, reset}
-use Rattle.otel_aggregate.specs.Tallies.{index_of, with_entry_at, pending_set, IsNew, IsSound, AreCanonical}
+use Rattle.otel_model_stream.specs.Lists.{changed_at}
+use Rattle.otel_aggregate.specs.Tallies.{index_of, pending_set, IsNew, IsSound, AreCanonical}
 use Rattle.otel_aggregate.specs.declared.table.Pending.{Pending}
 use Rattle.otel_aggregate.specs.declared.table.Pending.TheVariants.{Nothing, Empty, Known, New}
 use Rattle.otel_aggregate.proofs.CanonicalSets.{some-set, some-canon}
@@ -40,10 +41,10 @@ pub canonical-push : (entries : List Entry) (entry : Entry) → AreCanonical ent
 canonical-push [] entry all c = (c, tt)
 canonical-push (r ∷ rs) entry all c = (all.0, canonical-push rs entry all.1 c)
 
-pub canonical-with_entry_at : (f : Entry → Entry) → ((r : Entry) → (f r).set ≡ r.set) → (entries : List Entry) (i : ℕ) → AreCanonical entries → AreCanonical (with_entry_at i f entries)
-canonical-with_entry_at f same [] i all = tt
-canonical-with_entry_at f same (r ∷ rs) zero all = (ap canon (same r) ∙ all.0 ∙ sym (same r), all.1)
-canonical-with_entry_at f same (r ∷ rs) (suc i) all = (all.0, canonical-with_entry_at f same rs i all.1)
+pub canonical-changed_at : (f : Entry → Entry) → ((r : Entry) → (f r).set ≡ r.set) → (entries : List Entry) (i : ℕ) → AreCanonical entries → AreCanonical (changed_at i f entries)
+canonical-changed_at f same [] i all = tt
+canonical-changed_at f same (r ∷ rs) zero all = (ap canon (same r) ∙ all.0 ∙ sym (same r), all.1)
+canonical-changed_at f same (r ∷ rs) (suc i) all = (all.0, canonical-changed_at f same rs i all.1)
 
 -- what an eviction leaves are canonical sets that were there
 pub canonical-evicted : (entries : List Entry) → AreCanonical entries → AreCanonical (map reset (filter stays entries))

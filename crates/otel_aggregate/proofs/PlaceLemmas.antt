@@ -7,7 +7,8 @@ use Rattle.otel_common.specs.Equality.{set_eq, set_eq-Decides}
 use Rattle.otel_model_stream.specs.Folds.{Fold}
 use Rattle.otel_model_stream.specs.Sets.{none_set, over_set}
 use Rattle.otel_model_stream.specs.Entries.{Entry, fresh, is_of, has, number_counted, placed, entry_for, on, at_entry}
-use Rattle.otel_aggregate.specs.Tallies.{index_of, with_entry_at, IsPlace, sets}
+use Rattle.otel_model_stream.specs.Lists.{changed_at}
+use Rattle.otel_aggregate.specs.Tallies.{index_of, IsPlace, sets}
 use Rattle.otel_aggregate.proofs.TallyLemmas.{set_eq-flip}
 
 pub set_eq-self : (s : List KeyValue) → set_eq s s ≡ true
@@ -59,21 +60,21 @@ others g x (r ∷ rs) e h =
     ap (λ b. b || has g rs) apart ∙ others g x rs e h.1
 
 -- a change at the place of the set is a change at the set
-pub with_entry-on : (g : List KeyValue) (f : Entry → Entry) (entries : List Entry) (i : ℕ) → IsDistinct set_eq (sets entries) → index_of g entries ≡ Some i → with_entry_at i f entries ≡ map (on g f) entries
+pub changed_at-on : (g : List KeyValue) (f : Entry → Entry) (entries : List Entry) (i : ℕ) → IsDistinct set_eq (sets entries) → index_of g entries ≡ Some i → changed_at i f entries ≡ map (on g f) entries
 unfolding IsDistinct
-with_entry-on g f [] i d e = refl
-with_entry-on g f (r ∷ rs) i d e = by (is_of g r) refl (index_of g rs) refl i e (λ j h. with_entry-on g f rs j d.1 h)
+changed_at-on g f [] i d e = refl
+changed_at-on g f (r ∷ rs) i d e = by (is_of g r) refl (index_of g rs) refl i e (λ j h. changed_at-on g f rs j d.1 h)
   where
-    by : (b : Bool) → is_of g r ≡ b → (o : Option ℕ) → index_of g rs ≡ o → (k : ℕ) → cond b (Some 0) (option_map suc o) ≡ Some k → ((j : ℕ) → index_of g rs ≡ Some j → with_entry_at j f rs ≡ map (on g f) rs)
-        → with_entry_at k f (r ∷ rs) ≡ cond b (f r) r ∷ map (on g f) rs
-    by true t o e k h ih = let z : 0 ≡ k = cc in ap (λ m. with_entry_at m f (r ∷ rs)) (sym z) ∙ ap (λ l. f r ∷ l) (sym (on-absent g f rs (others g r.set rs t d.0)))
+    by : (b : Bool) → is_of g r ≡ b → (o : Option ℕ) → index_of g rs ≡ o → (k : ℕ) → cond b (Some 0) (option_map suc o) ≡ Some k → ((j : ℕ) → index_of g rs ≡ Some j → changed_at j f rs ≡ map (on g f) rs)
+        → changed_at k f (r ∷ rs) ≡ cond b (f r) r ∷ map (on g f) rs
+    by true t o e k h ih = let z : 0 ≡ k = cc in ap (λ m. changed_at m f (r ∷ rs)) (sym z) ∙ ap (λ l. f r ∷ l) (sym (on-absent g f rs (others g r.set rs t d.0)))
     by false t None e k h ih = absurd (cc)
-    by false t (Some j) e k h ih = let z : suc j ≡ k = cc in ap (λ m. with_entry_at m f (r ∷ rs)) (sym z) ∙ ap (λ l. r ∷ l) (ih j e)
+    by false t (Some j) e k h ih = let z : suc j ≡ k = cc in ap (λ m. changed_at m f (r ∷ rs)) (sym z) ∙ ap (λ l. r ∷ l) (ih j e)
 
 -- a change that leaves `counted`
-pub count-with_entry_at : (f : Entry → Entry) → ((r : Entry) → (f r).counted ≡ r.counted) → (entries : List Entry) (i : ℕ) → number_counted (with_entry_at i f entries) ≡ number_counted entries
-count-with_entry_at f same [] i = refl
-count-with_entry_at f same (r ∷ rs) zero = by (f r).counted r.counted (same r)
+pub count-changed_at : (f : Entry → Entry) → ((r : Entry) → (f r).counted ≡ r.counted) → (entries : List Entry) (i : ℕ) → number_counted (changed_at i f entries) ≡ number_counted entries
+count-changed_at f same [] i = refl
+count-changed_at f same (r ∷ rs) zero = by (f r).counted r.counted (same r)
   where
     cs : List Entry
     cs = filter (λ (e : Entry). e.counted) rs
@@ -83,23 +84,23 @@ count-with_entry_at f same (r ∷ rs) zero = by (f r).counted r.counted (same r)
     by false false e = refl
     by true false e = absurd (true≢false e)
     by false true e = absurd (true≢false (sym e))
-count-with_entry_at f same (r ∷ rs) (suc i) = by r.counted (count-with_entry_at f same rs i)
+count-changed_at f same (r ∷ rs) (suc i) = by r.counted (count-changed_at f same rs i)
   where
     cs : List Entry
     cs = filter (λ (e : Entry). e.counted) rs
 
     ds : List Entry
-    ds = filter (λ (e : Entry). e.counted) (with_entry_at i f rs)
+    ds = filter (λ (e : Entry). e.counted) (changed_at i f rs)
 
     by : (b : Bool) → length ds ≡ length cs → length (cond b (r ∷ ds) ds) ≡ length (cond b (r ∷ cs) cs)
     by true e = ap suc e
     by false e = e
 
 -- a change that leaves the sets
-pub has-with_entry_at : (s : List KeyValue) (f : Entry → Entry) → ((r : Entry) → (f r).set ≡ r.set) → (entries : List Entry) (i : ℕ) → has s (with_entry_at i f entries) ≡ has s entries
-has-with_entry_at s f same [] i = refl
-has-with_entry_at s f same (r ∷ rs) zero = ap (λ x. set_eq x s || has s rs) (same r)
-has-with_entry_at s f same (r ∷ rs) (suc i) = ap (λ b. is_of s r || b) (has-with_entry_at s f same rs i)
+pub has-changed_at : (s : List KeyValue) (f : Entry → Entry) → ((r : Entry) → (f r).set ≡ r.set) → (entries : List Entry) (i : ℕ) → has s (changed_at i f entries) ≡ has s entries
+has-changed_at s f same [] i = refl
+has-changed_at s f same (r ∷ rs) zero = ap (λ x. set_eq x s || has s rs) (same r)
+has-changed_at s f same (r ∷ rs) (suc i) = ap (λ b. is_of s r || b) (has-changed_at s f same rs i)
 
 -- an entry more
 pub has-push : (s : List KeyValue) (entries : List Entry) (entry : Entry) → has s entries ≡ false → is_of s entry ≡ false → has s (entries ++ entry ∷ []) ≡ false
@@ -182,7 +183,7 @@ at_entry-none g f none entries is away e =
     λ i. record { none = sym (ap (λ b. cond b (f none) none) hit) i; entries = sym (on-absent g f entries gone) i }
 
 pub at_entry-some : (g : List KeyValue) (f : Entry → Entry) (none : Entry) (entries : List Entry) (i : ℕ) → none.set ≡ none_set → IsDistinct set_eq (sets entries) → IsPlace entries g (Some i)
-    → record { none = none; entries = with_entry_at i f entries } ≡ at_entry g f (record { none = none; entries = entries })
+    → record { none = none; entries = changed_at i f entries } ≡ at_entry g f (record { none = none; entries = entries })
 at_entry-some g f none entries i is d h =
     let miss : is_of g none ≡ false = ap (λ x. set_eq x g) is ∙ set_eq-flip none_set g ∙ h.0 in
-    λ j. record { none = sym (ap (λ b. cond b (f none) none) miss) j; entries = with_entry-on g f entries i d h.1 j }
+    λ j. record { none = sym (ap (λ b. cond b (f none) none) miss) j; entries = changed_at-on g f entries i d h.1 j }

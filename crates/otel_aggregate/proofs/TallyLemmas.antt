@@ -14,7 +14,8 @@ use Rattle.otel_model_stream.specs.Folds.{Fold}
 use Rattle.otel_model_stream.specs.Entries.{Entry, has, number_counted}
 use Rattle.otel_common.specs.declared.attributes.KeyValue.{KeyValue}
 use Rattle.otel_common.specs.Equality.{set_eq, set_eq-Decides}
-use Rattle.otel_aggregate.specs.Tallies.{entry_of, entries_of, with_entry_at, index_of, sets}
+use Rattle.otel_model_stream.specs.Lists.{changed_at}
+use Rattle.otel_aggregate.specs.Tallies.{entry_of, entries_of, index_of, sets}
 use Rattle.otel_aggregate.specs.declared.table.Tally.{Tally}
 
 -- the place of the first that passes, by cases on the list
@@ -49,7 +50,7 @@ key_eq x y = set_eq x.items y.items
 module _ {A : Type 0} (meaning : A → Fold) where
   -- a write by index
   pub entries-set : (es : List (Key × Tally A)) (i : ℕ) (e : Key × Tally A) (new : Tally A) (f : Entry → Entry) → slice_get es i ≡ Some e → entry_of meaning (e.0, new) ≡ f (entry_of meaning e)
-      → entries_of meaning (set_value_at es i new) ≡ with_entry_at i f (entries_of meaning es)
+      → entries_of meaning (set_value_at es i new) ≡ changed_at i f (entries_of meaning es)
   entries-set [] i e new f at same = refl
   entries-set (x ∷ xs) zero e new f at same =
       let first : x ≡ e = cc in

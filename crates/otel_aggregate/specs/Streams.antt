@@ -1,9 +1,7 @@
 -- One stream of one reader: its map of sets, and what a collection does to it (Metrics SDK, "MetricReader").
-use Rattle.std.specs.Prelude.{ℕ, Bool, true, false, not, cond, List, Option, None, Some}
+use Rattle.std.specs.Prelude.{ℕ, Bool, not, cond, List, Option, None, Some}
 use Rattle.otel_common.specs.Equality.{set_eq}
 use Rattle.otel_common.specs.declared.attributes.KeyValue.{KeyValue}
-use Rattle.otel_common.specs.declared.metrics.Temporality.{Temporality}
-use Rattle.otel_common.specs.declared.metrics.Temporality.TheVariants.{Cumulative, Delta, LowMemory}
 use Rattle.otel_model_stream.specs.Sets.{AttributeSet, AllowList, none_set, set_of}
 use Rattle.otel_model_stream.specs.Folds.{Aggregate, Amount, empty_of, sample_of}
 use Rattle.otel_model_stream.specs.Entries.{Point, points}
@@ -17,12 +15,6 @@ pub record StreamState : Type 0 where
   pub allow : AllowList
   pub resets : Bool
   pub start : ℕ
-
--- a stream resets at each collection if its reader's answer is delta, and not for any other answer
-abbrev pub resets_of : Temporality → Bool
-resets_of Cumulative = false
-resets_of Delta = true
-resets_of LowMemory = false
 
 -- a stream without records, of this limit, made at this moment
 abbrev pub new_stream : Aggregate → Bool → AllowList → Bool → ℕ → ℕ → StreamState

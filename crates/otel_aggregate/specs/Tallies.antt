@@ -43,12 +43,6 @@ module _ {A : Type 0} (meaning : A → Fold) where
   abbrev pub state_of : ℕ → Fold → Tally A → List (Vec KeyValue × Tally A) → MapState
   state_of limit empty none es = record { limit = limit; empty = empty; table = record { none = tally_entry none_set none; entries = entries_of es } }
 
--- the entries with f at the i-th
-abbrev pub with_entry_at : ℕ → (Entry → Entry) → List Entry → List Entry
-with_entry_at i f [] = []
-with_entry_at zero f (entry ∷ entries) = f entry ∷ entries
-with_entry_at (suc i) f (entry ∷ entries) = entry ∷ with_entry_at i f entries
-
 -- where the entry of a set stands among the entries
 abbrev pub index_of : AttributeSet → List Entry → Option ℕ
 index_of s [] = None

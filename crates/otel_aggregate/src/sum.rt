@@ -1,11 +1,12 @@
 //! Sums.
 
 ghost use Rattle.std.specs.Prelude.{◌≡◌, cond, is_some, None, Some, IsTrue, IsSome, OnOk, OnErr, IfOk, IsOk, IsOkUnless};
+ghost use Rattle.otel_common.specs.Temporalities.{resets};
 ghost use Rattle.otel_model_stream.specs.Sets.{AttributeSet, set_of};
 ghost use Rattle.otel_model_stream.specs.Folds.{Sum as SumAggregate, wrapped};
 ghost use Rattle.otel_model_stream.specs.Totals.{points_total};
 ghost use Rattle.otel_aggregate.specs.Data.{sum_data};
-ghost use Rattle.otel_aggregate.specs.Streams.{new_stream, resets_of, is_known, recorded_set, recorded_attributes, collected, points_now};
+ghost use Rattle.otel_aggregate.specs.Streams.{new_stream, is_known, recorded_set, recorded_attributes, collected, points_now};
 
 use crate::aggregator::Increment;
 use crate::number::Number;
@@ -22,7 +23,7 @@ use std::marker::Model;
 
 /// Whether a stream resets at each collection, by its reader's answer.
 fn is_delta(temporality: Temporality) -> bool
-    ensures { result ≡ resets_of temporality }
+    ensures { result ≡ resets temporality }
 {
     match temporality {
         Temporality::Delta => true,
@@ -72,7 +73,7 @@ impl<T: Number + Drop> Sum<T> {
         now: u64,
         is_monotonic: bool,
     ) -> Result<Self, Fault>
-        ensures made { IfOk result (λ made. made.state ≡ new_stream SumAggregate is_monotonic allow (resets_of temporality) limit now) }
+        ensures made { IfOk result (λ made. made.state ≡ new_stream SumAggregate is_monotonic allow (resets temporality) limit now) }
         ensures unprepared { IfOk result (λ made. made.pending ≡ None) }
         ensures only_memory { IsOkUnless result Fault.OutOfMemory }
     {
@@ -177,11 +178,14 @@ impl<T: Number + Drop> Sum<T> {
         }
     }
 
-    /// A collection at a moment, in nanoseconds since 1970: `points`, and then `finish`.
+    /// A collection at a moment, in nanoseconds since 1970: `points`, and then `finish`. Where it is
+    /// refused, a record that was prepared stays prepared.
     pub fn collect(&mut self, alloc: Global, now: u64) -> Result<SumData<T>, Fault>
         ensures data { IfOk result (λ given. given ≡ sum_data T.of_bits now self.old.state) }
         ensures ok { OnOk result (self.new.state ≡ collected now self.old.state) }
         ensures err { OnErr result (self.new.state ≡ self.old.state) }
+        ensures pending { OnOk result (self.new.pending ≡ cond self.old.state.resets None self.old.pending) }
+        ensures refused { OnErr result (self.new.pending ≡ self.old.pending) }
         ensures only_memory { IsOkUnless result Fault.OutOfMemory }
     {
         let given = self.points(alloc, now)?;

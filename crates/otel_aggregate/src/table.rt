@@ -8,7 +8,8 @@ ghost use Rattle.otel_model_stream.specs.Folds.{wrapped};
 ghost use Rattle.otel_model_stream.specs.Sets.{AttributeSet, none_set, over_set};
 ghost use Rattle.otel_model_stream.specs.Totals.{points_total};
 ghost use Rattle.otel_model_stream.specs.Entries.{fresh, has, write, shown, reset, stays, number_counted};
-ghost use Rattle.otel_aggregate.specs.Tallies.{entries_of, entry_of, tally_entry, copies, with_entry_at, index_of, sets};
+ghost use Rattle.otel_model_stream.specs.Lists.{changed_at};
+ghost use Rattle.otel_aggregate.specs.Tallies.{entries_of, entry_of, tally_entry, copies, index_of, sets};
 
 use crate::aggregator::Aggregator;
 use crate::sets::{copy_set, overflow_set};
@@ -47,7 +48,7 @@ pub fn touch<A: Aggregator>(
     value: A::PreComputedValue,
 )
     requires { at < index_map_len tallies.old }
-    ensures entries { entries_of A.meaning tallies.new.entries ≡ with_entry_at at (write (A.sample value)) (entries_of A.meaning tallies.old.entries) }
+    ensures entries { entries_of A.meaning tallies.new.entries ≡ changed_at at (write (A.sample value)) (entries_of A.meaning tallies.old.entries) }
     ensures room { spare tallies.new ≡ spare tallies.old }
     ensures unique { IsDistinct set_eq (sets (entries_of A.meaning tallies.old.entries)) }
 {

@@ -267,11 +267,14 @@ impl<A: Aggregator> ValueMap<A> {
     }
 
     /// The points of a collection that resets: of what was updated since the last one. Then the map
-    /// forgets all records, and evicts the entries that had none.
+    /// forgets all records, evicts the entries that had none, and gives up a record that was prepared.
+    /// Where it is refused, all stays as it was.
     pub fn collect_and_reset(&mut self, alloc: Global) -> Result<Vec<(Items<KeyValue>, A)>, Fault>
         ensures points { IfOk result (λ given. copies A.meaning given.items ≡ points false self.old.state.table) }
         ensures ok { OnOk result (self.new.state ≡ evicted_map self.old.state) }
         ensures err { OnErr result (self.new.state ≡ self.old.state) }
+        ensures spent { OnOk result (self.new.pending ≡ None) }
+        ensures refused { OnErr result (self.new.pending ≡ self.old.pending) }
         ensures only_memory { IsOkUnless result Fault.OutOfMemory }
     {
         let points = self.points(alloc, false)?;

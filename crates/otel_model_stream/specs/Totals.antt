@@ -40,6 +40,12 @@ weight (Total n) = n
 weight (Last n) = 0
 weight (Spreads s) = s.count
 
+-- the value of a sum or of a last value
+abbrev pub value_of : Fold → ℕ
+value_of (Total n) = n
+value_of (Last n) = n
+value_of (Spreads s) = 0
+
 -- the total of these points
 abbrev pub points_total : List Point → ℕ
 points_total ps = sum_by (λ (q : Point). weight q.1) ps

@@ -8,8 +8,8 @@ use Rattle.otel_model_stream.specs.Entries.{Entry, Table, entry_for, write, reco
 use Rattle.otel_model_stream.specs.Maps.{MapState, with_place}
 use Rattle.otel_aggregate.specs.Tallies.{Held, entries_of, state_of, pending_set, IsPlace, IsSound, AreCanonical}
 use Rattle.otel_aggregate.specs.declared.table.Pending.TheVariants.{Nothing}
-use Rattle.otel_aggregate.proofs.PlaceLemmas.{index_of-within, count-with_entry_at, has-with_entry_at, at_entry-none, at_entry-some}
-use Rattle.otel_aggregate.proofs.PendingLemmas.{nothing-left, canonical-with_entry_at}
+use Rattle.otel_aggregate.proofs.PlaceLemmas.{index_of-within, count-changed_at, has-changed_at, at_entry-none, at_entry-some}
+use Rattle.otel_aggregate.proofs.PendingLemmas.{nothing-left, canonical-changed_at}
 use Rattle.otel_aggregate.proofs.value_map.ValueMap.measure_ready.Goals as goal
 
 pub touch-requires : goal.touch-requires
@@ -30,12 +30,12 @@ invariant_of-self-in-Some g c =
     let f = write (g.A.Aggregator.sample c.args.value) in
     let spent : pending_set entries c.self.inside.pending ≡ None = ap (λ (h : Held). h.pending) c.self.view_is ∙ c.in-Some.ensures.spent in
     let nothing : c.self.inside.pending ≡ Nothing = nothing-left entries _ c.self.inside.pending c.self.invariant.6 spent in (
-      c.self.invariant.0 ∙ sym (ap number_counted c.touch.ensures.entries ∙ count-with_entry_at f (λ r. refl) entries c.in-Some.at),
+      c.self.invariant.0 ∙ sym (ap number_counted c.touch.ensures.entries ∙ count-changed_at f (λ r. refl) entries c.in-Some.at),
       c.self.invariant.1,
       c.self.invariant.2,
       c.self.invariant.3,
-      ap (has none_set) c.touch.ensures.entries ∙ has-with_entry_at none_set f (λ r. refl) entries c.in-Some.at ∙ c.self.invariant.4,
-      subst AreCanonical (sym c.touch.ensures.entries) (canonical-with_entry_at f (λ r. refl) entries c.in-Some.at c.self.invariant.5),
+      ap (has none_set) c.touch.ensures.entries ∙ has-changed_at none_set f (λ r. refl) entries c.in-Some.at ∙ c.self.invariant.4,
+      subst AreCanonical (sym c.touch.ensures.entries) (canonical-changed_at f (λ r. refl) entries c.in-Some.at c.self.invariant.5),
       subst (IsSound _ _) (sym nothing) tt,
     )
 
