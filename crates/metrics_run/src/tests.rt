@@ -8,6 +8,7 @@ use std::test::Fail;
 mod failing;
 mod lines;
 mod replies;
+mod words;
 
 /// What the program wrote, and the status that it answered.
 #[derive(Drop)]
