@@ -4,7 +4,10 @@ pub use crate::attributes::{Array, KeyValue, Value};
 pub use crate::canonical::{canonical, canonical_laws};
 pub use crate::faults::Fault;
 pub use crate::keys::Key;
-pub use crate::laws::{copied_attributes, copied_scope, equal_attributes, equal_scopes};
+pub use crate::laws::{
+    copied_attributes, copied_scope, equal_attributes, equal_scopes, resource_laws,
+    temporality_laws,
+};
 pub use crate::lists::Items;
 pub use crate::scopes::{InstrumentationScope, InstrumentationScopeBuilder};
 pub use crate::strings::StringValue;

@@ -34,6 +34,14 @@ pub fn equal_points()
     ensures histogram { (x y : HistogramDataPoint ℕ) → Decides (⟦<HistogramDataPoint<u64> as PartialEq>⟧.eq x y) (x ≡ y) }
 {}
 
+/// So of signed numbers.
+pub fn equal_signed_points()
+    ensures exemplar { (x y : Exemplar ℤ) → Decides (⟦<Exemplar<i64> as PartialEq>⟧.eq x y) (x ≡ y) }
+    ensures gauge { (x y : GaugeDataPoint ℤ) → Decides (⟦<GaugeDataPoint<i64> as PartialEq>⟧.eq x y) (x ≡ y) }
+    ensures point { (x y : SumDataPoint ℤ) → Decides (⟦<SumDataPoint<i64> as PartialEq>⟧.eq x y) (x ≡ y) }
+    ensures histogram { (x y : HistogramDataPoint ℤ) → Decides (⟦<HistogramDataPoint<i64> as PartialEq>⟧.eq x y) (x ≡ y) }
+{}
+
 /// What a copy of a point or of an exemplar gives equals its source.
 pub fn copied_points()
     ensures exemplar { (x y : Exemplar ℕ) → ⟦<Exemplar<u64> as Clone>⟧.is_clone x y → y ≡ x }

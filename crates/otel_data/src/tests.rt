@@ -2,49 +2,165 @@
 
 use crate::aggregated::{AggregatedMetrics, MetricData};
 use crate::collections::{Metric, ResourceMetrics, ScopeMetrics};
-use crate::copies::{copied_collection, equal_points};
-use crate::points::{Exemplar, SumDataPoint};
+use crate::copies::{copied_collection, equal_points, equal_signed_points};
+use crate::gauges::Gauge;
+use crate::histograms::Histogram;
+use crate::points::{Exemplar, GaugeDataPoint, HistogramDataPoint, SumDataPoint};
 use crate::sums::Sum;
 use otel_common::attributes::{KeyValue, Value};
 use otel_common::keys::Key;
 use otel_common::lists::Items;
 use otel_common::metrics::Temporality;
+use otel_common::resource::Resource;
 use otel_common::scopes::InstrumentationScope;
 use otel_common::strings::StringValue;
 use std::alloc::Global;
 use std::test::Fail;
 
-fn point(alloc: Global, value: u64) -> Result<SumDataPoint<u64>, Fail> {
+fn attributes(alloc: Global) -> Result<Items<KeyValue>, Fail> {
     let attribute = KeyValue::new(Key::new(alloc, "key")?, Value::Bool(true));
-    let attributes = Items::from(vec![in alloc; attribute]?);
-    let exemplars = Items::from(vec![in alloc; Exemplar { value: 3 }]?);
-    Ok(SumDataPoint::new(attributes, exemplars, value))
+    Ok(Items::from(vec![in alloc; attribute]?))
 }
 
-fn sum(alloc: Global) -> Result<Sum<u64>, Fail> {
-    let points = vec![in alloc; point(alloc, 7)?]?;
+fn exemplars<T: Drop>(alloc: Global, value: T) -> Result<Items<Exemplar<T>>, Fail> {
+    Ok(Items::from(vec![in alloc; Exemplar { value }]?))
+}
+
+fn sum_point<T: Copy + Drop>(alloc: Global, value: T) -> Result<SumDataPoint<T>, Fail> {
+    Ok(SumDataPoint::new(attributes(alloc)?, exemplars(alloc, value)?, value))
+}
+
+fn gauge_point<T: Copy + Drop>(alloc: Global, value: T) -> Result<GaugeDataPoint<T>, Fail> {
+    Ok(GaugeDataPoint::new(attributes(alloc)?, exemplars(alloc, value)?, value))
+}
+
+fn histogram_point<T: Copy + Drop>(
+    alloc: Global,
+    least: T,
+    greatest: T,
+    sum: T,
+) -> Result<HistogramDataPoint<T>, Fail> {
+    let bounds = Items::from(vec![in alloc; -5, 10]?);
+    let counts = Items::from(vec![in alloc; 1, 0, 2]?);
+    Ok(HistogramDataPoint::new(
+        attributes(alloc)?,
+        exemplars(alloc, least)?,
+        bounds,
+        counts,
+        3,
+        Some(least),
+        Some(greatest),
+        sum,
+    ))
+}
+
+fn sum<T: Copy + Drop>(alloc: Global, value: T) -> Result<Sum<T>, Fail> {
+    let points = vec![in alloc; sum_point(alloc, value)?]?;
     Ok(Sum::new(Items::from(points), 100, 200, Temporality::Delta, true))
 }
 
+fn gauge<T: Copy + Drop>(alloc: Global, value: T) -> Result<Gauge<T>, Fail> {
+    let points = vec![in alloc; gauge_point(alloc, value)?]?;
+    Ok(Gauge::new(Items::from(points), 300, 400))
+}
+
+fn histogram<T: Copy + Drop>(alloc: Global, value: T) -> Result<Histogram<T>, Fail> {
+    let points = vec![in alloc; histogram_point(alloc, value, value, value)?]?;
+    Ok(Histogram::new(Items::from(points), 500, 600, Temporality::LowMemory))
+}
+
+fn metric(alloc: Global, name: &str, data: AggregatedMetrics) -> Result<Metric, Fail> {
+    let name = StringValue::new(alloc, name)?;
+    let description = StringValue::new(alloc, "all of them")?;
+    let unit = StringValue::new(alloc, "1")?;
+    Ok(Metric::new(name, description, unit, data))
+}
+
+// The points of a metric in one line: of which aggregation and number type, from when to when, and what of.
+fn shown(alloc: Global, data: &AggregatedMetrics) -> Result<String, Fail> {
+    let text = match data {
+        AggregatedMetrics::U64(MetricData::Gauge(gauge)) => {
+            let start = gauge.start_time().unwrap_or(0);
+            format!(in alloc; "u64 gauge {start} {} {}", gauge.time(), gauge.data_points().count())?
+        }
+        AggregatedMetrics::U64(MetricData::Sum(sum)) => {
+            format!(in alloc; "u64 sum {} {} {}", sum.start_time(), sum.time(), sum.data_points().count())?
+        }
+        AggregatedMetrics::U64(MetricData::Histogram(histogram)) => {
+            format!(in alloc; "u64 histogram {} {} {}", histogram.start_time(), histogram.time(), histogram.data_points().count())?
+        }
+        AggregatedMetrics::I64(MetricData::Gauge(gauge)) => {
+            let start = gauge.start_time().unwrap_or(0);
+            format!(in alloc; "i64 gauge {start} {} {}", gauge.time(), gauge.data_points().count())?
+        }
+        AggregatedMetrics::I64(MetricData::Sum(sum)) => {
+            format!(in alloc; "i64 sum {} {} {}", sum.start_time(), sum.time(), sum.data_points().count())?
+        }
+        AggregatedMetrics::I64(MetricData::Histogram(histogram)) => {
+            format!(in alloc; "i64 histogram {} {} {}", histogram.start_time(), histogram.time(), histogram.data_points().count())?
+        }
+    };
+    Ok(text)
+}
+
 #[test]
-fn points_answer_their_parts(rt: HostRuntime) -> Result<(), Fail> {
-    let one = point(rt.alloc(), 7)?;
+fn sum_points_answer_their_parts(rt: HostRuntime) -> Result<(), Fail> {
+    let one = sum_point(rt.alloc(), 7_u64)?;
     assert_eq!(rt; one.value(), 7);
     assert_eq!(rt; one.attributes().count(), 1);
     assert_eq!(rt; one.exemplars().count(), 1);
     for exemplar in one.exemplars() {
-        assert_eq!(rt; exemplar.value, 3);
+        assert_eq!(rt; exemplar.value, 7);
     }
     equal_points();
-    assert!(rt; one == point(rt.alloc(), 7)?);
-    assert!(rt; one != point(rt.alloc(), 8)?);
+    assert!(rt; one == sum_point(rt.alloc(), 7)?);
+    assert!(rt; one != sum_point(rt.alloc(), 8)?);
     assert!(rt; one == one.clone()?);
     Ok(())
 }
 
 #[test]
+fn gauge_points_answer_their_parts(rt: HostRuntime) -> Result<(), Fail> {
+    let one = gauge_point(rt.alloc(), -7_i64)?;
+    assert_eq!(rt; one.value(), -7);
+    assert_eq!(rt; one.attributes().count(), 1);
+    assert_eq!(rt; one.exemplars().count(), 1);
+    equal_signed_points();
+    assert!(rt; one == gauge_point(rt.alloc(), -7)?);
+    assert!(rt; one != gauge_point(rt.alloc(), 7)?);
+    assert!(rt; one == one.clone()?);
+    let other = gauge_point(rt.alloc(), 7_u64)?;
+    equal_points();
+    assert!(rt; other == gauge_point(rt.alloc(), 7)?);
+    assert!(rt; other != gauge_point(rt.alloc(), 8)?);
+    Ok(())
+}
+
+#[test]
+fn histogram_points_answer_their_parts(rt: HostRuntime) -> Result<(), Fail> {
+    let one = histogram_point(rt.alloc(), 2_u64, 30, 44)?;
+    assert_eq!(rt; one.attributes().count(), 1);
+    assert_eq!(rt; one.exemplars().count(), 1);
+    assert_eq!(rt; one.bounds().count(), 2);
+    assert_eq!(rt; one.bucket_counts().count(), 3);
+    assert_eq!(rt; one.count(), 3);
+    assert_eq!(rt; one.min(), Some(2));
+    assert_eq!(rt; one.max(), Some(30));
+    assert_eq!(rt; one.sum(), 44);
+    equal_points();
+    assert!(rt; one == histogram_point(rt.alloc(), 2, 30, 44)?);
+    assert!(rt; one != histogram_point(rt.alloc(), 2, 31, 44)?);
+    assert!(rt; one == one.clone()?);
+    let other = histogram_point(rt.alloc(), -2_i64, 30, 44)?;
+    equal_signed_points();
+    assert!(rt; other == histogram_point(rt.alloc(), -2, 30, 44)?);
+    assert!(rt; other != histogram_point(rt.alloc(), 2, 30, 44)?);
+    Ok(())
+}
+
+#[test]
 fn sums_answer_their_parts(rt: HostRuntime) -> Result<(), Fail> {
-    let one = sum(rt.alloc())?;
+    let one = sum(rt.alloc(), 7_u64)?;
     assert_eq!(rt; one.data_points().count(), 1);
     assert_eq!(rt; one.start_time(), 100);
     assert_eq!(rt; one.time(), 200);
@@ -54,36 +170,68 @@ fn sums_answer_their_parts(rt: HostRuntime) -> Result<(), Fail> {
 }
 
 #[test]
+fn gauges_answer_their_parts(rt: HostRuntime) -> Result<(), Fail> {
+    let one = gauge(rt.alloc(), -7_i64)?;
+    assert_eq!(rt; one.data_points().count(), 1);
+    assert_eq!(rt; one.start_time(), Some(300));
+    assert_eq!(rt; one.time(), 400);
+    Ok(())
+}
+
+#[test]
+fn histograms_answer_their_parts(rt: HostRuntime) -> Result<(), Fail> {
+    let one = histogram(rt.alloc(), 7_u64)?;
+    assert_eq!(rt; one.data_points().count(), 1);
+    assert_eq!(rt; one.start_time(), 500);
+    assert_eq!(rt; one.time(), 600);
+    assert_eq!(rt; one.temporality(), Temporality::LowMemory);
+    Ok(())
+}
+
+#[test]
 fn collections_answer_their_parts(rt: HostRuntime) -> Result<(), Fail> {
     let alloc = rt.alloc();
-    let data = AggregatedMetrics::from(MetricData::from(sum(alloc)?));
-    let name = StringValue::new(alloc, "requests")?;
-    let description = StringValue::new(alloc, "all of them")?;
-    let unit = StringValue::new(alloc, "1")?;
-    let metrics = vec![in alloc; Metric::new(name, description, unit, data)]?;
+    let mut metrics = Vec::new(alloc);
+    metrics.push(metric(alloc, "a", MetricData::from(gauge(alloc, 1_u64)?).into())?)?;
+    metrics.push(metric(alloc, "b", MetricData::from(sum(alloc, 1_u64)?).into())?)?;
+    metrics.push(metric(alloc, "c", MetricData::from(histogram(alloc, 1_u64)?).into())?)?;
+    metrics.push(metric(alloc, "d", MetricData::from(gauge(alloc, -1_i64)?).into())?)?;
+    metrics.push(metric(alloc, "e", MetricData::from(sum(alloc, -1_i64)?).into())?)?;
+    metrics.push(metric(alloc, "f", MetricData::from(histogram(alloc, -1_i64)?).into())?)?;
     let scope = ScopeMetrics::new(InstrumentationScope::default(alloc), Items::from(metrics));
     let scopes = vec![in alloc; scope]?;
-    let all = ResourceMetrics::new(Items::from(scopes)).clone()?;
+    let resource = Resource::builder_empty(alloc).build();
+    let all = ResourceMetrics::new(resource, Items::from(scopes)).clone()?;
     copied_collection();
+    assert!(rt; all.resource().is_empty());
     assert_eq!(rt; all.scope_metrics().count(), 1);
+    let mut text = String::new(alloc);
     for scope in all.scope_metrics() {
         assert_eq!(rt; scope.scope().name(), "");
-        assert_eq!(rt; scope.metrics().count(), 1);
+        assert_eq!(rt; scope.metrics().count(), 6);
         for metric in scope.metrics() {
-            assert_eq!(rt; metric.name(), "requests");
             assert_eq!(rt; metric.description(), "all of them");
             assert_eq!(rt; metric.unit(), "1");
-            let AggregatedMetrics::U64(MetricData::Sum(sum)) = metric.data();
-            assert_eq!(rt; sum.time(), 200);
+            text.push_str(metric.name())?;
+            text.push_str(" ")?;
+            text.push_str(shown(alloc, metric.data())?.as_str())?;
+            text.push_str(", ")?;
         }
     }
+    let unsigned = "a u64 gauge 300 400 1, b u64 sum 100 200 1, c u64 histogram 500 600 1, ";
+    let signed = "d i64 gauge 300 400 1, e i64 sum 100 200 1, f i64 histogram 500 600 1, ";
+    assert_eq!(rt; text, format!(in alloc; "{unsigned}{signed}")?);
     Ok(())
 }
 
 #[test]
 fn defaults_are_empty(rt: HostRuntime) -> Result<(), Fail> {
     let alloc = rt.alloc();
-    assert_eq!(rt; ResourceMetrics::default(alloc).scope_metrics().count(), 0);
+    let all = ResourceMetrics::default(alloc);
+    assert_eq!(rt; all.scope_metrics().count(), 0);
+    assert!(rt; all.resource().is_empty());
+    assert_eq!(rt; all.resource().len(), 0);
+    assert_eq!(rt; all.resource().schema_url(), None);
     assert_eq!(rt; ScopeMetrics::default(alloc).metrics().count(), 0);
     assert_eq!(rt; ScopeMetrics::default(alloc).scope().name(), "");
     Ok(())
