@@ -8,6 +8,7 @@ ghost use Rattle.std.specs.Bool.{Decides};
 ghost use Rattle.otel_common.specs.declared.attributes.Array.{Array};
 ghost use Rattle.otel_common.specs.declared.attributes.KeyValue.{KeyValue};
 ghost use Rattle.otel_common.specs.declared.attributes.Value.{Value};
+ghost use Rattle.otel_common.specs.declared.metrics.Aggregation.{Aggregation};
 ghost use Rattle.otel_common.specs.declared.metrics.Temporality.{Temporality};
 ghost use Rattle.otel_common.specs.declared.metrics.Temporality.TheVariants.{Cumulative};
 ghost use Rattle.otel_common.specs.declared.resource.Resource.{Resource};
@@ -15,7 +16,7 @@ ghost use Rattle.otel_common.specs.declared.scopes.InstrumentationScope.{Instrum
 
 use crate::attributes::{Array, KeyValue, Value};
 use crate::keys::Key;
-use crate::metrics::Temporality;
+use crate::metrics::{Aggregation, Temporality};
 use crate::resource::Resource;
 use crate::scopes::InstrumentationScope;
 
@@ -59,4 +60,9 @@ pub fn resource_laws()
 pub fn temporality_laws()
     ensures equal { (x y : Temporality) → Decides (⟦<Temporality as PartialEq>⟧.eq x y) (x ≡ y) }
     ensures default { (x : Temporality) → ⟦<Temporality as Default>⟧.is_default x → x ≡ Cumulative }
+{}
+
+/// What a copy of an aggregation gives equals its source.
+pub fn copied_aggregation()
+    ensures { (x y : Aggregation) → ⟦<Aggregation as Clone>⟧.is_clone x y → y ≡ x }
 {}

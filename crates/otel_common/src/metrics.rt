@@ -3,6 +3,7 @@
 ghost use Rattle.std.specs.Prelude.{◌≡◌};
 ghost use Rattle.otel_common.specs.Temporalities.{temporality_named};
 
+use crate::lists::Items;
 use std::str::FromStr;
 use thiserror::Error;
 
@@ -36,6 +37,26 @@ impl FromStr for Temporality {
         }
         Err(())
     }
+}
+
+/// What a stream keeps of its records (Metrics SDK, "Aggregation").
+#[derive(Clone, Debug, Drop)]
+pub enum Aggregation {
+    /// Nothing: there is no stream.
+    Drop,
+    /// What the reader wants for the kind of instrument, or else the kind's own.
+    Default,
+    /// Their sum.
+    Sum,
+    /// The last of them.
+    LastValue,
+    /// How they spread: their number, their sum, and how many fell into each bucket.
+    ExplicitBucketHistogram {
+        /// The bounds of the buckets, which rise.
+        boundaries: Items<i64>,
+        /// Whether the least and the greatest value are kept.
+        record_min_max: bool,
+    },
 }
 
 /// Why a configuration is refused.

@@ -2,6 +2,7 @@
 #![tactic(auto)]
 
 pub mod boxed;
+pub mod demand;
 pub mod instrument;
 pub mod manual_reader;
 pub mod reader;

@@ -1,0 +1,73 @@
+//! What a build demands of a reader: streams, each named by what makes it the same stream.
+
+ghost use Rattle.std.specs.Prelude.{◌≡◌};
+
+use crate::instrument::InstrumentKind;
+use otel_common::keys::Key;
+use otel_common::laws::{copied_aggregation, copied_attributes, copied_scope};
+use otel_common::lists::Items;
+use otel_common::metrics::Aggregation;
+use otel_common::scopes::InstrumentationScope;
+use otel_common::strings::StringValue;
+use std::alloc::AllocError;
+
+/// What makes two demands name one stream of a reader (Metrics SDK, "Duplicate instrument registration").
+#[derive(Debug, Drop, PartialEq, Eq, Hash)]
+pub struct Identity {
+    /// The scope of the meter.
+    pub scope: InstrumentationScope,
+    /// The kind of the instrument.
+    pub kind: InstrumentKind,
+    /// Whether its values are of type `i64`; else they are of type `u64`.
+    pub signed: bool,
+    pub description: StringValue,
+    pub unit: StringValue,
+    /// The name, with its ASCII letters lowered.
+    pub name: StringValue,
+}
+
+/// A stream that is demanded of a reader (Metrics SDK, "Stream configuration"). The first demand of an identity decides
+/// the rest.
+#[derive(Debug, Drop)]
+pub struct Demand {
+    pub identity: Identity,
+    /// The name, as collections show it.
+    pub spelling: StringValue,
+    pub aggregation: Aggregation,
+    /// The keys that are kept of attributes; all of them where there is no list.
+    pub allow: Option<Items<Key>>,
+    /// How many sets of attributes have points of their own.
+    pub limit: usize,
+}
+
+impl Clone for Identity {
+    ghost is_clone = { λ s t. t ≡ s };
+
+    fn clone(&self) -> Result<Identity, AllocError> {
+        copied_scope();
+        Ok(Identity {
+            scope: self.scope.clone()?,
+            kind: self.kind,
+            signed: self.signed,
+            description: self.description.clone()?,
+            unit: self.unit.clone()?,
+            name: self.name.clone()?,
+        })
+    }
+}
+
+impl Clone for Demand {
+    ghost is_clone = { λ s t. t ≡ s };
+
+    fn clone(&self) -> Result<Demand, AllocError> {
+        copied_aggregation();
+        copied_attributes();
+        Ok(Demand {
+            identity: self.identity.clone()?,
+            spelling: self.spelling.clone()?,
+            aggregation: self.aggregation.clone()?,
+            allow: self.allow.clone()?,
+            limit: self.limit,
+        })
+    }
+}
