@@ -8,33 +8,21 @@ pub use Rattle.otel_common.specs.Temporalities.{resets}
 pub use Rattle.otel_common.specs.declared.metrics.Temporality.{Temporality}
 pub use Rattle.otel_common.specs.declared.metrics.Temporality.TheVariants.{Cumulative, Delta, LowMemory}
 use Rattle.otel_common.specs.declared.scopes.InstrumentationScope.{InstrumentationScope}
+pub use Rattle.otel_common.specs.declared.metrics.Aggregation.{Aggregation}
+pub use Rattle.otel_common.specs.declared.metrics.Aggregation.TheVariants.{Drop, Default, Sum, LastValue, ExplicitBucketHistogram}
 pub use Rattle.otel_stream.specs.Preferences.{temporality_preference}
+pub use Rattle.otel_stream.specs.declared.demand.Demand.{Demand}
+pub use Rattle.otel_stream.specs.declared.demand.Identity.{Identity}
 use Rattle.otel_model_stream.specs.Sets.{AllowList}
 use Rattle.otel_model.specs.Checks.{is_good_name, optional_unit_fault, rises}
 use Rattle.otel_model.specs.Calls.{Text, lowered, or_else, InstrumentKind, Counter, UpDownCounter, Histogram, ObservableCounter, ObservableUpDownCounter, Gauge, ObservableGauge, kind_number, kind_eq, About}
 
 -- ======== identities ========
--- what makes a stream of a reader the same stream
-pub record Identity : Type 0 where
-  pub scope : InstrumentationScope
-  pub kind : InstrumentKind
-  pub signed : Bool
-  pub description : Text
-  pub unit : Text
-  pub name : Text
-
 -- whether two identities are the same
 abbrev pub identity_eq : Identity → Identity → Bool
 identity_eq a b = scope_eq a.scope b.scope && (kind_eq a.kind b.kind && (beq a.signed b.signed && (bytes_eq a.description b.description && (bytes_eq a.unit b.unit && bytes_eq a.name b.name))))
 
 -- ======== aggregations ========
-pub data Aggregation : Type 0 where
-  Drop : Aggregation
-  Default : Aggregation
-  Sum : Aggregation
-  LastValue : Aggregation
-  ExplicitBucketHistogram : (boundaries : List ℤ) (record_min_max : Bool) → Aggregation
-
 -- whether nothing is kept
 abbrev pub is_drop : Aggregation → Bool
 is_drop Drop = true
@@ -134,14 +122,6 @@ abbrev pub answer_for : ReaderAnswers → InstrumentKind → Answer
 answer_for answers kind = or_else (slice_get answers (kind_number kind)) no_answer
 
 -- ======== demands ========
--- a stream that is demanded of a reader
-pub record Demand : Type 0 where
-  pub identity : Identity
-  pub spelling : Text
-  pub aggregation : Aggregation
-  pub allow : AllowList
-  pub limit : ℕ
-
 -- the default of a reader: its answer where that can be used, else the kind's
 abbrev pub default_from : InstrumentKind → Option Aggregation → Aggregation
 default_from kind None = kind_default kind
