@@ -1,6 +1,7 @@
 //! Kinds of instruments, and readers.
 #![tactic(auto)]
 
+pub mod answers;
 pub mod boxed;
 pub mod demand;
 pub mod instrument;

@@ -1,0 +1,50 @@
+-- What a reader answers for each kind of instrument (Metrics SDK, "MetricReader").
+use Rattle.std.specs.Prelude.{ℕ, nat_eq, Bool, List, [], ◌∷◌, map, Option, Some, None, slice_get}
+use Rattle.otel_common.specs.declared.metrics.Temporality.{Temporality}
+use Rattle.otel_common.specs.declared.metrics.Temporality.TheVariants.{Cumulative}
+use Rattle.otel_stream.specs.Preferences.{temporality_preference}
+use Rattle.otel_stream.specs.declared.answers.Answer.{Answer}
+use Rattle.otel_stream.specs.declared.instrument.InstrumentKind.{InstrumentKind}
+use Rattle.otel_stream.specs.declared.instrument.InstrumentKind.TheVariants.{Counter, UpDownCounter, Histogram, ObservableCounter, ObservableUpDownCounter, Gauge, ObservableGauge}
+
+-- the place of a kind in the list of kinds
+abbrev pub kind_number : InstrumentKind → ℕ
+kind_number Counter = 0
+kind_number UpDownCounter = 1
+kind_number Histogram = 2
+kind_number ObservableCounter = 3
+kind_number ObservableUpDownCounter = 4
+kind_number Gauge = 5
+kind_number ObservableGauge = 6
+
+-- whether two kinds are the same
+abbrev pub kind_eq : InstrumentKind → InstrumentKind → Bool
+kind_eq a b = nat_eq (kind_number a) (kind_number b)
+
+-- all kinds, in the order of their numbers
+abbrev pub kinds : List InstrumentKind
+kinds = Counter ∷ UpDownCounter ∷ Histogram ∷ ObservableCounter ∷ ObservableUpDownCounter ∷ Gauge ∷ ObservableGauge ∷ []
+
+-- a reader's answers for the seven kinds, in the order of `kinds`
+abbrev pub ReaderAnswers : Type 0
+ReaderAnswers = List Answer
+
+-- the answers of a reader that says for each kind this temporality, and no limit and no aggregation
+abbrev pub answers_by : (InstrumentKind → Temporality) → ReaderAnswers
+answers_by temporality = map (λ kind. record { temporality = temporality kind; limit = None; aggregation = None }) kinds
+
+-- those of a reader that has one temporality
+abbrev pub preferring : Temporality → ReaderAnswers
+preferring temporality = answers_by (λ kind. temporality_preference kind temporality)
+
+-- of a kind for which there is none
+abbrev pub no_answer : Answer
+no_answer = record { temporality = Cumulative; limit = None; aggregation = None }
+
+-- the answer for a kind
+abbrev pub answer_for : ReaderAnswers → InstrumentKind → Answer
+answer_for answers kind = by (slice_get answers (kind_number kind))
+  where
+    by : Option Answer → Answer
+    by None = no_answer
+    by (Some answer) = answer
