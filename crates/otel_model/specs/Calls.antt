@@ -5,6 +5,7 @@ use Rattle.otel_common.specs.declared.scopes.InstrumentationScope.{Instrumentati
 use Rattle.otel_data.specs.declared.collections.ResourceMetrics.{ResourceMetrics}
 pub use Rattle.otel_stream.specs.declared.instrument.InstrumentKind.{InstrumentKind}
 pub use Rattle.otel_stream.specs.declared.instrument.InstrumentKind.TheVariants.{Counter, UpDownCounter, Histogram, ObservableCounter, ObservableUpDownCounter, Gauge, ObservableGauge}
+pub use Rattle.otel_stream.specs.Answers.{kind_number, kind_eq}
 use Rattle.otel_model_stream.specs.Folds.{Amount}
 use Rattle.otel_model.specs.Checks.{is_within}
 
@@ -22,20 +23,6 @@ or_else None d = d
 or_else (Some x) d = x
 
 -- ======== instruments ========
--- its place in the list of kinds
-abbrev pub kind_number : InstrumentKind → ℕ
-kind_number Counter = 0
-kind_number UpDownCounter = 1
-kind_number Histogram = 2
-kind_number ObservableCounter = 3
-kind_number ObservableUpDownCounter = 4
-kind_number Gauge = 5
-kind_number ObservableGauge = 6
-
--- whether two kinds are the same
-abbrev pub kind_eq : InstrumentKind → InstrumentKind → Bool
-kind_eq a b = nat_eq (kind_number a) (kind_number b)
-
 -- whether the instrument is asynchronous
 abbrev pub is_observable : InstrumentKind → Bool
 is_observable Counter = false

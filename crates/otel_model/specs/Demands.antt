@@ -10,7 +10,9 @@ pub use Rattle.otel_common.specs.declared.metrics.Temporality.TheVariants.{Cumul
 use Rattle.otel_common.specs.declared.scopes.InstrumentationScope.{InstrumentationScope}
 pub use Rattle.otel_common.specs.declared.metrics.Aggregation.{Aggregation}
 pub use Rattle.otel_common.specs.declared.metrics.Aggregation.TheVariants.{Drop, Default, Sum, LastValue, ExplicitBucketHistogram}
+pub use Rattle.otel_stream.specs.Answers.{kinds, ReaderAnswers, answers_by, preferring, no_answer, answer_for}
 pub use Rattle.otel_stream.specs.Preferences.{temporality_preference}
+pub use Rattle.otel_stream.specs.declared.answers.Answer.{Answer}
 pub use Rattle.otel_stream.specs.declared.demand.Demand.{Demand}
 pub use Rattle.otel_stream.specs.declared.demand.Identity.{Identity}
 use Rattle.otel_model_stream.specs.Sets.{AllowList}
@@ -90,36 +92,6 @@ View = Instrument → Option StreamSpec
 -- the views of a provider, in order
 abbrev pub Views : Type 0
 Views = List View
-
--- what a reader answers for one kind: the temporality, and perhaps the limit and the aggregation of streams
-pub record Answer : Type 0 where
-  pub temporality : Temporality
-  pub limit : Option ℕ
-  pub aggregation : Option Aggregation
-
--- its answers for the seven kinds, in the order of `kinds`
-abbrev pub ReaderAnswers : Type 0
-ReaderAnswers = List Answer
-
--- all kinds, in the order of their numbers
-abbrev pub kinds : List InstrumentKind
-kinds = Counter ∷ UpDownCounter ∷ Histogram ∷ ObservableCounter ∷ ObservableUpDownCounter ∷ Gauge ∷ ObservableGauge ∷ []
-
--- the answers of a reader that says for each kind this temporality, and no limit and no aggregation
-abbrev pub answers_by : (InstrumentKind → Temporality) → ReaderAnswers
-answers_by temporality = map (λ kind. record { temporality = temporality kind; limit = None; aggregation = None }) kinds
-
--- those of a reader that has one temporality
-abbrev pub preferring : Temporality → ReaderAnswers
-preferring temporality = answers_by (λ kind. temporality_preference kind temporality)
-
--- of a kind for which there is none
-abbrev pub no_answer : Answer
-no_answer = record { temporality = Cumulative; limit = None; aggregation = None }
-
--- the answer for a kind
-abbrev pub answer_for : ReaderAnswers → InstrumentKind → Answer
-answer_for answers kind = or_else (slice_get answers (kind_number kind)) no_answer
 
 -- ======== demands ========
 -- the default of a reader: its answer where that can be used, else the kind's
