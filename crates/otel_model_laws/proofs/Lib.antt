@@ -15,6 +15,7 @@ pub mod RowsSums
 pub mod RowsViews
 pub mod RowsEdges
 pub mod RowsChecks
+pub mod RowsResources
 pub mod RowsHeadings
 pub mod RowsKinds
 pub mod RowsIdentities

@@ -2,7 +2,7 @@
 #![tactic(auto)]
 
 ghost use Rattle.otel_model.specs.Laws.{AreFeedsApart, AreFeedsStreams, AreStreamsApart, IsAccepted};
-ghost use Rattle.otel_model.specs.Resources.{MergesAreCanonical, OthersValuesWin, UrlsMergeFromTheLeft, UrlsMergeFromTheRight};
+ghost use Rattle.otel_model.specs.Resources.{GivenOneByOne, GivenValuesWin, MergesAreCanonical, OthersValuesWin, OwnValuesWin, UrlsMergeFromTheLeft, UrlsMergeFromTheRight};
 ghost use Rattle.otel_model_laws.specs.Books.{EachCallIsBooked, EachRunIsBooked};
 ghost use Rattle.otel_model_laws.specs.Builds.{AlikeFeedTheSame};
 ghost use Rattle.otel_model_laws.specs.Lawful.{EachCallKeepsLawful, EachRunKeepsLawful, IsLawfulAtFirst, LawfulBalances};
@@ -32,6 +32,14 @@ pub fn merges()
     ensures canonical { MergesAreCanonical }
     ensures left { UrlsMergeFromTheLeft }
     ensures right { UrlsMergeFromTheRight }
+{}
+
+/// What a builder of a resource is given wins, but for attributes that are given with a URL, and of
+/// doubled keys the last.
+pub fn gives()
+    ensures given { GivenValuesWin }
+    ensures own { OwnValuesWin }
+    ensures one_by_one { GivenOneByOne }
 {}
 
 /// What a synchronous stream recorded is what the instruments that feed it accepted.
