@@ -6,6 +6,7 @@ ghost use Rattle.otel_model.specs.Resources.{GivenOneByOne, GivenValuesWin, Merg
 ghost use Rattle.otel_model_laws.specs.Books.{EachCallIsBooked, EachRunIsBooked};
 ghost use Rattle.otel_model_laws.specs.Builds.{AlikeFeedTheSame};
 ghost use Rattle.otel_model_laws.specs.Lawful.{EachCallKeepsLawful, EachRunKeepsLawful, IsLawfulAtFirst, LawfulBalances};
+ghost use Rattle.otel_model_laws.specs.Shares.{BookFollowsCalls, BookedOneByOne, SharesAddUp};
 ghost use Rattle.otel_model_laws.specs.Showing.{BindsByNumber, CollectsAfterObservations, HandlesByNumber, ObservationsByNumber, RecordsByNumber, UnheldRests};
 ghost use Rattle.otel_model_laws.specs.Orders.{AreDifferences, BindsInAnyOrder, ObservationsInAnyOrder, RecordsInAnyOrder};
 
@@ -66,6 +67,14 @@ pub fn keeps()
 pub fn books()
     ensures call { EachCallIsBooked }
     ensures run { EachRunIsBooked }
+{}
+
+/// A book in whole numbers follows what all instruments together accept, and is the sum of its shares as
+/// long as each record is added to one of them.
+pub fn adds_up()
+    ensures book { BookFollowsCalls }
+    ensures shares { SharesAddUp }
+    ensures one_by_one { BookedOneByOne }
 {}
 
 /// What a program that names streams by number owes to be the machine.
