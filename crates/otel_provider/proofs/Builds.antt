@@ -10,11 +10,11 @@ use Rattle.otel_model.specs.Calls.{About}
 use Rattle.otel_model.specs.Demands as model
 use Rattle.otel_model.specs.State.{ReaderPart}
 use Rattle.otel_model.specs.Machine as machine
+use Rattle.otel_provider.specs.Answers.{answers_of}
 use Rattle.otel_provider.specs.Identities.{identity_test, identity_of, demand_of, demand_by}
-use Rattle.otel_provider.specs.Shown.{about}
+use Rattle.otel_provider.specs.Correspondence.{about}
 use Rattle.otel_provider.specs.Streams.{Kept, stream_of, new_kept}
 use Rattle.otel_provider.specs.Pipelines.{Piped, part_of, named, stream_identities, stream_number, plan_by, planned, resets_at, built, built_by}
-use Rattle.otel_provider.specs.Rows.{row_of}
 use Rattle.otel_provider.specs.declared.answers.Answers.{Answers}
 use Rattle.otel_provider.specs.declared.identity.Demand.{Demand}
 use Rattle.otel_provider.specs.declared.identity.Identity.{Identity}
@@ -66,7 +66,7 @@ keeps_more (k ∷ ks) d x = not_dropped k.demand (model.identity_eq (identity_of
 
 -- ======== the demand ========
 pub demand-is : (answers : Answers) (scope : InstrumentationScope) (sort : InstrumentSort) (name : List ℕ) (description unit : Option (List ℕ))
-    → model.own_demand (row_of answers) scope (about sort name description unit) ≡ demand_of (demand_by scope sort name description unit)
+    → model.own_demand (answers_of answers) scope (about sort name description unit) ≡ demand_of (demand_by scope sort name description unit)
 demand-is answers scope U64Counter name None None = refl
 demand-is answers scope U64Counter name None (Some unit) = refl
 demand-is answers scope U64Counter name (Some description) None = refl
@@ -121,13 +121,13 @@ found x (k ∷ ks) n e =
 -- what one demand leaves of a reader's part, as its identity is known or not
 one_demand : (now : ℕ) (p : ReaderPart) (d : model.Demand) (b : Bool) → model.is_known p.fates d.identity ≡ b → model.is_drop d.aggregation ≡ false → model.is_dropped (machine.enter p.fates d) d.identity ≡ false
     → machine.with_feeds (d ∷ []) (machine.demanded now p d) ≡ record {
-      row = p.row;
+      answers = p.answers;
       fates = cond b p.fates (p.fates ++ d ∷ []);
       streams = cond b p.streams (p.streams ++ machine.new_stream now d ∷ []);
       feeds = p.feeds ++ (d.identity ∷ []) ∷ [];
     }
 one_demand now p d b e a r = λ i. record {
-  row = p.row;
+  answers = p.answers;
   fates = cond (e i) p.fates (p.fates ++ d ∷ []);
   streams = cond (e i) p.streams (p.streams ++ cond (a i) [] (machine.new_stream now d ∷ []));
   feeds = p.feeds ++ (cond (not (r i)) (d.identity ∷ []) []) ∷ [];
@@ -151,7 +151,7 @@ module _ (now : ℕ) (demand : Demand) (p : Piped) (numbers : AreAllNumbers p.fe
   fresh = new_kept (resets_at p.answers demand) demand now
 
   demand_kept : (b : Bool) → model.is_known part.fates d.identity ≡ b → machine.with_feeds (d ∷ []) (machine.demanded now part d) ≡ record {
-    row = row_of p.answers;
+    answers = answers_of p.answers;
     fates = cond b part.fates (part.fates ++ d ∷ []);
     streams = cond b part.streams (part.streams ++ machine.new_stream now d ∷ []);
     feeds = part.feeds ++ (d.identity ∷ []) ∷ [];
@@ -167,7 +167,7 @@ module _ (now : ℕ) (demand : Demand) (p : Piped) (numbers : AreAllNumbers p.fe
   as_planned : (o : Option ℕ) → stream_number demand.identity (stream_identities p.streams) ≡ o → part_of (built_by (Some (plan_by p.answers o demand now count)) p) ≡ machine.with_feeds (d ∷ []) (machine.demanded now part d)
   as_planned None e =
       (λ i. record {
-        row = row_of p.answers;
+        answers = answers_of p.answers;
         fates = map-append (λ (k : Kept). demand_of k.demand) p.streams (fresh ∷ []) i;
         streams = (map-append stream_of p.streams (fresh ∷ []) ∙ ap (λ s. map stream_of p.streams ++ s ∷ []) (new-is (resets_at p.answers demand) demand now demand.identity.sort refl)) i;
         feeds = (map-append (named (p.streams ++ fresh ∷ [])) p.feeds ((count ∷ []) ∷ [])
@@ -178,7 +178,7 @@ module _ (now : ℕ) (demand : Demand) (p : Piped) (numbers : AreAllNumbers p.fe
   as_planned (Some n) e =
       let f = found demand.identity p.streams n e in
       (λ i. record {
-        row = row_of p.answers;
+        answers = answers_of p.answers;
         fates = part.fates;
         streams = part.streams;
         feeds = (map-append (named p.streams) p.feeds ((n ∷ []) ∷ [])
@@ -204,7 +204,7 @@ nothing_built : (scope : Option InstrumentationScope) (a : About) (now : ℕ) (p
     → p.plan ≡ Some (planned p.answers None now p.streams) → part_of (built p) ≡ machine.built [] scope a now (part_of p)
 nothing_built scope a now p none plan =
     ap (λ o. part_of (built_by o p)) plan
-    ∙ (λ i. record { row = row_of p.answers; fates = (part_of p).fates; streams = (part_of p).streams; feeds = map-append (named p.streams) p.feeds ([] ∷ []) i })
+    ∙ (λ i. record { answers = answers_of p.answers; fates = (part_of p).fates; streams = (part_of p).streams; feeds = map-append (named p.streams) p.feeds ([] ∷ []) i })
     ∙ sym (ap (λ ds. machine.with_feeds ds (fold (machine.demanded now) (part_of p) ds)) none)
 
 pub built-bad : (scope : Option InstrumentationScope) (a : About) (now : ℕ) (p : Piped) → model.is_good a ≡ false

@@ -4,26 +4,31 @@ use Rattle.std.proofs.lemmas.Bool.{lt-ltb, le-ltb}
 use Rattle.std.proofs.lemmas.List.{length-map}
 use Rattle.std.proofs.lemmas.Option.{slice_get-map}
 use Rattle.std.specs.Prelude.{filter}
+use Rattle.otel_common.specs.declared.metrics.Temporality.TheVariants as temporality
 use Rattle.otel_common.specs.declared.scopes.InstrumentationScope.{InstrumentationScope}
+use Rattle.otel_data.specs.declared.aggregated.AggregatedMetrics.{AggregatedMetrics}
+use Rattle.otel_data.specs.declared.aggregated.AggregatedMetrics.TheVariants.{U64}
+use Rattle.otel_data.specs.declared.collections.Metric.{Metric}
+use Rattle.otel_data.specs.declared.collections.ResourceMetrics.{ResourceMetrics}
 use Rattle.otel_model_stream.specs.Entries.{points as points_in}
-use Rattle.otel_model_stream.specs.Events.{Kind, Delta, Cumulative}
+use Rattle.otel_model_stream.specs.Events.{Kind, Point, Delta, Cumulative}
 use Rattle.otel_model_stream.specs.Folds.{wrapped}
 use Rattle.otel_model_stream.specs.Machine.{shows_all, collected}
 use Rattle.otel_model_stream.specs.Totals.{points_total}
 use Rattle.otel_model.specs.Calls as model
-use Rattle.otel_model.specs.Collections.{metric, value_point, in_scope, has_metrics, ScopedMetric}
+use Rattle.otel_model.specs.Collections.{metric, natural, sum_of, in_scope, has_metrics, ScopedMetric}
 use Rattle.otel_model.specs.Demands.{Identity}
 use Rattle.otel_model.specs.Machine.{changed_at, part_sent, points_at, stream_after, accepted_after}
 use Rattle.otel_model.specs.Refusals.{refusal}
-use Rattle.otel_model.specs.Resources.{empty_resource}
+use Rattle.otel_model.specs.Resources.{Resource}
 use Rattle.otel_model.specs.State.{InstrumentState, ReaderPart, Stream}
 use Rattle.otel_model.specs.Steps.{collect_reply, reply_by, after_by}
 use Rattle.otel_model.specs.Streams.{is_monotonic_kind}
+use Rattle.otel_provider.specs.Answers.{answers_of}
 use Rattle.otel_provider.specs.Collections.{scoped, scopes_shown, IsCollectedFrom}
 use Rattle.otel_provider.specs.Identities.{demand_of}
 use Rattle.otel_provider.specs.Pipelines.{Piped, part_of, part_by, named, identity_at, resets_at, AreAnswered, all_settled, finished_all}
-use Rattle.otel_provider.specs.Rows.{row_of}
-use Rattle.otel_provider.specs.Sorts.{kind_of, is_signed}
+use Rattle.otel_provider.specs.Correspondence.{kind_of}
 use Rattle.otel_provider.specs.States.{shared_of, state_of, IsMade}
 use Rattle.otel_provider.specs.Streams.{Kept, stream_of, shown_metric, restarted}
 use Rattle.otel_provider.specs.declared.answers.Answers.{Answers}
@@ -40,40 +45,41 @@ shows-when true = refl
 shows-when false = refl
 
 -- ======== what is shown ========
--- the metric of a stream that is delta or not
-abbrev metric_when : ℕ → Kept → Bool → model.Metric
+-- the sums of a stream that is delta or not, with these points
+abbrev sums_when : ℕ → Kept → Bool → List Point → AggregatedMetrics
+sums_when now k delta ps = U64 (sum_of (λ n. n) natural (cond delta temporality.Delta temporality.Cumulative) (is_monotonic_kind (kind_of k.demand.identity.sort)) k.since now ps)
+
+-- its metric
+abbrev metric_when : ℕ → Kept → Bool → Metric
 metric_when now k delta = record {
   name = k.demand.spelling;
   description = k.demand.identity.description;
   unit = k.demand.identity.unit;
-  signed = is_signed k.demand.identity.sort;
-  content = model.Content.Sum delta (is_monotonic_kind (kind_of k.demand.identity.sort)) (map value_point (points_in (shows_all (when delta)) k.table));
-  start = k.since;
-  time = now;
+  content = sums_when now k delta (points_in (shows_all (when delta)) k.table);
 }
 
 metric_by : (answers : Answers) (now : ℕ) (feeds : List (List Identity)) (k : Kept) (sort : InstrumentSort) → k.demand.identity.sort ≡ sort
-    → metric (row_of answers) now k.since [] (stream_of k).demand (points_at (row_of answers) feeds [] (stream_of k)) ≡ metric_when now k (resets_at answers k.demand)
+    → metric (answers_of answers) now k.since [] (stream_of k).demand (points_at (answers_of answers) feeds [] (stream_of k)) ≡ metric_when now k (resets_at answers k.demand)
 metric_by answers now feeds k U64Counter e = rw e refl
 
 metric-is : (answers : Answers) (now : ℕ) (feeds : List (List Identity)) (k : Kept) → k.resets ≡ resets_at answers k.demand
-    → metric (row_of answers) now k.since [] (stream_of k).demand (points_at (row_of answers) feeds [] (stream_of k)) ≡ shown_metric now k
+    → metric (answers_of answers) now k.since [] (stream_of k).demand (points_at (answers_of answers) feeds [] (stream_of k)) ≡ shown_metric now k
 metric-is answers now feeds k is =
     metric_by answers now feeds k k.demand.identity.sort refl
     ∙ ap (metric_when now k) (sym is)
-    ∙ λ i. record (metric_when now k k.resets) { content = model.Content.Sum k.resets (is_monotonic_kind (kind_of k.demand.identity.sort)) (map value_point (points_in (shows-when k.resets i) k.table)) }
+    ∙ λ i. record (metric_when now k k.resets) { content = sums_when now k k.resets (points_in (shows-when k.resets i) k.table) }
 
 metrics_are : (answers : Answers) (now : ℕ) (feeds : List (List Identity)) (ks : List Kept) → AreAnswered answers ks
-    → map (λ (q : Stream). (q.demand.identity.scope, metric (row_of answers) now q.since q.reported q.demand (points_at (row_of answers) feeds [] q))) (map stream_of ks) ≡ map (scoped now) ks
+    → map (λ (q : Stream). (q.demand.identity.scope, metric (answers_of answers) now q.since q.reported q.demand (points_at (answers_of answers) feeds [] q))) (map stream_of ks) ≡ map (scoped now) ks
 metrics_are answers now feeds [] all = refl
 metrics_are answers now feeds (k ∷ ks) all = λ i. (k.demand.identity.scope, metric-is answers now feeds k all.0 i) ∷ metrics_are answers now feeds ks all.1 i
 
 -- a collection has the scopes that are shown
-pub collected-is : (meters : List InstrumentationScope) (now : ℕ) (answers : Answers) (ks : List Kept) (feeds : List (List ℕ)) (c : model.Collection) → AreAnswered answers ks
-    → c.resource ≡ empty_resource → c.scopes ≡ scopes_shown now ks meters → IsCollectedFrom meters now (part_by answers ks feeds) c
-collected-is meters now answers ks feeds c all r e instruments = λ i. record {
+pub collected-is : (resource : Resource) (meters : List InstrumentationScope) (now : ℕ) (answers : Answers) (ks : List Kept) (feeds : List (List ℕ)) (c : ResourceMetrics) → AreAnswered answers ks
+    → c.resource ≡ resource → c.scope_metrics ≡ scopes_shown now ks meters → IsCollectedFrom resource meters now (part_by answers ks feeds) c
+collected-is resource meters now answers ks feeds c all r e instruments = λ i. record {
   resource = r i;
-  scopes = (e ∙ ap (λ (ms : List ScopedMetric). filter has_metrics (map (in_scope ms) meters)) (sym (metrics_are answers now (map (named ks) feeds) ks all))) i;
+  scope_metrics = (e ∙ ap (λ (ms : List ScopedMetric). filter has_metrics (map (in_scope ms) meters)) (sym (metrics_are answers now (map (named ks) feeds) ks all))) i;
 }
 
 -- ======== what it leaves ========
@@ -89,7 +95,7 @@ stream_when now k delta = record {
 }
 
 stream_by : (answers : Answers) (next r now : ℕ) (feeds : List (List Identity)) (k : Kept) (sort : InstrumentSort) → k.demand.identity.sort ≡ sort
-    → stream_after (row_of answers) feeds next (model.Call.Collect r now []) (stream_of k) ≡ stream_when now k (resets_at answers k.demand)
+    → stream_after (answers_of answers) feeds next (model.Call.Collect r now []) (stream_of k) ≡ stream_when now k (resets_at answers k.demand)
 stream_by answers next r now feeds k U64Counter e = rw e refl
 
 stream_left : (now : ℕ) (k : Kept) (b : Bool) → stream_when now k b ≡ stream_of (cond b (restarted now k) k)
@@ -97,7 +103,7 @@ stream_left now k true = refl
 stream_left now k false = refl
 
 streams-finished : (answers : Answers) (next r now : ℕ) (feeds : List (List Identity)) (ks : List Kept) → AreAnswered answers ks
-    → map (stream_after (row_of answers) feeds next (model.Call.Collect r now [])) (map stream_of ks) ≡ map stream_of (finished_all now ks)
+    → map (stream_after (answers_of answers) feeds next (model.Call.Collect r now [])) (map stream_of ks) ≡ map stream_of (finished_all now ks)
 streams-finished answers next r now feeds [] all = refl
 streams-finished answers next r now feeds (k ∷ ks) all =
     λ i. (stream_by answers next r now feeds k k.demand.identity.sort refl ∙ ap (stream_when now k) (sym all.0) ∙ stream_left now k k.resets) i
@@ -128,7 +134,7 @@ part-finished answers next r now old new feeds all e =
     ∙ ap (λ ks. part_by answers ks feeds) e
     ∙ part-settled answers (finished_all now old) feeds
     ∙ λ i. record {
-      row = row_of answers;
+      answers = answers_of answers;
       fates = demands-finished now old i;
       streams = sym (streams-finished answers next r now (map (named old) feeds) old all) i;
       feeds = feeds-finished now old feeds i;
@@ -168,29 +174,29 @@ get-none (q ∷ ps) zero e = absurd (cc)
 get-none (q ∷ ps) (suc r) e = omega (arith, get-none ps r e)
 
 -- a collection of a reader that is there
-pub collection-made : (meters : List InstrumentationScope) (instruments : List InstrumentState) (ps : List Piped) (readers : List ReaderPart) (r now : ℕ) (p : Piped) (c : model.Collection)
-    → slice_get ps r ≡ Some p → IsCollectedFrom meters now (part_of p) c → readers ≡ changed_at r (part_sent 0 (model.Call.Collect r now [])) (map part_of ps)
-    → IsMade (state_of meters instruments ps) (model.Call.Collect r now []) (model.Reply.Collected c) (record { shared = shared_of meters instruments; readers = readers })
-collection-made meters instruments ps readers r now p c at given left =
+pub collection-made : (resource : Resource) (meters : List InstrumentationScope) (instruments : List InstrumentState) (ps : List Piped) (readers : List ReaderPart) (r now : ℕ) (p : Piped) (c : ResourceMetrics)
+    → slice_get ps r ≡ Some p → IsCollectedFrom resource meters now (part_of p) c → readers ≡ changed_at r (part_sent 0 (model.Call.Collect r now [])) (map part_of ps)
+    → IsMade (state_of resource meters instruments ps) (model.Call.Collect r now []) (model.Reply.Collected c) (record { shared = shared_of resource meters instruments; readers = readers })
+collection-made resource meters instruments ps readers r now p c at given left =
     let known : nat_lt r (length (map part_of ps)) ≡ true = lt-ltb r (length (map part_of ps)) (rw length-map (get-some ps r p at)) in
     let found : slice_get (map part_of ps) r ≡ Some (part_of p) = slice_get-map part_of ps r ∙ ap (option_map part_of) at in
     record {
       answer = ap model.Reply.Collected (given instruments)
-          ∙ sym (λ i. reply_by (cond (known i) None (Some model.Fault.UnknownReader)) (collect_reply (shared_of meters instruments) now [] (found i)));
-      state = (λ i. record { shared = shared_of meters instruments; readers = left i })
-          ∙ sym (λ i. after_by (cond (known i) None (Some model.Fault.UnknownReader)) (state_of meters instruments ps) (accepted_after [] (state_of meters instruments ps) (model.Call.Collect r now [])));
+          ∙ sym (λ i. reply_by (cond (known i) None (Some model.Fault.UnknownReader)) (collect_reply (shared_of resource meters instruments) now [] (found i)));
+      state = (λ i. record { shared = shared_of resource meters instruments; readers = left i })
+          ∙ sym (λ i. after_by (cond (known i) None (Some model.Fault.UnknownReader)) (state_of resource meters instruments ps) (accepted_after [] (state_of resource meters instruments ps) (model.Call.Collect r now [])));
     }
 
 -- of one that isn't
-pub collection-refused : (meters : List InstrumentationScope) (instruments : List InstrumentState) (ps : List Piped) (r now : ℕ) → slice_get ps r ≡ None
-    → refusal (shared_of meters instruments) (length (map part_of ps)) (model.Call.Collect r now []) ≡ Some model.Fault.UnknownReader
-collection-refused meters instruments ps r now at =
+pub collection-refused : (resource : Resource) (meters : List InstrumentationScope) (instruments : List InstrumentState) (ps : List Piped) (r now : ℕ) → slice_get ps r ≡ None
+    → refusal (shared_of resource meters instruments) (length (map part_of ps)) (model.Call.Collect r now []) ≡ Some model.Fault.UnknownReader
+collection-refused resource meters instruments ps r now at =
     let unknown : nat_lt r (length (map part_of ps)) ≡ false = le-ltb r (length (map part_of ps)) (rw length-map (get-none ps r at)) in
     ap (λ b. cond b None (Some model.Fault.UnknownReader)) unknown
 
 -- memory may be wanting only where the reader is there
-pub collection-allowed : (meters : List InstrumentationScope) (instruments : List InstrumentState) (ps : List Piped) (r now : ℕ) (p : Piped) → slice_get ps r ≡ Some p
-    → refusal (shared_of meters instruments) (length (map part_of ps)) (model.Call.Collect r now []) ≡ None
-collection-allowed meters instruments ps r now p at =
+pub collection-allowed : (resource : Resource) (meters : List InstrumentationScope) (instruments : List InstrumentState) (ps : List Piped) (r now : ℕ) (p : Piped) → slice_get ps r ≡ Some p
+    → refusal (shared_of resource meters instruments) (length (map part_of ps)) (model.Call.Collect r now []) ≡ None
+collection-allowed resource meters instruments ps r now p at =
     let known : nat_lt r (length (map part_of ps)) ≡ true = lt-ltb r (length (map part_of ps)) (rw length-map (get-some ps r p at)) in
     ap (λ b. cond b None (Some model.Fault.UnknownReader)) known

@@ -4,10 +4,10 @@ use Rattle.std.specs.Prelude.{All}
 use Rattle.std.proofs.lemmas.List.{length-map}
 use Rattle.otel_model_stream.specs.Sets.{AttributeSet}
 use Rattle.otel_model.specs.Machine.{changed_at}
+use Rattle.otel_provider.specs.Answers.{answers_of}
 use Rattle.otel_provider.specs.Identities.{demand_of}
 use Rattle.otel_provider.specs.Pipelines.{AreNumbers, all_settled, committed_each, finished_all, stream_identities, part_by, named, identity_at}
 use Rattle.otel_provider.specs.Streams.{Kept, stream_of, committed, committed_by, restarted}
-use Rattle.otel_provider.specs.Rows.{row_of}
 use Rattle.otel_provider.specs.declared.answers.Answers.{Answers}
 use Rattle.otel_provider.specs.declared.identity.Identity.{Identity}
 
@@ -73,4 +73,4 @@ feeds-settled ks [] = refl
 feeds-settled ks (ns ∷ feeds) = λ i. named-settled ks ns i ∷ feeds-settled ks feeds i
 
 pub part-settled : (answers : Answers) (ks : List Kept) (feeds : List (List ℕ)) → part_by answers (all_settled ks) feeds ≡ part_by answers ks feeds
-part-settled answers ks feeds = λ i. record { row = row_of answers; fates = demands-settled ks i; streams = streams-settled ks i; feeds = feeds-settled ks feeds i }
+part-settled answers ks feeds = λ i. record { answers = answers_of answers; fates = demands-settled ks i; streams = streams-settled ks i; feeds = feeds-settled ks feeds i }

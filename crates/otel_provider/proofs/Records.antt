@@ -32,10 +32,10 @@ abbrev value_is : ℕ → Number
 value_is value = record { signed = false; amount = amount value }
 
 -- what a stream of a counter is after a record, as its identity is fed or not
-sent_if : (row : model.Row) (next n value : ℕ) (l : List KeyValue) (feeds : List (List model.Identity)) (k : Kept) (b : Bool) (sort : InstrumentSort) → k.demand.identity.sort ≡ sort → is_fed feeds n (identity_of k.demand.identity) ≡ b
-    → stream_after row feeds next (RecordCall n (value_is value) l) (stream_of k) ≡ cond b (stream_of (with_record (set_of None l) value k)) (stream_of k)
-sent_if row next n value l feeds k true U64Counter s e = rw (e, s) refl
-sent_if row next n value l feeds k false U64Counter s e = rw (e, s) refl
+sent_if : (answers : model.ReaderAnswers) (next n value : ℕ) (l : List KeyValue) (feeds : List (List model.Identity)) (k : Kept) (b : Bool) (sort : InstrumentSort) → k.demand.identity.sort ≡ sort → is_fed feeds n (identity_of k.demand.identity) ≡ b
+    → stream_after answers feeds next (RecordCall n (value_is value) l) (stream_of k) ≡ cond b (stream_of (with_record (set_of None l) value k)) (stream_of k)
+sent_if answers next n value l feeds k true U64Counter s e = rw (e, s) refl
+sent_if answers next n value l feeds k false U64Counter s e = rw (e, s) refl
 
 -- ======== numbers and identities ========
 -- no identity stands twice among the streams
@@ -81,24 +81,24 @@ fed-named ks feeds n = ap (λ o. or_else o []) (slice_get-map (named ks) feeds n
     cases (Some ns) = refl
 
 -- ======== all streams of a reader ========
-module _ (row : model.Row) (self : IsReflexive) (all : List Kept) (apart : AreApart all) (feeds : List (List ℕ)) (next n value : ℕ) (l : List KeyValue)
+module _ (answers : model.ReaderAnswers) (self : IsReflexive) (all : List Kept) (apart : AreApart all) (feeds : List (List ℕ)) (next n value : ℕ) (l : List KeyValue)
     (numbers : AreNumbers (or_else (slice_get feeds n) []) all)
     (ready : (i : ℕ) (k : Kept) → slice_get all i ≡ Some k → has_number i (or_else (slice_get feeds n) []) ≡ true → k.staged ≡ Some (set_of None l)) where
   abbrev ns : List ℕ
   ns = or_else (slice_get feeds n) []
 
   abbrev after : Stream → Stream
-  after = stream_after row (map (named all) feeds) next (RecordCall n (value_is value) l)
+  after = stream_after answers (map (named all) feeds) next (RecordCall n (value_is value) l)
 
   one_sent : (i : ℕ) (k : Kept) → slice_get all i ≡ Some k → (b : Bool) → has_number i ns ≡ b → after (stream_of k) ≡ stream_of (cond b (committed value k) k)
   one_sent i k at true h =
-      sent_if row next n value l (map (named all) feeds) k true k.demand.identity.sort refl (fed at ∙ h)
+      sent_if answers next n value l (map (named all) feeds) k true k.demand.identity.sort refl (fed at ∙ h)
       ∙ ap (λ o. stream_of (committed_by o value k)) (sym (ready i k at h))
     where
       fed : slice_get all i ≡ Some k → is_fed (map (named all) feeds) n (identity_of k.demand.identity) ≡ has_number i ns
       fed at = ap (λ xs. model.has_identity xs (identity_of k.demand.identity)) (fed-named all feeds n) ∙ named-has self all apart ns numbers i k at
   one_sent i k at false h =
-      sent_if row next n value l (map (named all) feeds) k false k.demand.identity.sort refl (fed at ∙ h)
+      sent_if answers next n value l (map (named all) feeds) k false k.demand.identity.sort refl (fed at ∙ h)
     where
       fed : slice_get all i ≡ Some k → is_fed (map (named all) feeds) n (identity_of k.demand.identity) ≡ has_number i ns
       fed at = ap (λ xs. model.has_identity xs (identity_of k.demand.identity)) (fed-named all feeds n) ∙ named-has self all apart ns numbers i k at

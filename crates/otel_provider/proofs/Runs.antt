@@ -5,7 +5,7 @@ use Rattle.otel_model.specs.Calls as model
 use Rattle.otel_model.specs.Demands.{Views}
 use Rattle.otel_model.specs.State.{State}
 use Rattle.otel_model.specs.Steps.{Step, Run}
-use Rattle.otel_provider.specs.Shown.{call_of, reply_of}
+use Rattle.otel_provider.specs.Correspondence.{call_of, reply_of}
 use Rattle.otel_provider.specs.declared.calls.Call.{Call}
 use Rattle.otel_provider.specs.declared.calls.Reply.{Reply}
 

@@ -2,7 +2,7 @@
 use Rattle.std.proofs.Common.{◌≡◌, ℕ, zero, suc, ◌+◌, ◌<◌, Bool, true, false, cond, ◌&&◌, List, [], ◌∷◌, ◌++◌, map, length, get_or, drop, refl, sym, ◌∙◌, ap, arith, append_assoc, add-one}
 use Rattle.otel_common.specs.Scopes.{scope_eq}
 use Rattle.otel_common.specs.declared.scopes.InstrumentationScope.{InstrumentationScope}
-use Rattle.otel_model.specs.Calls as model
+use Rattle.otel_data.specs.declared.collections.Metric.{Metric}
 use Rattle.otel_model.specs.Collections.{ScopedMetric, has_points}
 use Rattle.otel_provider.specs.Collections.{scoped, shown_in, shown_one, if_shown}
 use Rattle.otel_provider.specs.Streams.{Kept, shown_metric}
@@ -20,7 +20,7 @@ shown_suc scope now (m ∷ ks) zero k h at = shown-cons scope now m ks ∙ ap (�
 shown_suc scope now (m ∷ ks) (suc i) k h at = shown_suc scope now ks i k (omega arith) at
 
 -- one more stream's metric
-pub shown-more : (scope : InstrumentationScope) (now : ℕ) (done done' all : List model.Metric) (ks : List Kept) (i : ℕ) (k : Kept) → i < length ks → k ≡ get_or ks i k
+pub shown-more : (scope : InstrumentationScope) (now : ℕ) (done done' all : List Metric) (ks : List Kept) (i : ℕ) (k : Kept) → i < length ks → k ≡ get_or ks i k
     → done' ≡ done ++ shown_one scope now k → done ++ shown_in scope now (drop i ks) ≡ all → done' ++ shown_in scope now (drop (i + 1) ks) ≡ all
 shown-more scope now done done' all ks i k h at e so_far =
     rw (add-one, e, append_assoc) (ap (λ ms. done ++ ms) (sym (shown_suc scope now ks i k h at)) ∙ so_far)

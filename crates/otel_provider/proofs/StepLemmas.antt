@@ -16,13 +16,14 @@ use Rattle.otel_model.specs.Steps.{number_from, reply_by, after_by}
 use Rattle.otel_model.specs.Refusals.{meter_refusal, record_refusal}
 use Rattle.otel_common.specs.declared.faults.Fault.{Fault}
 use Rattle.otel_model.specs.Machine as machine
+use Rattle.otel_model.specs.Resources.{Resource}
 use Rattle.otel_model.proofs.Gather.{identity_eq_true, identity_eq_self}
+use Rattle.otel_provider.specs.Answers.{answers_of}
 use Rattle.otel_provider.specs.Identities.{identity_of, identity_test, demand_of, demand_by}
-use Rattle.otel_provider.specs.Shown.{about}
+use Rattle.otel_provider.specs.Correspondence.{about}
 use Rattle.otel_provider.specs.States.{wanted, IsMade, IsFault, IsNoMeter, state_of, shared_of}
 use Rattle.otel_provider.specs.Streams.{Kept, committed, committed_by, amount, staged_set}
 use Rattle.otel_provider.specs.Pipelines.{Piped, part_of, named, identity_at, built, planned, recorded, fed_by, committed_each, stream_identities, AreNumbers, AreStaged, IsStaged, IsReadyFor, IsStagedFor}
-use Rattle.otel_provider.specs.Rows.{row_of}
 use Rattle.otel_provider.specs.declared.identity.Demand.{Demand}
 use Rattle.otel_provider.specs.declared.identity.Identity.{Identity}
 use Rattle.otel_provider.specs.declared.sorts.InstrumentSort.{InstrumentSort}
@@ -197,9 +198,9 @@ pub recorded-sent : (next n value : ℕ) (l : List KeyValue) (p : Piped) → IsS
 recorded-sent next n value l p staged =
     let same : demands_of (committed_each value (fed_by n p) p.streams) ≡ demands_of p.streams = demands-committed value (fed_by n p) p.streams in
     λ i. record {
-      row = row_of p.answers;
+      answers = answers_of p.answers;
       fates = (fates-demands (committed_each value (fed_by n p) p.streams) ∙ (ap (map demand_of) same ∙ sym (fates-demands p.streams))) i;
-      streams = sym (records.all_sent (row_of p.answers) identity_eq_self p.streams (are_apart p.streams staged.lawful.apart) p.feeds next n value l (fed-numbers p.streams p.feeds n staged.lawful.numbers) (staged-at (staged_set l) p.streams (fed_by n p) staged.staged)) i;
+      streams = sym (records.all_sent (answers_of p.answers) identity_eq_self p.streams (are_apart p.streams staged.lawful.apart) p.feeds next n value l (fed-numbers p.streams p.feeds n staged.lawful.numbers) (staged-at (staged_set l) p.streams (fed_by n p) staged.staged)) i;
       feeds = feeds-same (committed_each value (fed_by n p) p.streams) p.streams same p.feeds i;
     }
 
@@ -232,23 +233,23 @@ ready_wanted a b now ps e all = subst (λ d. All (IsReadyFor d now) ps) e all
 
 -- ======== whole calls ========
 -- a build of a meter that isn't there
-pub no_meter-fault : (meters : List InstrumentationScope) (instruments : List InstrumentState) (meter : Option ℕ) (f : Fault) → IsNoMeter meters meter f → IsFault (meter_refusal (shared_of meters instruments) meter) f
-no_meter-fault meters instruments meter f none =
-    let P : Fault → Type 0 = λ g. IsFault (meter_refusal (shared_of meters instruments) meter) g in
-    subst P (sym none.is) (none.unknown instruments)
+pub no_meter-fault : (resource : Resource) (meters : List InstrumentationScope) (instruments : List InstrumentState) (meter : Option ℕ) (f : Fault) → IsNoMeter meters meter f → IsFault (meter_refusal (shared_of resource meters instruments) meter) f
+no_meter-fault resource meters instruments meter f none =
+    let P : Fault → Type 0 = λ g. IsFault (meter_refusal (shared_of resource meters instruments) meter) g in
+    subst P (sym none.is) (none.unknown resource instruments)
 
 -- a record that is accepted
-pub record-made : (meters : List InstrumentationScope) (instruments more : List InstrumentState) (ps : List Piped) (readers : List ReaderPart) (n bits : ℕ) (v : model.Number) (l : List KeyValue)
+pub record-made : (resource : Resource) (meters : List InstrumentationScope) (instruments more : List InstrumentState) (ps : List Piped) (readers : List ReaderPart) (n bits : ℕ) (v : model.Number) (l : List KeyValue)
     → v ≡ record { signed = false; amount = amount bits } → record_refusal (slice_get instruments n) v.signed ≡ None
     → more ≡ machine.changed_at n (machine.accepted (amount bits)) instruments
     → readers ≡ map (machine.part_sent 0 (model.Call.Record n (record { signed = false; amount = amount bits }) l)) (map part_of ps)
-    → IsMade (state_of meters instruments ps) (model.Call.Record n v l) model.Reply.Done (record { shared = shared_of meters more; readers = readers })
-record-made meters instruments more ps readers n bits v l is fits accepted sent = record {
+    → IsMade (state_of resource meters instruments ps) (model.Call.Record n v l) model.Reply.Done (record { shared = shared_of resource meters more; readers = readers })
+record-made resource meters instruments more ps readers n bits v l is fits accepted sent = record {
   answer = sym (ap (λ o. reply_by o model.Reply.Done) fits);
   state =
       (λ i. record {
-        shared = shared_of meters ((accepted ∙ ap (λ (w : model.Number). machine.changed_at n (machine.accepted w.amount) instruments) (sym is)) i);
+        shared = shared_of resource meters ((accepted ∙ ap (λ (w : model.Number). machine.changed_at n (machine.accepted w.amount) instruments) (sym is)) i);
         readers = (sent ∙ ap (λ (w : model.Number). map (machine.part_sent 0 (model.Call.Record n w l)) (map part_of ps)) (sym is)) i;
       })
-      ∙ sym (ap (λ o. after_by o (state_of meters instruments ps) (machine.accepted_after [] (state_of meters instruments ps) (model.Call.Record n v l))) fits);
+      ∙ sym (ap (λ o. after_by o (state_of resource meters instruments ps) (machine.accepted_after [] (state_of resource meters instruments ps) (model.Call.Record n v l))) fits);
 }

@@ -1,8 +1,11 @@
 -- What a collection gives of one reader's streams, scope by scope.
 use Rattle.std.specs.Prelude.{◌≡◌, ℕ, Bool, true, false, ◌&&◌, List, [], ◌∷◌, map, filter}
 use Rattle.otel_common.specs.Scopes.{scope_eq}
+use Rattle.otel_common.specs.declared.resource.Resource.{Resource}
 use Rattle.otel_common.specs.declared.scopes.InstrumentationScope.{InstrumentationScope}
-use Rattle.otel_model.specs.Calls as model
+use Rattle.otel_data.specs.declared.collections.Metric.{Metric}
+use Rattle.otel_data.specs.declared.collections.ResourceMetrics.{ResourceMetrics}
+use Rattle.otel_data.specs.declared.collections.ScopeMetrics.{ScopeMetrics}
 use Rattle.otel_model.specs.Collections.{ScopedMetric, in_scope, has_points, has_metrics}
 use Rattle.otel_model.specs.State.{InstrumentState, ReaderPart}
 use Rattle.otel_model.specs.Steps.{collect_from}
@@ -14,24 +17,24 @@ abbrev pub scoped : ℕ → Kept → ScopedMetric
 scoped now k = (k.demand.identity.scope, shown_metric now k)
 
 -- the metrics of a scope that have points
-abbrev pub shown_in : InstrumentationScope → ℕ → List Kept → List model.Metric
+abbrev pub shown_in : InstrumentationScope → ℕ → List Kept → List Metric
 shown_in scope now streams = (in_scope (map (scoped now) streams) scope).metrics
 
-abbrev pub if_shown : Bool → model.Metric → List model.Metric
+abbrev pub if_shown : Bool → Metric → List Metric
 if_shown true m = m ∷ []
 if_shown false m = []
 
 -- the metric of one stream, if it is of the scope and has points
-abbrev pub shown_one : InstrumentationScope → ℕ → Kept → List model.Metric
+abbrev pub shown_one : InstrumentationScope → ℕ → Kept → List Metric
 shown_one scope now k = if_shown (scope_eq k.demand.identity.scope scope && has_points (shown_metric now k)) (shown_metric now k)
 
-abbrev pub scope_shown : ℕ → List Kept → InstrumentationScope → model.ScopeMetrics
+abbrev pub scope_shown : ℕ → List Kept → InstrumentationScope → ScopeMetrics
 scope_shown now streams scope = in_scope (map (scoped now) streams) scope
 
 -- the scopes that have metrics
-abbrev pub scopes_shown : ℕ → List Kept → List InstrumentationScope → List model.ScopeMetrics
+abbrev pub scopes_shown : ℕ → List Kept → List InstrumentationScope → List ScopeMetrics
 scopes_shown now streams meters = filter has_metrics (map (scope_shown now streams) meters)
 
--- what a collection of this reader gives, by the scopes of these meters
-abbrev pub IsCollectedFrom : List InstrumentationScope → ℕ → ReaderPart → model.Collection → Type 0
-IsCollectedFrom meters now part c = (instruments : List InstrumentState) → c ≡ collect_from (shared_of meters instruments) now [] part
+-- what a collection of this reader gives, from the resource, by the scopes of these meters
+abbrev pub IsCollectedFrom : Resource → List InstrumentationScope → ℕ → ReaderPart → ResourceMetrics → Type 0
+IsCollectedFrom resource meters now part c = (instruments : List InstrumentState) → c ≡ collect_from (shared_of resource meters instruments) now [] part

@@ -4,36 +4,36 @@ use Rattle.std.specs.Prelude.{◌≡◌, ℕ, List, [], ◌∷◌, ◌++◌, map
 use Rattle.otel_common.specs.declared.attributes.KeyValue.{KeyValue}
 use Rattle.otel_model.specs.Calls as model
 use Rattle.otel_model.specs.Calls.{Number}
-use Rattle.otel_model.specs.Demands.{Row, Views}
+use Rattle.otel_model.specs.Demands.{ReaderAnswers, Views}
 use Rattle.otel_model.specs.Laws.{OfReader, OfStream}
 use Rattle.otel_model.specs.Machine.{new_state}
 use Rattle.otel_model.specs.Resources.{Resource}
 use Rattle.otel_model.specs.State.{ReaderPart, State, Stream}
 use Rattle.otel_model.specs.Steps.{Run}
 use Rattle.otel_model_laws.specs.Orders.{IsReordered}
-use Rattle.otel_provider.specs.Shown.{call_of, reply_of}
+use Rattle.otel_provider.specs.Correspondence.{call_of, reply_of}
 use Rattle.otel_provider.specs.declared.calls.Call.{Call}
 use Rattle.otel_provider.specs.declared.calls.Reply.{Reply}
 
 -- of a provider that began with these readers
-abbrev pub FromBuilt : State → (Resource → ℕ → List Row → Type 0) → Type 0
-FromBuilt old P = (resource : Resource) (identity : ℕ) (rows : List Row) → old ≡ new_state resource identity rows → P resource identity rows
+abbrev pub FromBuilt : State → (Resource → ℕ → List ReaderAnswers → Type 0) → Type 0
+FromBuilt old P = (resource : Resource) (identity : ℕ) (readers : List ReaderAnswers) → old ≡ new_state resource identity readers → P resource identity readers
 
 -- it holds of each of its readers
 abbrev pub OfReaders : OfReader → State → List Call → List Reply → State → Type 0
-OfReaders P old calls replies new = FromBuilt old (λ resource identity rows.
-    (r : ℕ) (row : Row) (part : ReaderPart) → slice_get rows r ≡ Some row → slice_get new.readers r ≡ Some part
-    → P [] resource (map call_of calls) (map reply_of replies) new r row part)
+OfReaders P old calls replies new = FromBuilt old (λ resource identity readers.
+    (r : ℕ) (answers : ReaderAnswers) (part : ReaderPart) → slice_get readers r ≡ Some answers → slice_get new.readers r ≡ Some part
+    → P [] resource (map call_of calls) (map reply_of replies) new r answers part)
 
 -- and of each of their streams
 abbrev pub OfStreams : OfStream → State → List Call → List Reply → State → Type 0
-OfStreams P = OfReaders (λ views resource calls replies new r row part.
-    (j : ℕ) (s : Stream) → slice_get part.streams j ≡ Some s → P views calls replies new r row part s)
+OfStreams P = OfReaders (λ views resource calls replies new r answers part.
+    (j : ℕ) (s : Stream) → slice_get part.streams j ≡ Some s → P views calls replies new r answers part s)
 
 -- it holds of what each of its readers is answered
-abbrev pub OfAnswers : (Views → Resource → ℕ → List model.Call → List model.Reply → ℕ → Row → Type 0) → State → List Call → List Reply → Type 0
-OfAnswers P old calls replies = FromBuilt old (λ resource identity rows.
-    (r : ℕ) (row : Row) → slice_get rows r ≡ Some row → P [] resource identity (map call_of calls) (map reply_of replies) r row)
+abbrev pub OfAnswers : (Views → Resource → ℕ → List model.Call → List model.Reply → ℕ → ReaderAnswers → Type 0) → State → List Call → List Reply → Type 0
+OfAnswers P old calls replies = FromBuilt old (λ resource identity readers.
+    (r : ℕ) (answers : ReaderAnswers) → slice_get readers r ≡ Some answers → P [] resource identity (map call_of calls) (map reply_of replies) r answers)
 
 -- the attributes of any of its records in another order, where no key stands twice: the same replies and state
 abbrev pub InAnyOrder : State → List Call → List Reply → State → Type 0

@@ -5,7 +5,8 @@ use Rattle.otel_common.specs.Equality.{bytes_eq}
 use Rattle.otel_common.specs.Scopes.{scope_eq}
 use Rattle.otel_model.specs.Calls.{Text, lowered, or_else}
 use Rattle.otel_model.specs.Demands as model
-use Rattle.otel_provider.specs.Sorts.{kind_of, is_signed, sort_eq}
+use Rattle.otel_provider.specs.Correspondence.{kind_of, is_signed}
+use Rattle.otel_provider.specs.Sorts.{sort_eq}
 use Rattle.otel_provider.specs.declared.sorts.InstrumentSort.{InstrumentSort}
 use Rattle.otel_provider.specs.declared.identity.Demand.{Demand}
 use Rattle.otel_provider.specs.declared.identity.Identity.{Identity}

@@ -1,6 +1,6 @@
 -- Instruments in the words of the model.
 use Rattle.otel_model.specs.State.{InstrumentState}
-use Rattle.otel_provider.specs.Sorts.{kind_of, is_signed}
+use Rattle.otel_provider.specs.Correspondence.{kind_of, is_signed}
 use Rattle.otel_provider.specs.declared.sorts.InstrumentSort.{InstrumentSort}
 
 -- an instrument that accepted nothing yet

@@ -1,13 +1,13 @@
+pub mod Answers
 pub mod Collections
+pub mod Correspondence
+pub mod Fresh
 pub mod Headline
 pub mod Identities
 pub mod Instruments
 pub mod Pipelines
 pub mod Plans
 pub mod Providers
-pub mod Rows
-pub mod Shown
 pub mod Sorts
 pub mod States
 pub mod Streams
-pub mod Validations

@@ -8,8 +8,8 @@ use Rattle.otel_model.specs.Demands as model
 use Rattle.otel_model.specs.State.{ReaderPart}
 use Rattle.otel_model.specs.Machine.{changed_at}
 use Rattle.otel_model.specs.Streams.{is_delta}
+use Rattle.otel_provider.specs.Answers.{answers_of}
 use Rattle.otel_provider.specs.Identities.{identity_of, identity_test, demand_of}
-use Rattle.otel_provider.specs.Rows.{row_of}
 use Rattle.otel_provider.specs.Streams.{Kept, stream_of, new_kept, committed, settled, finished, staged_set}
 use Rattle.otel_provider.specs.declared.answers.Answers.{Answers}
 use Rattle.otel_provider.specs.declared.identity.Demand.{Demand}
@@ -49,7 +49,7 @@ named streams (n ∷ ns) = identity_at streams n ++ named streams ns
 -- the model's part of a reader with these answers and streams, which the instruments feed by these numbers
 abbrev pub part_by : Answers → List Kept → List (List ℕ) → ReaderPart
 part_by answers streams feeds = record {
-  row = row_of answers;
+  answers = answers_of answers;
   fates = map (λ k. demand_of k.demand) streams;
   streams = map stream_of streams;
   feeds = map (named streams) feeds;
@@ -101,7 +101,7 @@ stream_number x keys = position (identity_test x) keys
 
 -- whether the reader's answer has a stream of this demand reset
 abbrev pub resets_at : Answers → Demand → Bool
-resets_at answers demand = is_delta (row_of answers) (demand_of demand)
+resets_at answers demand = is_delta (answers_of answers) (demand_of demand)
 
 abbrev pub plan_by : Answers → Option ℕ → Demand → ℕ → ℕ → Planned
 plan_by answers None demand now count = record { feeds = count ∷ []; added = Some (demand.identity, new_kept (resets_at answers demand) demand now) }

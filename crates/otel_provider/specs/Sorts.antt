@@ -1,21 +1,14 @@
--- The kind and the number type of an instrument.
-use Rattle.std.specs.Prelude.{◌≡◌, ℕ, ◌==◌, Bool, false, refl}
+-- Sorts of instruments: equality and hash.
+use Rattle.std.specs.Prelude.{◌≡◌, ℕ, ◌==◌, Bool, refl}
 use Rattle.std.specs.Bool.{Decides}
 use Rattle.std.specs.Cmp.{IsEquivalence, decided}
 use Rattle.std.specs.Hash as fed
 use Rattle.std.specs.Hash.{HashWrites}
-use Rattle.otel_model.specs.Calls as model
 use Rattle.otel_provider.specs.declared.sorts.InstrumentSort.{InstrumentSort}
 use Rattle.otel_provider.specs.declared.sorts.InstrumentSort.TheVariants.{U64Counter}
 
 abbrev pub sort_number : InstrumentSort → ℕ
 sort_number U64Counter = 0
-
-abbrev pub kind_of : InstrumentSort → model.InstrumentKind
-kind_of U64Counter = model.InstrumentKind.Counter
-
-abbrev pub is_signed : InstrumentSort → Bool
-is_signed U64Counter = false
 
 abbrev pub sort_eq : InstrumentSort → InstrumentSort → Bool
 sort_eq a b = sort_number a == sort_number b

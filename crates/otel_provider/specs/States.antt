@@ -5,7 +5,7 @@ use Rattle.otel_common.specs.declared.faults.Fault.TheVariants as fault
 use Rattle.otel_common.specs.declared.scopes.InstrumentationScope.{InstrumentationScope}
 use Rattle.otel_model.specs.Calls as model
 use Rattle.otel_model.specs.Demands.{is_good}
-use Rattle.otel_model.specs.Resources.{empty_resource}
+use Rattle.otel_model.specs.Resources.{Resource}
 use Rattle.otel_model.specs.State.{InstrumentState, Shared, ReaderPart, State}
 use Rattle.otel_model.specs.Machine as machine
 use Rattle.otel_model.specs.Refusals.{refusal, meter_refusal, record_refusal}
@@ -15,17 +15,17 @@ use Rattle.otel_provider.specs.Identities.{demand_by}
 use Rattle.otel_provider.specs.Instruments.{new_state}
 use Rattle.otel_provider.specs.Pipelines.{Piped, part_of}
 use Rattle.otel_data.specs.declared.numbers.NumberValue.{NumberValue}
-use Rattle.otel_provider.specs.Shown.{about, number_of}
+use Rattle.otel_provider.specs.Correspondence.{about, number_of}
 use Rattle.otel_provider.specs.Streams.{amount}
 use Rattle.otel_provider.specs.declared.identity.Demand.{Demand}
 use Rattle.otel_provider.specs.declared.sorts.InstrumentSort.{InstrumentSort}
 
--- providers have no resource, no identity of their own and no handles yet, and can't be shut down
-abbrev pub shared_of : List InstrumentationScope → List InstrumentState → Shared
-shared_of meters instruments = record { resource = empty_resource; identity = 0; meters = meters; instruments = instruments; live = []; next = 0; shut = false }
+-- providers have no identity of their own and no handles yet, and can't be shut down
+abbrev pub shared_of : Resource → List InstrumentationScope → List InstrumentState → Shared
+shared_of resource meters instruments = record { resource = resource; identity = 0; meters = meters; instruments = instruments; live = []; next = 0; shut = false }
 
-abbrev pub state_of : List InstrumentationScope → List InstrumentState → List Piped → State
-state_of meters instruments pipelines = record { shared = shared_of meters instruments; readers = map part_of pipelines }
+abbrev pub state_of : Resource → List InstrumentationScope → List InstrumentState → List Piped → State
+state_of resource meters instruments pipelines = record { shared = shared_of resource meters instruments; readers = map part_of pipelines }
 
 -- the call is answered and carried out as the model's machine does
 pub record IsMade (old : State) (call : model.Call) (reply : model.Reply) (new : State) : Type 0 where
@@ -69,12 +69,12 @@ pub record IsBuilt (demand : Option Demand) (sort : InstrumentSort) (now : ℕ) 
 -- the scope that a build's meter has among these
 pub record IsScopeOf (meters : List InstrumentationScope) (meter : Option ℕ) (scope : Option InstrumentationScope) : Type 0 where
   pub is : scope ≡ scope_of meters meter
-  pub known : (instruments : List InstrumentState) → meter_refusal (shared_of meters instruments) meter ≡ None
+  pub known : (resource : Resource) (instruments : List InstrumentState) → meter_refusal (shared_of resource meters instruments) meter ≡ None
 
 -- there is no such meter
 pub record IsNoMeter (meters : List InstrumentationScope) (meter : Option ℕ) (f : Fault) : Type 0 where
   pub is : f ≡ fault.UnknownMeter
-  pub unknown : (instruments : List InstrumentState) → meter_refusal (shared_of meters instruments) meter ≡ Some model.Fault.UnknownMeter
+  pub unknown : (resource : Resource) (instruments : List InstrumentState) → meter_refusal (shared_of resource meters instruments) meter ≡ Some model.Fault.UnknownMeter
 
 -- a value of type `u64` with these bits
 abbrev pub IsNumber : NumberValue → ℕ → Type 0

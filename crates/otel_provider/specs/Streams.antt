@@ -1,18 +1,20 @@
 -- One stream of a reader, as the provider keeps it and as the model's stream.
-use Rattle.std.specs.Prelude.{ℕ, pos, ◌+◌, Bool, true, false, not, cond, List, [], map, Option, None, Some}
+use Rattle.std.specs.Prelude.{ℕ, pos, ◌+◌, Bool, true, false, not, cond, List, [], Option, None, Some}
 use Rattle.otel_common.specs.declared.attributes.KeyValue.{KeyValue}
+use Rattle.otel_common.specs.declared.metrics.Temporality.TheVariants.{Cumulative, Delta}
+use Rattle.otel_data.specs.declared.aggregated.AggregatedMetrics.TheVariants.{U64}
+use Rattle.otel_data.specs.declared.collections.Metric.{Metric}
 use Rattle.otel_model_stream.specs.Sets.{AttributeSet, set_of}
 use Rattle.otel_model_stream.specs.Folds.{Aggregate, Amount, empty_of, sample_of, wrapped}
 use Rattle.otel_model_stream.specs.Entries.{Table, Point, new_table, place, recorded_at, points, evicted}
 use Rattle.otel_model_stream.specs.Totals.{points_total}
 use Rattle.otel_aggregate.specs.Streams.{StreamState}
 use Rattle.otel_model.specs.Demands.{default_limit}
-use Rattle.otel_model.specs.Calls as model_calls
-use Rattle.otel_model.specs.Collections.{has_points, value_point}
+use Rattle.otel_model.specs.Collections.{has_points, natural, sum_of}
 use Rattle.otel_model.specs.Streams.{is_monotonic_kind}
 use Rattle.otel_model.specs.State as model
 use Rattle.otel_provider.specs.Identities.{demand_of}
-use Rattle.otel_provider.specs.Sorts.{kind_of, is_signed}
+use Rattle.otel_provider.specs.Correspondence.{kind_of}
 use Rattle.otel_provider.specs.declared.identity.Demand.{Demand}
 
 -- the sums of a stream with these entries and this start
@@ -107,17 +109,14 @@ abbrev pub finished : ℕ → Kept → Kept
 finished now k = cond k.resets (restarted now k) k
 
 -- what a collection at a moment gives of the stream, if it has points
-abbrev pub if_points : model_calls.Metric → Option model_calls.Metric
+abbrev pub if_points : Metric → Option Metric
 if_points m = cond (has_points m) (Some m) None
 
 -- what it gives, with points or without
-abbrev pub shown_metric : ℕ → Kept → model_calls.Metric
+abbrev pub shown_metric : ℕ → Kept → Metric
 shown_metric now k = record {
   name = k.demand.spelling;
   description = k.demand.identity.description;
   unit = k.demand.identity.unit;
-  signed = is_signed k.demand.identity.sort;
-  content = model_calls.Content.Sum k.resets (is_monotonic_kind (kind_of k.demand.identity.sort)) (map value_point (shown_points k));
-  start = k.since;
-  time = now;
+  content = U64 (sum_of (λ n. n) natural (cond k.resets Delta Cumulative) (is_monotonic_kind (kind_of k.demand.identity.sort)) k.since now (shown_points k));
 }

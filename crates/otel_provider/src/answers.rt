@@ -1,7 +1,9 @@
 //! What a reader answers for each kind of instrument.
 
 ghost use Rattle.std.specs.Prelude.{◌≡◌};
-ghost use Rattle.otel_provider.specs.Rows.{answers_of, answer_at};
+ghost use Rattle.otel_model.specs.Demands.{answers_by};
+ghost use Rattle.otel_provider.specs.Answers.{answer_at, answers_of};
+ghost use Rattle.otel_provider.specs.Correspondence.{kind_of};
 
 use crate::sorts::InstrumentSort;
 use otel_common::metrics::Temporality;
@@ -23,7 +25,7 @@ pub struct Answers {
 impl Answers {
     /// Asks a reader for each kind.
     pub(crate) fn of<R: MetricReader>(reader: &R) -> Answers
-        ensures { result ≡ answers_of (R.preference reader.now) }
+        ensures { answers_of result ≡ answers_by (R.preference reader.now) }
     {
         Answers {
             counter: reader.temporality(InstrumentKind::Counter),
@@ -38,7 +40,7 @@ impl Answers {
 
     /// The answer for the kind of this sort.
     pub(crate) fn at(self, sort: InstrumentSort) -> Temporality
-        ensures { result ≡ answer_at self sort }
+        ensures { result ≡ answer_at self (kind_of sort) }
     {
         match sort {
             InstrumentSort::U64Counter => self.counter,

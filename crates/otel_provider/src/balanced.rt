@@ -2,10 +2,9 @@
 
 ghost use Rattle.std.specs.Prelude.{◌≡◌, [], map, IfOk, OnErr, IsOkUnless};
 ghost use Rattle.otel_model.specs.Machine.{new_state};
-ghost use Rattle.otel_model.specs.Resources.{empty_resource};
 ghost use Rattle.otel_model.specs.Steps.{Step, Run};
 ghost use Rattle.otel_model_laws.specs.Lawful.{Balances};
-ghost use Rattle.otel_provider.specs.Shown.{call_of, reply_of};
+ghost use Rattle.otel_provider.specs.Correspondence.{call_of, reply_of};
 
 use crate::calls::{Call, Reply};
 use crate::fresh::FreshCore;
@@ -36,7 +35,7 @@ impl Model for BalancedCore {
 impl BalancedCore {
     /// The core before its first call.
     pub(crate) fn new(fresh: FreshCore) -> BalancedCore
-        ensures { result ≡ new_state empty_resource 0 fresh }
+        ensures { result ≡ new_state fresh.resource 0 fresh.readers }
     {
         BalancedCore {
             core: fresh.into_core(),

@@ -1,8 +1,7 @@
 //! What a collection gives of one reader's streams.
 
-ghost use Rattle.std.specs.Prelude.{◌≡◌, ◌++◌, [], ◌∷◌, map, OnOk, IfOk, IsOkUnless};
+ghost use Rattle.std.specs.Prelude.{◌≡◌, ◌++◌, [], ◌∷◌, OnOk, IfOk, IsOkUnless};
 ghost use Rattle.otel_provider.specs.Collections.{shown_one, shown_in, scopes_shown};
-ghost use Rattle.otel_provider.specs.Shown.{metric_of, scope_metrics_of};
 
 use crate::copies::copy_scope;
 use crate::stream::Stream;
@@ -21,7 +20,7 @@ fn push_metric(
     scope: &InstrumentationScope,
     now: u64,
 ) -> Result<(), Fault>
-    ensures metrics { OnOk result (map metric_of metrics.new.items ≡ map metric_of metrics.old.items ++ shown_one scope.now now stream.now) }
+    ensures metrics { OnOk result (metrics.new.items ≡ metrics.old.items ++ shown_one scope.now now stream.now) }
     ensures only_memory { IsOkUnless result Fault.OutOfMemory }
 {
     if stream.demand().identity.scope != *scope {
@@ -40,7 +39,7 @@ pub(crate) fn metrics_of(
     scope: &InstrumentationScope,
     now: u64,
 ) -> Result<Vec<Metric>, Fault>
-    ensures metrics { IfOk result (λ metrics. map metric_of metrics.items ≡ shown_in scope.now now streams.now) }
+    ensures metrics { IfOk result (λ metrics. metrics.items ≡ shown_in scope.now now streams.now) }
     ensures only_memory { IsOkUnless result Fault.OutOfMemory }
 {
     let mut metrics = Vec::new(alloc);
@@ -58,7 +57,7 @@ fn push_scope(
     scope: &InstrumentationScope,
     now: u64,
 ) -> Result<(), Fault>
-    ensures scopes { OnOk result (map scope_metrics_of scopes.new.items ≡ map scope_metrics_of scopes.old.items ++ scopes_shown now streams.now (scope.now ∷ [])) }
+    ensures scopes { OnOk result (scopes.new.items ≡ scopes.old.items ++ scopes_shown now streams.now (scope.now ∷ [])) }
     ensures only_memory { IsOkUnless result Fault.OutOfMemory }
 {
     let metrics = metrics_of(alloc, streams, scope, now)?;
@@ -77,7 +76,7 @@ pub(crate) fn scopes_of(
     meters: &IndexSet<InstrumentationScope>,
     now: u64,
 ) -> Result<Items<ScopeMetrics>, Fault>
-    ensures scopes { IfOk result (λ scopes. map scope_metrics_of scopes ≡ scopes_shown now streams.now meters.now.keys) }
+    ensures scopes { IfOk result (λ scopes. scopes ≡ scopes_shown now streams.now meters.now.keys) }
     ensures only_memory { IsOkUnless result Fault.OutOfMemory }
 {
     let mut scopes = Vec::new(alloc);

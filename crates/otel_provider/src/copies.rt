@@ -2,6 +2,8 @@
 
 ghost use Rattle.std.specs.Prelude.{◌≡◌, IfOk};
 
+use otel_common::laws::resource_laws;
+use otel_common::resource::Resource;
 use otel_common::scopes::InstrumentationScope;
 use otel_common::strings::StringValue;
 use std::alloc::AllocError;
@@ -16,4 +18,11 @@ pub(crate) fn copy_scope(scope: &InstrumentationScope) -> Result<Instrumentation
     ensures { IfOk result (λ c. c ≡ scope.now) }
 {
     scope.clone()
+}
+
+pub(crate) fn copy_resource(resource: &Resource) -> Result<Resource, AllocError>
+    ensures { IfOk result (λ c. c ≡ resource.now) }
+{
+    resource_laws();
+    resource.clone()
 }

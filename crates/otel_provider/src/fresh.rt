@@ -3,7 +3,7 @@
 ghost use Rattle.std.specs.Prelude.{◌≡◌, ◌++◌, ◌∷◌, [], IfOk, IsOkUnless};
 ghost use Rattle.otel_model.specs.Machine.{new_state};
 ghost use Rattle.otel_model.specs.Resources.{empty_resource};
-ghost use Rattle.otel_provider.specs.Rows.{row_of};
+ghost use Rattle.otel_provider.specs.Answers.{answers_of};
 
 use crate::answers::Answers;
 use crate::provider_core::Core;
@@ -18,22 +18,21 @@ pub struct FreshCore {
 }
 
 impl Model for FreshCore {
-    ghost use Rattle.std.specs.Prelude.{List, ◌≡◌, map};
-    ghost use Rattle.otel_model.specs.Demands.{Row};
+    ghost use Rattle.std.specs.Prelude.{◌≡◌, map};
     ghost use Rattle.otel_model.specs.Machine.{new_state};
-    ghost use Rattle.otel_model.specs.Resources.{empty_resource};
+    ghost use Rattle.otel_provider.specs.Fresh.{Fresh};
 
-    ghost Value = { List Row };
+    ghost Value = { Fresh };
 
-    ghost view = { λ f. map (λ p. p.row) f.core.readers };
+    ghost view = { λ f. record { resource = f.core.shared.resource; readers = map (λ p. p.answers) f.core.readers } };
 
-    ghost invariant = { λ f. f.core ≡ new_state empty_resource 0 (map (λ p. p.row) f.core.readers) };
+    ghost invariant = { λ f. f.core ≡ new_state f.core.shared.resource 0 (map (λ p. p.answers) f.core.readers) };
 }
 
 impl FreshCore {
-    /// Without readers. Takes no memory.
+    /// With the empty resource, and without readers. Takes no memory.
     pub(crate) fn new(alloc: Global) -> FreshCore
-        ensures { result ≡ [] }
+        ensures { result ≡ record { resource = empty_resource; readers = [] } }
     {
         FreshCore {
             core: Core::new(alloc),
@@ -42,7 +41,7 @@ impl FreshCore {
 
     /// With a reader more, which answered this.
     pub(crate) fn with_reader(self, answers: Answers) -> Result<FreshCore, Fault>
-        ensures rows { IfOk result (λ f. f ≡ self ++ row_of answers ∷ []) }
+        ensures reader { IfOk result (λ f. f ≡ record { resource = self.resource; readers = self.readers ++ answers_of answers ∷ [] }) }
         ensures only_memory { IsOkUnless result Fault.OutOfMemory }
     {
         let FreshCore { core } = self;
@@ -52,7 +51,7 @@ impl FreshCore {
 
     /// The core of a provider with these readers.
     pub(crate) fn into_core(self) -> Core
-        ensures { result ≡ new_state empty_resource 0 self }
+        ensures { result ≡ new_state self.resource 0 self.readers }
     {
         let FreshCore { core } = self;
         core

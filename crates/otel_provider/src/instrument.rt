@@ -4,7 +4,7 @@ ghost use Rattle.std.specs.Prelude.{◌≡◌, Some, None, OnOk, IfErr, MatchRes
 ghost use Rattle.otel_model.specs.Machine.{accepted};
 ghost use Rattle.otel_model.specs.Refusals.{record_refusal};
 ghost use Rattle.otel_provider.specs.Instruments.{new_state};
-ghost use Rattle.otel_provider.specs.Shown.{number_of};
+ghost use Rattle.otel_provider.specs.Correspondence.{number_of};
 ghost use Rattle.otel_provider.specs.States.{IsFault, IsNamed, IsNumber};
 ghost use Rattle.otel_provider.specs.Streams.{amount};
 
@@ -23,7 +23,7 @@ pub(crate) struct Instrument {
 
 impl Model for Instrument {
     ghost use Rattle.otel_model.specs.State.{InstrumentState};
-    ghost use Rattle.otel_provider.specs.Sorts.{kind_of, is_signed};
+    ghost use Rattle.otel_provider.specs.Correspondence.{kind_of, is_signed};
 
     ghost Value = { InstrumentState };
 

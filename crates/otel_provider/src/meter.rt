@@ -4,7 +4,7 @@ ghost use Rattle.std.specs.Prelude.{◌≡◌, not, nat_lt};
 ghost use Rattle.std.specs.List.{list_any};
 ghost use Rattle.std.specs.Option.{option_map};
 ghost use Rattle.otel_model.specs.Checks.{name_fault, name_fault_text, optional_unit_fault, unit_fault_text, starts_badly, is_name_byte};
-ghost use Rattle.otel_provider.specs.Validations.{IsAnswer};
+ghost use Rattle.otel_provider.specs.Correspondence.{IsAnswer};
 
 use otel_common::metrics::MetricError;
 

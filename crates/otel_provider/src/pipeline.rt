@@ -11,10 +11,10 @@ ghost use Rattle.otel_provider.specs.Collections.{IsCollectedFrom};
 ghost use Rattle.otel_provider.specs.Identities.{identity_test};
 ghost use Rattle.otel_provider.specs.Pipelines.{part_of, planned_from, built, IsPlanned, IsReadyFor, IsStagedFor, recorded};
 ghost use Rattle.otel_provider.specs.Plans.{planned_of};
-ghost use Rattle.otel_provider.specs.Shown.{collection_of};
 
 use crate::answers::Answers;
 use crate::collecting::scopes_of;
+use crate::copies::copy_resource;
 use crate::identity::{Demand, Identity};
 use crate::stream::Stream;
 use crate::streams::{commit_each, finish_each, stage_each};
@@ -22,6 +22,7 @@ use indexmap::IndexSet;
 use otel_common::attributes::KeyValue;
 use otel_common::faults::Fault;
 use otel_common::lists::Items;
+use otel_common::resource::Resource;
 use otel_common::scopes::InstrumentationScope;
 use otel_data::collections::ResourceMetrics;
 use std::alloc::Global;
@@ -217,19 +218,21 @@ impl Pipeline {
         );
     }
 
-    /// Makes a collection at a moment, by the scopes of these meters.
+    /// Makes a collection at a moment, from the resource, by the scopes of these meters.
     pub(crate) fn collect(
         &mut self,
+        resource: &Resource,
         meters: &IndexSet<InstrumentationScope>,
         now: u64,
     ) -> Result<ResourceMetrics, Fault>
-        ensures collection { IfOk result (λ c. IsCollectedFrom meters.now.keys now (part_of self.old) (collection_of c)) }
+        ensures collection { IfOk result (λ c. IsCollectedFrom resource.now meters.now.keys now (part_of self.old) c) }
         ensures ok { OnOk result ((r : ℕ) → part_of self.new ≡ part_sent 0 (model.Call.Collect r now []) (part_of self.old)) }
         ensures err { OnErr result (part_of self.new ≡ part_of self.old) }
         ensures only_memory { IsOkUnless result Fault.OutOfMemory }
     {
         let scopes = scopes_of(self.alloc, &self.streams, meters, now)?;
+        let resource = copy_resource(resource)?;
         finish_each(&mut self.streams, now);
-        Ok(ResourceMetrics::new(scopes))
+        Ok(ResourceMetrics::new(resource, scopes))
     }
 }

@@ -1,15 +1,15 @@
 //! The provider and its builder.
 
 ghost use Rattle.std.specs.Prelude.{◌≡◌, ◌++◌, ◌∷◌, [], map, IfOk, OnErr, IsOkAnd, IsOkUnless};
+ghost use Rattle.otel_model.specs.Demands.{answers_by};
 ghost use Rattle.otel_model.specs.Laws.{HasStreamsOfBuilds, HasFeedsOfBuilds, HasPlacesOfHistories, HasCountedOfHistories, IsGivenCollections, IsAnsweredAsOnly, HasRecordedTotal, HasExportedTotal, Conserves, HasAccepted, HasAllShown, HasFewPoints};
 ghost use Rattle.otel_model.specs.Machine.{new_state};
 ghost use Rattle.otel_model.specs.Resources.{empty_resource};
 ghost use Rattle.otel_model.specs.Steps.{Step, Run};
 ghost use Rattle.otel_model_laws.specs.Lawful.{Balances};
 ghost use Rattle.otel_provider.specs.Headline.{OfReaders, OfStreams, OfAnswers, InAnyOrder};
-ghost use Rattle.otel_provider.specs.Providers.{state_of, rows_of, builder_boxes, provider_boxes};
-ghost use Rattle.otel_provider.specs.Shown.{call_of, reply_of};
-ghost use Rattle.otel_provider.specs.Rows.{row_of, answers_of};
+ghost use Rattle.otel_provider.specs.Providers.{state_of, resource_of, answers_of_readers, builder_boxes, provider_boxes};
+ghost use Rattle.otel_provider.specs.Correspondence.{call_of, reply_of};
 
 use crate::answers::Answers;
 use crate::balanced::BalancedCore;
@@ -40,7 +40,8 @@ impl MeterProviderBuilder {
     ///
     /// Refused only for want of memory; then the builder is given up. Takes memory twice at most.
     pub fn with_reader(self, reader: Box<dyn MetricReader>) -> Result<Self, Fault>
-        ensures rows { IfOk result (λ b. rows_of b ≡ rows_of self ++ row_of (answers_of (⟦<Box<dyn MetricReader> as MetricReader>⟧.preference reader)) ∷ []) }
+        ensures answers { IfOk result (λ b. answers_of_readers b ≡ answers_of_readers self ++ answers_by (⟦<Box<dyn MetricReader> as MetricReader>⟧.preference reader) ∷ []) }
+        ensures resource { IfOk result (λ b. resource_of b ≡ resource_of self) }
         ensures kept { IfOk result (λ b. builder_boxes b ≡ builder_boxes self ++ reader ∷ []) }
         ensures only_memory { IsOkUnless result Fault.OutOfMemory }
     {
@@ -51,10 +52,10 @@ impl MeterProviderBuilder {
         Ok(MeterProviderBuilder { core, readers })
     }
 
-    /// The provider, without meters and instruments, and with the readers of the builder. It always
-    /// succeeds, and takes no memory.
+    /// The provider, without meters and instruments, and with the resource and the readers of the builder. It
+    /// always succeeds, and takes no memory.
     pub fn build(self) -> Result<SdkMeterProvider, Fault>
-        ensures state { IsOkAnd result (λ p. state_of p ≡ new_state empty_resource 0 (rows_of self)) }
+        ensures state { IsOkAnd result (λ p. state_of p ≡ new_state (resource_of self) 0 (answers_of_readers self)) }
         ensures kept { IfOk result (λ p. provider_boxes p ≡ builder_boxes self) }
     {
         let MeterProviderBuilder { core, readers } = self;
@@ -64,9 +65,10 @@ impl MeterProviderBuilder {
 }
 
 impl SdkMeterProvider {
-    /// A builder of a provider without readers. Takes no memory.
+    /// A builder of a provider with the empty resource and without readers. Takes no memory.
     pub fn builder(alloc: Global) -> MeterProviderBuilder
-        ensures rows { rows_of result ≡ [] }
+        ensures answers { answers_of_readers result ≡ [] }
+        ensures resource { resource_of result ≡ empty_resource }
         ensures kept { builder_boxes result ≡ [] }
     {
         MeterProviderBuilder {
@@ -85,7 +87,8 @@ impl SdkMeterProvider {
     ///   where they are sorted by key, no key twice, and have a point there. Else it sorts a copy and looks
     ///   that up, and a new set takes memory besides. Without attributes there is no look-up, and the call
     ///   is never refused for memory. It is made in all streams or in none.
-    /// - `Collect` goes over the reader's streams once for each meter, and copies each set that is shown.
+    /// - `Collect` goes over the reader's streams once for each meter, and copies the resource and each set that
+    ///   is shown.
     ///   Then the streams whose reader wants `Delta` start again, which takes no memory; nothing else
     ///   changes, and other readers' streams never.
     pub fn step(&mut self, call: &Call) -> Reply

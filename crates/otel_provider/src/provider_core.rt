@@ -8,10 +8,10 @@ ghost use Rattle.otel_model.specs.Machine.{new_state, new_part};
 ghost use Rattle.otel_model.specs.Refusals.{record_refusal};
 ghost use Rattle.otel_model.specs.Resources.{empty_resource};
 ghost use Rattle.otel_model.specs.Steps.{Step, Run};
-ghost use Rattle.otel_provider.specs.Shown.{about, number_of, call_of, reply_of, collection_of};
+ghost use Rattle.otel_provider.specs.Answers.{answers_of};
+ghost use Rattle.otel_provider.specs.Correspondence.{about, number_of, call_of, reply_of};
 ghost use Rattle.otel_provider.specs.States.{IsMade, IsFault, IsFaultOf, IsNamed, IsBuilt, IsScopeOf, IsNoMeter, IsValueFor, wanted};
 ghost use Rattle.otel_provider.specs.declared.sorts.InstrumentSort.{InstrumentSort};
-ghost use Rattle.otel_provider.specs.Rows.{row_of};
 
 use crate::answers::Answers;
 use crate::calls::{Call, Reply};
@@ -26,6 +26,7 @@ use indexmap::IndexSet;
 use otel_common::attributes::KeyValue;
 use otel_common::faults::Fault;
 use otel_common::lists::Items;
+use otel_common::resource::Resource;
 use otel_common::scopes::InstrumentationScope;
 use otel_common::strings::StringValue;
 use otel_data::collections::ResourceMetrics;
@@ -33,10 +34,11 @@ use otel_data::numbers::NumberValue;
 use std::alloc::Global;
 use std::marker::Model;
 
-/// The meters, the instruments, and the streams of each reader.
+/// The resource, the meters, the instruments, and the streams of each reader.
 #[derive(Drop)]
 pub struct Core {
     alloc: Global,
+    resource: Resource,
     meters: IndexSet<InstrumentationScope>,
     instruments: Vec<Instrument>,
     pipelines: Vec<Pipeline>,
@@ -48,7 +50,7 @@ impl Model for Core {
 
     ghost Value = { State };
 
-    ghost view = { λ c. state_of c.meters.keys c.instruments.items c.pipelines.items };
+    ghost view = { λ c. state_of c.resource c.meters.keys c.instruments.items c.pipelines.items };
 }
 
 /// Whether the name and the unit of an instrument are good.
@@ -115,12 +117,13 @@ fn value_for(
 }
 
 impl Core {
-    /// No meters, no instruments and no readers. Takes no memory.
+    /// The empty resource, no meters, no instruments and no readers. Takes no memory.
     pub(crate) fn new(alloc: Global) -> Core
         ensures { result ≡ new_state empty_resource 0 [] }
     {
         Core {
             alloc,
+            resource: Resource::builder_empty(alloc).build(),
             meters: IndexSet::new(alloc),
             instruments: Vec::new(alloc),
             pipelines: Vec::new(alloc),
@@ -129,7 +132,7 @@ impl Core {
 
     /// A reader more, without streams, which answered this.
     pub(crate) fn with_reader(self, answers: Answers) -> Result<Core, Fault>
-        ensures reader { IfOk result (λ core. core ≡ record { shared = self.shared; readers = self.readers ++ new_part (row_of answers) ∷ [] }) }
+        ensures reader { IfOk result (λ core. core ≡ record { shared = self.shared; readers = self.readers ++ new_part (answers_of answers) ∷ [] }) }
         ensures only_memory { IsOkUnless result Fault.OutOfMemory }
     {
         let mut core = self;
@@ -212,14 +215,14 @@ impl Core {
 
     /// Makes a collection of a reader at a moment.
     fn collect(&mut self, reader: usize, now: u64) -> Result<ResourceMetrics, Fault>
-        ensures ok { IfOk result (λ c. IsMade self.old (model.Call.Collect reader now []) (model.Reply.Collected (collection_of c)) self.new) }
+        ensures ok { IfOk result (λ c. IsMade self.old (model.Call.Collect reader now []) (model.Reply.Collected c) self.new) }
         ensures err { OnErr result (self.new ≡ self.old) }
         ensures fault { IfErr result (IsFaultOf self.old (model.Call.Collect reader now [])) }
     {
         let Some(pipeline) = self.pipelines.get_mut(reader) else {
             return Err(Fault::UnknownReader);
         };
-        pipeline.collect(&self.meters, now)
+        pipeline.collect(&self.resource, &self.meters, now)
     }
 
     fn step_meter(&mut self, scope: &InstrumentationScope) -> Reply

@@ -1,8 +1,6 @@
 //! One stream of one reader.
 
 ghost use Rattle.std.specs.Prelude.{◌≡◌, [], Some, IfOk, IsOk, OnOk, IsOkUnless};
-ghost use Rattle.std.specs.Option.{option_map};
-ghost use Rattle.otel_provider.specs.Shown.{metric_of};
 ghost use Rattle.otel_provider.specs.Streams.{new_kept, staged_set, settled, committed, finished, shown_metric, if_points};
 ghost use Rattle.otel_aggregate.specs.Streams.{resets_of};
 
@@ -109,7 +107,7 @@ impl Stream {
 
     /// What a collection at a moment gives of the stream, if it has points.
     pub(crate) fn metric(&self, alloc: Global, now: u64) -> Result<Option<Metric>, Fault>
-        ensures metric { IfOk result (λ m. option_map metric_of m ≡ if_points (shown_metric now self.now)) }
+        ensures metric { IfOk result (λ m. m ≡ if_points (shown_metric now self.now)) }
         ensures only_memory { IsOkUnless result Fault.OutOfMemory }
     {
         let sum = self.sum.points(alloc, now)?;

@@ -1,6 +1,6 @@
 use Rattle.std.proofs.Common.{◌∙◌, ap, map, []}
 use Rattle.otel_model.specs.Machine.{built as model_built}
-use Rattle.otel_provider.specs.Shown.{about}
+use Rattle.otel_provider.specs.Correspondence.{about}
 use Rattle.otel_provider.proofs.StepLemmas.{all_built, ready_wanted}
 use Rattle.otel_provider.proofs.pipelines.build_or_none.Goals as goal
 

@@ -1,9 +1,8 @@
 use Rattle.std.proofs.Common.{subst, sym}
-use Rattle.otel_model.specs.Resources.{empty_resource}
 use Rattle.otel_model_laws.specs.Lawful.{IsLawful}
 use Rattle.otel_model_laws.proofs.Booked.{first_lawful}
 use Rattle.otel_provider.proofs.balanced.BalancedCore.new.Goals as goal
 
 -- a provider is lawful as it is built
 pub invariant_of-result : goal.invariant_of-result
-invariant_of-result c = subst IsLawful (sym c.into_core.ensures) (first_lawful empty_resource 0 c.args.fresh)
+invariant_of-result c = subst IsLawful (sym c.into_core.ensures) (first_lawful c.args.fresh.resource 0 c.args.fresh.readers)

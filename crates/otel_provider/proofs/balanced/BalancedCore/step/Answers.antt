@@ -1,5 +1,5 @@
 use Rattle.otel_model_laws.proofs.Booked.{balances_law}
-use Rattle.otel_provider.specs.Shown.{call_of, reply_of}
+use Rattle.otel_provider.specs.Correspondence.{call_of, reply_of}
 use Rattle.otel_provider.proofs.Lawful.{lawful-step}
 use Rattle.otel_provider.proofs.balanced.BalancedCore.step.Goals as goal
 

@@ -1,7 +1,6 @@
-use Rattle.std.proofs.Common.{◌≡◌, ◌∙◌, ap, sym, subst, refl, rules}
+use Rattle.std.proofs.Common.{◌≡◌, ◌∙◌, ap, sym, subst, rules}
 use Rattle.otel_provider.specs.Collections.{scopes_shown, IsCollectedFrom}
 use Rattle.otel_provider.specs.Pipelines.{Piped, part_of, stream_identities, finished_all}
-use Rattle.otel_provider.specs.Shown.{collection_of}
 use Rattle.otel_provider.proofs.Answered.{answered-settled, answered-finished}
 use Rattle.otel_provider.proofs.Collects.{collected-is, part-finished}
 use Rattle.otel_provider.proofs.PipelineLemmas.{identities-settled, identities-finished, length-from, numbers-kept}
@@ -22,9 +21,10 @@ invariant_of-self c =
 
 pub returns-clause-collection : goal.returns-clause-collection
 returns-clause-collection c =
-    let scopes : (collection_of c.new.result).scopes ≡ scopes_shown c.args.now c.self.inside.streams.items c.args.meters.now.keys = search rules in
-    subst (λ (p : Piped). IsCollectedFrom c.args.meters.now.keys c.args.now (part_of p) (collection_of c.new.result)) c.self.view_is
-    (collected-is c.args.meters.now.keys c.args.now c.self.inside.answers c.self.inside.streams.items c.self.inside.feeds.items (collection_of c.new.result) c.self.invariant.2 refl scopes)
+    let scopes : c.new.result.scope_metrics ≡ scopes_shown c.args.now c.self.inside.streams.items c.args.meters.now.keys = search rules in
+    let resource : c.new.result.resource ≡ c.args.resource.now = search rules in
+    subst (λ (p : Piped). IsCollectedFrom c.args.resource.now c.args.meters.now.keys c.args.now (part_of p) c.new.result) c.self.view_is
+    (collected-is c.args.resource.now c.args.meters.now.keys c.args.now c.self.inside.answers c.self.inside.streams.items c.self.inside.feeds.items c.new.result c.self.invariant.2 resource scopes)
 
 pub returns-clause-ok : goal.returns-clause-ok
 returns-clause-ok c = λ r. rw (← c.self.view_is) (part-finished c.self.inside.answers 0 r c.args.now c.self.inside.streams.items c.finish_each.new.streams.items c.self.inside.feeds.items c.self.invariant.2 c.finish_each.ensures)

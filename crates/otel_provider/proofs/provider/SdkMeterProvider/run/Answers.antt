@@ -44,9 +44,9 @@ returns-clause-order g c = IfOk-weaker c.run.result _ _ (λ replies is. in_any_o
 pub returns-clause-few : goal.returns-clause-few
 returns-clause-few g c =
     IfOk-weaker c.run.result _ _ (λ replies is.
-    of_readers HasFewPoints (λ views resource identity rows calls replies new run r row part at found d events. few_law views row r d (made calls replies) events) c.args.self.now.core c.run.new.self c.args.calls.now replies.items is) c.run.ensures.run
+    of_readers HasFewPoints (λ views resource identity readers calls replies new run r answers part at found d events. few_law views answers r d (made calls replies) events) c.args.self.now.core c.run.new.self c.args.calls.now replies.items is) c.run.ensures.run
 
 pub returns-clause-all_shown : goal.returns-clause-all_shown
 returns-clause-all_shown g c =
     IfOk-weaker c.run.result _ _ (λ replies is.
-    of_readers HasAllShown (λ views resource identity rows calls replies new run r row part at found d events. all_shown_law views row r d (made calls replies) events) c.args.self.now.core c.run.new.self c.args.calls.now replies.items is) c.run.ensures.run
+    of_readers HasAllShown (λ views resource identity readers calls replies new run r answers part at found d events. all_shown_law views answers r d (made calls replies) events) c.args.self.now.core c.run.new.self c.args.calls.now replies.items is) c.run.ensures.run

@@ -1,7 +1,6 @@
 use Rattle.std.proofs.Common.{◌≡◌, refl, Some, slice_get, arith}
 use Rattle.otel_provider.proofs.Outcomes.{IfOk-both, OnErr-weaker}
 use Rattle.otel_provider.proofs.Collects.{get-at, collection-made, set-seen, set-unseen}
-use Rattle.otel_provider.specs.Shown.{collection_of}
 use Rattle.otel_provider.specs.States.{shared_of}
 use Rattle.otel_provider.proofs.provider_core.Core.collect.Goals as goal
 
@@ -10,7 +9,7 @@ returns-clause-ok c =
     let ps = c.self.inside.pipelines.items in
     let at : slice_get ps c.args.reader ≡ Some c.in-Some.pipeline.now = get-at ps c.args.reader c.in-Some.pipeline.now (omega (arith, c.in-Some.ensures.variant.0 refl, c.self.inside.pipelines.ok.0)) c.in-Some.ensures.value in
     rw (← c.self.view_is)
-    (IfOk-both c.collect.result (λ x given left. collection-made c.self.inside.meters.keys c.self.inside.instruments.items ps _ c.args.reader c.args.now c.in-Some.pipeline.now (collection_of x) at given (set-seen _ ps c.args.reader c.in-Some.pipeline.now c.collect.new.self at (left c.args.reader)))
+    (IfOk-both c.collect.result (λ x given left. collection-made c.self.inside.resource c.self.inside.meters.keys c.self.inside.instruments.items ps _ c.args.reader c.args.now c.in-Some.pipeline.now x at given (set-seen _ ps c.args.reader c.in-Some.pipeline.now c.collect.new.self at (left c.args.reader)))
     c.collect.ensures.collection c.collect.ensures.ok)
 
 pub returns-clause-err : goal.returns-clause-err
@@ -18,4 +17,4 @@ returns-clause-err c =
     let ps = c.self.inside.pipelines.items in
     let at : slice_get ps c.args.reader ≡ Some c.in-Some.pipeline.now = get-at ps c.args.reader c.in-Some.pipeline.now (omega (arith, c.in-Some.ensures.variant.0 refl, c.self.inside.pipelines.ok.0)) c.in-Some.ensures.value in
     rw (← c.self.view_is)
-    (OnErr-weaker c.collect.result (λ same. λ i. record { shared = shared_of c.self.inside.meters.keys c.self.inside.instruments.items; readers = set-unseen ps c.args.reader c.in-Some.pipeline.now c.collect.new.self at same i }) c.collect.ensures.err)
+    (OnErr-weaker c.collect.result (λ same. λ i. record { shared = shared_of c.self.inside.resource c.self.inside.meters.keys c.self.inside.instruments.items; readers = set-unseen ps c.args.reader c.in-Some.pipeline.now c.collect.new.self at same i }) c.collect.ensures.err)

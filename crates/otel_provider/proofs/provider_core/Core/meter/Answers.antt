@@ -16,5 +16,5 @@ returns-clause-ok c =
     let first : c.in_ok-number.number ≡ position_or_len (scope_eq scope) keys = c.in_ok-number.ensures.index ∙ ap (λ s. position_or_len (scope_eq s) keys) copy in
     rw (← c.self.view_is) (record {
       answer = ap model.Reply.Meter (meter_number scope keys c.in_ok-number.number first);
-      state = ap (λ ks. state_of ks c.self.inside.instruments.items c.self.inside.pipelines.items) (c.in_ok-number.ensures.keys ∙ (ap (λ s. cond (list_any (scope_eq s) keys) keys (keys ++ s ∷ [])) copy ∙ ap (λ b. cond b keys (keys ++ scope ∷ [])) (sym (has_scope-flip scope keys))));
+      state = ap (λ ks. state_of c.self.inside.resource ks c.self.inside.instruments.items c.self.inside.pipelines.items) (c.in_ok-number.ensures.keys ∙ (ap (λ s. cond (list_any (scope_eq s) keys) keys (keys ++ s ∷ [])) copy ∙ ap (λ b. cond b keys (keys ++ scope ∷ [])) (sym (has_scope-flip scope keys))));
     })

@@ -4,7 +4,7 @@ use Rattle.otel_model.specs.Machine.{accepted, part_sent}
 use Rattle.otel_model.specs.Refusals.{record_refusal}
 use Rattle.otel_model.specs.State.{InstrumentState}
 use Rattle.otel_provider.specs.Pipelines.{part_of}
-use Rattle.otel_provider.specs.Shown.{number_of}
+use Rattle.otel_provider.specs.Correspondence.{number_of}
 use Rattle.otel_provider.specs.States.{IsValueFor}
 use Rattle.otel_provider.specs.Streams.{amount}
 use Rattle.otel_provider.proofs.StepLemmas.{lent_back, record-made}
@@ -21,7 +21,7 @@ returns-clause-ok c =
     let fits : record_refusal (slice_get instruments n) (number_of c.args.value).signed ≡ None = ap (λ is. record_refusal (slice_get is n) (number_of c.args.value).signed) (sym c.deref.ensures.value) ∙ for_it.fits in
     let there : n < length instruments = omega (arith, for_it.there, ap length c.deref.ensures.value) in
     rw (← c.self.view_is)
-    (record-made c.self.inside.meters.keys instruments _ c.self.inside.pipelines.items _ n bits (number_of c.args.value) c.args.attributes.now for_it.is fits
+    (record-made c.self.inside.resource c.self.inside.meters.keys instruments _ c.self.inside.pipelines.items _ n bits (number_of c.args.value) c.args.attributes.now for_it.is fits
     (set-changed (accepted (amount bits)) instruments n c.index_mut.result.now c.accept.new.self there c.index_mut.ensures.value c.accept.ensures)
     (ap (map part_of) (lent_back c.self.inside.pipelines.len c.record_or_none.new.pipelines _ (omega arith))
     ∙ (c.in_ok-record_or_none.ensures.ok ∙ ap (λ ps. map (part_sent 0 (model.Call.Record n (record { signed = false; amount = amount bits }) c.args.attributes.now)) (map part_of ps)) c.deref_mut.ensures.value)))

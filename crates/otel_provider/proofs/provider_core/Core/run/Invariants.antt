@@ -1,7 +1,7 @@
 use Rattle.std.proofs.Common.{◌≡◌, ◌≤◌, [], length, map, take, vec_len}
 use Rattle.std.specs.Prelude.{vec_capacity}
 use Rattle.otel_model.specs.Steps.{Run}
-use Rattle.otel_provider.specs.Shown.{call_of, reply_of}
+use Rattle.otel_provider.specs.Correspondence.{call_of, reply_of}
 use Rattle.otel_provider.proofs.provider_core.Core.run.Given as goal
 
 -- a reply to each call so far, as the machine gives it, and room for the others

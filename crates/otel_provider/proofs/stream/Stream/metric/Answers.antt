@@ -2,7 +2,6 @@ use Rattle.std.proofs.Common.{◌≡◌, ◌<◌, ◌∙◌, ap, length, true, S
 use Rattle.std.proofs.lemmas.Bool.{lt-ltb}
 use Rattle.otel_data.specs.declared.aggregated.AggregatedMetrics.TheVariants as metrics
 use Rattle.otel_model.specs.Collections.{has_points}
-use Rattle.otel_provider.specs.Shown.{metric_of}
 use Rattle.otel_provider.specs.Streams.{Kept, shown_metric}
 use Rattle.otel_provider.proofs.Metrics.{metric-made, some-made, has_points-shown, made_of}
 use Rattle.otel_provider.proofs.stream.Stream.metric.Goals as goal
@@ -17,4 +16,4 @@ returns-clause-metric c =
     let some : 0 < length sum.data_points = omega (arith, c.if-len-eq0.false, c.len.ensures.value, ap length c.data_points.ensures) in
     let there : has_points (shown_metric c.args.now k) ≡ true =
     has_points-shown k c.args.now c.self.inside.sum.state sum c.self.invariant c.in_ok-sum.ensures.data ∙ lt-ltb 0 (length sum.data_points) some in
-    rw (← c.self.view_is) (ap Some (ap metric_of parts ∙ metric-made k c.args.now c.self.inside.sum.state sum c.self.invariant c.in_ok-sum.ensures.data) ∙ some-made (shown_metric c.args.now k) there)
+    rw (← c.self.view_is) (ap Some (parts ∙ metric-made k c.args.now c.self.inside.sum.state sum c.self.invariant c.in_ok-sum.ensures.data) ∙ some-made (shown_metric c.args.now k) there)

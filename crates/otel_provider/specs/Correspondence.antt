@@ -1,0 +1,66 @@
+-- What the code's own values are in the words of the model, by cases. These words are believed: no contract says
+-- that they are right. Tests of `opentelemetry_sdk` and `metrics_run` send each call and look at each reply, fault
+-- and message, and edits of must-fail/ swap their parts.
+use Rattle.std.specs.Prelude.{◌≡◌, ℕ, pos, Bool, false, true, List, [], Option, None, Some, Result, Ok, Err}
+use Rattle.std.specs.Int.{cast_unsigned, w64}
+use Rattle.otel_common.specs.declared.faults.Fault.{Fault}
+use Rattle.otel_common.specs.declared.faults.Fault.TheVariants as fault
+use Rattle.otel_common.specs.declared.metrics.MetricError.{MetricError}
+use Rattle.otel_common.specs.declared.metrics.MetricError.TheVariants.{InvalidInstrumentConfiguration}
+use Rattle.otel_data.specs.declared.numbers.NumberValue.{NumberValue}
+use Rattle.otel_data.specs.declared.numbers.NumberValue.TheVariants as number
+use Rattle.otel_model.specs.Calls as model
+use Rattle.otel_provider.specs.declared.calls.Call.{Call}
+use Rattle.otel_provider.specs.declared.calls.Call.TheVariants.{Meter, Build, Record, Collect}
+use Rattle.otel_provider.specs.declared.calls.Reply.{Reply}
+use Rattle.otel_provider.specs.declared.calls.Reply.TheVariants as reply
+use Rattle.otel_provider.specs.declared.sorts.InstrumentSort.{InstrumentSort}
+use Rattle.otel_provider.specs.declared.sorts.InstrumentSort.TheVariants.{U64Counter}
+
+-- ======== instruments ========
+abbrev pub kind_of : InstrumentSort → model.InstrumentKind
+kind_of U64Counter = model.Counter
+
+abbrev pub is_signed : InstrumentSort → Bool
+is_signed U64Counter = false
+
+abbrev pub about : InstrumentSort → List ℕ → Option (List ℕ) → Option (List ℕ) → model.About
+about sort name description unit = record { kind = kind_of sort; signed = is_signed sort; name = name; description = description; unit = unit; bounds = None }
+
+-- ======== calls ========
+abbrev pub number_of : NumberValue → model.Number
+number_of (number.U64 n) = record { signed = false; amount = record { bits = n; wide = pos n } }
+number_of (number.I64 z) = record { signed = true; amount = record { bits = cast_unsigned w64 z; wide = z } }
+
+abbrev pub call_of : Call → model.Call
+call_of (Meter scope) = model.Call.Meter scope
+call_of (Build meter sort name description unit now) = model.Call.Build meter (about sort name description unit) now
+call_of (Record instrument value attributes) = model.Call.Record instrument (number_of value) attributes
+call_of (Collect reader now) = model.Call.Collect reader now []
+
+-- ======== replies ========
+abbrev pub fault_of : Fault → model.Fault
+fault_of fault.OutOfMemory = model.Fault.OutOfMemory
+fault_of fault.UnknownMeter = model.Fault.UnknownMeter
+fault_of fault.UnknownInstrument = model.Fault.UnknownInstrument
+fault_of fault.UnknownReader = model.Fault.UnknownReader
+fault_of fault.WrongNumber = model.Fault.WrongNumber
+
+abbrev pub reply_of : Reply → model.Reply
+reply_of (reply.Meter number) = model.Reply.Meter number
+reply_of (reply.Instrument number) = model.Reply.Instrument number
+reply_of reply.Done = model.Reply.Done
+reply_of (reply.Collected collection) = model.Reply.Collected collection
+reply_of (reply.Refused f) = model.Reply.Refused (fault_of f)
+
+-- ======== checks ========
+-- nothing is wrong, or an invalid instrument configuration with this text is the answer
+abbrev pub IsAnswer : Option (List ℕ) → Result (Unit {0}) MetricError → Type 0
+IsAnswer None (Ok _) = Unit {0}
+IsAnswer None (Err e) = ⊥
+IsAnswer (Some text) (Ok _) = ⊥
+IsAnswer (Some text) (Err e) = IsInvalid e text
+  where
+    IsInvalid : MetricError → List ℕ → Type 0
+    IsInvalid (InvalidInstrumentConfiguration message) text = message.now ≡ text
+    IsInvalid _ text = ⊥
