@@ -20,17 +20,12 @@ use Rattle.otel_data.specs.declared.points.HistogramDataPoint.{HistogramDataPoin
 use Rattle.otel_data.specs.declared.points.SumDataPoint.{SumDataPoint}
 use Rattle.otel_model_stream.specs.Sets.{AttributeSet}
 use Rattle.otel_model_stream.specs.Folds.{Fold, Total, Last, Spreads, Spread, no_spread, wrapped}
+pub use Rattle.otel_model_stream.specs.Totals.{value_of}
 use Rattle.otel_model_stream.specs.Events.{Point}
 use Rattle.otel_model.specs.Demands.{Aggregation, ReaderAnswers, Demand}
 use Rattle.otel_model.specs.Streams.{is_drained, is_delta, is_monotonic_kind}
 
 -- ======== folds ========
--- the value of a sum or of a last value
-abbrev pub value_of : Fold → ℕ
-value_of (Total n) = n
-value_of (Last n) = n
-value_of (Spreads s) = 0
-
 -- the totals of a histogram
 abbrev pub spread_of : Fold → Spread
 spread_of (Total n) = no_spread false false 0

@@ -5,6 +5,7 @@ use Rattle.otel_common.specs.declared.scopes.InstrumentationScope.{Instrumentati
 use Rattle.otel_model_stream.specs.Sets.{AttributeSet}
 use Rattle.otel_model_stream.specs.Folds.{Aggregate, Amount, wrapped}
 use Rattle.otel_model_stream.specs.Events.{Event, Kind, Point, held_by}
+pub use Rattle.otel_model_stream.specs.Lists.{changed_at}
 use Rattle.otel_model_stream.specs.Machine.{Machine, begin, step, run, points}
 use Rattle.otel_model_stream.specs.Totals.{size, points_total}
 use Rattle.otel_model.specs.Resources.{Resource}
@@ -28,12 +29,6 @@ new_instrument about = record { kind = about.kind; signed = about.signed; count 
 -- one record more; also an instrument that ignores its records accepts them
 abbrev pub accepted : Amount → InstrumentState → InstrumentState
 accepted v i = record i { count = wrapped (i.count + 1); sum = wrapped (i.sum + v.bits) }
-
--- the element of this number changed
-abbrev pub changed_at : {X : Type 0} → ℕ → (X → X) → List X → List X
-changed_at n f [] = []
-changed_at zero f (x ∷ xs) = f x ∷ xs
-changed_at (suc n) f (x ∷ xs) = x ∷ changed_at n f xs
 
 -- one record more at the instrument of a handle
 abbrev pub accepted_by : Option ℕ → Amount → List InstrumentState → List InstrumentState

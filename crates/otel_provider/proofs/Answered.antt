@@ -4,7 +4,6 @@ use Rattle.otel_common.specs.declared.metrics.Temporality.{Temporality}
 use Rattle.otel_common.specs.declared.metrics.Temporality.TheVariants.{Cumulative, Delta, LowMemory}
 use Rattle.otel_model_stream.specs.Sets.{AttributeSet}
 use Rattle.otel_model.specs.Machine.{changed_at}
-use Rattle.otel_aggregate.specs.Streams.{resets_of}
 use Rattle.otel_provider.specs.Answers.{answer_at}
 use Rattle.otel_provider.specs.Correspondence.{kind_of}
 use Rattle.otel_provider.specs.Pipelines.{resets_at, AreAnswered, all_settled, committed_each, finished_all}
@@ -16,10 +15,10 @@ use Rattle.otel_provider.specs.declared.sorts.InstrumentSort.{InstrumentSort}
 use Rattle.otel_provider.specs.declared.sorts.InstrumentSort.TheVariants.{U64Counter}
 
 -- the answer for a sort decides
-pub resets-is : (answers : Answers) (demand : Demand) (sort : InstrumentSort) → demand.identity.sort ≡ sort → resets_of (answer_at answers (kind_of sort)) ≡ resets_at answers demand
+pub resets-is : (answers : Answers) (demand : Demand) (sort : InstrumentSort) → demand.identity.sort ≡ sort → resets (answer_at answers (kind_of sort)) ≡ resets_at answers demand
 resets-is answers demand U64Counter e = rw e (by answers.counter)
   where
-    by : (t : Temporality) → resets_of t ≡ (resets t || false)
+    by : (t : Temporality) → resets t ≡ (resets t || false)
     by Cumulative = refl
     by Delta = refl
     by LowMemory = refl

@@ -1,10 +1,12 @@
 -- A provider stays lawful, whatever is called.
-use Rattle.std.proofs.Common.{◌≡◌, List, [], ◌∷◌, refl, sym, subst, Result, Ok, Err}
+use Rattle.std.proofs.Common.{◌≡◌, List, [], ◌∷◌, refl, sym, ap, subst, Result, Ok, Err}
 use Rattle.std.specs.Prelude.{IfOk, OnErr}
 use Rattle.otel_common.specs.declared.faults.Fault.{Fault}
 use Rattle.otel_model.specs.Calls as model
+use Rattle.otel_model.specs.Laws.{answers_in, KeepsReaders}
 use Rattle.otel_model.specs.State.{State}
 use Rattle.otel_model.specs.Steps.{Step, Run}
+use Rattle.otel_model.proofs.Kept.{kept_law, kept_at_once}
 use Rattle.otel_model_laws.specs.Lawful.{IsLawful}
 use Rattle.otel_model_laws.proofs.Booked.{run_lawful}
 
@@ -17,3 +19,9 @@ pub lawful-run : {T : Type 0} (r : Result T Fault) (calls : List model.Call) (re
     → IfOk r (λ t. Run [] old calls (replies t) new) → OnErr r (new ≡ old) → IsLawful new
 lawful-run (Ok t) calls replies old new lawful run same = run_lawful [] old new calls (replies t) run lawful
 lawful-run (Err f) calls replies old new lawful run same = subst IsLawful (sym same) lawful
+
+-- so the readers stay
+pub kept_run : {T : Type 0} (r : Result T Fault) (calls : List model.Call) (replies : T → List model.Reply) (old new : State)
+    → IfOk r (λ t. Run [] old calls (replies t) new) → OnErr r (new ≡ old) → KeepsReaders old new
+kept_run (Ok t) calls replies old new run same = kept_law [] old calls (replies t) new run
+kept_run (Err f) calls replies old new run same = ap answers_in same

@@ -4,7 +4,7 @@ use Rattle.otel_data.specs.declared.aggregated.AggregatedMetrics.TheVariants.{U6
 use Rattle.otel_data.specs.declared.aggregated.MetricData.TheVariants as data_of
 use Rattle.otel_data.specs.declared.collections.Metric.{Metric}
 use Rattle.otel_data.specs.declared.sums.Sum.{Sum}
-use Rattle.otel_aggregate.specs.Data.{bits_of, sum_point as data_point, sum_data}
+use Rattle.otel_aggregate.specs.Data.{sum_point as data_point, sum_data}
 use Rattle.otel_aggregate.specs.Streams.{StreamState}
 use Rattle.otel_model_stream.specs.Folds.{Fold, Total, Last, Spreads}
 use Rattle.otel_model_stream.specs.Entries.{Point}
@@ -15,14 +15,9 @@ use Rattle.otel_provider.specs.Streams.{Kept, shown_points, default_sums, shown_
 use Rattle.otel_provider.specs.declared.sorts.InstrumentSort.{InstrumentSort}
 use Rattle.otel_provider.specs.declared.sorts.InstrumentSort.TheVariants.{U64Counter}
 
-same_value : (f : Fold) → bits_of f ≡ value_of f
-same_value (Total n) = refl
-same_value (Last n) = refl
-same_value (Spreads s) = refl
-
 same_points : (ps : List Point) → map (data_point (λ n. n)) ps ≡ map (sum_point (λ n. n) natural) ps
 same_points [] = refl
-same_points (p ∷ ps) = λ i. record { attributes = p.0; exemplars = []; value = same_value p.1 i } ∷ same_points ps i
+same_points (p ∷ ps) = λ i. record { attributes = p.0; exemplars = []; value = value_of p.1 } ∷ same_points ps i
 
 -- the metric that is made of a stream's sums
 abbrev pub made_of : Kept → Sum ℕ → Metric

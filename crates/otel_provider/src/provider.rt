@@ -1,8 +1,9 @@
 //! The provider and its builder.
 
 ghost use Rattle.std.specs.Prelude.{◌≡◌, ◌++◌, ◌∷◌, [], map, IfOk, OnErr, IsOkAnd, IsOkUnless};
+ghost use Rattle.otel_model.specs.Answered.{OfEachMetric, ShowsWindow, ShowsAll, HasFewPoints};
 ghost use Rattle.otel_model.specs.Demands.{answers_by};
-ghost use Rattle.otel_model.specs.Laws.{HasStreamsOfBuilds, HasFeedsOfBuilds, HasPlacesOfHistories, HasCountedOfHistories, IsGivenCollections, IsAnsweredAsOnly, HasRecordedTotal, HasExportedTotal, Conserves, HasAccepted, HasAllShown, HasFewPoints};
+ghost use Rattle.otel_model.specs.Laws.{HasStreamsOfBuilds, HasFeedsOfBuilds, HasPlacesOfHistories, HasCountedOfHistories, IsGivenCollections, IsAnsweredAsOnly, HasRecordedTotal, HasExportedTotal, HasPendingPoints, Conserves, HasAccepted, KeepsReaders};
 ghost use Rattle.otel_model.specs.Machine.{new_state};
 ghost use Rattle.otel_model.specs.Resources.{empty_resource};
 ghost use Rattle.otel_model.specs.Steps.{Step, Run};
@@ -94,6 +95,7 @@ impl SdkMeterProvider {
     pub fn step(&mut self, call: &Call) -> Reply
         ensures step { Step [] (state_of self.old) (call_of call.now) (reply_of result) (state_of self.new) }
         ensures balances { Balances (state_of self.new) }
+        ensures readers { KeepsReaders (state_of self.old) (state_of self.new) }
         ensures kept { provider_boxes self.new ≡ provider_boxes self.old }
     {
         self.core.step(call)
@@ -112,6 +114,7 @@ impl SdkMeterProvider {
         ensures unmade { OnErr result (state_of self.new ≡ state_of self.old) }
         ensures only_memory { IsOkUnless result Fault.OutOfMemory }
         ensures balances { Balances (state_of self.new) }
+        ensures readers { KeepsReaders (state_of self.old) (state_of self.new) }
         ensures kept { provider_boxes self.new ≡ provider_boxes self.old }
         ensures order { IfOk result (λ replies. InAnyOrder (state_of self.old) calls.now replies.items (state_of self.new)) }
         ensures streams { IfOk result (λ replies. OfReaders HasStreamsOfBuilds (state_of self.old) calls.now replies.items (state_of self.new)) }
@@ -122,10 +125,12 @@ impl SdkMeterProvider {
         ensures only_reader { IfOk result (λ replies. OfAnswers IsAnsweredAsOnly (state_of self.old) calls.now replies.items) }
         ensures recorded { IfOk result (λ replies. OfStreams HasRecordedTotal (state_of self.old) calls.now replies.items (state_of self.new)) }
         ensures exported { IfOk result (λ replies. OfStreams HasExportedTotal (state_of self.old) calls.now replies.items (state_of self.new)) }
+        ensures pending { IfOk result (λ replies. OfStreams HasPendingPoints (state_of self.old) calls.now replies.items (state_of self.new)) }
         ensures conserved { IfOk result (λ replies. OfStreams Conserves (state_of self.old) calls.now replies.items (state_of self.new)) }
         ensures accepted { IfOk result (λ replies. OfStreams HasAccepted (state_of self.old) calls.now replies.items (state_of self.new)) }
-        ensures all_shown { IfOk result (λ replies. OfReaders HasAllShown (state_of self.old) calls.now replies.items (state_of self.new)) }
-        ensures few { IfOk result (λ replies. OfReaders HasFewPoints (state_of self.old) calls.now replies.items (state_of self.new)) }
+        ensures totals { IfOk result (λ replies. OfAnswers (OfEachMetric ShowsWindow) (state_of self.old) calls.now replies.items) }
+        ensures all_shown { IfOk result (λ replies. OfAnswers (OfEachMetric ShowsAll) (state_of self.old) calls.now replies.items) }
+        ensures few { IfOk result (λ replies. OfAnswers (OfEachMetric HasFewPoints) (state_of self.old) calls.now replies.items) }
     {
         self.core.run(alloc, calls)
     }

@@ -2,7 +2,7 @@
 
 ghost use Rattle.std.specs.Prelude.{◌≡◌, [], Some, IfOk, IsOk, OnOk, IsOkUnless};
 ghost use Rattle.otel_provider.specs.Streams.{new_kept, staged_set, settled, committed, finished, shown_metric, if_points};
-ghost use Rattle.otel_aggregate.specs.Streams.{resets_of};
+ghost use Rattle.otel_common.specs.Temporalities as temporalities;
 
 use crate::copies::copy_text;
 use crate::identity::Demand;
@@ -56,7 +56,7 @@ impl Stream {
         demand: Demand,
         now: u64,
     ) -> Result<Stream, Fault>
-        ensures made { IfOk result (λ s. s ≡ new_kept (resets_of temporality) demand now) }
+        ensures made { IfOk result (λ s. s ≡ new_kept (temporalities.resets temporality) demand now) }
         ensures only_memory { IsOkUnless result Fault.OutOfMemory }
     {
         let sum = Sum::new(alloc, temporality, None, DEFAULT_LIMIT, now, true)?;

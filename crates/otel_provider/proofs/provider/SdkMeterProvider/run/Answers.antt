@@ -1,10 +1,16 @@
+use Rattle.std.specs.Prelude.{map}
+use Rattle.std.specs.Global.{Vec}
 use Rattle.std.proofs.lemmas.Result.{IfOk-weaker}
 use Rattle.otel_model.proofs.Runs.{streams_law, feeds_law, places_law, counted_law, collections_law}
-use Rattle.otel_model.proofs.Shown.{recorded_law, exported_law, conserved_law, all_shown_law, few_law}
+use Rattle.otel_model.proofs.Answered.{few_answered_law, totals_answered_law, all_answered_law}
+use Rattle.otel_model.proofs.Shown.{recorded_law, exported_law, pending_law, conserved_law}
 use Rattle.otel_model.proofs.Single.{as_only}
 use Rattle.otel_model_laws.proofs.Booked.{accepted_law}
-use Rattle.otel_model.specs.History.{made}
-use Rattle.otel_model.specs.Laws.{HasStreamsOfBuilds, HasFeedsOfBuilds, HasPlacesOfHistories, HasCountedOfHistories, IsGivenCollections, IsAnsweredAsOnly, HasRecordedTotal, HasExportedTotal, Conserves, HasAccepted, HasAllShown, HasFewPoints}
+use Rattle.otel_model.specs.Answered.{OfEachMetric, ShowsWindow, ShowsAll, HasFewPoints}
+use Rattle.otel_model.specs.Laws.{HasStreamsOfBuilds, HasFeedsOfBuilds, HasPlacesOfHistories, HasCountedOfHistories, IsGivenCollections, IsAnsweredAsOnly, HasRecordedTotal, HasExportedTotal, HasPendingPoints, Conserves, HasAccepted}
+use Rattle.otel_provider.specs.Correspondence.{call_of, reply_of}
+use Rattle.otel_provider.specs.declared.calls.Reply.{Reply}
+use Rattle.otel_provider.proofs.Lawful.{kept_run}
 use Rattle.otel_provider.proofs.Headlines.{of_readers, of_streams, of_answers, in_any_order}
 use Rattle.otel_provider.proofs.provider.SdkMeterProvider.run.Goals as goal
 
@@ -41,12 +47,17 @@ returns-clause-accepted g c = IfOk-weaker c.run.result _ _ (λ replies is. of_st
 pub returns-clause-order : goal.returns-clause-order
 returns-clause-order g c = IfOk-weaker c.run.result _ _ (λ replies is. in_any_order c.args.self.now.core c.run.new.self c.args.calls.now replies.items is) c.run.ensures.run
 
-pub returns-clause-few : goal.returns-clause-few
-returns-clause-few g c =
-    IfOk-weaker c.run.result _ _ (λ replies is.
-    of_readers HasFewPoints (λ views resource identity readers calls replies new run r answers part at found d events. few_law views answers r d (made calls replies) events) c.args.self.now.core c.run.new.self c.args.calls.now replies.items is) c.run.ensures.run
+pub returns-clause-pending : goal.returns-clause-pending
+returns-clause-pending g c = IfOk-weaker c.run.result _ _ (λ replies is. of_streams HasPendingPoints pending_law c.args.self.now.core c.run.new.self c.args.calls.now replies.items is) c.run.ensures.run
+
+pub returns-clause-totals : goal.returns-clause-totals
+returns-clause-totals g c = IfOk-weaker c.run.result _ _ (λ replies is. of_answers (OfEachMetric ShowsWindow) totals_answered_law c.args.self.now.core c.run.new.self c.args.calls.now replies.items is) c.run.ensures.run
 
 pub returns-clause-all_shown : goal.returns-clause-all_shown
-returns-clause-all_shown g c =
-    IfOk-weaker c.run.result _ _ (λ replies is.
-    of_readers HasAllShown (λ views resource identity readers calls replies new run r answers part at found d events. all_shown_law views answers r d (made calls replies) events) c.args.self.now.core c.run.new.self c.args.calls.now replies.items is) c.run.ensures.run
+returns-clause-all_shown g c = IfOk-weaker c.run.result _ _ (λ replies is. of_answers (OfEachMetric ShowsAll) all_answered_law c.args.self.now.core c.run.new.self c.args.calls.now replies.items is) c.run.ensures.run
+
+pub returns-clause-few : goal.returns-clause-few
+returns-clause-few g c = IfOk-weaker c.run.result _ _ (λ replies is. of_answers (OfEachMetric HasFewPoints) few_answered_law c.args.self.now.core c.run.new.self c.args.calls.now replies.items is) c.run.ensures.run
+
+pub returns-clause-readers : goal.returns-clause-readers
+returns-clause-readers g c = kept_run c.run.result (map call_of c.args.calls.now) (λ (replies : Vec Reply). map reply_of replies.items) c.args.self.now.core c.run.new.self c.run.ensures.run c.run.ensures.unmade
