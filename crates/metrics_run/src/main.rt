@@ -5,6 +5,7 @@ mod attributes;
 mod calls;
 mod failures;
 mod numbers;
+mod points;
 mod printing;
 mod refusals;
 mod script;

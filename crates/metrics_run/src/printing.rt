@@ -1,10 +1,8 @@
 //! What a script prints: a line for each reply, and one for each point.
 
+use crate::points::{count_points, write_metric};
 use opentelemetry_sdk::common::{Array, KeyValue, Value};
-use opentelemetry_sdk::metrics::Temporality;
-use opentelemetry_sdk::metrics::data::{
-    AggregatedMetrics, Metric, MetricData, ResourceMetrics, ScopeMetrics, Sum,
-};
+use opentelemetry_sdk::metrics::data::{ResourceMetrics, ScopeMetrics};
 use opentelemetry_sdk::metrics::provider::Reply;
 use percent_encoding::{AsciiSet, CONTROLS, PercentEncode, ascii_set, utf8_percent_encode};
 use std::fmt::Display;
@@ -53,49 +51,8 @@ fn write_scope<W: Write>(output: &mut W, scope: &ScopeMetrics) -> io::Result<()>
     Ok(())
 }
 
-/// Prints the points of one metric.
-fn write_metric<W: Write>(output: &mut W, scope: &str, metric: &Metric) -> io::Result<()> {
-    match metric.data() {
-        AggregatedMetrics::U64(MetricData::Sum(sum)) => {
-            write_sum(output, scope, metric.name(), sum)
-        }
-    }
-}
-
-/// Prints the points of a sum.
-fn write_sum<W: Write>(output: &mut W, scope: &str, name: &str, sum: &Sum<u64>) -> io::Result<()> {
-    let temporality = temporality_word(sum.temporality());
-    let monotonic = if sum.is_monotonic() {
-        "monotonic"
-    } else {
-        "plain"
-    };
-    let start = sum.start_time();
-    let time = sum.time();
-    for point in sum.data_points() {
-        write!(output, "point ")?;
-        write_name(output, scope)?;
-        write!(output, " ")?;
-        write_name(output, name)?;
-        write!(output, " sum {temporality} {monotonic} {start} {time} ")?;
-        write_attributes(output, point.attributes())?;
-        let value = point.value();
-        writeln!(output, " {value}")?;
-    }
-    Ok(())
-}
-
-/// How points relate to those of the collection before.
-fn temporality_word(temporality: Temporality) -> &'static str {
-    match temporality {
-        Temporality::Cumulative => "cumulative",
-        Temporality::Delta => "delta",
-        Temporality::LowMemory => "lowmemory",
-    }
-}
-
 /// Prints the name of a scope or a metric; the empty one is a hyphen.
-fn write_name<W: Write>(output: &mut W, name: &str) -> io::Result<()> {
+pub fn write_name<W: Write>(output: &mut W, name: &str) -> io::Result<()> {
     match name {
         "" => write!(output, "-"),
         "-" => write!(output, "%2D"),
@@ -104,7 +61,10 @@ fn write_name<W: Write>(output: &mut W, name: &str) -> io::Result<()> {
 }
 
 /// Prints attributes as a script has them.
-fn write_attributes<W: Write>(output: &mut W, attributes: Iter<'_, KeyValue>) -> io::Result<()> {
+pub fn write_attributes<W: Write>(
+    output: &mut W,
+    attributes: Iter<'_, KeyValue>,
+) -> io::Result<()> {
     if attributes.len() == 0 {
         return write!(output, "-");
     }
@@ -143,29 +103,4 @@ fn write_items<W: Write, T: Display>(output: &mut W, kind: &str, items: &[T]) ->
         write!(output, "{item};")?;
     }
     Ok(())
-}
-
-/// How many points a collection has.
-fn count_points(collected: &ResourceMetrics) -> usize {
-    let mut count = 0usize;
-    for scope in collected.scope_metrics() {
-        count = count.saturating_add(count_scope(scope));
-    }
-    count
-}
-
-/// How many points a scope has.
-fn count_scope(scope: &ScopeMetrics) -> usize {
-    let mut count = 0usize;
-    for metric in scope.metrics() {
-        count = count.saturating_add(count_metric(metric));
-    }
-    count
-}
-
-/// How many points a metric has.
-fn count_metric(metric: &Metric) -> usize {
-    match metric.data() {
-        AggregatedMetrics::U64(MetricData::Sum(sum)) => sum.data_points().len(),
-    }
 }

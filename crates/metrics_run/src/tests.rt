@@ -7,6 +7,7 @@ use std::test::Fail;
 
 mod failing;
 mod lines;
+mod points;
 mod replies;
 mod words;
 

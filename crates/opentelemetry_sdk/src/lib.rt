@@ -4,6 +4,7 @@
 //! This crate gives the modules of the crates below under one roof:
 //!
 //! - [`common`]: attributes and their canonical sets, instrumentation scopes, faults;
+//! - [`resource`]: what all the metrics of a provider come from;
 //! - [`metrics`]: the provider and its calls, readers, the data of a collection, aggregation.
 //!
 //! A provider is made by its builder, from readers in boxes. Then it is asked by calls, each of which
@@ -37,7 +38,7 @@
 
 pub mod metrics;
 
-pub use otel_common::common;
+pub use otel_common::{common, resource};
 
 #[cfg(test)]
 mod tests;

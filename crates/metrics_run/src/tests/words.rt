@@ -136,7 +136,20 @@ fn long_lines(rt: HostRuntime) -> Result<(), Fail> {
     for number in 1000..1300 {
         write!(pairs, ",k{number}=i:{number}")?;
     }
-    let script = format!(in alloc; "reader cumulative\ngo\nmeter {} {}\nbuild 0 u64_counter {} 1 description={} unit={}\nrecord 0 u:7 {}\ncollect 0 2\n", scope.as_str(), scope.as_str(), name.as_str(), description.as_str(), unit.as_str(), pairs.as_str())?;
-    let printed = format!(in alloc; "meter 0\ninstrument 0\nok\ncollected 1\npoint {} {} sum cumulative monotonic 1 2 {} 7\n", scope.as_str(), name.as_str(), pairs.as_str())?;
+    let script = format!(in alloc;
+        "reader cumulative\ngo\nmeter {} {}\nbuild 0 u64_counter {} 1 description={} unit={}\nrecord 0 u:7 {}\ncollect 0 2\n",
+        scope.as_str(),
+        scope.as_str(),
+        name.as_str(),
+        description.as_str(),
+        unit.as_str(),
+        pairs.as_str()
+    )?;
+    let printed = format!(in alloc;
+        "meter 0\ninstrument 0\nok\ncollected 1\npoint {} {} sum cumulative monotonic 1 2 {} 7\n",
+        scope.as_str(),
+        name.as_str(),
+        pairs.as_str()
+    )?;
     assert_prints(&rt, alloc, script.as_bytes(), printed.as_str())
 }

@@ -138,7 +138,9 @@ fn push_metric(
     scope: &InstrumentationScope,
     metric: &Metric,
 ) -> Result<(), Fail> {
-    let AggregatedMetrics::U64(MetricData::Sum(sum)) = metric.data();
+    let AggregatedMetrics::U64(MetricData::Sum(sum)) = metric.data() else {
+        return Err("no sum of unsigned numbers".into());
+    };
     let start = format!(in alloc; "{} {} ", scope.name(), metric.name())?;
     push_points(alloc, points, start.as_str(), sum)
 }
@@ -220,5 +222,37 @@ pub fn assert_replies_at(
     for (reply, (_, wanted)) in replies.iter().zip(steps) {
         assert_eq!(rt; text_of(alloc, reply)?.as_str(), *wanted);
     }
+    Ok(())
+}
+
+/// The texts of the replies of a new provider with these readers, each ended by a semicolon.
+fn outcome_of(
+    alloc: Global,
+    readers: &[Temporality],
+    steps: &[(Step<'_>, &str)],
+) -> Result<String, Fail> {
+    let mut outcome = String::new(alloc);
+    for reply in replies_of(alloc, readers, steps)? {
+        write!(outcome, "{};", text_of(alloc, &reply)?.as_str())?;
+    }
+    Ok(outcome)
+}
+
+/// Asserts that the steps have the outcome that there is with ample memory. Where it is one of those with memory
+/// refused once, it has to be the other one when the steps are run again.
+pub fn assert_outcomes(
+    rt: &impl Abort,
+    alloc: Global,
+    readers: &[Temporality],
+    steps: &[(Step<'_>, &str)],
+    ample: &str,
+    refused: &[&str],
+) -> Result<(), Fail> {
+    let outcome = outcome_of(alloc, readers, steps)?;
+    if refused.iter().any(|known| outcome.as_str() == *known) {
+        assert_eq!(rt; outcome_of(alloc, readers, steps)?.as_str(), ample);
+        return Ok(());
+    }
+    assert_eq!(rt; outcome.as_str(), ample);
     Ok(())
 }

@@ -1,7 +1,7 @@
 //! Runs of a provider.
 
 use super::replies::Step::{Build, Collect, Meter, Record};
-use super::replies::{assert_replies, assert_replies_at, call_of, points_of, replies_of, text_of};
+use super::replies::{assert_outcomes, assert_replies, assert_replies_at, call_of, points_of};
 use crate::metrics::provider::NumberValue::{I64, U64};
 use crate::metrics::provider::Reply;
 use crate::metrics::{ManualReader, SdkMeterProvider, Temporality};
@@ -78,21 +78,23 @@ fn row_17(rt: HostRuntime) -> Result<(), Fail> {
         (Collect(1, 200), "collected"),
     ];
     let readers = [Temporality::Cumulative, Temporality::Delta];
-    let mut replies = String::new(rt.alloc());
-    for reply in replies_of(rt.alloc(), readers.as_slice(), steps.as_slice())? {
-        write!(replies, "{};", text_of(rt.alloc(), &reply)?.as_str())?;
-    }
-    let outcomes = [
-        "meter 0;instrument 0;done;collected | app requests 100 200 a=1 1;collected | app requests 100 200 a=1 1;",
+    let ample =
+        "meter 0;instrument 0;done;collected | app requests 100 200 a=1 1;collected | app requests 100 200 a=1 1;";
+    let refused = [
         "refused 1;refused 2;refused 3;collected;collected;",
         "meter 0;refused 1;refused 3;collected;collected;",
         "meter 0;instrument 0;refused 1;collected;collected;",
         "meter 0;instrument 0;done;refused 1;collected | app requests 100 200 a=1 1;",
         "meter 0;instrument 0;done;collected | app requests 100 200 a=1 1;refused 1;",
     ];
-    let known = outcomes.iter().any(|outcome| replies.as_str() == *outcome);
-    assert!(rt; known, "replies {}", replies.as_str());
-    Ok(())
+    assert_outcomes(
+        &rt,
+        rt.alloc(),
+        readers.as_slice(),
+        steps.as_slice(),
+        ample,
+        refused.as_slice(),
+    )
 }
 
 /// What is refused changes nothing.
@@ -219,20 +221,22 @@ fn refused_memory(rt: HostRuntime) -> Result<(), Fail> {
         (Record(0, U64(4), &[("b", 1)]), "done"),
         (Collect(0, 200), "collected"),
     ];
-    let mut replies = String::new(rt.alloc());
     let readers = [Temporality::Cumulative];
-    for reply in replies_of(rt.alloc(), readers.as_slice(), steps.as_slice())? {
-        write!(replies, "{};", text_of(rt.alloc(), &reply)?.as_str())?;
-    }
-    let outcomes = [
-        "meter 0;instrument 0;done;done;done;collected | app requests 100 200 - 2 | app requests 100 200 a=1 1 | app requests 100 200 b=1 4;",
+    let ample =
+        "meter 0;instrument 0;done;done;done;collected | app requests 100 200 - 2 | app requests 100 200 a=1 1 | app requests 100 200 b=1 4;";
+    let refused = [
         "refused 1;refused 2;refused 3;refused 3;refused 3;collected;",
         "meter 0;refused 1;refused 3;refused 3;refused 3;collected;",
         "meter 0;instrument 0;refused 1;done;done;collected | app requests 100 200 - 2 | app requests 100 200 b=1 4;",
         "meter 0;instrument 0;done;done;refused 1;collected | app requests 100 200 - 2 | app requests 100 200 a=1 1;",
         "meter 0;instrument 0;done;done;done;refused 1;",
     ];
-    let known = outcomes.iter().any(|outcome| replies.as_str() == *outcome);
-    assert!(rt; known, "replies {}", replies.as_str());
-    Ok(())
+    assert_outcomes(
+        &rt,
+        rt.alloc(),
+        readers.as_slice(),
+        steps.as_slice(),
+        ample,
+        refused.as_slice(),
+    )
 }

@@ -10,7 +10,7 @@ use crate::metrics::data::{
 use crate::metrics::provider::{Call, InstrumentSort, NumberValue, Reply};
 use crate::metrics::reader::MetricReader;
 use crate::metrics::{InstrumentKind, ManualReader, SdkMeterProvider, Temporality};
-use otel_common::resource::Resource;
+use crate::resource::Resource;
 use std::alloc::Global;
 use std::process::Abort;
 use std::test::Fail;
@@ -60,11 +60,13 @@ fn many_sorted(alloc: Global, count: u32) -> Result<Vec<KeyValue>, Fail> {
 /// A scope that has all four parts, its name and its attributes long.
 fn long_scope(alloc: Global) -> Result<InstrumentationScope, Fail> {
     let name = "scope".repeat(alloc, 1000)?;
-    Ok(InstrumentationScope::builder(alloc, name)
-        .with_version(String::from_str(alloc, "1.2.3")?)
-        .with_schema_url(String::from_str(alloc, "https://example.org/schema")?)
-        .with_attributes(many(alloc, 100)?)
-        .build()?)
+    Ok(
+        InstrumentationScope::builder(alloc, name)
+            .with_version(String::from_str(alloc, "1.2.3")?)
+            .with_schema_url(String::from_str(alloc, "https://example.org/schema")?)
+            .with_attributes(many(alloc, 100)?)
+            .build()?,
+    )
 }
 
 /// A scope with a name alone.
@@ -76,8 +78,12 @@ fn short_scope(alloc: Global) -> Result<InstrumentationScope, Fail> {
 /// at 120, and `bytes`, made at 130, which has a unit alone. Then records.
 fn calls(alloc: Global) -> Result<Vec<Call>, Fail> {
     Ok(vec![in alloc;
-        Call::Meter { scope: long_scope(alloc)? },
-        Call::Meter { scope: short_scope(alloc)? },
+        Call::Meter {
+            scope: long_scope(alloc)?
+        },
+        Call::Meter {
+            scope: short_scope(alloc)?
+        },
         Call::Build {
             meter: Some(1),
             sort: InstrumentSort::U64Counter,
@@ -102,10 +108,14 @@ fn calls(alloc: Global) -> Result<Vec<Call>, Fail> {
             unit: Some(text(alloc, "By")?),
             now: 130,
         },
-        record(0, 18446744073709551615, attributes(alloc, &[("b", 1), ("a", 2)])?),
+        record(
+            0,
+            18446744073709551615,
+            attributes(alloc, &[("b", 1), ("a", 2)])?
+        ),
         record(1, 5, many(alloc, 300)?),
         record(2, 7, Vec::new(alloc)),
-        record(0, 3, attributes(alloc, &[("a", 2), ("b", 1)])?)
+        record(0, 3, attributes(alloc, &[("a", 2), ("b", 1)])?),
     ]?)
 }
 
@@ -161,13 +171,23 @@ fn first(alloc: Global, time: u64, temporality: Temporality) -> Result<ResourceM
     let long_data = sum_of(alloc, many_sorted(alloc, 300)?, 5, 120, time, temporality)?;
     let bytes_data = sum_of(alloc, Vec::new(alloc), 7, 130, time, temporality)?;
     let long_metrics = vec![in alloc;
-        Metric::new(long(alloc, "Name", 63)?, long(alloc, "ö", 5000)?, long(alloc, "u", 63)?, long_data),
-        Metric::new(text(alloc, "bytes")?, text(alloc, "")?, text(alloc, "By")?, bytes_data)
+        Metric::new(
+            long(alloc, "Name", 63)?,
+            long(alloc, "ö", 5000)?,
+            long(alloc, "u", 63)?,
+            long_data
+        ),
+        Metric::new(
+            text(alloc, "bytes")?,
+            text(alloc, "")?,
+            text(alloc, "By")?,
+            bytes_data
+        ),
     ]?;
     let hits = vec![in alloc; hits(alloc, 2, 110, time, temporality)?]?;
     let scopes = vec![in alloc;
         ScopeMetrics::new(long_scope(alloc)?, Items::from(long_metrics)),
-        ScopeMetrics::new(short_scope(alloc)?, Items::from(hits))
+        ScopeMetrics::new(short_scope(alloc)?, Items::from(hits)),
     ]?;
     Ok(whole(alloc, scopes))
 }
