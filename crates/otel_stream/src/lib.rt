@@ -3,5 +3,8 @@
 
 pub mod boxed;
 pub mod instrument;
+pub mod laws;
 pub mod manual_reader;
 pub mod reader;
+#[cfg(test)]
+mod tests;
