@@ -5,5 +5,8 @@ pub mod answers;
 pub mod boxed;
 pub mod demand;
 pub mod instrument;
+pub mod laws;
 pub mod manual_reader;
 pub mod reader;
+#[cfg(test)]
+mod tests;
