@@ -14,4 +14,5 @@ pub mod Tidy
 pub mod Weights
 pub mod Totals
 pub mod Conserved
+pub mod KnownLists
 pub mod Rows

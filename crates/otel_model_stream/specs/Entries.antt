@@ -86,6 +86,10 @@ place limit empty s m = record { none = m.none; entries = placed limit empty s m
 abbrev pub recorded_at : AttributeSet → Sample → Table → Table
 recorded_at s v m = at_entry (entry_for s m.entries) (write v) m
 
+-- a live handle more for the set s, which has a place
+abbrev pub held_at : AttributeSet → Table → Table
+held_at s m = at_entry (entry_for s m.entries) take_handle m
+
 -- a resetting collection evicts an entry that was not updated, has no live handle and isn't the overflow one
 abbrev pub stays : Entry → Bool
 stays e = e.updated || (nat_lt 0 e.handles || set_eq e.set over_set)

@@ -1,11 +1,14 @@
 -- The laws of one stream, for every aggregate, kind, limit and list of events.
-use Rattle.std.specs.Prelude.{◌≡◌, ℕ, ◌+◌, ◌≤◌, ℤ, Bool, List, [], ◌∷◌, ◌++◌, map, filter, length, fold, sum_by}
-use Rattle.otel_model_stream.specs.Sets.{AttributeSet}
+use Rattle.std.specs.Prelude.{◌≡◌, ℕ, ◌+◌, ◌*◌, ◌≤◌, ℤ, Bool, ◌||◌, IsTrue, List, [], ◌∷◌, ◌++◌, map, filter, length, fold, sum_by, Some, None}
+use Rattle.otel_common.specs.Canonical.{canon}
+use Rattle.otel_common.specs.Equality.{set_eq}
+use Rattle.otel_common.specs.declared.attributes.KeyValue.{KeyValue}
+use Rattle.otel_model_stream.specs.Sets.{AttributeSet, none_set}
 use Rattle.otel_model_stream.specs.Folds.{Aggregate, Histogram, Amount, Sample, Fold, Total, Last, Spreads, wrapped, recorded, cleared, empty_of, sample_of, folded, fold_of}
-use Rattle.otel_model_stream.specs.Events.{Event, Record, Bind, Collect, Kind, Delta, Cumulative, Drained}
-use Rattle.otel_model_stream.specs.Entries.{Entry, Table, entry_for, at_entry, take_handle}
-use Rattle.otel_model_stream.specs.Maps.{MapState, with_place, measured, evicted_map, drained_map}
-use Rattle.otel_model_stream.specs.Machine.{Machine, begin, step, run, answers, points}
+use Rattle.otel_model_stream.specs.Events.{Event, Record, Bind, RecordBound, Unbind, Collect, Kind, Delta, Cumulative, Drained, held_by, without}
+use Rattle.otel_model_stream.specs.Entries.{Entry, Table, has}
+use Rattle.otel_model_stream.specs.Maps.{MapState, measured, bound_map, bound_to, updated_bound, unbound, readonly_points, resetting_points, draining_points, evicted_map, drained_map, KnownMap, without_lists, knows, keys, is_admitted, measured_list, bound_list, evicted_known, drained_known, AreListed}
+use Rattle.otel_model_stream.specs.Machine.{Machine, begin, step, run, answer, answers, points}
 use Rattle.otel_model_stream.specs.Windows.{opening, window, collections, places_of, points_of, uncounted_of, counted}
 use Rattle.otel_model_stream.specs.Totals.{recorded_total, weight, points_total}
 
@@ -81,11 +84,42 @@ abbrev pub IsMeasured : Type 0
 IsMeasured = (σ : Aggregate) (kind : Kind) (limit : ℕ) (m : Machine) (s : AttributeSet) (v : Amount) →
     map_of σ limit (step σ kind limit m (Record s v)).table ≡ measured s (sample_of σ v) (map_of σ limit m.table)
 
--- a bind gives its set a place in the map, and the entry that it uses a handle
+-- a bind is a bind of the map
 abbrev pub IsHeld : Type 0
 IsHeld = (σ : Aggregate) (kind : Kind) (limit : ℕ) (m : Machine) (h : ℕ) (s : AttributeSet) →
-    let placed : MapState = with_place s (map_of σ limit m.table) in
-    (step σ kind limit m (Bind h s)).table ≡ at_entry (entry_for s placed.table.entries) take_handle placed.table
+    map_of σ limit (step σ kind limit m (Bind h s)).table ≡ bound_map s (map_of σ limit m.table)
+
+-- and the new handle is of the entry that the set uses
+abbrev pub IsHandleOfPlace : Type 0
+IsHandleOfPlace = (σ : Aggregate) (kind : Kind) (limit : ℕ) (m : Machine) (h : ℕ) (s : AttributeSet) →
+    (step σ kind limit m (Bind h s)).live ≡ m.live ++ (h, bound_to s (map_of σ limit m.table)) ∷ []
+
+-- a record through a live handle is one of the map, at the entry of the handle's set
+abbrev pub IsUpdatedBound : Type 0
+IsUpdatedBound = (σ : Aggregate) (kind : Kind) (limit : ℕ) (m : Machine) (h : ℕ) (g : AttributeSet) (v : Amount) → held_by h m.live ≡ Some g →
+    map_of σ limit (step σ kind limit m (RecordBound h v)).table ≡ updated_bound g (sample_of σ v) (map_of σ limit m.table)
+
+-- the end of a live handle is one of the map
+abbrev pub IsUnbound : Type 0
+IsUnbound = (σ : Aggregate) (kind : Kind) (limit : ℕ) (m : Machine) (h : ℕ) (g : AttributeSet) → held_by h m.live ≡ Some g →
+    (map_of σ limit (step σ kind limit m (Unbind h)).table ≡ unbound g (map_of σ limit m.table)) × ((step σ kind limit m (Unbind h)).live ≡ without h m.live)
+
+-- what names a handle that isn't live does nothing
+abbrev pub IsIdle : Type 0
+IsIdle = (σ : Aggregate) (kind : Kind) (limit : ℕ) (m : Machine) (h : ℕ) (v : Amount) → held_by h m.live ≡ None →
+    (step σ kind limit m (RecordBound h v) ≡ m) × (step σ kind limit m (Unbind h) ≡ m)
+
+-- a collection of a cumulative stream changes nothing, and shows what the map's read-only one shows
+abbrev pub IsReadonly : Type 0
+IsReadonly = (σ : Aggregate) (limit : ℕ) (m : Machine) → (step σ Cumulative limit m Collect ≡ m) × (answer Cumulative m Collect ≡ readonly_points (map_of σ limit m.table) ∷ [])
+
+-- one of a delta stream shows what the map's resetting one shows
+abbrev pub IsResetting : Type 0
+IsResetting = (σ : Aggregate) (limit : ℕ) (m : Machine) → answer Delta m Collect ≡ resetting_points (map_of σ limit m.table) ∷ []
+
+-- one of a drained stream shows what the map's draining one shows
+abbrev pub IsDraining : Type 0
+IsDraining = (σ : Aggregate) (limit : ℕ) (m : Machine) → answer Drained m Collect ≡ draining_points (map_of σ limit m.table) ∷ []
 
 -- a collection of a delta stream evicts and resets
 abbrev pub IsEvicted : Type 0
@@ -94,3 +128,59 @@ IsEvicted = (σ : Aggregate) (limit : ℕ) (m : Machine) → map_of σ limit (st
 -- one of a drained stream, where no handle is live, empties
 abbrev pub IsDrained : Type 0
 IsDrained = (σ : Aggregate) (limit : ℕ) (m : Machine) → m.table.none.handles ≡ 0 → map_of σ limit (step σ Drained limit m Collect).table ≡ drained_map (map_of σ limit m.table)
+
+-- ======== what a map knows ========
+-- the list, and its set
+abbrev pub AreKnown : List KeyValue → KnownMap → Type 0
+AreKnown l k = IsTrue (knows l k) × IsTrue (knows (canon l) k)
+
+-- a measure that admits the set of a list makes both known
+abbrev pub IsKnownOnceMeasured : Type 0
+IsKnownOnceMeasured = (l : List KeyValue) (v : Sample) (k : KnownMap) → IsTrue (is_admitted (canon l) k.map_state) → AreKnown l (measured_list l v k)
+
+-- and so does a bind
+abbrev pub IsKnownOnceBound : Type 0
+IsKnownOnceBound = (l : List KeyValue) (k : KnownMap) → IsTrue (is_admitted (canon l) k.map_state) → AreKnown l (bound_list l k)
+
+-- what a map knows it still knows after a measure or a bind
+abbrev pub IsStillKnown : Type 0
+IsStillKnown = (p l : List KeyValue) (v : Sample) (k : KnownMap) → IsTrue (knows p k) → IsTrue (knows p (measured_list l v k)) × IsTrue (knows p (bound_list l k))
+
+-- after a resetting collection it knows no list that it didn't know before
+abbrev pub IsKnownBefore : Type 0
+IsKnownBefore = (p : List KeyValue) (k : KnownMap) → IsTrue (knows p (evicted_known k)) → IsTrue (knows p k)
+
+-- after a draining one it knows the empty list alone
+abbrev pub IsEmptyKnown : Type 0
+IsEmptyKnown = (p : List KeyValue) (k : KnownMap) → knows p (drained_known k) ≡ set_eq p none_set
+
+-- without lists as they were given it knows the empty list, and the set of each entry as it stands
+abbrev pub IsKnownBySet : Type 0
+IsKnownBySet = (p : List KeyValue) (m : MapState) → knows p (without_lists m) ≡ (set_eq p none_set || has p m.table.entries)
+
+-- there are at most twice as many keys as entries
+abbrev pub AreKeysFew : Type 0
+AreKeysFew = (k : KnownMap) → AreListed k → keys k ≤ 2 * length k.map_state.table.entries
+
+-- a map without such lists is one of those
+abbrev pub IsListedAtFirst : Type 0
+IsListedAtFirst = (m : MapState) → AreListed (without_lists m)
+
+-- and so is a map after each call
+abbrev pub IsListedOnceMeasured : Type 0
+IsListedOnceMeasured = (l : List KeyValue) (v : Sample) (k : KnownMap) → AreListed k → AreListed (measured_list l v k)
+
+abbrev pub IsListedOnceBound : Type 0
+IsListedOnceBound = (l : List KeyValue) (k : KnownMap) → AreListed k → AreListed (bound_list l k)
+
+abbrev pub IsListedOnceUpdated : Type 0
+IsListedOnceUpdated = (g : AttributeSet) (v : Sample) (k : KnownMap) → AreListed k → AreListed (record k { map_state = updated_bound g v k.map_state })
+
+abbrev pub IsListedOnceUnbound : Type 0
+IsListedOnceUnbound = (g : AttributeSet) (k : KnownMap) → AreListed k → AreListed (record k { map_state = unbound g k.map_state })
+
+abbrev pub IsListedOnceEvicted : Type 0
+IsListedOnceEvicted = (k : KnownMap) → AreListed k → AreListed (evicted_known k)
+
+abbrev pub IsListedOnceDrained : Type 0
+IsListedOnceDrained = (k : KnownMap) → AreListed k → AreListed (drained_known k)

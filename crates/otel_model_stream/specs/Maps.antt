@@ -1,8 +1,13 @@
 -- A bounded map from sets to what their records come to: the table of a stream, and what it was made with.
-use Rattle.std.specs.Prelude.{ℕ}
-use Rattle.otel_model_stream.specs.Sets.{AttributeSet}
+use Rattle.std.specs.Prelude.{◌≡◌, ℕ, ◌+◌, Bool, true, false, not, cond, ◌&&◌, ◌||◌, IsTrue, List, [], ◌∷◌, ◌++◌, map, filter, length, nat_lt, Result, IsOk}
+use Rattle.std.specs.List.{AllByRecursion, IsDistinct}
+use Rattle.std.specs.Set.{is_member}
+use Rattle.otel_common.specs.Canonical.{canon}
+use Rattle.otel_common.specs.Equality.{set_eq}
+use Rattle.otel_common.specs.declared.attributes.KeyValue.{KeyValue}
+use Rattle.otel_model_stream.specs.Sets.{AttributeSet, none_set}
 use Rattle.otel_model_stream.specs.Folds.{Fold, Sample}
-use Rattle.otel_model_stream.specs.Entries.{Table, new_table, place, recorded_at, evicted, drained}
+use Rattle.otel_model_stream.specs.Entries.{Table, Point, new_table, has, number_counted, entry_for, at_entry, write, drop_handle, place, recorded_at, held_at, evicted, drained, points}
 
 -- what limits it, what no records come to, and its table
 pub record MapState : Type 0 where
@@ -22,6 +27,34 @@ with_place s m = record m { table = place m.limit m.empty s m.table }
 abbrev pub measured : AttributeSet → Sample → MapState → MapState
 measured s v m = record m { table = recorded_at s v (place m.limit m.empty s m.table) }
 
+-- a bind of the set: it gets a place, and the entry that it uses one live handle more
+abbrev pub bound_map : AttributeSet → MapState → MapState
+bound_map s m = record m { table = held_at s (place m.limit m.empty s m.table) }
+
+-- the set of the entry that this handle is of
+abbrev pub bound_to : AttributeSet → MapState → AttributeSet
+bound_to s m = entry_for s (with_place s m).table.entries
+
+-- a record through a handle of the entry of the set g
+abbrev pub updated_bound : AttributeSet → Sample → MapState → MapState
+updated_bound g v m = record m { table = at_entry g (write v) m.table }
+
+-- a live handle less at the entry of the set g
+abbrev pub unbound : AttributeSet → MapState → MapState
+unbound g m = record m { table = at_entry g drop_handle m.table }
+
+-- what a collection that changes nothing shows: the empty set if it was updated, and every other entry
+abbrev pub readonly_points : MapState → List Point
+readonly_points m = points true m.table
+
+-- what a resetting collection shows: what was updated
+abbrev pub resetting_points : MapState → List Point
+resetting_points m = points false m.table
+
+-- what a draining collection shows: the empty set if it was updated, and every other entry
+abbrev pub draining_points : MapState → List Point
+draining_points m = points true m.table
+
 -- after a resetting collection
 abbrev pub evicted_map : MapState → MapState
 evicted_map m = record m { table = evicted m.table }
@@ -29,3 +62,62 @@ evicted_map m = record m { table = evicted m.table }
 -- after a draining collection
 abbrev pub drained_map : MapState → MapState
 drained_map m = record m { table = drained m.table }
+
+-- ======== what a map knows ========
+-- a map, and the lists as they were given that it knows besides the sets of its entries
+pub record KnownMap : Type 0 where
+  pub map_state : MapState
+  pub given : List (List KeyValue)
+
+-- a map that knows no such list
+abbrev pub without_lists : MapState → KnownMap
+without_lists m = record { map_state = m; given = [] }
+
+-- whether the list, pair for pair, is one of those, or the set of an entry, or is empty
+abbrev pub knows : List KeyValue → KnownMap → Bool
+knows l k = set_eq l none_set || (is_member set_eq k.given l || has l k.map_state.table.entries)
+
+-- how many keys a map has: its entries, and those lists
+abbrev pub keys : KnownMap → ℕ
+keys k = length k.map_state.table.entries + length k.given
+
+-- a record of a list that the map knows takes no memory: it succeeds
+abbrev pub SucceedsIfKnown : {T E : Type 0} → List KeyValue → KnownMap → Result T E → Type 0
+SucceedsIfKnown l k result = IsTrue (knows l k) → IsOk result
+
+-- whether a mention of the set s gives it a counted entry
+abbrev pub is_admitted : AttributeSet → MapState → Bool
+is_admitted s m = not (set_eq s none_set) && (not (has s m.table.entries) && nat_lt (number_counted m.table.entries) m.limit)
+
+-- the lists once the set of the list l has a place: l is one if its set was admitted and isn't l itself
+abbrev pub given_with : List KeyValue → KnownMap → List (List KeyValue)
+given_with l k = k.given ++ cond (is_admitted (canon l) k.map_state && not (set_eq (canon l) l)) (l ∷ []) []
+
+-- a record of the list
+abbrev pub measured_list : List KeyValue → Sample → KnownMap → KnownMap
+measured_list l v k = record { map_state = measured (canon l) v k.map_state; given = given_with l k }
+
+-- a bind of the list
+abbrev pub bound_list : List KeyValue → KnownMap → KnownMap
+bound_list l k = record { map_state = bound_map (canon l) k.map_state; given = given_with l k }
+
+-- the lists whose set has an entry in this map
+abbrev pub given_left : MapState → List (List KeyValue) → List (List KeyValue)
+given_left m ls = filter (λ l. has (canon l) m.table.entries) ls
+
+-- with the map as a collection leaves it: a list goes with the entry of its set
+abbrev pub collected_known : MapState → KnownMap → KnownMap
+collected_known m k = record { map_state = m; given = given_left m k.given }
+
+-- after a resetting collection
+abbrev pub evicted_known : KnownMap → KnownMap
+evicted_known k = collected_known (evicted_map k.map_state) k
+
+-- after a draining collection
+abbrev pub drained_known : KnownMap → KnownMap
+drained_known k = collected_known (drained_map k.map_state) k
+
+-- each list is of a set that has an entry, and no two are of one set
+pub record AreListed (k : KnownMap) : Type 0 where
+  pub placed : AllByRecursion (λ l. has (canon l) k.map_state.table.entries ≡ true) k.given
+  pub apart : IsDistinct set_eq (map canon k.given)

@@ -4,7 +4,7 @@
 
 ghost use Rattle.std.specs.Prelude.{◌≡◌};
 ghost use Rattle.otel_model_stream.specs.Folds.{Aggregate, cleared, empty_of};
-ghost use Rattle.otel_model_stream.specs.Laws.{AreBucketsCounted, AreCountedOfWindows, ArePlacesOfWindows, ArePointsFew, ArePointsNow, ArePointsOfWindows, IsAllShown, IsClearedAlike, IsConserved, IsDrained, IsEvicted, IsFoldOfList, IsFoldedByOneMore, IsForgotten, IsHeld, IsMeasured};
+ghost use Rattle.otel_model_stream.specs.Laws.{AreBucketsCounted, AreCountedOfWindows, AreKeysFew, ArePlacesOfWindows, ArePointsFew, ArePointsNow, ArePointsOfWindows, IsAllShown, IsClearedAlike, IsConserved, IsDrained, IsDraining, IsEmptyKnown, IsEvicted, IsFoldOfList, IsFoldedByOneMore, IsForgotten, IsHandleOfPlace, IsHeld, IsIdle, IsKnownBefore, IsKnownBySet, IsKnownOnceBound, IsKnownOnceMeasured, IsListedAtFirst, IsListedOnceBound, IsListedOnceDrained, IsListedOnceEvicted, IsListedOnceMeasured, IsListedOnceUnbound, IsListedOnceUpdated, IsMeasured, IsReadonly, IsResetting, IsStillKnown, IsUnbound, IsUpdatedBound};
 
 /// For every list of events the entries are the places of the window so far, those counted are the
 /// ones that it counts, each collection has the points of its window, and one now would too.
@@ -36,10 +36,39 @@ pub fn clears()
     ensures steps { IsClearedAlike }
 {}
 
-/// A record, a bind and a collection are what they are for the bounded map.
+/// Each event is what it is for the bounded map.
 pub fn maps()
     ensures record { IsMeasured }
     ensures bind { IsHeld }
+    ensures handle { IsHandleOfPlace }
+    ensures through { IsUpdatedBound }
+    ensures end { IsUnbound }
+    ensures idle { IsIdle }
     ensures delta { IsEvicted }
     ensures drained { IsDrained }
+    ensures shown_readonly { IsReadonly }
+    ensures shown_resetting { IsResetting }
+    ensures shown_draining { IsDraining }
+{}
+
+/// What a map knows: a list that admitted a set, and that set, as long as its entry stays.
+pub fn knowing()
+    ensures measured { IsKnownOnceMeasured }
+    ensures bound { IsKnownOnceBound }
+    ensures still { IsStillKnown }
+    ensures before { IsKnownBefore }
+    ensures drained { IsEmptyKnown }
+    ensures by_set { IsKnownBySet }
+    ensures few { AreKeysFew }
+{}
+
+/// The lists that a map knows are of its entries, and no two of one set.
+pub fn listing()
+    ensures first { IsListedAtFirst }
+    ensures measured { IsListedOnceMeasured }
+    ensures bound { IsListedOnceBound }
+    ensures updated { IsListedOnceUpdated }
+    ensures unbound { IsListedOnceUnbound }
+    ensures evicted { IsListedOnceEvicted }
+    ensures drained { IsListedOnceDrained }
 {}
