@@ -2,7 +2,7 @@
 -- name syntax" and "Instrument unit"; Metrics SDK, "Explicit Bucket Histogram Aggregation").
 use Rattle.std.specs.Prelude.{ℕ, ◌-◌, ◌^◌, nat_lt, nat_le, nat_eq, ℤ, int_lt, Bool, true, false, cond, ◌&&◌, ◌||◌, not, List, [], ◌∷◌, length, Option, Some, None, codes, is_none}
 use Rattle.std.specs.List.{list_any}
-use Rattle.otel_model.specs.Resources.{first_of}
+use Rattle.std.specs.Option.{option_or}
 
 -- ======== names ========
 -- why a name is bad, in the order in which it is looked at
@@ -138,8 +138,8 @@ optional_bounds_fault (Some bounds) = cond (rises bounds) None (Some Boundaries)
 -- the first of these that stands: the unit's, the limit's, that of the bounds. The name is not looked at
 abbrev pub stream_fault : Option (List ℕ) → Option ℕ → Option (List ℤ) → Option StreamFault
 stream_fault unit limit bounds =
-    first_of (fault_by_unit (optional_unit_fault unit))
-    (first_of (optional_limit_fault limit) (optional_bounds_fault bounds))
+    option_or (fault_by_unit (optional_unit_fault unit))
+    (option_or (optional_limit_fault limit) (optional_bounds_fault bounds))
 
 -- the text of each
 abbrev pub stream_fault_text : StreamFault → List ℕ

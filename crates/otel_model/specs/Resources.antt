@@ -1,5 +1,6 @@
 -- Resources, their merge (Resource SDK, "Merge"), and what their builders make of them.
 use Rattle.std.specs.Prelude.{◌≡◌, ◌≢◌, ℕ, List, [], ◌∷◌, ◌++◌, reverse, cond, Option, Some, None, codes}
+use Rattle.std.specs.Option.{option_or}
 use Rattle.otel_common.specs.Canonical.{canon, HasRisingKeys}
 use Rattle.otel_common.specs.Equality.{bytes_eq}
 use Rattle.otel_common.specs.declared.attributes.KeyValue.{KeyValue}
@@ -25,15 +26,10 @@ abbrev pub value_at : List ℕ → List KeyValue → Option Value
 value_at key [] = None
 value_at key (p ∷ attributes) = cond (bytes_eq p.key key) (Some p.value) (value_at key attributes)
 
--- the first of two that is there
-abbrev pub first_of : {X : Type 0} → Option X → Option X → Option X
-first_of None other = other
-first_of (Some x) other = Some x
-
 -- the other's values win a merge
 abbrev pub OthersValuesWin : Type 0
 OthersValuesWin = (resource other : Resource) (key : List ℕ)
-    → value_at key (merged resource other).attributes ≡ first_of (value_at key other.attributes) (value_at key resource.attributes)
+    → value_at key (merged resource other).attributes ≡ option_or (value_at key other.attributes) (value_at key resource.attributes)
 
 -- and the keys of a merge rise
 abbrev pub MergesAreCanonical : Type 0
@@ -79,12 +75,12 @@ with_schema_url builder attributes url = merged (resource_of attributes (url_of 
 -- the values of a list that is given win, the last of each key
 abbrev pub GivenValuesWin : Type 0
 GivenValuesWin = (builder : Resource) (attributes : List KeyValue) (key : List ℕ)
-    → value_at key (with_attributes builder attributes).attributes ≡ first_of (value_at key (reverse attributes)) (value_at key builder.attributes)
+    → value_at key (with_attributes builder attributes).attributes ≡ option_or (value_at key (reverse attributes)) (value_at key builder.attributes)
 
 -- those of a list that is given with a URL give way
 abbrev pub OwnValuesWin : Type 0
 OwnValuesWin = (builder : Resource) (attributes : List KeyValue) (url key : List ℕ)
-    → value_at key (with_schema_url builder attributes url).attributes ≡ first_of (value_at key builder.attributes) (value_at key (reverse attributes))
+    → value_at key (with_schema_url builder attributes url).attributes ≡ option_or (value_at key builder.attributes) (value_at key (reverse attributes))
 
 -- to give a list is to give its attributes one after another
 abbrev pub GivenOneByOne : Type 0

@@ -2,7 +2,7 @@
 use Rattle.std.proofs.Common.{◌≡◌, map, ⊎_elim, ℕ, zero, suc, ◌+◌, ◌<◌, Bool, true, false, List, [], ◌∷◌, ◌++◌, length, refl, arith, sym, ◌∙◌, ap, Option, Some, None, subst, cond}
 use Rattle.std.specs.Prelude.{◌^◌, ◌&&◌, fold, slice_get, is_some, nat_lt}
 use Rattle.std.proofs.lemmas.Bool.{cases_Bool, true≢false, false≢true}
-use Rattle.std.proofs.lemmas.List.{append-nil, map-append}
+use Rattle.std.proofs.lemmas.List.{append-nil, length_push, map-append}
 use Rattle.std.proofs.Math.Nat.{mod-add-mod}
 use Rattle.otel_model_stream.specs.Sets.{AttributeSet}
 use Rattle.otel_model_stream.specs.Folds.{Aggregate, Amount, wrapped, sample_of}
@@ -31,10 +31,6 @@ get_lt : {X : Type 0} (xs : List X) (n : ℕ) (x : X) → slice_get xs n ≡ Som
 get_lt [] n x e = absurd (cc)
 get_lt (y ∷ ys) zero x e = omega arith
 get_lt (y ∷ ys) (suc n) x e = let ih : n < length ys = get_lt ys n x e in omega arith
-
-length_push : {X : Type 0} (xs : List X) (x : X) → length (xs ++ x ∷ []) ≡ length xs + 1
-length_push [] x = omega arith
-length_push (y ∷ ys) x = let ih : length (ys ++ x ∷ []) ≡ length ys + 1 = length_push ys x in omega arith
 
 -- the instrument of a record or bind that is not refused is there
 pub recorded_there : (o : Option InstrumentState) (given : Bool) → record_refusal o given ≡ None → (i : InstrumentState) × (o ≡ Some i)

@@ -31,41 +31,41 @@ abbrev quiet : InstrumentationScope
 quiet = scope_named (codes "q")
 
 module _ {T : Type 0} where
-  abbrev gauge_point : AttributeSet → T → GaugeDataPoint T
-  gauge_point set value = record { attributes = set; exemplars = []; value = value }
+  abbrev gauge_value : AttributeSet → T → GaugeDataPoint T
+  gauge_value set value = record { attributes = set; exemplars = []; value = value }
 
-  abbrev sum_point : AttributeSet → T → SumDataPoint T
-  sum_point set value = record { attributes = set; exemplars = []; value = value }
+  abbrev sum_value : AttributeSet → T → SumDataPoint T
+  sum_value set value = record { attributes = set; exemplars = []; value = value }
 
   -- without min and max
-  abbrev plain_point : List ℤ → AttributeSet → ℕ → T → List ℕ → HistogramDataPoint T
-  plain_point bounds set count sum counts = record { attributes = set; exemplars = []; bounds = bounds; bucket_counts = counts; count = count; min = None; max = None; sum = sum }
+  abbrev plain_value : List ℤ → AttributeSet → ℕ → T → List ℕ → HistogramDataPoint T
+  plain_value bounds set count sum counts = record { attributes = set; exemplars = []; bounds = bounds; bucket_counts = counts; count = count; min = None; max = None; sum = sum }
 
   -- with them
-  abbrev wide_point : List ℤ → AttributeSet → ℕ → T → T → T → List ℕ → HistogramDataPoint T
-  wide_point bounds set count sum least greatest counts = record { attributes = set; exemplars = []; bounds = bounds; bucket_counts = counts; count = count; min = Some least; max = Some greatest; sum = sum }
+  abbrev wide_value : List ℤ → AttributeSet → ℕ → T → T → T → List ℕ → HistogramDataPoint T
+  wide_value bounds set count sum least greatest counts = record { attributes = set; exemplars = []; bounds = bounds; bucket_counts = counts; count = count; min = Some least; max = Some greatest; sum = sum }
 
   -- from the moment `since` to the moment `now`
-  abbrev gauge : ℕ → ℕ → List (GaugeDataPoint T) → MetricData T
-  gauge since now points = Gauge (record { data_points = points; start_time = since; time = now })
+  abbrev gauge_data : ℕ → ℕ → List (GaugeDataPoint T) → MetricData T
+  gauge_data since now points = Gauge (record { data_points = points; start_time = since; time = now })
 
-  abbrev rising_sum : ℕ → ℕ → List (SumDataPoint T) → MetricData T
-  rising_sum since now points = Sum (record { data_points = points; start_time = since; time = now; temporality = Cumulative; is_monotonic = true })
+  abbrev rising_sum_data : ℕ → ℕ → List (SumDataPoint T) → MetricData T
+  rising_sum_data since now points = Sum (record { data_points = points; start_time = since; time = now; temporality = Cumulative; is_monotonic = true })
 
-  abbrev plain_sum : ℕ → ℕ → List (SumDataPoint T) → MetricData T
-  plain_sum since now points = Sum (record { data_points = points; start_time = since; time = now; temporality = Cumulative; is_monotonic = false })
+  abbrev plain_sum_data : ℕ → ℕ → List (SumDataPoint T) → MetricData T
+  plain_sum_data since now points = Sum (record { data_points = points; start_time = since; time = now; temporality = Cumulative; is_monotonic = false })
 
-  abbrev rising_delta : ℕ → ℕ → List (SumDataPoint T) → MetricData T
-  rising_delta since now points = Sum (record { data_points = points; start_time = since; time = now; temporality = Delta; is_monotonic = true })
+  abbrev rising_delta_data : ℕ → ℕ → List (SumDataPoint T) → MetricData T
+  rising_delta_data since now points = Sum (record { data_points = points; start_time = since; time = now; temporality = Delta; is_monotonic = true })
 
-  abbrev histogram : ℕ → ℕ → List (HistogramDataPoint T) → MetricData T
-  histogram since now points = Histogram (record { data_points = points; start_time = since; time = now; temporality = Cumulative })
+  abbrev histogram_data : ℕ → ℕ → List (HistogramDataPoint T) → MetricData T
+  histogram_data since now points = Histogram (record { data_points = points; start_time = since; time = now; temporality = Cumulative })
 
-  abbrev delta_histogram : ℕ → ℕ → List (HistogramDataPoint T) → MetricData T
-  delta_histogram since now points = Histogram (record { data_points = points; start_time = since; time = now; temporality = Delta })
+  abbrev delta_histogram_data : ℕ → ℕ → List (HistogramDataPoint T) → MetricData T
+  delta_histogram_data since now points = Histogram (record { data_points = points; start_time = since; time = now; temporality = Delta })
 
-abbrev metric : Text → Text → Text → AggregatedMetrics → Metric
-metric name description unit content = record { name = name; description = description; unit = unit; content = content }
+abbrev metric_of : Text → Text → Text → AggregatedMetrics → Metric
+metric_of name description unit content = record { name = name; description = description; unit = unit; content = content }
 
 -- ======== the calls ========
 -- an `i64` up-down counter, a `u64` histogram and an `i64` gauge
@@ -100,16 +100,16 @@ pub whole_cumulative : Gives product [] cumulative collected
           record {
             scope = m;
             metrics =
-                metric b [] [] (U64 (rising_sum 110 200 (sum_point [] 1 ∷ sum_point y1 4 ∷ [])))
-                ∷ metric (codes "g") [] (codes "%") (I64 (gauge 150 200 (gauge_point x1 (negsuc 4) ∷ [])))
+                metric_of b [] [] (U64 (rising_sum_data 110 200 (sum_value [] 1 ∷ sum_value y1 4 ∷ [])))
+                ∷ metric_of (codes "g") [] (codes "%") (I64 (gauge_data 150 200 (gauge_value x1 (negsuc 4) ∷ [])))
                 ∷ [];
           }
           ∷ record {
             scope = library;
             metrics =
-                metric (codes "ud") (codes "level") (codes "By") (I64 (plain_sum 100 200 (sum_point [] (pos 3) ∷ [])))
-                ∷ metric (codes "h") (codes "time") [] (U64 (histogram 130 200 (wide_point (pos 5 ∷ pos 10 ∷ []) [] 2 11 5 6 (1 ∷ 1 ∷ 0 ∷ []) ∷ [])))
-                ∷ metric b [] [] (U64 (rising_sum 160 200 (sum_point [] 8 ∷ [])))
+                metric_of (codes "ud") (codes "level") (codes "By") (I64 (plain_sum_data 100 200 (sum_value [] (pos 3) ∷ [])))
+                ∷ metric_of (codes "h") (codes "time") [] (U64 (histogram_data 130 200 (wide_value (pos 5 ∷ pos 10 ∷ []) [] 2 11 5 6 (1 ∷ 1 ∷ 0 ∷ []) ∷ [])))
+                ∷ metric_of b [] [] (U64 (rising_sum_data 160 200 (sum_value [] 8 ∷ [])))
                 ∷ [];
           }
           ∷ [];
@@ -120,16 +120,16 @@ pub whole_cumulative : Gives product [] cumulative collected
           record {
             scope = m;
             metrics =
-                metric b [] [] (U64 (rising_sum 110 300 (sum_point [] 1 ∷ sum_point y1 6 ∷ [])))
-                ∷ metric (codes "g") [] (codes "%") (I64 (gauge 150 300 (gauge_point x1 (negsuc 4) ∷ [])))
+                metric_of b [] [] (U64 (rising_sum_data 110 300 (sum_value [] 1 ∷ sum_value y1 6 ∷ [])))
+                ∷ metric_of (codes "g") [] (codes "%") (I64 (gauge_data 150 300 (gauge_value x1 (negsuc 4) ∷ [])))
                 ∷ [];
           }
           ∷ record {
             scope = library;
             metrics =
-                metric (codes "ud") (codes "level") (codes "By") (I64 (plain_sum 100 300 (sum_point [] (negsuc 0) ∷ [])))
-                ∷ metric (codes "h") (codes "time") [] (U64 (histogram 130 300 (wide_point (pos 5 ∷ pos 10 ∷ []) [] 2 11 5 6 (1 ∷ 1 ∷ 0 ∷ []) ∷ wide_point (pos 5 ∷ pos 10 ∷ []) x1 1 20 20 20 (0 ∷ 0 ∷ 1 ∷ []) ∷ [])))
-                ∷ metric b [] [] (U64 (rising_sum 160 300 (sum_point [] 8 ∷ [])))
+                metric_of (codes "ud") (codes "level") (codes "By") (I64 (plain_sum_data 100 300 (sum_value [] (negsuc 0) ∷ [])))
+                ∷ metric_of (codes "h") (codes "time") [] (U64 (histogram_data 130 300 (wide_value (pos 5 ∷ pos 10 ∷ []) [] 2 11 5 6 (1 ∷ 1 ∷ 0 ∷ []) ∷ wide_value (pos 5 ∷ pos 10 ∷ []) x1 1 20 20 20 (0 ∷ 0 ∷ 1 ∷ []) ∷ [])))
+                ∷ metric_of b [] [] (U64 (rising_sum_data 160 300 (sum_value [] 8 ∷ [])))
                 ∷ [];
           }
           ∷ [];
@@ -147,16 +147,16 @@ pub whole_delta : Gives product [] delta collected
           record {
             scope = m;
             metrics =
-                metric b [] [] (U64 (rising_delta 110 200 (sum_point [] 1 ∷ sum_point y1 4 ∷ [])))
-                ∷ metric (codes "g") [] (codes "%") (I64 (gauge 150 200 (gauge_point x1 (negsuc 4) ∷ [])))
+                metric_of b [] [] (U64 (rising_delta_data 110 200 (sum_value [] 1 ∷ sum_value y1 4 ∷ [])))
+                ∷ metric_of (codes "g") [] (codes "%") (I64 (gauge_data 150 200 (gauge_value x1 (negsuc 4) ∷ [])))
                 ∷ [];
           }
           ∷ record {
             scope = library;
             metrics =
-                metric (codes "ud") (codes "level") (codes "By") (I64 (plain_sum 100 200 (sum_point [] (pos 3) ∷ [])))
-                ∷ metric (codes "h") (codes "time") [] (U64 (delta_histogram 130 200 (wide_point (pos 5 ∷ pos 10 ∷ []) [] 2 11 5 6 (1 ∷ 1 ∷ 0 ∷ []) ∷ [])))
-                ∷ metric b [] [] (U64 (rising_delta 160 200 (sum_point [] 8 ∷ [])))
+                metric_of (codes "ud") (codes "level") (codes "By") (I64 (plain_sum_data 100 200 (sum_value [] (pos 3) ∷ [])))
+                ∷ metric_of (codes "h") (codes "time") [] (U64 (delta_histogram_data 130 200 (wide_value (pos 5 ∷ pos 10 ∷ []) [] 2 11 5 6 (1 ∷ 1 ∷ 0 ∷ []) ∷ [])))
+                ∷ metric_of b [] [] (U64 (rising_delta_data 160 200 (sum_value [] 8 ∷ [])))
                 ∷ [];
           }
           ∷ [];
@@ -164,12 +164,12 @@ pub whole_delta : Gives product [] delta collected
     ∷ record {
       resource = product;
       scope_metrics =
-          record { scope = m; metrics = metric b [] [] (U64 (rising_delta 200 300 (sum_point y1 2 ∷ []))) ∷ [] }
+          record { scope = m; metrics = metric_of b [] [] (U64 (rising_delta_data 200 300 (sum_value y1 2 ∷ []))) ∷ [] }
           ∷ record {
             scope = library;
             metrics =
-                metric (codes "ud") (codes "level") (codes "By") (I64 (plain_sum 100 300 (sum_point [] (negsuc 0) ∷ [])))
-                ∷ metric (codes "h") (codes "time") [] (U64 (delta_histogram 200 300 (wide_point (pos 5 ∷ pos 10 ∷ []) x1 1 20 20 20 (0 ∷ 0 ∷ 1 ∷ []) ∷ [])))
+                metric_of (codes "ud") (codes "level") (codes "By") (I64 (plain_sum_data 100 300 (sum_value [] (negsuc 0) ∷ [])))
+                ∷ metric_of (codes "h") (codes "time") [] (U64 (delta_histogram_data 200 300 (wide_value (pos 5 ∷ pos 10 ∷ []) x1 1 20 20 20 (0 ∷ 0 ∷ 1 ∷ []) ∷ [])))
                 ∷ [];
           }
           ∷ [];
@@ -191,9 +191,9 @@ pub exported_low_memory : Gives product [] low_memory three
           record {
             scope = m;
             metrics =
-                metric a [] [] (U64 (rising_delta 100 200 (sum_point [] 1 ∷ [])))
-                ∷ metric b [] [] (U64 (plain_sum 100 200 (sum_point [] 2 ∷ [])))
-                ∷ metric (codes "h") [] [] (U64 (delta_histogram 100 200 (wide_point [] [] 1 3 3 3 [] ∷ [])))
+                metric_of a [] [] (U64 (rising_delta_data 100 200 (sum_value [] 1 ∷ [])))
+                ∷ metric_of b [] [] (U64 (plain_sum_data 100 200 (sum_value [] 2 ∷ [])))
+                ∷ metric_of (codes "h") [] [] (U64 (delta_histogram_data 100 200 (wide_value [] [] 1 3 3 3 [] ∷ [])))
                 ∷ [];
           }
           ∷ [];
@@ -213,9 +213,9 @@ pub exported_low_answers : Gives product [] low_answers three
           record {
             scope = m;
             metrics =
-                metric a [] [] (U64 (rising_sum 100 200 (sum_point [] 1 ∷ [])))
-                ∷ metric b [] [] (U64 (plain_sum 100 200 (sum_point [] 2 ∷ [])))
-                ∷ metric (codes "h") [] [] (U64 (histogram 100 200 (wide_point [] [] 1 3 3 3 [] ∷ [])))
+                metric_of a [] [] (U64 (rising_sum_data 100 200 (sum_value [] 1 ∷ [])))
+                ∷ metric_of b [] [] (U64 (plain_sum_data 100 200 (sum_value [] 2 ∷ [])))
+                ∷ metric_of (codes "h") [] [] (U64 (histogram_data 100 200 (wide_value [] [] 1 3 3 3 [] ∷ [])))
                 ∷ [];
           }
           ∷ [];
@@ -237,7 +237,7 @@ pub view_says : Gives product (if_named (codes "g") renamed ∷ []) cumulative (
     (record {
       resource = product;
       scope_metrics =
-          record { scope = m; metrics = metric (codes "Seen") (codes "D") (codes "m") (I64 (histogram 100 200 (plain_point zero_ten [] 2 (pos 9) (1 ∷ 0 ∷ 1 ∷ []) ∷ []))) ∷ [] }
+          record { scope = m; metrics = metric_of (codes "Seen") (codes "D") (codes "m") (I64 (histogram_data 100 200 (plain_value zero_ten [] 2 (pos 9) (1 ∷ 0 ∷ 1 ∷ []) ∷ []))) ∷ [] }
           ∷ [];
     }
     ∷ [])
@@ -249,7 +249,7 @@ pub view_leaves : Gives product (if_named (codes "ud") (aggregating (ExplicitBuc
     (record {
       resource = product;
       scope_metrics =
-          record { scope = m; metrics = metric (codes "ud") (codes "level") (codes "By") (I64 (histogram 100 200 (wide_point zero_ten [] 2 (pos 0) (negsuc 2) (pos 12) (1 ∷ 0 ∷ 1 ∷ []) ∷ []))) ∷ [] }
+          record { scope = m; metrics = metric_of (codes "ud") (codes "level") (codes "By") (I64 (histogram_data 100 200 (wide_value zero_ten [] 2 (pos 0) (negsuc 2) (pos 12) (1 ∷ 0 ∷ 1 ∷ []) ∷ []))) ∷ [] }
           ∷ [];
     }
     ∷ [])

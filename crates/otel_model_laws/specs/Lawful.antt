@@ -1,5 +1,6 @@
 -- What a provider keeps from call to call, whatever its views: its balances, and the facts that carry them.
 use Rattle.std.specs.Prelude.{◌≡◌, ℕ, ◌+◌, ◌<◌, true, false, cond, List, [], ◌∷◌, map, filter, length, Some, slice_get, sum_by}
+pub use Rattle.std.specs.List.{AllByRecursion as EachOf}
 use Rattle.otel_model_stream.specs.Events.{Event, Handles}
 use Rattle.otel_model_stream.specs.Folds.{wrapped}
 use Rattle.otel_model_stream.specs.Machine.{begin, run, answers as points_given, points}
@@ -13,11 +14,6 @@ use Rattle.otel_model.specs.Sent.{is_fed}
 use Rattle.otel_model.specs.Machine.{recorded_over, new_state}
 use Rattle.otel_model.specs.Steps.{after, Run}
 use Rattle.otel_model.specs.Accepted.{accepted_for}
-
--- what holds of each element of a list
-abbrev pub EachOf : {X : Type 0} → (X → Type 0) → List X → Type 0
-EachOf P [] = Unit {0}
-EachOf P (x ∷ xs) = P x × EachOf P xs
 
 -- ======== balances ========
 -- what a stream recorded is what it exported and what is pending, modulo 2^64
