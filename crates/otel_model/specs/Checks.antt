@@ -1,7 +1,8 @@
--- Which names, units and bounds of an instrument are good (Metrics API, "Instrument name syntax" and
--- "Instrument unit"; Metrics SDK, "Explicit Bucket Histogram Aggregation").
-use Rattle.std.specs.Prelude.{ℕ, nat_lt, nat_le, nat_eq, ℤ, int_lt, Bool, true, false, cond, ◌&&◌, ◌||◌, not, List, [], ◌∷◌, length, Option, Some, None, codes, is_none}
+-- Which names, units and bounds of an instrument are good, and which settings of a stream (Metrics API, "Instrument
+-- name syntax" and "Instrument unit"; Metrics SDK, "Explicit Bucket Histogram Aggregation").
+use Rattle.std.specs.Prelude.{ℕ, ◌-◌, ◌^◌, nat_lt, nat_le, nat_eq, ℤ, int_lt, Bool, true, false, cond, ◌&&◌, ◌||◌, not, List, [], ◌∷◌, length, Option, Some, None, codes, is_none}
 use Rattle.std.specs.List.{list_any}
+use Rattle.otel_model.specs.Resources.{first_of}
 
 -- ======== names ========
 -- why a name is bad, in the order in which it is looked at
@@ -104,3 +105,46 @@ aggregation_bounds_fault_text = codes "aggregation: explicit bucket histogram: n
 -- what is answered where an aggregation does not fit the kind of instrument
 abbrev pub incompatible_text : List ℕ
 incompatible_text = codes "incompatible aggregation"
+
+-- ======== streams ========
+-- why the settings of a stream are bad, in the order in which they are looked at
+pub data StreamFault : Type 0 where
+  UnitLength : StreamFault
+  UnitInvalidChar : StreamFault
+  LimitZero : StreamFault
+  LimitMax : StreamFault
+  Boundaries : StreamFault
+
+-- that of a unit
+abbrev pub fault_by_unit : Option UnitFault → Option StreamFault
+fault_by_unit None = None
+fault_by_unit (Some UnitFault.Long) = Some UnitLength
+fault_by_unit (Some NotAscii) = Some UnitInvalidChar
+
+-- a limit of 0, and the greatest number of 64 bits
+abbrev pub limit_fault : ℕ → Option StreamFault
+limit_fault limit = cond (nat_eq limit 0) (Some LimitZero) (cond (nat_eq limit (2 ^ 64 - 1)) (Some LimitMax) None)
+
+-- no limit is a good one
+abbrev pub optional_limit_fault : Option ℕ → Option StreamFault
+optional_limit_fault None = None
+optional_limit_fault (Some limit) = limit_fault limit
+
+-- so are no bounds
+abbrev pub optional_bounds_fault : Option (List ℤ) → Option StreamFault
+optional_bounds_fault None = None
+optional_bounds_fault (Some bounds) = cond (rises bounds) None (Some Boundaries)
+
+-- the first of these that stands: the unit's, the limit's, that of the bounds. The name is not looked at
+abbrev pub stream_fault : Option (List ℕ) → Option ℕ → Option (List ℤ) → Option StreamFault
+stream_fault unit limit bounds =
+    first_of (fault_by_unit (optional_unit_fault unit))
+    (first_of (optional_limit_fault limit) (optional_bounds_fault bounds))
+
+-- the text of each
+abbrev pub stream_fault_text : StreamFault → List ℕ
+stream_fault_text UnitLength = unit_fault_text UnitFault.Long
+stream_fault_text UnitInvalidChar = unit_fault_text NotAscii
+stream_fault_text LimitZero = codes "Cardinality limit must be greater than 0"
+stream_fault_text LimitMax = codes "Cardinality limit must be less than usize::MAX"
+stream_fault_text Boundaries = stream_bounds_fault_text

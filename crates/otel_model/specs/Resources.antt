@@ -1,5 +1,5 @@
--- Resources and their merge (Resource SDK, "Merge").
-use Rattle.std.specs.Prelude.{◌≡◌, ◌≢◌, ℕ, List, [], ◌∷◌, ◌++◌, cond, Option, Some, None}
+-- Resources, their merge (Resource SDK, "Merge"), and what their builders make of them.
+use Rattle.std.specs.Prelude.{◌≡◌, ◌≢◌, ℕ, List, [], ◌∷◌, ◌++◌, reverse, cond, Option, Some, None, codes}
 use Rattle.otel_common.specs.Canonical.{canon, HasRisingKeys}
 use Rattle.otel_common.specs.Equality.{bytes_eq}
 use Rattle.otel_common.specs.declared.attributes.KeyValue.{KeyValue}
@@ -49,3 +49,44 @@ UrlsMergeFromTheLeft = (a b c : Resource) (one two : List ℕ) → one ≢ two �
 abbrev pub UrlsMergeFromTheRight : Type 0
 UrlsMergeFromTheRight = (a b c : Resource) (one two : List ℕ) → one ≢ two → a.schema_url ≡ Some one → b.schema_url ≡ Some two → c.schema_url ≡ Some two
     → (merged a (merged b c)).schema_url ≡ None
+
+-- ======== builders ========
+-- the resource of a list and a URL: of doubled keys the last wins
+abbrev pub resource_of : List KeyValue → Option (List ℕ) → Resource
+resource_of attributes url = record { attributes = canon (reverse attributes); schema_url = url }
+
+-- an empty URL is none
+abbrev pub url_of : List ℕ → Option (List ℕ)
+url_of [] = None
+url_of (b ∷ url) = Some (b ∷ url)
+
+-- a builder that is given attributes: these win
+abbrev pub with_attributes : Resource → List KeyValue → Resource
+with_attributes builder attributes = merged builder (resource_of attributes None)
+
+-- one attribute
+abbrev pub with_attribute : Resource → KeyValue → Resource
+with_attribute builder attribute = with_attributes builder (attribute ∷ [])
+
+-- the name of the service
+abbrev pub with_service_name : Resource → Value → Resource
+with_service_name builder name = with_attribute builder (record { key = codes "service.name"; value = name })
+
+-- attributes and the URL of their schema: what stood in the builder wins
+abbrev pub with_schema_url : Resource → List KeyValue → List ℕ → Resource
+with_schema_url builder attributes url = merged (resource_of attributes (url_of url)) builder
+
+-- the values of a list that is given win, the last of each key
+abbrev pub GivenValuesWin : Type 0
+GivenValuesWin = (builder : Resource) (attributes : List KeyValue) (key : List ℕ)
+    → value_at key (with_attributes builder attributes).attributes ≡ first_of (value_at key (reverse attributes)) (value_at key builder.attributes)
+
+-- those of a list that is given with a URL give way
+abbrev pub OwnValuesWin : Type 0
+OwnValuesWin = (builder : Resource) (attributes : List KeyValue) (url key : List ℕ)
+    → value_at key (with_schema_url builder attributes url).attributes ≡ first_of (value_at key builder.attributes) (value_at key (reverse attributes))
+
+-- to give a list is to give its attributes one after another
+abbrev pub GivenOneByOne : Type 0
+GivenOneByOne = (builder : Resource) (attributes : List KeyValue) (attribute : KeyValue)
+    → with_attributes builder (attributes ++ attribute ∷ []) ≡ with_attribute (with_attributes builder attributes) attribute

@@ -8,6 +8,7 @@ pub mod Booked
 pub mod Apart
 pub mod OfEvents
 pub mod Accepting
+pub mod Sharing
 pub mod Shows
 pub mod Rows
 pub mod RowsPlaces
@@ -15,3 +16,9 @@ pub mod RowsSums
 pub mod RowsViews
 pub mod RowsEdges
 pub mod RowsChecks
+pub mod RowsResources
+pub mod RowsBooks
+pub mod RowsHeadings
+pub mod RowsKinds
+pub mod RowsIdentities
+pub mod RowsHandles

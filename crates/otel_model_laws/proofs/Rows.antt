@@ -14,9 +14,9 @@ use Rattle.otel_data.specs.declared.points.GaugeDataPoint.{GaugeDataPoint}
 use Rattle.otel_data.specs.declared.points.HistogramDataPoint.{HistogramDataPoint}
 use Rattle.otel_data.specs.declared.points.SumDataPoint.{SumDataPoint}
 use Rattle.otel_model_stream.specs.Sets.{AttributeSet}
-use Rattle.otel_model.specs.Resources.{empty_resource}
+use Rattle.otel_model.specs.Resources.{Resource, empty_resource}
 use Rattle.otel_model.specs.Calls.{Text, InstrumentKind, kind_number, Number, About, Observed, Call, Meter, Build, Record, Reply}
-use Rattle.otel_model.specs.Demands.{Aggregation, StreamSpec, View, Views, Answer, ReaderAnswers, Temporality, Cumulative, Delta, nothing_said}
+use Rattle.otel_model.specs.Demands.{Aggregation, StreamSpec, View, Views, Answer, ReaderAnswers, Temporality, Cumulative, Delta, LowMemory, preferring, nothing_said}
 use Rattle.otel_model.specs.Machine.{changed_at, new_state}
 use Rattle.otel_model.specs.Steps.{replies_of}
 use Rattle.otel_model.specs.History.{collections_of, given, made}
@@ -77,6 +77,15 @@ abbrev pub aggregating : Aggregation → StreamSpec
 aggregating aggregation = record nothing_said { aggregation = Some aggregation }
 
 -- ======== readers ========
+abbrev pub cumulative : ReaderAnswers
+cumulative = preferring Cumulative
+
+abbrev pub delta : ReaderAnswers
+delta = preferring Delta
+
+abbrev pub low_memory : ReaderAnswers
+low_memory = preferring LowMemory
+
 abbrev pub but_for : InstrumentKind → (Answer → Answer) → ReaderAnswers → ReaderAnswers
 but_for kind f answers = changed_at (kind_number kind) f answers
 
@@ -146,21 +155,39 @@ seen_metric x = (x.name, seen_points x.content)
 abbrev pub seen : ResourceMetrics → Seen
 seen c = flat (map (λ (s : ScopeMetrics). map seen_metric s.metrics) c.scope_metrics)
 
--- the replies of the machine, and the calls that count by them
-abbrev pub replies : Views → List ReaderAnswers → List Call → List Reply
-replies views readers calls = replies_of views (new_state empty_resource 0 readers) calls
+-- the replies of the machine of a provider with this resource
+abbrev pub replies_at : Resource → Views → List ReaderAnswers → List Call → List Reply
+replies_at resource views readers calls = replies_of views (new_state resource 0 readers) calls
 
 -- reader r's collections by the machine
-abbrev pub by_machine : Views → List ReaderAnswers → ℕ → List Call → List ResourceMetrics
-by_machine views readers r calls = given r calls (replies views readers calls)
+abbrev given_at : Resource → Views → List ReaderAnswers → ℕ → List Call → List ResourceMetrics
+given_at resource views readers r calls = given r calls (replies_at resource views readers calls)
 
--- and as they are read off the calls
-abbrev pub by_windows : Views → List ReaderAnswers → ℕ → ReaderAnswers → List Call → List ResourceMetrics
-by_windows views readers r answers calls = collections_of views empty_resource answers r (made calls (replies views readers calls))
+-- and as they are read off the calls that count by these replies
+abbrev read_at : Resource → Views → List ReaderAnswers → ℕ → ReaderAnswers → List Call → List ResourceMetrics
+read_at resource views readers r answers calls = collections_of views resource answers r (made calls (replies_at resource views readers calls))
+
+-- both are these collections of the only reader
+abbrev pub Gives : Resource → Views → ReaderAnswers → List Call → List ResourceMetrics → Type 0
+Gives resource views answers calls collections = (given_at resource views (answers ∷ []) 0 calls ≡ collections) × (read_at resource views (answers ∷ []) 0 answers calls ≡ collections)
+
+-- where the resource is empty
+abbrev pub replies : Views → List ReaderAnswers → List Call → List Reply
+replies views readers calls = replies_at empty_resource views readers calls
+
+abbrev by_machine : Views → List ReaderAnswers → ℕ → List Call → List ResourceMetrics
+by_machine views readers r calls = given_at empty_resource views readers r calls
+
+abbrev by_windows : Views → List ReaderAnswers → ℕ → ReaderAnswers → List Call → List ResourceMetrics
+by_windows views readers r answers calls = read_at empty_resource views readers r answers calls
 
 -- both show this of reader r, whose answers are `answers`
 abbrev pub Shows : Views → List ReaderAnswers → ℕ → ReaderAnswers → List Call → List Seen → Type 0
 Shows views readers r answers calls collections = (map seen (by_machine views readers r calls) ≡ collections) × (map seen (by_windows views readers r answers calls) ≡ collections)
+
+-- of the only reader
+abbrev pub AloneShows : Views → ReaderAnswers → List Call → List Seen → Type 0
+AloneShows views answers calls collections = Shows views (answers ∷ []) 0 answers calls collections
 
 -- start and time
 abbrev data_moments : {T : Type 0} → MetricData T → ℕ × ℕ

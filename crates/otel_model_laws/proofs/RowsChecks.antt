@@ -1,11 +1,7 @@
--- Worked rows on names, units, bounds and the merge of resources.
-use Rattle.std.specs.Prelude.{◌≡◌, ℕ, pos, true, false, List, [], ◌∷◌, replicate, Option, Some, None, codes}
+-- Worked rows on names, units, bounds and settings of streams.
+use Rattle.std.specs.Prelude.{◌≡◌, ℕ, ℤ, pos, true, false, List, [], ◌∷◌, ◌++◌, replicate, Option, Some, None, codes}
 use Rattle.std.proofs.Common.{refl}
-use Rattle.otel_common.specs.Canonical.{canon}
-use Rattle.otel_common.specs.declared.attributes.KeyValue.{KeyValue}
-use Rattle.otel_common.specs.declared.attributes.Value.TheVariants as value
-use Rattle.otel_model.specs.Checks.{name_fault, Empty, Long, BadStart, BadCharacter, unit_fault, UnitFault, NotAscii, rises}
-use Rattle.otel_model.specs.Resources.{Resource, merged}
+use Rattle.otel_model.specs.Checks.{name_fault, Empty, Long, BadStart, BadCharacter, unit_fault, UnitFault, NotAscii, rises, StreamFault, UnitLength, UnitInvalidChar, LimitZero, LimitMax, Boundaries, stream_fault}
 
 -- ======== names ========
 pub row_16 : name_fault [] ≡ Some Empty
@@ -74,30 +70,93 @@ falling = refl
 pub doubled : rises (pos 1 ∷ pos 5 ∷ pos 5 ∷ []) ≡ false
 doubled = refl
 
--- ======== merges ========
-abbrev text : ℕ → List ℕ → KeyValue
-text key t = record { key = key ∷ []; value = value.String t }
+-- ======== settings of streams ========
+abbrev limited : ℕ → Option StreamFault
+limited limit = stream_fault None (Some limit) None
 
-abbrev u1 : Option (List ℕ)
-u1 = Some (117 ∷ 49 ∷ [])
+pub row_16_limit_0 : limited 0 ≡ Some LimitZero
+row_16_limit_0 = refl
 
-abbrev u2 : Option (List ℕ)
-u2 = Some (117 ∷ 50 ∷ [])
+pub row_16_greatest : limited 18446744073709551615 ≡ Some LimitMax
+row_16_greatest = refl
 
-abbrev with_url : Option (List ℕ) → Resource
-with_url url = record { attributes = []; schema_url = url }
+pub row_16_last_good : limited 18446744073709551614 ≡ None
+row_16_last_good = refl
 
-pub row_20 : (merged (record { attributes = text 97 [] ∷ text 98 (codes "b-value") ∷ text 100 (codes "d-value") ∷ []; schema_url = None })
-    (record { attributes = text 97 (codes "a-value") ∷ text 99 (codes "c-value") ∷ text 100 [] ∷ []; schema_url = None })).attributes
-    ≡ text 97 (codes "a-value") ∷ text 98 (codes "b-value") ∷ text 99 (codes "c-value") ∷ text 100 [] ∷ []
-unfolding canon
-row_20 = refl
+pub limit_1 : limited 1 ≡ None
+limit_1 = refl
 
-pub row_20_two : (merged (with_url u1) (with_url u2)).schema_url ≡ None
-row_20_two = refl
+pub limit_10 : limited 10 ≡ None
+limit_10 = refl
 
-pub row_20_second : (merged (with_url None) (with_url u2)).schema_url ≡ u2
-row_20_second = refl
+pub limit_100 : limited 100 ≡ None
+limit_100 = refl
 
-pub row_20_first : (merged (with_url u1) (with_url None)).schema_url ≡ u1
-row_20_first = refl
+pub limit_1000 : limited 1000 ≡ None
+limit_1000 = refl
+
+abbrev measured_in : List ℕ → Option StreamFault
+measured_in unit = stream_fault (Some unit) None None
+
+-- a unit of 64 digits, and one with a character of three bytes
+pub stream_long_unit : measured_in (replicate 64 48) ≡ Some UnitLength
+stream_long_unit = refl
+
+pub stream_longest_unit : measured_in (replicate 63 48) ≡ None
+stream_longest_unit = refl
+
+pub stream_bad_unit : measured_in (codes "utf8char" ++ 233 ∷ 148 ∷ 136 ∷ []) ≡ Some UnitInvalidChar
+stream_bad_unit = refl
+
+pub stream_kilobytes : measured_in (codes "kb") ≡ None
+stream_kilobytes = refl
+
+pub stream_rate : measured_in (codes "Kb/sec") ≡ None
+stream_rate = refl
+
+pub stream_percent : measured_in (codes "%") ≡ None
+stream_percent = refl
+
+pub stream_empty_unit : measured_in [] ≡ None
+stream_empty_unit = refl
+
+abbrev bounded : List ℤ → Option StreamFault
+bounded bounds = stream_fault None None (Some bounds)
+
+pub stream_rising : bounded (pos 1 ∷ pos 2 ∷ pos 5 ∷ pos 10 ∷ pos 20 ∷ pos 50 ∷ pos 100 ∷ []) ≡ None
+stream_rising = refl
+
+pub stream_falling : bounded (pos 1 ∷ pos 5 ∷ pos 2 ∷ pos 10 ∷ []) ≡ Some Boundaries
+stream_falling = refl
+
+pub stream_doubled : bounded (pos 1 ∷ pos 2 ∷ pos 5 ∷ pos 5 ∷ pos 10 ∷ []) ≡ Some Boundaries
+stream_doubled = refl
+
+pub stream_without_bounds : bounded [] ≡ None
+stream_without_bounds = refl
+
+-- nothing is set, and all is set
+pub nothing_set : stream_fault None None None ≡ None
+nothing_set = refl
+
+pub all_set : stream_fault (Some (codes "ms")) (Some 100) (Some (pos 1 ∷ [])) ≡ None
+all_set = refl
+
+-- the first of several faults: the length of the unit, its characters, the limit, the bounds
+abbrev falling_bounds : Option (List ℤ)
+falling_bounds = Some (pos 2 ∷ pos 1 ∷ [])
+
+pub length_first : stream_fault (Some (replicate 64 233)) (Some 0) falling_bounds ≡ Some UnitLength
+length_first = refl
+
+pub characters_next : stream_fault (Some (233 ∷ [])) (Some 0) falling_bounds ≡ Some UnitInvalidChar
+characters_next = refl
+
+pub limit_next : stream_fault (Some (codes "ms")) (Some 0) falling_bounds ≡ Some LimitZero
+limit_next = refl
+
+pub greatest_next : stream_fault None (Some 18446744073709551615) falling_bounds ≡ Some LimitMax
+greatest_next = refl
+
+pub bounds_last : stream_fault (Some []) (Some 1) falling_bounds ≡ Some Boundaries
+bounds_last = refl

@@ -5,8 +5,8 @@ use Rattle.otel_common.specs.Canonical.{canon}
 use Rattle.otel_common.specs.declared.attributes.KeyValue.{KeyValue}
 use Rattle.otel_common.specs.declared.attributes.Value.TheVariants as value
 use Rattle.otel_model_stream.specs.Sets.{over_set}
-use Rattle.otel_model.specs.Calls.{Counter, UpDownCounter, Histogram, ObservableCounter, Gauge, Call, Meter, Build, Record, Bind, RecordBound, Unbind, Collect, Shutdown, UnknownInstrument, UnknownMeter, UnknownHandle, WrongKind, WrongNumber, Reply}
-use Rattle.otel_model.specs.Demands.{Drop, LastValue, ExplicitBucketHistogram, Views, ReaderAnswers, Delta, Cumulative, preferring}
+use Rattle.otel_model.specs.Calls.{Counter, UpDownCounter, Histogram, ObservableCounter, Gauge, Meter, Build, Record, Bind, RecordBound, Unbind, Collect, Shutdown, UnknownInstrument, UnknownMeter, UnknownHandle, WrongKind, WrongNumber, Reply}
+use Rattle.otel_model.specs.Demands.{Drop, LastValue, ExplicitBucketHistogram, Views}
 use Rattle.otel_model.specs.Calls.{Flush, OutOfMemory, Exhausted, AlreadyShutdown, ReaderShutDown, ReadersFailed}
 use Rattle.otel_model.specs.Resources.{empty_resource}
 use Rattle.otel_model.specs.State.{State}
@@ -14,22 +14,13 @@ use Rattle.otel_model.specs.Machine.{new_instrument, new_state}
 use Rattle.otel_model.specs.Steps.{reply_of, after, Step}
 use Rattle.otel_model.specs.Only.{only}
 use Rattle.otel_model.specs.History.{made}
-use Rattle.otel_model_laws.proofs.Rows.{Seen, a, m, about, with_own_bounds, u64, i64, x1, y1, pair, if_named, limited, named, aggregating, but_for, default_of, Shows, replies, one, delta_sum, cumulative_sum, last_values, cumulative_histogram, delta_histogram, spread, on, add, observe}
-
-abbrev delta : ReaderAnswers
-delta = preferring Delta
-
-abbrev cumulative : ReaderAnswers
-cumulative = preferring Cumulative
-
-abbrev Shown : Views → ReaderAnswers → List Call → List Seen → Type 0
-Shown views answers calls collections = Shows views (answers ∷ []) 0 answers calls collections
+use Rattle.otel_model_laws.proofs.Rows.{a, m, about, with_own_bounds, u64, i64, x1, y1, pair, if_named, limited, named, aggregating, but_for, default_of, cumulative, delta, AloneShows, replies, one, delta_sum, cumulative_sum, last_values, cumulative_histogram, delta_histogram, spread, on, add, observe}
 
 -- ======== sets and places ========
 abbrev a_is : ℕ → List KeyValue
 a_is n = pair 97 n ∷ []
 
-pub row_33 : Shown [] cumulative (on (about Counter a) (add 1 (pair 97 1 ∷ pair 97 2 ∷ []) ∷ add 2 (a_is 1) ∷ add 4 (a_is 2) ∷ Collect 0 200 [] ∷ []))
+pub row_33 : AloneShows [] cumulative (on (about Counter a) (add 1 (pair 97 1 ∷ pair 97 2 ∷ []) ∷ add 2 (a_is 1) ∷ add 4 (a_is 2) ∷ Collect 0 200 [] ∷ []))
     (one a (cumulative_sum ((a_is 1, 3) ∷ (a_is 2, 4) ∷ [])) ∷ [])
 unfolding canon
 row_33 = (refl, refl)
@@ -37,23 +28,23 @@ row_33 = (refl, refl)
 abbrev not_over : List KeyValue
 not_over = record { key = codes "otel.metric.overflow"; value = value.Bool false } ∷ []
 
-pub row_36 : Shown (if_named a (limited 1) ∷ []) delta (on (about Counter a) (add 1 not_over ∷ add 2 x1 ∷ Collect 0 200 [] ∷ []))
+pub row_36 : AloneShows (if_named a (limited 1) ∷ []) delta (on (about Counter a) (add 1 not_over ∷ add 2 x1 ∷ Collect 0 200 [] ∷ []))
     (one a (delta_sum ((not_over, 1) ∷ (over_set, 2) ∷ [])) ∷ [])
 unfolding canon
 row_36 = (refl, refl)
 
-pub row_41 : Shown (if_named a (limited 18446744073709551614) ∷ []) delta (on (about Counter a) (add 1 x1 ∷ Collect 0 200 [] ∷ [])) (one a (delta_sum ((x1, 1) ∷ [])) ∷ [])
+pub row_41 : AloneShows (if_named a (limited 18446744073709551614) ∷ []) delta (on (about Counter a) (add 1 x1 ∷ Collect 0 200 [] ∷ [])) (one a (delta_sum ((x1, 1) ∷ [])) ∷ [])
 unfolding canon
 row_41 = (refl, refl)
 
 -- a set that was evicted comes back behind those that stayed
-pub back_behind : Shown [] delta (on (about Counter a) (add 1 x1 ∷ add 2 y1 ∷ Collect 0 200 [] ∷ add 3 y1 ∷ Collect 0 300 [] ∷ add 4 x1 ∷ add 5 y1 ∷ Collect 0 400 [] ∷ []))
+pub back_behind : AloneShows [] delta (on (about Counter a) (add 1 x1 ∷ add 2 y1 ∷ Collect 0 200 [] ∷ add 3 y1 ∷ Collect 0 300 [] ∷ add 4 x1 ∷ add 5 y1 ∷ Collect 0 400 [] ∷ []))
     (one a (delta_sum ((x1, 1) ∷ (y1, 2) ∷ [])) ∷ one a (delta_sum ((y1, 3) ∷ [])) ∷ one a (delta_sum ((y1, 5) ∷ (x1, 4) ∷ [])) ∷ [])
 unfolding canon
 back_behind = (refl, refl)
 
 -- a gauge that was only bound shows 0
-pub bound_gauge : Shown [] cumulative (on (about Gauge a) (Bind 0 x1 ∷ Collect 0 200 [] ∷ [])) (one a (last_values ((x1, 0) ∷ [])) ∷ [])
+pub bound_gauge : AloneShows [] cumulative (on (about Gauge a) (Bind 0 x1 ∷ Collect 0 200 [] ∷ [])) (one a (last_values ((x1, 0) ∷ [])) ∷ [])
 unfolding canon
 bound_gauge = (refl, refl)
 
@@ -65,19 +56,19 @@ abbrev with_buckets : Views
 with_buckets = if_named a (aggregating (ExplicitBucketHistogram ten true)) ∷ []
 
 -- observations of a counter seen as a histogram add up, and a delta reader resets it
-pub observed_histogram : Shown with_buckets delta (on (about ObservableCounter a) (Collect 0 200 (observe 0 7 [] ∷ []) ∷ Collect 0 300 (observe 0 7 [] ∷ []) ∷ []))
+pub observed_histogram : AloneShows with_buckets delta (on (about ObservableCounter a) (Collect 0 200 (observe 0 7 [] ∷ []) ∷ Collect 0 300 (observe 0 7 [] ∷ []) ∷ []))
     (one a (delta_histogram [] (spread ten 1 7 7 7 (1 ∷ 0 ∷ []))) ∷ one a (delta_histogram [] (spread ten 1 7 7 7 (1 ∷ 0 ∷ []))) ∷ [])
 unfolding canon
 observed_histogram = (refl, refl)
 
 -- a histogram on an up-down counter has the sum 0
-pub up_down_histogram : Shown with_buckets cumulative (on (about UpDownCounter a) (add 7 [] ∷ Collect 0 200 [] ∷ []))
+pub up_down_histogram : AloneShows with_buckets cumulative (on (about UpDownCounter a) (add 7 [] ∷ Collect 0 200 [] ∷ []))
     (one a (cumulative_histogram [] (spread ten 1 0 7 7 (1 ∷ 0 ∷ []))) ∷ [])
 unfolding canon
 up_down_histogram = (refl, refl)
 
 -- the reader drops, a view is incompatible: the own demand drops too
-pub own_drops : Shown (if_named a (aggregating LastValue) ∷ []) (but_for Counter (default_of Drop) cumulative) (on (about Counter a) (add 5 [] ∷ Collect 0 200 [] ∷ [])) ([] ∷ [])
+pub own_drops : AloneShows (if_named a (aggregating LastValue) ∷ []) (but_for Counter (default_of Drop) cumulative) (on (about Counter a) (add 5 [] ∷ Collect 0 200 [] ∷ [])) ([] ∷ [])
 unfolding canon
 own_drops = (refl, refl)
 
@@ -89,22 +80,22 @@ upper = 67 ∷ 195 ∷ 137 ∷ []
 abbrev lower : List ℕ
 lower = 99 ∷ 195 ∷ 169 ∷ []
 
-pub only_ascii_case : Shown (if_named a (named upper) ∷ if_named a (named lower) ∷ []) cumulative (on (about Counter a) (add 1 [] ∷ Collect 0 200 [] ∷ []))
+pub only_ascii_case : AloneShows (if_named a (named upper) ∷ if_named a (named lower) ∷ []) cumulative (on (about Counter a) (add 1 [] ∷ Collect 0 200 [] ∷ []))
     ((one upper (cumulative_sum (([], 1) ∷ [])) ++ one lower (cumulative_sum (([], 1) ∷ []))) ∷ [])
 unfolding canon
 only_ascii_case = (refl, refl)
 
 -- ======== instruments that ignore ========
 -- bounds are looked at for a histogram alone
-pub bounds_of_counter : Shown [] cumulative (on (with_own_bounds (pos 5 ∷ pos 5 ∷ []) (about Counter a)) (add 1 [] ∷ Collect 0 200 [] ∷ [])) (one a (cumulative_sum (([], 1) ∷ [])) ∷ [])
+pub bounds_of_counter : AloneShows [] cumulative (on (with_own_bounds (pos 5 ∷ pos 5 ∷ []) (about Counter a)) (add 1 [] ∷ Collect 0 200 [] ∷ [])) (one a (cumulative_sum (([], 1) ∷ [])) ∷ [])
 unfolding canon
 bounds_of_counter = (refl, refl)
 
-pub bounds_of_histogram : Shown [] cumulative (on (with_own_bounds (pos 5 ∷ pos 5 ∷ []) (about Histogram a)) (add 1 [] ∷ Collect 0 200 [] ∷ [])) ([] ∷ [])
+pub bounds_of_histogram : AloneShows [] cumulative (on (with_own_bounds (pos 5 ∷ pos 5 ∷ []) (about Histogram a)) (add 1 [] ∷ Collect 0 200 [] ∷ [])) ([] ∷ [])
 unfolding canon
 bounds_of_histogram = (refl, refl)
 
-pub bad_name_ignores : Shown [] cumulative (on (about Counter (95 ∷ [])) (add 1 [] ∷ Collect 0 200 [] ∷ [])) ([] ∷ [])
+pub bad_name_ignores : AloneShows [] cumulative (on (about Counter (95 ∷ [])) (add 1 [] ∷ Collect 0 200 [] ∷ [])) ([] ∷ [])
 unfolding canon
 bad_name_ignores = (refl, refl)
 

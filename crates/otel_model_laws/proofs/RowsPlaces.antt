@@ -5,14 +5,8 @@ use Rattle.otel_common.specs.Canonical.{canon}
 use Rattle.otel_common.specs.declared.attributes.KeyValue.{KeyValue}
 use Rattle.otel_model_stream.specs.Sets.{over_set}
 use Rattle.otel_model.specs.Calls.{Counter, ObservableCounter, Call, Bind, RecordBound, Collect}
-use Rattle.otel_model.specs.Demands.{Views, ReaderAnswers, Delta, Cumulative, preferring, nothing_said}
-use Rattle.otel_model_laws.proofs.Rows.{Seen, a, about, u64, x1, y1, z1, pair, if_named, limited, Shows, one, delta_sum, cumulative_sum, on, add, observe}
-
-abbrev delta : ReaderAnswers
-delta = preferring Delta
-
-abbrev cumulative : ReaderAnswers
-cumulative = preferring Cumulative
+use Rattle.otel_model.specs.Demands.{Views, nothing_said}
+use Rattle.otel_model_laws.proofs.Rows.{Seen, a, about, u64, x1, y1, z1, pair, if_named, limited, cumulative, delta, Shows, one, delta_sum, cumulative_sum, on, add, observe}
 
 abbrev limit_1 : Views
 limit_1 = if_named a (limited 1) ∷ []

@@ -3,17 +3,8 @@ use Rattle.std.specs.Prelude.{◌≡◌, ℕ, ℤ, pos, negsuc, true, false, Lis
 use Rattle.std.proofs.Common.{refl}
 use Rattle.otel_common.specs.Canonical.{canon}
 use Rattle.otel_model.specs.Calls.{Counter, UpDownCounter, Histogram, ObservableCounter, Gauge, ObservableGauge, About, Call, Meter, Build, Record, Bind, RecordBound, Unbind, Collect, Flush, Shutdown, UnknownHandle, WrongKind, WrongNumber, AlreadyShutdown, ReaderShutDown, UnknownReader, Reply}
-use Rattle.otel_model.specs.Demands.{ReaderAnswers, Delta, Cumulative, LowMemory, preferring, default_bounds}
-use Rattle.otel_model_laws.proofs.Rows.{Seen, SeenPoints, a, b, m, scope_named, about, with_own_bounds, u64, i64, x1, Shows, HasMoments, replies, one, delta_sum, cumulative_sum, plain_sum, last_values, cumulative_histogram, plain_spread, spread, on, add, observe}
-
-abbrev delta : ReaderAnswers
-delta = preferring Delta
-
-abbrev cumulative : ReaderAnswers
-cumulative = preferring Cumulative
-
-abbrev low_memory : ReaderAnswers
-low_memory = preferring LowMemory
+use Rattle.otel_model.specs.Demands.{ReaderAnswers, Cumulative, default_bounds}
+use Rattle.otel_model_laws.proofs.Rows.{Seen, SeenPoints, a, b, m, scope_named, about, with_own_bounds, u64, i64, x1, cumulative, delta, low_memory, Shows, HasMoments, replies, one, delta_sum, cumulative_sum, plain_sum, last_values, cumulative_histogram, plain_spread, spread, on, add, observe}
 
 -- one reader without views
 abbrev Shown : ReaderAnswers → List Call → List Seen → Type 0

@@ -4,22 +4,12 @@ use Rattle.std.proofs.Common.{refl}
 use Rattle.otel_common.specs.Canonical.{canon}
 use Rattle.otel_model_stream.specs.Sets.{over_set}
 use Rattle.otel_model.specs.Calls.{Counter, UpDownCounter, Histogram, ObservableCounter, Call, Build, Record, Collect}
-use Rattle.otel_model.specs.Demands.{Aggregation, Drop, Default, Sum, LastValue, ExplicitBucketHistogram, Views, ReaderAnswers, Delta, Cumulative, preferring}
-use Rattle.otel_model_laws.proofs.Rows.{Seen, a, b, about, with_own_bounds, u64, x1, y1, if_named, limited, named, aggregating, but_for, limit_of, default_of, Shows, one, delta_sum, cumulative_sum, plain_sum, cumulative_histogram, plain_spread, spread, on, add, observe}
-
-abbrev delta : ReaderAnswers
-delta = preferring Delta
-
-abbrev cumulative : ReaderAnswers
-cumulative = preferring Cumulative
+use Rattle.otel_model.specs.Demands.{Aggregation, Drop, Default, Sum, LastValue, ExplicitBucketHistogram, Views, ReaderAnswers}
+use Rattle.otel_model_laws.proofs.Rows.{Seen, a, b, about, with_own_bounds, u64, x1, y1, if_named, limited, named, aggregating, but_for, limit_of, default_of, cumulative, delta, AloneShows, Shows, one, delta_sum, cumulative_sum, plain_sum, cumulative_histogram, plain_spread, spread, on, add, observe}
 
 -- one cumulative reader
 abbrev CumulativeShows : Views → List Call → List Seen → Type 0
 CumulativeShows views calls collections = Shows views (cumulative ∷ []) 0 cumulative calls collections
-
--- one delta reader with these answers
-abbrev AloneShows : Views → ReaderAnswers → List Call → List Seen → Type 0
-AloneShows views answers calls collections = Shows views (answers ∷ []) 0 answers calls collections
 
 -- ======== views ========
 abbrev Foo : List ℕ

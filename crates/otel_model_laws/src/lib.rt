@@ -2,10 +2,11 @@
 #![tactic(auto)]
 
 ghost use Rattle.otel_model.specs.Laws.{AreFeedsApart, AreFeedsStreams, AreStreamsApart, IsAccepted};
-ghost use Rattle.otel_model.specs.Resources.{MergesAreCanonical, OthersValuesWin, UrlsMergeFromTheLeft, UrlsMergeFromTheRight};
+ghost use Rattle.otel_model.specs.Resources.{GivenOneByOne, GivenValuesWin, MergesAreCanonical, OthersValuesWin, OwnValuesWin, UrlsMergeFromTheLeft, UrlsMergeFromTheRight};
 ghost use Rattle.otel_model_laws.specs.Books.{EachCallIsBooked, EachRunIsBooked};
 ghost use Rattle.otel_model_laws.specs.Builds.{AlikeFeedTheSame};
 ghost use Rattle.otel_model_laws.specs.Lawful.{EachCallKeepsLawful, EachRunKeepsLawful, IsLawfulAtFirst, LawfulBalances};
+ghost use Rattle.otel_model_laws.specs.Shares.{BookFollowsCalls, BookedOneByOne, SharesAddUp};
 ghost use Rattle.otel_model_laws.specs.Showing.{BindsByNumber, CollectsAfterObservations, HandlesByNumber, ObservationsByNumber, RecordsByNumber, UnheldRests};
 ghost use Rattle.otel_model_laws.specs.Orders.{AreDifferences, BindsInAnyOrder, ObservationsInAnyOrder, RecordsInAnyOrder};
 
@@ -34,6 +35,14 @@ pub fn merges()
     ensures right { UrlsMergeFromTheRight }
 {}
 
+/// What a builder of a resource is given wins, but for attributes that are given with a URL, and of
+/// doubled keys the last.
+pub fn gives()
+    ensures given { GivenValuesWin }
+    ensures own { OwnValuesWin }
+    ensures one_by_one { GivenOneByOne }
+{}
+
 /// What a synchronous stream recorded is what the instruments that feed it accepted.
 pub fn accounts()
     ensures only { IsAccepted }
@@ -58,6 +67,14 @@ pub fn keeps()
 pub fn books()
     ensures call { EachCallIsBooked }
     ensures run { EachRunIsBooked }
+{}
+
+/// A book in whole numbers follows what all instruments together accept, and is the sum of its shares as
+/// long as each record is added to one of them.
+pub fn adds_up()
+    ensures book { BookFollowsCalls }
+    ensures shares { SharesAddUp }
+    ensures one_by_one { BookedOneByOne }
 {}
 
 /// What a program that names streams by number owes to be the machine.
