@@ -9,6 +9,7 @@ mod copies;
 mod fresh;
 mod identity;
 mod instrument;
+pub mod laws;
 pub mod meter;
 mod pipeline;
 mod pipelines;

@@ -36,6 +36,15 @@ pub struct SdkMeterProvider {
 }
 
 impl MeterProviderBuilder {
+    /// What `SdkMeterProvider::builder` gives: the empty resource, and no readers. Takes no memory.
+    pub fn default(alloc: Global) -> MeterProviderBuilder
+        ensures answers { answers_of_readers result ≡ [] }
+        ensures resource { resource_of result ≡ empty_resource }
+        ensures kept { builder_boxes result ≡ [] }
+    {
+        SdkMeterProvider::builder(alloc)
+    }
+
     /// Adds the reader, and asks it for the temporality that it wants for each kind of instrument. Readers
     /// are numbered from 0, in order of adding.
     ///
@@ -75,6 +84,18 @@ impl SdkMeterProvider {
         MeterProviderBuilder {
             core: FreshCore::new(alloc),
             readers: Vec::new(alloc),
+        }
+    }
+
+    /// A provider with the empty resource and without readers. Takes no memory.
+    pub fn default(alloc: Global) -> SdkMeterProvider
+        ensures state { state_of result ≡ new_state empty_resource 0 [] }
+        ensures kept { provider_boxes result ≡ [] }
+    {
+        let MeterProviderBuilder { core, readers } = SdkMeterProvider::builder(alloc);
+        SdkMeterProvider {
+            core: BalancedCore::new(core),
+            readers,
         }
     }
 
