@@ -11,6 +11,7 @@ mod identity;
 mod instrument;
 pub mod laws;
 pub mod meter;
+pub mod parts;
 mod pipeline;
 mod pipelines;
 pub mod provider;

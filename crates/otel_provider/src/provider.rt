@@ -9,91 +9,99 @@ ghost use Rattle.otel_model.specs.Resources.{empty_resource};
 ghost use Rattle.otel_model.specs.Steps.{Step, Run};
 ghost use Rattle.otel_model_laws.specs.Lawful.{Balances};
 ghost use Rattle.otel_provider.specs.Headline.{OfReaders, OfStreams, OfAnswers, InAnyOrder};
-ghost use Rattle.otel_provider.specs.Providers.{state_of, resource_of, answers_of_readers, builder_boxes, provider_boxes};
+ghost use Rattle.otel_provider.specs.Providers.{state_of, resource_of, answers_of_readers, builder_readers, provider_readers};
 ghost use Rattle.otel_provider.specs.Correspondence.{call_of, reply_of};
 
 use crate::answers::Answers;
 use crate::balanced::BalancedCore;
 use crate::calls::{Call, Reply};
 use crate::fresh::FreshCore;
+use crate::parts::{Boxed, Parts};
 use otel_common::faults::Fault;
 use otel_stream::reader::MetricReader;
 use std::alloc::Global;
 
 /// Makes a provider: it takes in the readers (Metrics SDK, "MeterProvider Creation").
 #[derive(Drop)]
-pub struct MeterProviderBuilder {
+pub struct ProviderBuilder<P: Parts> {
     core: FreshCore,
-    readers: Vec<Box<dyn MetricReader>>,
+    readers: Vec<P::Reader>,
 }
 
 /// A provider of meters: it makes instruments, takes in their records and hands out collections
 /// (Metrics SDK, "MeterProvider").
 #[derive(Drop)]
-pub struct SdkMeterProvider {
+pub struct Provider<P: Parts> {
     core: BalancedCore,
-    readers: Vec<Box<dyn MetricReader>>,
+    readers: Vec<P::Reader>,
 }
 
-impl MeterProviderBuilder {
+/// A provider whose readers are boxes.
+pub type SdkMeterProvider = Provider<Boxed>;
+
+/// Makes a provider whose readers are boxes.
+pub type MeterProviderBuilder = ProviderBuilder<Boxed>;
+
+impl<P: Parts> ProviderBuilder<P> {
     /// What `SdkMeterProvider::builder` gives: the empty resource, and no readers. Takes no memory.
-    pub fn default(alloc: Global) -> MeterProviderBuilder
+    pub fn default(alloc: Global) -> ProviderBuilder<P>
         ensures answers { answers_of_readers result ≡ [] }
         ensures resource { resource_of result ≡ empty_resource }
-        ensures kept { builder_boxes result ≡ [] }
+        ensures kept { builder_readers result ≡ [] }
     {
-        SdkMeterProvider::builder(alloc)
+        Provider::builder(alloc)
     }
 
     /// Adds the reader, and asks it for the temporality that it wants for each kind of instrument. Readers
     /// are numbered from 0, in order of adding.
     ///
     /// Refused only for want of memory; then the builder is given up. Takes memory twice at most.
-    pub fn with_reader(self, reader: Box<dyn MetricReader>) -> Result<Self, Fault>
-        ensures answers { IfOk result (λ b. answers_of_readers b ≡ answers_of_readers self ++ answers_by (⟦<Box<dyn MetricReader> as MetricReader>⟧.preference reader) ∷ []) }
+    pub fn with_reader(self, reader: P::Reader) -> Result<Self, Fault>
+        ensures answers { IfOk result (λ b. answers_of_readers b ≡ answers_of_readers self ++ answers_by (P.Reader.preference reader) ∷ []) }
         ensures resource { IfOk result (λ b. resource_of b ≡ resource_of self) }
-        ensures kept { IfOk result (λ b. builder_boxes b ≡ builder_boxes self ++ reader ∷ []) }
+        ensures kept { IfOk result (λ b. builder_readers b ≡ builder_readers self ++ reader ∷ []) }
         ensures only_memory { IsOkUnless result Fault.OutOfMemory }
     {
-        let MeterProviderBuilder { core, readers } = self;
+        let ProviderBuilder { core, readers } = self;
         let core = core.with_reader(Answers::of(&reader))?;
         let mut readers = readers;
         readers.push(reader)?;
-        Ok(MeterProviderBuilder { core, readers })
+        Ok(ProviderBuilder { core, readers })
     }
 
     /// The provider, without meters and instruments, and with the resource and the readers of the builder. It
     /// always succeeds, and takes no memory.
-    pub fn build(self) -> Result<SdkMeterProvider, Fault>
+    pub fn build(self) -> Result<Provider<P>, Fault>
         ensures state { IsOkAnd result (λ p. state_of p ≡ new_state (resource_of self) 0 (answers_of_readers self)) }
-        ensures kept { IfOk result (λ p. provider_boxes p ≡ builder_boxes self) }
+        ensures kept { IfOk result (λ p. provider_readers p ≡ builder_readers self) }
     {
-        let MeterProviderBuilder { core, readers } = self;
+        let ProviderBuilder { core, readers } = self;
         let core = BalancedCore::new(core);
-        Ok(SdkMeterProvider { core, readers })
+        Ok(Provider { core, readers })
     }
 }
 
-impl SdkMeterProvider {
+impl<P: Parts> Provider<P> {
     /// A builder of a provider with the empty resource and without readers. Takes no memory.
-    pub fn builder(alloc: Global) -> MeterProviderBuilder
+    pub fn builder(alloc: Global) -> ProviderBuilder<P>
         ensures answers { answers_of_readers result ≡ [] }
         ensures resource { resource_of result ≡ empty_resource }
-        ensures kept { builder_boxes result ≡ [] }
+        ensures kept { builder_readers result ≡ [] }
     {
-        MeterProviderBuilder {
+        ProviderBuilder {
             core: FreshCore::new(alloc),
             readers: Vec::new(alloc),
         }
     }
 
     /// A provider with the empty resource and without readers. Takes no memory.
-    pub fn default(alloc: Global) -> SdkMeterProvider
+    pub fn default(alloc: Global) -> Provider<P>
         ensures state { state_of result ≡ new_state empty_resource 0 [] }
-        ensures kept { provider_boxes result ≡ [] }
+        ensures kept { provider_readers result ≡ [] }
     {
-        let MeterProviderBuilder { core, readers } = SdkMeterProvider::builder(alloc);
-        SdkMeterProvider {
+        let builder: ProviderBuilder<P> = Provider::builder(alloc);
+        let ProviderBuilder { core, readers } = builder;
+        Provider {
             core: BalancedCore::new(core),
             readers,
         }
@@ -117,7 +125,7 @@ impl SdkMeterProvider {
         ensures step { Step [] (state_of self.old) (call_of call.now) (reply_of result) (state_of self.new) }
         ensures balances { Balances (state_of self.new) }
         ensures readers { KeepsReaders (state_of self.old) (state_of self.new) }
-        ensures kept { provider_boxes self.new ≡ provider_boxes self.old }
+        ensures kept { provider_readers self.new ≡ provider_readers self.old }
     {
         self.core.step(call)
     }
@@ -136,7 +144,7 @@ impl SdkMeterProvider {
         ensures only_memory { IsOkUnless result Fault.OutOfMemory }
         ensures balances { Balances (state_of self.new) }
         ensures readers { KeepsReaders (state_of self.old) (state_of self.new) }
-        ensures kept { provider_boxes self.new ≡ provider_boxes self.old }
+        ensures kept { provider_readers self.new ≡ provider_readers self.old }
         ensures order { IfOk result (λ replies. InAnyOrder (state_of self.old) calls.now replies.items (state_of self.new)) }
         ensures streams { IfOk result (λ replies. OfReaders HasStreamsOfBuilds (state_of self.old) calls.now replies.items (state_of self.new)) }
         ensures feeds { IfOk result (λ replies. OfReaders HasFeedsOfBuilds (state_of self.old) calls.now replies.items (state_of self.new)) }

@@ -12,7 +12,7 @@ use Rattle.otel_provider.specs.Correspondence.{call_of, reply_of}
 use Rattle.otel_provider.specs.declared.calls.Reply.{Reply}
 use Rattle.otel_provider.proofs.Lawful.{kept_run}
 use Rattle.otel_provider.proofs.Headlines.{of_readers, of_streams, of_answers, in_any_order}
-use Rattle.otel_provider.proofs.provider.SdkMeterProvider.run.Goals as goal
+use Rattle.otel_provider.proofs.provider.Provider.run.Goals as goal
 
 pub returns-clause-streams : goal.returns-clause-streams
 returns-clause-streams g c = IfOk-weaker c.run.result _ _ (λ replies is. of_readers HasStreamsOfBuilds streams_law c.args.self.now.core c.run.new.self c.args.calls.now replies.items is) c.run.ensures.run
