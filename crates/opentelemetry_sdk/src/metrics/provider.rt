@@ -2,5 +2,8 @@
 
 pub use otel_data::numbers::NumberValue;
 pub use otel_provider::calls::{Call, Reply};
-pub use otel_provider::provider::{MeterProviderBuilder, SdkMeterProvider};
+pub use otel_provider::parts::{Boxed, Parts, ReaderPart};
+pub use otel_provider::provider::{
+    MeterProviderBuilder, Provider, ProviderBuilder, SdkMeterProvider,
+};
 pub use otel_provider::sorts::InstrumentSort;
