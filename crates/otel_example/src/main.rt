@@ -11,37 +11,39 @@ use opentelemetry_sdk::metrics::{ManualReader, Temporality};
 use parts::{OnlyManual, boxed_provider};
 use printing::print_sums;
 use shop::Shop;
+use std::alloc::Global;
 
-fn main(rt: HostRuntime) -> Result<(), Error> {
-    let alloc = rt.alloc();
-
-    // Readers in boxes, which may differ in type.
+/// Readers in boxes, which may differ in type. The provider goes on when the shop is closed.
+fn with_boxes(rt: &impl Print, alloc: Global) -> Result<(), Error> {
     let reader = Box::new(alloc, ManualReader::default())?;
     let provider: SdkMeterProvider = boxed_provider(alloc, reader)?;
     let mut shop = Shop::open(alloc, provider, 100)?;
     shop.serve(alloc, "/cart")?;
     shop.serve(alloc, "/cart")?;
     shop.serve(alloc, "/")?;
-    print_sums(&rt, &shop.collect(0, 200)?)?;
-    let mut provider = shop.close();
-
-    // The provider goes on without the shop.
-    let mut next = Shop::open(alloc, provider, 300)?;
+    print_sums(rt, &shop.collect(0, 200)?)?;
+    let mut next = Shop::open(alloc, shop.close(), 300)?;
     next.serve(alloc, "/cart")?;
-    print_sums(&rt, &next.collect(0, 400)?)?;
-    provider = next.close();
-    let _ = provider;
+    print_sums(rt, &next.collect(0, 400)?)?;
+    Ok(())
+}
 
-    // Readers of one type, without boxes.
+/// Readers of one type, without boxes.
+fn without_boxes(rt: &impl Print, alloc: Global) -> Result<(), Error> {
     let reader = ManualReader::builder()
         .with_temporality(Temporality::Delta)
         .build();
     let provider: Provider<OnlyManual> = Provider::builder(alloc).with_reader(reader)?.build()?;
     let mut shop = Shop::open(alloc, provider, 100)?;
     shop.serve(alloc, "/cart")?;
-    print_sums(&rt, &shop.collect(0, 200)?)?;
+    print_sums(rt, &shop.collect(0, 200)?)?;
     shop.serve(alloc, "/cart")?;
     shop.serve(alloc, "/cart")?;
-    print_sums(&rt, &shop.collect(0, 300)?)?;
+    print_sums(rt, &shop.collect(0, 300)?)?;
     Ok(())
+}
+
+fn main(rt: HostRuntime) -> Result<(), Error> {
+    with_boxes(&rt, rt.alloc())?;
+    without_boxes(&rt, rt.alloc())
 }
