@@ -3,10 +3,14 @@
 #![tactic(auto)]
 
 pub mod aggregator;
+pub mod assign;
+pub mod bounds;
+pub mod buckets;
 pub mod internal;
 pub mod number;
 mod sets;
 mod shows;
+mod signed;
 mod stream;
 pub mod sum;
 mod table;
