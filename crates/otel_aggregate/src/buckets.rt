@@ -1,8 +1,8 @@
 //! What a histogram keeps of the records of one set of attributes.
 
-ghost use Rattle.std.specs.Prelude.{◌≡◌, ◌+◌, Some, cond};
+ghost use Rattle.std.specs.Prelude.{◌≡◌, ◌+◌, ℤ, Bool, List, ◌∷◌, Some, cond, sum};
 ghost use Rattle.std.specs.Option.{option_map};
-ghost use Rattle.otel_model_stream.specs.Folds.{Spreads, wrapped, lesser, greater, counted_in, no_spread, cleared_no_spread};
+ghost use Rattle.otel_model_stream.specs.Folds.{Spreads, Amount, Histogram, fold_of, wrapped, lesser, greater, counted_in, no_spread, cleared_no_spread};
 
 use crate::aggregator::Aggregator;
 use crate::number::Number;
@@ -36,13 +36,7 @@ fn lesser_of<T: Number>(least: Option<T>, value: T) -> T
     ensures { Some (T.wide result) ≡ lesser (option_map T.wide least) (T.wide value) }
 {
     match least {
-        Some(least) => {
-            if value.is_less(least) {
-                value
-            } else {
-                least
-            }
-        }
+        Some(least) => { if value.is_less(least) { value } else { least } }
         None => value,
     }
 }
@@ -167,4 +161,12 @@ impl<T: Number + Drop> Aggregator for Buckets<T> {
         self.greatest = None;
         self.counts.fill(0);
     }
+}
+
+/// The law that, where there is a bound, the counts of the buckets add up to the count, modulo 2^64.
+pub fn counted_once<T: Number + Drop>(buckets: &Buckets<T>)
+    ensures { (bound : ℤ) (bounds : List ℤ) (has_min_max has_sum : Bool) (values : List Amount) → ⟦<Buckets<T> as Aggregator>⟧.meaning buckets.now ≡ fold_of (Histogram (bound ∷ bounds) has_min_max has_sum) values
+        → wrapped (sum buckets.now.counts.items) ≡ buckets.now.count }
+{
+    let _ = buckets;
 }

@@ -11,7 +11,7 @@ ghost use Rattle.otel_aggregate.specs.Streams.{new_stream, keeps_min_max, keeps_
 use crate::bounds::Bounds;
 use crate::buckets::Buckets;
 use crate::number::Number;
-use crate::shows::HistogramSettings;
+use crate::settings::HistogramSettings;
 use crate::stream::Stream;
 use otel_common::attributes::KeyValue;
 use otel_common::faults::Fault;

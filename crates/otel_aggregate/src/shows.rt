@@ -10,9 +10,9 @@ ghost use Rattle.otel_aggregate.specs.Tallies.{copies};
 
 use crate::aggregator::{Aggregator, Increment};
 use crate::assign::Assign;
-use crate::bounds::Bounds;
 use crate::buckets::{Buckets, BucketsConfig};
 use crate::number::Number;
+use crate::settings::HistogramSettings;
 use otel_common::attributes::KeyValue;
 use otel_common::faults::Fault;
 use otel_common::lists::Items;
@@ -171,16 +171,6 @@ impl<T: Number + Drop> Shows for Assign<T> {
     {
         Gauge::new(points, start, now)
     }
-}
-
-/// The bounds of a histogram, and what it keeps besides the counts of its buckets.
-#[derive(Drop)]
-pub struct HistogramSettings {
-    pub bounds: Bounds,
-    /// Whether the least and the greatest value are kept.
-    pub has_min_max: bool,
-    /// Whether there is a sum; without one it is 0.
-    pub has_sum: bool,
 }
 
 /// The same value, told by its whole number.
