@@ -1,4 +1,5 @@
 pub mod CanonicalSets
+pub mod BoundLemmas
 pub mod FoldLaws
 pub mod TallyLemmas
 pub mod PlaceLemmas

@@ -1,9 +1,9 @@
 -- One stream of one reader: its map of sets, and what a collection does to it (Metrics SDK, "MetricReader").
-use Rattle.std.specs.Prelude.{ℕ, Bool, not, cond, List, Option, None, Some}
+use Rattle.std.specs.Prelude.{ℕ, Bool, false, not, cond, List, Option, None, Some}
 use Rattle.otel_common.specs.Equality.{set_eq}
 use Rattle.otel_common.specs.declared.attributes.KeyValue.{KeyValue}
 use Rattle.otel_model_stream.specs.Sets.{AttributeSet, AllowList, none_set, set_of}
-use Rattle.otel_model_stream.specs.Folds.{Aggregate, Amount, empty_of, sample_of}
+use Rattle.otel_model_stream.specs.Folds.{Aggregate, Sum, LastValue, Histogram, Amount, empty_of, sample_of}
 use Rattle.otel_model_stream.specs.Entries.{Point, points}
 use Rattle.otel_model_stream.specs.Maps.{MapState, new_map, measured, evicted_map}
 use Rattle.otel_aggregate.specs.Tallies.{knows}
@@ -15,6 +15,18 @@ pub record StreamState : Type 0 where
   pub allow : AllowList
   pub resets : Bool
   pub start : ℕ
+
+-- whether an aggregate keeps the least and the greatest value: none but a histogram does
+abbrev pub keeps_min_max : Aggregate → Bool
+keeps_min_max Sum = false
+keeps_min_max LastValue = false
+keeps_min_max (Histogram bounds has_min_max has_sum) = has_min_max
+
+-- whether a histogram has a sum
+abbrev pub keeps_sum : Aggregate → Bool
+keeps_sum Sum = false
+keeps_sum LastValue = false
+keeps_sum (Histogram bounds has_min_max has_sum) = has_sum
 
 -- a stream without records, of this limit, made at this moment
 abbrev pub new_stream : Aggregate → Bool → AllowList → Bool → ℕ → ℕ → StreamState

@@ -1,6 +1,7 @@
 //! Numbers of 64 bits.
 
 ghost use Rattle.std.specs.Prelude.{◌≡◌, ℕ, ℤ, pos, int_lt, ◌+◌, ◌-◌, ◌%◌, ◌^◌};
+ghost use Rattle.otel_model_stream.specs.Data.{natural};
 
 /// A number of 64 bits.
 pub trait Number: Copy {
@@ -13,9 +14,16 @@ pub trait Number: Copy {
     /// The number of these bits.
     ghost of_bits: { ℕ → Self };
 
+    /// The number of this value.
+    ghost of_wide: { ℤ → Self };
+
     /// The law that the bits tell the number.
     fn told_by_bits(self)
         ensures { of_bits (bits self) ≡ self };
+
+    /// The law that the value as a whole number tells the number.
+    fn told_by_wide(self)
+        ensures { of_wide (wide self) ≡ self };
 
     /// Zero.
     fn zero() -> Self
@@ -49,7 +57,11 @@ impl Number for u64 {
 
     ghost of_bits = { λ n. n };
 
+    ghost of_wide = { natural };
+
     fn told_by_bits(self) {}
+
+    fn told_by_wide(self) {}
 
     fn zero() -> u64 {
         0

@@ -1,55 +1,274 @@
 //! From aggregators to the points of a metric.
 
-ghost use Rattle.std.specs.Prelude.{◌≡◌, List, [], map, IfOk, IsOkUnless};
-ghost use Rattle.otel_common.specs.declared.attributes.KeyValue.{KeyValue};
-ghost use Rattle.otel_model_stream.specs.Folds.{Fold};
-ghost use Rattle.otel_aggregate.specs.Data.{sum_point};
+ghost use Rattle.std.specs.Prelude.{◌≡◌, ℕ, Bool, List, false, map, IfOk, IsOkUnless};
+ghost use Rattle.std.specs.Option.{option_map};
+ghost use Rattle.otel_common.specs.declared.metrics.Temporality.{Temporality as TemporalityValue};
+ghost use Rattle.otel_model_stream.specs.Entries.{Point};
+ghost use Rattle.otel_model_stream.specs.Folds.{Aggregate, Sum as SumAggregate, LastValue as LastValueAggregate, Histogram as HistogramAggregate, empty_of, sample_of, bounds_of};
+ghost use Rattle.otel_model_stream.specs.Data.{sum_point, gauge_point, histogram_point};
 ghost use Rattle.otel_aggregate.specs.Tallies.{copies};
 
 use crate::aggregator::{Aggregator, Increment};
+use crate::assign::Assign;
+use crate::buckets::{Buckets, BucketsConfig};
 use crate::number::Number;
+use crate::settings::HistogramSettings;
 use otel_common::attributes::KeyValue;
 use otel_common::faults::Fault;
 use otel_common::lists::Items;
-use otel_data::points::SumDataPoint;
+use otel_common::metrics::Temporality;
+use otel_data::gauges::Gauge;
+use otel_data::histograms::Histogram;
+use otel_data::points::{GaugeDataPoint, HistogramDataPoint, SumDataPoint};
+use otel_data::sums::Sum;
 use std::alloc::Global;
 
-/// An aggregator that gives points.
+/// An aggregator whose records are shown by a collection.
 pub trait Shows: Aggregator {
+    /// A value that is recorded.
+    type Value: Number + Drop;
+
+    /// What all sets of a stream share.
+    type Settings: Drop;
+
     /// A point.
     type Point: Drop;
 
+    /// The points of a stream, with their moments.
+    type Data: Drop;
+
+    /// The model's aggregate.
+    ghost aggregate: { Self.Settings → Aggregate };
+
+    /// Whether only values of at least 0 are added.
+    ghost is_monotonic: { Self.Settings → Bool };
+
     /// The point of a set whose records come to this.
-    ghost point: { List KeyValue → Fold → Self.Point };
+    ghost point: { Aggregate → Point → Self.Point };
+
+    /// These points since a moment, collected at another.
+    ghost collection: { Bool → TemporalityValue → ℕ → ℕ → List Self.Point → Self.Data };
+
+    /// What the aggregator of a set is made with.
+    fn config(settings: &Self::Settings) -> Self::InitConfig
+        ensures { Self.empty result ≡ empty_of (aggregate settings.now) };
+
+    /// The record of a value.
+    fn record(settings: &Self::Settings, value: Self::Value) -> Self::PreComputedValue
+        ensures { Self.sample result ≡ sample_of (aggregate settings.now) (record { bits = Self.Value.bits value; wide = Self.Value.wide value }) };
 
     /// The point of a set.
-    fn into_point(self, alloc: Global, attributes: Items<KeyValue>) -> Self::Point
-        ensures { result ≡ point attributes (Self.meaning self) };
+    fn into_point(
+        self,
+        alloc: Global,
+        settings: &Self::Settings,
+        attributes: Items<KeyValue>,
+    ) -> Result<Self::Point, Fault>
+        ensures point { IfOk result (λ made. made ≡ point (aggregate settings.now) (attributes, Self.meaning self)) }
+        ensures only_memory { IsOkUnless result Fault.OutOfMemory };
+
+    /// These points with their moments, in nanoseconds since 1970.
+    fn into_data(
+        settings: &Self::Settings,
+        points: Items<Self::Point>,
+        temporality: Temporality,
+        start: u64,
+        now: u64,
+    ) -> Self::Data
+        ensures { result ≡ collection (is_monotonic settings.now) temporality start now points };
 }
 
+/// The settings say whether only values of at least 0 are added.
 impl<T: Number + Drop> Shows for Increment<T> {
+    type Value = T;
+
+    type Settings = bool;
+
     type Point = SumDataPoint<T>;
 
-    ghost point = { λ attributes fold. sum_point T.of_bits (attributes, fold) };
+    type Data = Sum<T>;
 
-    fn into_point(self, alloc: Global, attributes: Items<KeyValue>) -> SumDataPoint<T> {
+    ghost aggregate = { λ _. SumAggregate };
+
+    ghost is_monotonic = { λ is_monotonic. is_monotonic };
+
+    ghost point = { λ _ p. sum_point T.of_bits T.of_wide p };
+
+    ghost collection = { λ is_monotonic temporality start now points. record { data_points = points; start_time = start; time = now; temporality = temporality; is_monotonic = is_monotonic } };
+
+    fn config(_settings: &bool) {}
+
+    fn record(_settings: &bool, value: T) -> T {
+        value
+    }
+
+    fn into_point(
+        self,
+        alloc: Global,
+        _settings: &bool,
+        attributes: Items<KeyValue>,
+    ) -> Result<SumDataPoint<T>, Fault> {
         let value = self.value;
         value.told_by_bits();
-        SumDataPoint::new(attributes, Items::from(Vec::new(alloc)), value)
+        Ok(SumDataPoint::new(attributes, Items::from(Vec::new(alloc)), value))
+    }
+
+    fn into_data(
+        settings: &bool,
+        points: Items<SumDataPoint<T>>,
+        temporality: Temporality,
+        start: u64,
+        now: u64,
+    ) -> Sum<T>
+        ensures { result ≡ record { data_points = points; start_time = start; time = now; temporality = temporality; is_monotonic = settings.now } }
+    {
+        Sum::new(points, start, now, temporality, *settings)
+    }
+}
+
+impl<T: Number + Drop> Shows for Assign<T> {
+    type Value = T;
+
+    type Settings = ();
+
+    type Point = GaugeDataPoint<T>;
+
+    type Data = Gauge<T>;
+
+    ghost aggregate = { λ _. LastValueAggregate };
+
+    ghost is_monotonic = { λ _. false };
+
+    ghost point = { λ _ p. gauge_point T.of_bits T.of_wide p };
+
+    ghost collection = { λ _ _ start now points. record { data_points = points; start_time = start; time = now } };
+
+    fn config(_settings: &()) {}
+
+    fn record(_settings: &(), value: T) -> T {
+        value
+    }
+
+    fn into_point(
+        self,
+        alloc: Global,
+        _settings: &(),
+        attributes: Items<KeyValue>,
+    ) -> Result<GaugeDataPoint<T>, Fault> {
+        let value = self.value;
+        value.told_by_bits();
+        Ok(GaugeDataPoint::new(attributes, Items::from(Vec::new(alloc)), value))
+    }
+
+    fn into_data(
+        _settings: &(),
+        points: Items<GaugeDataPoint<T>>,
+        _temporality: Temporality,
+        start: u64,
+        now: u64,
+    ) -> Gauge<T>
+        ensures { result ≡ record { data_points = points; start_time = start; time = now } }
+    {
+        Gauge::new(points, start, now)
+    }
+}
+
+/// The same value, told by its whole number.
+fn told<T: Number>(value: Option<T>) -> Option<T>
+    ensures { result ≡ option_map T.of_wide (option_map T.wide value) }
+{
+    match value {
+        None => None,
+        Some(value) => {
+            value.told_by_wide();
+            Some(value)
+        }
+    }
+}
+
+impl<T: Number + Drop> Shows for Buckets<T> {
+    type Value = T;
+
+    type Settings = HistogramSettings;
+
+    type Point = HistogramDataPoint<T>;
+
+    type Data = Histogram<T>;
+
+    ghost aggregate = { λ settings. HistogramAggregate settings.bounds settings.has_min_max settings.has_sum };
+
+    ghost is_monotonic = { λ _. false };
+
+    ghost point = { λ aggregate p. histogram_point T.of_bits T.of_wide (bounds_of aggregate) p };
+
+    ghost collection = { λ _ temporality start now points. record { data_points = points; start_time = start; time = now; temporality = temporality } };
+
+    fn config(settings: &HistogramSettings) -> BucketsConfig {
+        BucketsConfig {
+            number: settings.bounds.number_of_buckets(),
+            has_min_max: settings.has_min_max,
+            has_sum: settings.has_sum,
+        }
+    }
+
+    fn record(settings: &HistogramSettings, value: T) -> (T, usize) {
+        (value, settings.bounds.bucket_of(value.wide()))
+    }
+
+    fn into_point(
+        self,
+        alloc: Global,
+        settings: &HistogramSettings,
+        attributes: Items<KeyValue>,
+    ) -> Result<HistogramDataPoint<T>, Fault> {
+        let bounds = settings.bounds.copy(alloc)?;
+        let Buckets {
+            has_min_max: _,
+            has_sum: _,
+            count,
+            sum,
+            least,
+            greatest,
+            counts,
+        } = self;
+        sum.told_by_bits();
+        Ok(HistogramDataPoint::new(
+            attributes,
+            Items::from(Vec::new(alloc)),
+            bounds,
+            Items::from(counts),
+            count,
+            told(least),
+            told(greatest),
+            sum,
+        ))
+    }
+
+    fn into_data(
+        _settings: &HistogramSettings,
+        points: Items<HistogramDataPoint<T>>,
+        temporality: Temporality,
+        start: u64,
+        now: u64,
+    ) -> Histogram<T>
+        ensures { result ≡ record { data_points = points; start_time = start; time = now; temporality = temporality } }
+    {
+        Histogram::new(points, start, now, temporality)
     }
 }
 
 /// The points of sets with their aggregators.
 pub fn into_points<A: Shows>(
     alloc: Global,
+    settings: &A::Settings,
     given: Vec<(Items<KeyValue>, A)>,
 ) -> Result<Items<A::Point>, Fault>
-    ensures points { IfOk result (λ made. made ≡ map (λ p. A.point p.0 p.1) (copies A.meaning given.items)) }
+    ensures points { IfOk result (λ made. made ≡ map (A.point (A.aggregate settings.now)) (copies A.meaning given.items)) }
     ensures only_memory { IsOkUnless result Fault.OutOfMemory }
 {
     let mut points = Vec::with_capacity(alloc, given.len())?;
     for (attributes, aggregator) in given {
-        points.push(aggregator.into_point(alloc, attributes))?;
+        points.push(aggregator.into_point(alloc, settings, attributes)?)?;
     }
     Ok(Items::from(points))
 }

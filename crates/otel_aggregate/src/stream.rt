@@ -1,61 +1,113 @@
-//! What all aggregates share.
+//! The stream of one instrument at one reader, whatever its aggregate.
 
-ghost use Rattle.std.specs.Prelude.{◌≡◌, [], true, None, Some, IsTrue, IfOk, OnOk, OnErr, IsOk, IsOkUnless};
-ghost use Rattle.otel_model_stream.specs.Sets.{set_of};
-ghost use Rattle.otel_model_stream.specs.Entries.{points};
-ghost use Rattle.otel_model_stream.specs.Maps.{new_map};
-ghost use Rattle.otel_aggregate.specs.Tallies.{copies};
-ghost use Rattle.otel_aggregate.specs.Streams.{is_known};
+ghost use Rattle.std.specs.Prelude.{◌≡◌, cond, map, is_some, None, Some, IsTrue, IsSome, IfOk, OnOk, OnErr, IsOk, IsOkUnless};
+ghost use Rattle.otel_common.specs.Temporalities.{resets};
+ghost use Rattle.otel_common.specs.declared.metrics.Temporality.TheVariants as shown;
+ghost use Rattle.otel_model_stream.specs.Sets.{AttributeSet, set_of};
+ghost use Rattle.otel_model_stream.specs.Folds.{wrapped};
+ghost use Rattle.otel_model_stream.specs.Totals.{points_total};
+ghost use Rattle.otel_aggregate.specs.Data.{temporality_of};
+ghost use Rattle.otel_aggregate.specs.Streams.{new_stream, is_known, recorded_set, recorded_attributes, collected, points_now};
 
-use crate::aggregator::Aggregator;
 use crate::sets::allowed_attributes;
+use crate::shows::{Shows, into_points};
 use crate::value_map::ValueMap;
 use otel_common::attributes::KeyValue;
 use otel_common::faults::Fault;
 use otel_common::keys::Key;
 use otel_common::lists::Items;
+use otel_common::metrics::Temporality;
 use std::alloc::Global;
+use std::marker::Model;
 
-/// A map with its allow-list and the moment of its making.
-#[derive(Drop)]
-pub struct Stream<A: Aggregator> {
-    pub alloc: Global,
-    pub map: ValueMap<A>,
-    pub allow: Option<Items<Key>>,
-    pub start: u64,
+/// Whether a stream resets at each collection, by its reader's answer.
+fn is_delta(temporality: Temporality) -> bool
+    ensures { result ≡ resets temporality }
+{
+    match temporality {
+        Temporality::Delta => true,
+        Temporality::Cumulative => false,
+        Temporality::LowMemory => false,
+    }
 }
 
-impl<A: Aggregator> Stream<A> {
-    /// A stream without records.
+/// The temporality of the points of a stream that resets at each collection, or doesn't.
+fn shown_temporality(resets: bool) -> Temporality
+    ensures { result ≡ cond resets shown.Delta shown.Cumulative }
+{
+    if resets {
+        Temporality::Delta
+    } else {
+        Temporality::Cumulative
+    }
+}
+
+/// A stream's records by set (Metrics SDK, "MetricReader").
+#[derive(Drop)]
+pub struct Stream<A: Shows> {
+    alloc: Global,
+    settings: A::Settings,
+    map: ValueMap<A>,
+    allow: Option<Items<Key>>,
+    /// Whether each collection starts again.
+    resets: bool,
+    start: u64,
+}
+
+impl<A: Shows> Model for Stream<A> {
+    ghost use Rattle.otel_aggregate.specs.Streams.{HeldStream};
+
+    ghost Value = { HeldStream };
+
+    ghost view = { λ s. record {
+      state = record {
+        map_state = s.map.state;
+        aggregate = A.aggregate s.settings;
+        is_monotonic = A.is_monotonic s.settings;
+        allow = s.allow;
+        resets = s.resets;
+        start = s.start;
+      };
+      pending = s.map.pending;
+    } };
+}
+
+impl<A: Shows> Stream<A> {
+    /// A stream without records, made at `start`, in nanoseconds since 1970.
     pub fn new(
         alloc: Global,
-        config: A::InitConfig,
+        settings: A::Settings,
+        temporality: Temporality,
         allow: Option<Items<Key>>,
         limit: usize,
         start: u64,
     ) -> Result<Self, Fault>
-        ensures state { IfOk result (λ made. made.map.state ≡ new_map limit (A.empty config)) }
-        ensures unprepared { IfOk result (λ made. made.map.pending ≡ None) }
-        ensures allow { IfOk result (λ made. made.allow ≡ allow) }
-        ensures start { IfOk result (λ made. made.start ≡ start) }
+        ensures made { IfOk result (λ made. made.state ≡ new_stream (A.aggregate settings) (A.is_monotonic settings) allow (resets temporality) limit start) }
+        ensures unprepared { IfOk result (λ made. made.pending ≡ None) }
         ensures only_memory { IsOkUnless result Fault.OutOfMemory }
     {
+        let map = ValueMap::new(alloc, A::config(&settings), limit)?;
         Ok(Stream {
             alloc,
-            map: ValueMap::new(alloc, config, limit)?,
+            settings,
+            map,
             allow,
+            resets: is_delta(temporality),
             start,
         })
     }
 
-    /// Prepares a record of these attributes.
+    /// Prepares a record of these attributes, in the place of one that was prepared before. What the
+    /// stream shows stays as it was.
+    ///
+    /// The first of two phases: a record of many streams is prepared in all of them, and then taken
+    /// in by all. It takes no memory without attributes, and, where there is no allow-list, with
+    /// attributes that are the set of an entry as they stand: sorted by key, no key twice.
     pub fn prepare(&mut self, attributes: &[KeyValue]) -> Result<(), Fault>
-        ensures same { self.new.map.state ≡ self.old.map.state }
-        ensures allow { self.new.allow ≡ self.old.allow }
-        ensures start { self.new.start ≡ self.old.start }
-        ensures ready { OnOk result (self.new.map.pending ≡ Some (set_of self.old.allow attributes.now)) }
-        ensures refused { OnErr result (self.new.map.pending ≡ None) }
-        ensures known { IsTrue (is_known self.old.allow attributes.now self.old.map.state) → IsOk result }
+        ensures same { self.new.state ≡ self.old.state }
+        ensures ready { OnOk result (self.new.pending ≡ Some (set_of self.old.state.allow attributes.now)) }
+        ensures refused { OnErr result (self.new.pending ≡ None) }
+        ensures known { IsTrue (is_known self.old.state.allow attributes.now self.old.state.map_state) → IsOk result }
         ensures only_memory { IsOkUnless result Fault.OutOfMemory }
     {
         if attributes.is_empty() {
@@ -71,11 +123,88 @@ impl<A: Aggregator> Stream<A> {
         }
     }
 
-    /// The points so far: of every set, or of those that were updated.
-    pub fn points(&self, alloc: Global, every: bool) -> Result<Vec<(Items<KeyValue>, A)>, Fault>
-        ensures points { IfOk result (λ given. copies A.meaning given.items ≡ points every self.now.map.state.table) }
+    /// Whether a record is prepared.
+    pub fn is_prepared(&self) -> bool
+        ensures { result ≡ is_some self.now.pending }
+    {
+        self.map.is_prepared()
+    }
+
+    /// Takes in the record that was prepared. The second phase.
+    pub fn measure_ready(&mut self, value: A::Value)
+        requires { IsSome self.old.pending }
+        ensures measured { (s : AttributeSet) → self.old.pending ≡ Some s → self.new.state ≡ recorded_set s (record { bits = A.Value.bits value; wide = A.Value.wide value }) self.old.state }
+        ensures spent { self.new.pending ≡ None }
+    {
+        let record = A::record(&self.settings, value);
+        self.map.measure_ready(record);
+    }
+
+    /// Takes in a record of these attributes. It takes no memory where `prepare` takes none.
+    pub fn measure(&mut self, value: A::Value, attributes: &[KeyValue]) -> Result<(), Fault>
+        ensures ok { OnOk result (self.new.state ≡ recorded_attributes attributes.now (record { bits = A.Value.bits value; wide = A.Value.wide value }) self.old.state) }
+        ensures err { OnErr result (self.new.state ≡ self.old.state) }
+        ensures spent { self.new.pending ≡ None }
+        ensures known { IsTrue (is_known self.old.state.allow attributes.now self.old.state.map_state) → IsOk result }
         ensures only_memory { IsOkUnless result Fault.OutOfMemory }
     {
-        self.map.points(alloc, every)
+        self.prepare(attributes)?;
+        self.measure_ready(value);
+        Ok(())
+    }
+
+    /// What a collection at a moment, in nanoseconds since 1970, gives: the start, the points and
+    /// `now`. The stream stays as it was. It copies each set that is shown.
+    pub fn points(&self, alloc: Global, now: u64) -> Result<A::Data, Fault>
+        ensures kind { (s : A.Settings) × (self.now.state.aggregate ≡ A.aggregate s) }
+        ensures points { IfOk result (λ given. given ≡ A.collection self.now.state.is_monotonic (temporality_of self.now.state) self.now.state.start now (map (A.point self.now.state.aggregate) (points_now self.now.state))) }
+        ensures only_memory { IsOkUnless result Fault.OutOfMemory }
+    {
+        let given = self.map.points(alloc, !self.resets)?;
+        let points = into_points(alloc, &self.settings, given)?;
+        let temporality = shown_temporality(self.resets);
+        Ok(A::into_data(&self.settings, points, temporality, self.start, now))
+    }
+
+    /// What the points of a collection now would add up to, modulo 2^64.
+    pub fn total(&self) -> u64
+        ensures { result ≡ wrapped (points_total (points_now self.now.state)) }
+    {
+        self.map.total(!self.resets)
+    }
+
+    /// Whether each collection starts again.
+    pub fn resets(&self) -> bool
+        ensures { result ≡ self.now.state.resets }
+    {
+        self.resets
+    }
+
+    /// Ends a collection whose points were taken, at a moment in nanoseconds since 1970: where the stream
+    /// resets, it starts again from there, and a record that was prepared is given up.
+    pub fn finish(&mut self, now: u64)
+        ensures state { self.new.state ≡ collected now self.old.state }
+        ensures pending { self.new.pending ≡ cond self.old.state.resets None self.old.pending }
+    {
+        if self.resets {
+            self.map.reset_and_evict();
+            self.start = now;
+        }
+    }
+
+    /// A collection at a moment, in nanoseconds since 1970: `points`, and then `finish`. Where it is
+    /// refused, a record that was prepared stays prepared.
+    pub fn collect(&mut self, alloc: Global, now: u64) -> Result<A::Data, Fault>
+        ensures kind { (s : A.Settings) × (self.old.state.aggregate ≡ A.aggregate s) }
+        ensures points { IfOk result (λ given. given ≡ A.collection self.old.state.is_monotonic (temporality_of self.old.state) self.old.state.start now (map (A.point self.old.state.aggregate) (points_now self.old.state))) }
+        ensures ok { OnOk result (self.new.state ≡ collected now self.old.state) }
+        ensures err { OnErr result (self.new.state ≡ self.old.state) }
+        ensures pending { OnOk result (self.new.pending ≡ cond self.old.state.resets None self.old.pending) }
+        ensures refused { OnErr result (self.new.pending ≡ self.old.pending) }
+        ensures only_memory { IsOkUnless result Fault.OutOfMemory }
+    {
+        let given = self.points(alloc, now)?;
+        self.finish(now);
+        Ok(given)
     }
 }

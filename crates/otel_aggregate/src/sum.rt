@@ -10,7 +10,6 @@ ghost use Rattle.otel_aggregate.specs.Streams.{new_stream, is_known, recorded_se
 
 use crate::aggregator::Increment;
 use crate::number::Number;
-use crate::shows::into_points;
 use crate::stream::Stream;
 use otel_common::attributes::KeyValue;
 use otel_common::faults::Fault;
@@ -21,44 +20,18 @@ use otel_data::sums::Sum as SumData;
 use std::alloc::Global;
 use std::marker::Model;
 
-/// Whether a stream resets at each collection, by its reader's answer.
-fn is_delta(temporality: Temporality) -> bool
-    ensures { result ≡ resets temporality }
-{
-    match temporality {
-        Temporality::Delta => true,
-        Temporality::Cumulative => false,
-        Temporality::LowMemory => false,
-    }
-}
-
 /// The sums of a stream's records, by set (Metrics SDK, "Sum Aggregation").
 #[derive(Drop)]
 pub struct Sum<T: Number + Drop> {
     stream: Stream<Increment<T>>,
-    is_monotonic: bool,
-    /// Whether each collection starts the sums again.
-    resets: bool,
 }
 
 impl<T: Number + Drop> Model for Sum<T> {
-    ghost use Rattle.std.specs.Prelude.{false};
-    ghost use Rattle.otel_model_stream.specs.Folds.{Sum as SumAggregate};
     ghost use Rattle.otel_aggregate.specs.Streams.{HeldStream};
 
     ghost Value = { HeldStream };
 
-    ghost view = { λ s. record {
-      state = record {
-        map_state = s.stream.map.state;
-        aggregate = SumAggregate;
-        is_monotonic = s.is_monotonic;
-        allow = s.stream.allow;
-        resets = s.resets;
-        start = s.stream.start;
-      };
-      pending = s.stream.map.pending;
-    } };
+    ghost view = { λ s. s.stream };
 }
 
 impl<T: Number + Drop> Sum<T> {
@@ -77,12 +50,8 @@ impl<T: Number + Drop> Sum<T> {
         ensures unprepared { IfOk result (λ made. made.pending ≡ None) }
         ensures only_memory { IsOkUnless result Fault.OutOfMemory }
     {
-        let stream = Stream::new(alloc, (), allow, limit, now)?;
-        Ok(Sum {
-            stream,
-            is_monotonic,
-            resets: is_delta(temporality),
-        })
+        let stream = Stream::new(alloc, is_monotonic, temporality, allow, limit, now)?;
+        Ok(Sum { stream })
     }
 
     /// Prepares a record of these attributes, in the place of one that was prepared before. The sums
@@ -105,7 +74,7 @@ impl<T: Number + Drop> Sum<T> {
     pub fn is_prepared(&self) -> bool
         ensures { result ≡ is_some self.now.pending }
     {
-        self.stream.map.is_prepared()
+        self.stream.is_prepared()
     }
 
     /// Takes in the record that was prepared. The second phase.
@@ -114,7 +83,7 @@ impl<T: Number + Drop> Sum<T> {
         ensures measured { (s : AttributeSet) → self.old.pending ≡ Some s → self.new.state ≡ recorded_set s (record { bits = T.bits value; wide = T.wide value }) self.old.state }
         ensures spent { self.new.pending ≡ None }
     {
-        self.stream.map.measure_ready(value);
+        self.stream.measure_ready(value);
     }
 
     /// Takes in a record of these attributes. It takes no memory where `prepare` takes none.
@@ -125,45 +94,31 @@ impl<T: Number + Drop> Sum<T> {
         ensures known { IsTrue (is_known self.old.state.allow attributes.now self.old.state.map_state) → IsOk result }
         ensures only_memory { IsOkUnless result Fault.OutOfMemory }
     {
-        self.prepare(attributes)?;
-        self.measure_ready(value);
-        Ok(())
+        self.stream.measure(value, attributes)
     }
 
     /// What a collection at a moment, in nanoseconds since 1970, gives: the start, the sums and `now`. The
     /// sums stay as they were. It copies each set that is shown.
     pub fn points(&self, alloc: Global, now: u64) -> Result<SumData<T>, Fault>
         ensures sums { self.now.state.aggregate ≡ SumAggregate }
-        ensures data { IfOk result (λ given. given ≡ sum_data T.of_bits now self.now.state) }
+        ensures data { IfOk result (λ given. given ≡ sum_data T.of_bits T.of_wide now self.now.state) }
         ensures only_memory { IsOkUnless result Fault.OutOfMemory }
     {
-        let given = self.stream.points(alloc, !self.resets)?;
-        let temporality = if self.resets {
-            Temporality::Delta
-        } else {
-            Temporality::Cumulative
-        };
-        Ok(SumData::new(
-            into_points(alloc, given)?,
-            self.stream.start,
-            now,
-            temporality,
-            self.is_monotonic,
-        ))
+        self.stream.points(alloc, now)
     }
 
     /// Whether each collection starts the sums again.
     pub fn resets(&self) -> bool
         ensures { result ≡ self.now.state.resets }
     {
-        self.resets
+        self.stream.resets()
     }
 
     /// What the points of a collection now would add up to, modulo 2^64.
     pub fn total(&self) -> u64
         ensures { result ≡ wrapped (points_total (points_now self.now.state)) }
     {
-        self.stream.map.total(!self.resets)
+        self.stream.total()
     }
 
     /// Ends a collection whose points were taken, at a moment in nanoseconds since 1970: where the stream
@@ -172,24 +127,19 @@ impl<T: Number + Drop> Sum<T> {
         ensures state { self.new.state ≡ collected now self.old.state }
         ensures pending { self.new.pending ≡ cond self.old.state.resets None self.old.pending }
     {
-        if self.resets {
-            self.stream.map.reset_and_evict();
-            self.stream.start = now;
-        }
+        self.stream.finish(now);
     }
 
     /// A collection at a moment, in nanoseconds since 1970: `points`, and then `finish`. Where it is
     /// refused, a record that was prepared stays prepared.
     pub fn collect(&mut self, alloc: Global, now: u64) -> Result<SumData<T>, Fault>
-        ensures data { IfOk result (λ given. given ≡ sum_data T.of_bits now self.old.state) }
+        ensures data { IfOk result (λ given. given ≡ sum_data T.of_bits T.of_wide now self.old.state) }
         ensures ok { OnOk result (self.new.state ≡ collected now self.old.state) }
         ensures err { OnErr result (self.new.state ≡ self.old.state) }
         ensures pending { OnOk result (self.new.pending ≡ cond self.old.state.resets None self.old.pending) }
         ensures refused { OnErr result (self.new.pending ≡ self.old.pending) }
         ensures only_memory { IsOkUnless result Fault.OutOfMemory }
     {
-        let given = self.points(alloc, now)?;
-        self.finish(now);
-        Ok(given)
+        self.stream.collect(alloc, now)
     }
 }

@@ -217,7 +217,7 @@ fn a_map_gives_its_sets_in_order(rt: HostRuntime) -> Result<(), Fail> {
     assert!(rt; map.is_prepared());
     map.measure_ready(2);
     map.measure(4, &[])?;
-    let points = into_points(alloc, map.collect_readonly(alloc)?)?;
+    let points = into_points(alloc, &true, map.collect_readonly(alloc)?)?;
     let points = points.as_slice();
     assert_eq!(rt; points.len(), 2);
     assert_eq!(rt; points[0].value(), 4);
@@ -254,3 +254,8 @@ fn an_increment_adds_up(rt: HostRuntime) -> Result<(), Fail> {
     assert_eq!(rt; sum.value, 0);
     Ok(())
 }
+
+mod anys;
+mod histograms;
+mod last_values;
+mod sums;

@@ -1,7 +1,5 @@
 -- What a collection has (Metrics SDK, "MetricReader" and "Metric points" of the data model).
-use Rattle.std.specs.Prelude.{ℕ, ◌+◌, ◌-◌, ◌^◌, nat_lt, ℤ, pos, negsuc, Bool, true, false, cond, ◌&&◌, List, [], ◌∷◌, map, filter, length}
-use Rattle.std.specs.Int.{cast_signed, w64}
-use Rattle.std.specs.Option.{option_map}
+use Rattle.std.specs.Prelude.{ℕ, ◌+◌, ◌-◌, ◌^◌, nat_lt, ℤ, Bool, true, false, cond, ◌&&◌, List, [], ◌∷◌, map, filter, length}
 use Rattle.otel_common.specs.Equality.{set_eq}
 use Rattle.otel_common.specs.Scopes.{scope_eq}
 use Rattle.otel_common.specs.declared.metrics.Temporality.{Temporality}
@@ -9,29 +7,24 @@ use Rattle.otel_common.specs.declared.metrics.Temporality.TheVariants.{Cumulativ
 use Rattle.otel_common.specs.declared.resource.Resource.{Resource}
 use Rattle.otel_common.specs.declared.scopes.InstrumentationScope.{InstrumentationScope}
 use Rattle.otel_data.specs.declared.aggregated.AggregatedMetrics.{AggregatedMetrics}
-use Rattle.otel_data.specs.declared.aggregated.AggregatedMetrics.TheVariants as AggregatedMetrics
 use Rattle.otel_data.specs.declared.aggregated.MetricData.{MetricData}
-use Rattle.otel_data.specs.declared.aggregated.MetricData.TheVariants as MetricData
 use Rattle.otel_data.specs.declared.collections.Metric.{Metric}
 use Rattle.otel_data.specs.declared.collections.ResourceMetrics.{ResourceMetrics}
 use Rattle.otel_data.specs.declared.collections.ScopeMetrics.{ScopeMetrics}
-use Rattle.otel_data.specs.declared.points.GaugeDataPoint.{GaugeDataPoint}
-use Rattle.otel_data.specs.declared.points.HistogramDataPoint.{HistogramDataPoint}
-use Rattle.otel_data.specs.declared.points.SumDataPoint.{SumDataPoint}
 use Rattle.otel_model_stream.specs.Sets.{AttributeSet}
-use Rattle.otel_model_stream.specs.Folds.{Fold, Total, Last, Spreads, Spread, no_spread, wrapped}
-pub use Rattle.otel_model_stream.specs.Totals.{value_of}
+use Rattle.otel_model_stream.specs.Folds.{Last, wrapped}
 use Rattle.otel_model_stream.specs.Events.{Point}
+pub use Rattle.otel_model_stream.specs.Data.{value_of, spread_of, natural, signed_of, gauge_point, sum_point, histogram_point, gauge_of, sum_of, histogram_of}
 use Rattle.otel_model.specs.Demands.{Aggregation, ReaderAnswers, Demand}
 use Rattle.otel_model.specs.Streams.{is_drained, is_delta, is_monotonic_kind}
 
--- ======== folds ========
 -- the totals of a histogram
 abbrev pub spread_of : Fold → Spread
 spread_of (Total n) = no_spread false false 0
 spread_of (Last n) = no_spread false false 0
 spread_of (Spreads s) = s
 
+=======
 -- ======== differences ========
 -- a sum of values that were summed before shows in a delta stream what was added since its collection before
 abbrev pub shows_differences : ReaderAnswers → Demand → Bool
@@ -55,57 +48,20 @@ abbrev pub differences : ReaderAnswers → Demand → List Point → List Point 
 differences answers d before ps = cond (shows_differences answers d) (map (difference before) ps) ps
 
 -- ======== points ========
--- the points of a metric, each a set with the fold of its records. No exemplars are kept
+-- the points of a metric, as numbers of one type
 module _ {T : Type 0} (of_bits : ℕ → T) (of_whole : ℤ → T) where
-  abbrev pub gauge_point : Point → GaugeDataPoint T
-  gauge_point p = record { attributes = p.0; exemplars = []; value = of_bits (value_of p.1) }
-
-  abbrev pub sum_point : Point → SumDataPoint T
-  sum_point p = record { attributes = p.0; exemplars = []; value = of_bits (value_of p.1) }
-
-  abbrev pub histogram_point : List ℤ → Point → HistogramDataPoint T
-  histogram_point bounds p = record {
-    attributes = p.0;
-    exemplars = [];
-    bounds = bounds;
-    bucket_counts = (spread_of p.1).counts;
-    count = (spread_of p.1).count;
-    min = option_map of_whole (spread_of p.1).least;
-    max = option_map of_whole (spread_of p.1).greatest;
-    sum = of_bits (spread_of p.1).sum;
-  }
-
-  -- since the moment `since`, collected at the moment `now`
-  abbrev pub gauge_of : ℕ → ℕ → List Point → MetricData T
-  gauge_of since now ps = MetricData.Gauge (record { data_points = map gauge_point ps; start_time = since; time = now })
-
-  abbrev pub sum_of : Temporality → Bool → ℕ → ℕ → List Point → MetricData T
-  sum_of temporality is_monotonic since now ps = MetricData.Sum (record { data_points = map sum_point ps; start_time = since; time = now; temporality = temporality; is_monotonic = is_monotonic })
-
-  abbrev pub histogram_of : Temporality → List ℤ → ℕ → ℕ → List Point → MetricData T
-  histogram_of temporality bounds since now ps = MetricData.Histogram (record { data_points = map (histogram_point bounds) ps; start_time = since; time = now; temporality = temporality })
-
   -- as the aggregation says. `Drop` and `Default` make no stream
   abbrev pub data_by : Temporality → Bool → Aggregation → ℕ → ℕ → List Point → MetricData T
-  data_by temporality is_monotonic Aggregation.Drop since now ps = sum_of temporality is_monotonic since now ps
-  data_by temporality is_monotonic Aggregation.Default since now ps = sum_of temporality is_monotonic since now ps
-  data_by temporality is_monotonic Aggregation.Sum since now ps = sum_of temporality is_monotonic since now ps
-  data_by temporality is_monotonic Aggregation.LastValue since now ps = gauge_of since now ps
-  data_by temporality is_monotonic (Aggregation.ExplicitBucketHistogram bounds m) since now ps = histogram_of temporality bounds since now ps
+  data_by temporality is_monotonic Aggregation.Drop since now ps = sum_of of_bits of_whole temporality is_monotonic since now ps
+  data_by temporality is_monotonic Aggregation.Default since now ps = sum_of of_bits of_whole temporality is_monotonic since now ps
+  data_by temporality is_monotonic Aggregation.Sum since now ps = sum_of of_bits of_whole temporality is_monotonic since now ps
+  data_by temporality is_monotonic Aggregation.LastValue since now ps = gauge_of of_bits of_whole since now ps
+  data_by temporality is_monotonic (Aggregation.ExplicitBucketHistogram bounds m) since now ps = histogram_of of_bits of_whole temporality bounds since now ps
 
 -- ======== metrics ========
 -- what a collection says of a stream's temporality
 abbrev pub exported_temporality : ReaderAnswers → Demand → Temporality
 exported_temporality answers d = cond (is_delta answers d) Delta Cumulative
-
--- the number of type `u64` that a whole number is
-abbrev pub natural : ℤ → ℕ
-natural (pos n) = n
-natural (negsuc n) = 0
-
--- the number of type `i64` with these 64 bits
-abbrev pub signed_of : ℕ → ℤ
-signed_of n = cast_signed w64 n
 
 -- the points of a stream, as numbers of its type: signed is `i64`, else `u64`
 abbrev pub aggregated : Bool → Temporality → Bool → Aggregation → ℕ → ℕ → List Point → AggregatedMetrics

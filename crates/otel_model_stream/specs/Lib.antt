@@ -7,4 +7,5 @@ pub mod Maps
 pub mod Machine
 pub mod Windows
 pub mod Totals
+pub mod Data
 pub mod Laws

@@ -1,10 +1,9 @@
 use Rattle.std.proofs.Common.{◌≡◌, ◌++◌, map}
-use Rattle.otel_model_stream.specs.Entries.{Point}
 use Rattle.otel_aggregate.specs.Tallies.{copies}
 use Rattle.otel_aggregate.proofs.shows.into_points.Given as goal
 
 -- the points so far and those of the sets that are left are all
 abbrev pub invariant-loop-attributes : goal.invariant-loop-attributes
 invariant-loop-attributes g l =
-    l.points.items ++ map (λ (p : Point). g.A.Shows.point p.0 p.1) (copies g.A.Aggregator.meaning l.attributes-iterator.rest.items)
-    ≡ map (λ (p : Point). g.A.Shows.point p.0 p.1) (copies g.A.Aggregator.meaning l.fn.given.items)
+    l.points.items ++ map (g.A.Shows.point (g.A.Shows.aggregate l.settings)) (copies g.A.Aggregator.meaning l.attributes-iterator.rest.items)
+    ≡ map (g.A.Shows.point (g.A.Shows.aggregate l.settings)) (copies g.A.Aggregator.meaning l.fn.given.items)

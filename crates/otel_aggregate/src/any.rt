@@ -1,0 +1,269 @@
+//! A stream of any aggregate and either number type.
+
+ghost use Rattle.std.specs.Prelude.{◌≡◌, cond, is_some, None, Some, IsTrue, IsSome, OnOk, OnErr, IfOk, IsOk, IsOkUnless};
+ghost use Rattle.otel_common.specs.Temporalities.{resets};
+ghost use Rattle.otel_model_stream.specs.Sets.{AttributeSet, set_of};
+ghost use Rattle.otel_model_stream.specs.Folds.{wrapped};
+ghost use Rattle.otel_model_stream.specs.Totals.{points_total};
+ghost use Rattle.otel_aggregate.specs.Any.{aggregate_of, is_monotonic_of, is_signed_value, amount_of, metrics_of};
+ghost use Rattle.otel_aggregate.specs.Streams.{new_stream, is_known, recorded_set, collected, points_now};
+
+use crate::histogram::Histogram;
+use crate::last_value::LastValue;
+use crate::settings::AnySettings;
+use crate::sum::Sum;
+use otel_common::attributes::KeyValue;
+use otel_common::faults::Fault;
+use otel_common::keys::Key;
+use otel_common::lists::Items;
+use otel_common::metrics::Temporality;
+use otel_data::aggregated::{AggregatedMetrics, MetricData};
+use otel_data::numbers::NumberValue;
+use std::alloc::Global;
+use std::marker::Model;
+
+/// A stream by its aggregate and number type.
+#[derive(Drop)]
+pub enum Inner {
+    SumU64(Sum<u64>),
+    SumI64(Sum<i64>),
+    LastValueU64(LastValue<u64>),
+    LastValueI64(LastValue<i64>),
+    HistogramU64(Histogram<u64>),
+    HistogramI64(Histogram<i64>),
+}
+
+/// A stream of any aggregate and either number type (Metrics SDK, "Aggregation").
+#[derive(Drop)]
+pub struct AnyAggregate {
+    inner: Inner,
+}
+
+impl Model for AnyAggregate {
+    ghost use Rattle.otel_aggregate.specs.Any.{HeldAny};
+    ghost use Rattle.otel_aggregate.specs.Inner.{any_of};
+
+    ghost Value = { HeldAny };
+
+    ghost view = { λ any. any_of any.inner };
+}
+
+impl AnyAggregate {
+    /// A stream without records, of unsigned or signed numbers. `temporality` is the reader's answer:
+    /// with `Delta` each collection starts it again, with any other it goes on from `now`, the moment of
+    /// the making, in nanoseconds since 1970. Any limit is taken: with 0 every set but the empty one goes
+    /// to the overflow point.
+    pub fn new(
+        alloc: Global,
+        settings: AnySettings,
+        is_signed: bool,
+        temporality: Temporality,
+        allow: Option<Items<Key>>,
+        limit: usize,
+        now: u64,
+    ) -> Result<Self, Fault>
+        ensures made { IfOk result (λ made. made.state ≡ new_stream (aggregate_of settings) (is_monotonic_of settings) allow (resets temporality) limit now) }
+        ensures number { IfOk result (λ made. made.is_signed ≡ is_signed) }
+        ensures unprepared { IfOk result (λ made. made.pending ≡ None) }
+        ensures only_memory { IsOkUnless result Fault.OutOfMemory }
+    {
+        let inner = match (settings, is_signed) {
+            (AnySettings::Sum { is_monotonic }, false) => Inner::SumU64(Sum::new(
+                alloc,
+                temporality,
+                allow,
+                limit,
+                now,
+                is_monotonic,
+            )?),
+            (AnySettings::Sum { is_monotonic }, true) => Inner::SumI64(Sum::new(
+                alloc,
+                temporality,
+                allow,
+                limit,
+                now,
+                is_monotonic,
+            )?),
+            (AnySettings::LastValue, false) => Inner::LastValueU64(LastValue::new(
+                alloc,
+                temporality,
+                allow,
+                limit,
+                now,
+            )?),
+            (AnySettings::LastValue, true) => Inner::LastValueI64(LastValue::new(
+                alloc,
+                temporality,
+                allow,
+                limit,
+                now,
+            )?),
+            (AnySettings::Histogram(settings), false) => Inner::HistogramU64(Histogram::new(
+                alloc,
+                temporality,
+                allow,
+                limit,
+                now,
+                settings.bounds,
+                settings.has_min_max,
+                settings.has_sum,
+            )?),
+            (AnySettings::Histogram(settings), true) => Inner::HistogramI64(Histogram::new(
+                alloc,
+                temporality,
+                allow,
+                limit,
+                now,
+                settings.bounds,
+                settings.has_min_max,
+                settings.has_sum,
+            )?),
+        };
+        Ok(AnyAggregate { inner })
+    }
+
+    /// Whether its numbers are signed.
+    pub fn is_signed(&self) -> bool
+        ensures { result ≡ self.now.is_signed }
+    {
+        match &self.inner {
+            Inner::SumU64(_) => false,
+            Inner::SumI64(_) => true,
+            Inner::LastValueU64(_) => false,
+            Inner::LastValueI64(_) => true,
+            Inner::HistogramU64(_) => false,
+            Inner::HistogramI64(_) => true,
+        }
+    }
+
+    /// Prepares a record of these attributes, in the place of one that was prepared before. What the
+    /// stream shows stays as it was.
+    ///
+    /// The first of two phases: a record of many streams is prepared in all of them, and then taken
+    /// in by all. It takes no memory without attributes, and, where there is no allow-list, with
+    /// attributes that are the set of an entry as they stand: sorted by key, no key twice.
+    pub fn prepare(&mut self, attributes: &[KeyValue]) -> Result<(), Fault>
+        ensures same { self.new.state ≡ self.old.state }
+        ensures number { self.new.is_signed ≡ self.old.is_signed }
+        ensures ready { OnOk result (self.new.pending ≡ Some (set_of self.old.state.allow attributes.now)) }
+        ensures refused { OnErr result (self.new.pending ≡ None) }
+        ensures known { IsTrue (is_known self.old.state.allow attributes.now self.old.state.map_state) → IsOk result }
+        ensures only_memory { IsOkUnless result Fault.OutOfMemory }
+    {
+        match &mut self.inner {
+            Inner::SumU64(stream) => stream.prepare(attributes),
+            Inner::SumI64(stream) => stream.prepare(attributes),
+            Inner::LastValueU64(stream) => stream.prepare(attributes),
+            Inner::LastValueI64(stream) => stream.prepare(attributes),
+            Inner::HistogramU64(stream) => stream.prepare(attributes),
+            Inner::HistogramI64(stream) => stream.prepare(attributes),
+        }
+    }
+
+    /// Whether a record is prepared.
+    pub fn is_prepared(&self) -> bool
+        ensures { result ≡ is_some self.now.pending }
+    {
+        match &self.inner {
+            Inner::SumU64(stream) => stream.is_prepared(),
+            Inner::SumI64(stream) => stream.is_prepared(),
+            Inner::LastValueU64(stream) => stream.is_prepared(),
+            Inner::LastValueI64(stream) => stream.is_prepared(),
+            Inner::HistogramU64(stream) => stream.is_prepared(),
+            Inner::HistogramI64(stream) => stream.is_prepared(),
+        }
+    }
+
+    /// Takes in the record that was prepared, of a number of the stream's type. The second phase.
+    pub fn commit(&mut self, value: NumberValue)
+        requires prepared { IsSome self.old.pending }
+        requires number { is_signed_value value ≡ self.old.is_signed }
+        ensures measured { (s : AttributeSet) → self.old.pending ≡ Some s → self.new.state ≡ recorded_set s (amount_of value) self.old.state }
+        ensures number { self.new.is_signed ≡ self.old.is_signed }
+        ensures spent { self.new.pending ≡ None }
+    {
+        match (&mut self.inner, value) {
+            (Inner::SumU64(stream), NumberValue::U64(value)) => stream.measure_ready(value),
+            (Inner::SumI64(stream), NumberValue::I64(value)) => stream.measure_ready(value),
+            (Inner::LastValueU64(stream), NumberValue::U64(value)) => stream.measure_ready(value),
+            (Inner::LastValueI64(stream), NumberValue::I64(value)) => stream.measure_ready(value),
+            (Inner::HistogramU64(stream), NumberValue::U64(value)) => stream.measure_ready(value),
+            (Inner::HistogramI64(stream), NumberValue::I64(value)) => stream.measure_ready(value),
+            _ => {}
+        }
+    }
+
+    /// What a collection at a moment, in nanoseconds since 1970, gives: the start, the points and
+    /// `now`. The stream stays as it was. It copies each set that is shown.
+    pub fn points(&self, alloc: Global, now: u64) -> Result<AggregatedMetrics, Fault>
+        ensures points { IfOk result (λ given. given ≡ metrics_of self.now.is_signed now self.now.state) }
+        ensures only_memory { IsOkUnless result Fault.OutOfMemory }
+    {
+        match &self.inner {
+            Inner::SumU64(stream) => Ok(AggregatedMetrics::U64(MetricData::Sum(stream.points(
+                alloc, now,
+            )?))),
+            Inner::SumI64(stream) => Ok(AggregatedMetrics::I64(MetricData::Sum(stream.points(
+                alloc, now,
+            )?))),
+            Inner::LastValueU64(stream) => Ok(AggregatedMetrics::U64(MetricData::Gauge(
+                stream.points(alloc, now)?,
+            ))),
+            Inner::LastValueI64(stream) => Ok(AggregatedMetrics::I64(MetricData::Gauge(
+                stream.points(alloc, now)?,
+            ))),
+            Inner::HistogramU64(stream) => Ok(AggregatedMetrics::U64(MetricData::Histogram(
+                stream.points(alloc, now)?,
+            ))),
+            Inner::HistogramI64(stream) => Ok(AggregatedMetrics::I64(MetricData::Histogram(
+                stream.points(alloc, now)?,
+            ))),
+        }
+    }
+
+    /// What the points of a collection now would add up to, modulo 2^64: of a sum the 64 bits of its
+    /// values, of a histogram how many records it counts, of last values nothing.
+    pub fn total(&self) -> u64
+        ensures { result ≡ wrapped (points_total (points_now self.now.state)) }
+    {
+        match &self.inner {
+            Inner::SumU64(stream) => stream.total(),
+            Inner::SumI64(stream) => stream.total(),
+            Inner::LastValueU64(stream) => stream.total(),
+            Inner::LastValueI64(stream) => stream.total(),
+            Inner::HistogramU64(stream) => stream.total(),
+            Inner::HistogramI64(stream) => stream.total(),
+        }
+    }
+
+    /// Whether each collection starts again.
+    pub fn resets(&self) -> bool
+        ensures { result ≡ self.now.state.resets }
+    {
+        match &self.inner {
+            Inner::SumU64(stream) => stream.resets(),
+            Inner::SumI64(stream) => stream.resets(),
+            Inner::LastValueU64(stream) => stream.resets(),
+            Inner::LastValueI64(stream) => stream.resets(),
+            Inner::HistogramU64(stream) => stream.resets(),
+            Inner::HistogramI64(stream) => stream.resets(),
+        }
+    }
+
+    /// Ends a collection whose points were taken, at a moment in nanoseconds since 1970: where the stream
+    /// resets, it starts again from there, and a record that was prepared is given up.
+    pub fn finish(&mut self, now: u64)
+        ensures state { self.new.state ≡ collected now self.old.state }
+        ensures number { self.new.is_signed ≡ self.old.is_signed }
+        ensures pending { self.new.pending ≡ cond self.old.state.resets None self.old.pending }
+    {
+        match &mut self.inner {
+            Inner::SumU64(stream) => stream.finish(now),
+            Inner::SumI64(stream) => stream.finish(now),
+            Inner::LastValueU64(stream) => stream.finish(now),
+            Inner::LastValueI64(stream) => stream.finish(now),
+            Inner::HistogramU64(stream) => stream.finish(now),
+            Inner::HistogramI64(stream) => stream.finish(now),
+        }
+    }
+}

@@ -1,0 +1,90 @@
+//! The bounds of a histogram's buckets.
+
+ghost use Rattle.std.specs.Prelude.{◌≡◌, cond, Some, None, int_lt, IfOk, IsOkUnless};
+ghost use Rattle.otel_model_stream.specs.Folds.{bounds_below, buckets_of};
+ghost use Rattle.otel_model_stream.specs.Data.{rises};
+
+use otel_common::faults::Fault;
+use otel_common::lists::Items;
+use std::alloc::Global;
+use std::marker::Model;
+
+/// Whether each bound is greater than the one before it.
+pub fn is_rising(bounds: &[i64]) -> bool
+    ensures { result ≡ rises bounds.now }
+{
+    bounds.is_sorted_by(
+        |lower: &i64, upper: &i64| -> bool
+            ensures { result ≡ int_lt lower.now upper.now }
+        { lower < upper },
+    )
+}
+
+/// The bounds of a histogram's buckets, each greater than the one before it (Metrics SDK, "Explicit
+/// Bucket Histogram Aggregation").
+#[derive(Drop)]
+pub struct Bounds {
+    items: Items<i64>,
+}
+
+impl Model for Bounds {
+    ghost use Rattle.std.specs.Prelude.{◌≡◌, true, List, ℤ};
+    ghost use Rattle.otel_model_stream.specs.Data.{rises};
+
+    ghost Value = { List ℤ };
+
+    ghost view = { λ bounds. bounds.items };
+
+    ghost invariant = { λ bounds. rises bounds.items ≡ true };
+}
+
+impl Bounds {
+    /// These bounds, if they rise.
+    pub fn new(items: Items<i64>) -> Option<Bounds>
+        ensures { result ≡ cond (rises items) (Some items) None }
+    {
+        if is_rising(items.as_slice()) {
+            Some(Bounds { items })
+        } else {
+            None
+        }
+    }
+
+    /// The bounds.
+    pub fn as_slice(&self) -> &[i64]
+        ensures { result.now ≡ self.now }
+    {
+        self.items.as_slice()
+    }
+
+    /// A copy of the bounds.
+    pub fn copy(&self, alloc: Global) -> Result<Items<i64>, Fault>
+        ensures copy { IfOk result (λ made. made ≡ self.now) }
+        ensures only_memory { IsOkUnless result Fault.OutOfMemory }
+    {
+        Ok(Items::from(Vec::from_clones(alloc, self.items.as_slice())?))
+    }
+
+    /// How many buckets there are: one more than bounds, or none without bounds.
+    pub fn number_of_buckets(&self) -> usize
+        ensures { result ≡ buckets_of self.now }
+    {
+        let bounds = self.items.as_slice();
+        if bounds.is_empty() {
+            0
+        } else {
+            bounds.len() + 1
+        }
+    }
+
+    /// The bucket of a value: how many bounds are less than it.
+    pub fn bucket_of(&self, value: i128) -> usize
+        ensures { result ≡ bounds_below self.now value }
+    {
+        self.items.as_slice().partition_point(
+            |bound: &i64| -> bool
+                ensures { result ≡ int_lt bound.now value }
+            { (*bound as i128) < value },
+        )
+    }
+}

@@ -1,0 +1,144 @@
+//! Last values.
+
+ghost use Rattle.std.specs.Prelude.{◌≡◌, false, cond, is_some, None, Some, IsTrue, IsSome, OnOk, OnErr, IfOk, IsOk, IsOkUnless};
+ghost use Rattle.otel_common.specs.Temporalities.{resets};
+ghost use Rattle.otel_model_stream.specs.Sets.{AttributeSet, set_of};
+ghost use Rattle.otel_model_stream.specs.Folds.{LastValue as LastValueAggregate, wrapped};
+ghost use Rattle.otel_model_stream.specs.Totals.{points_total};
+ghost use Rattle.otel_aggregate.specs.Data.{gauge_data};
+ghost use Rattle.otel_aggregate.specs.Streams.{new_stream, is_known, recorded_set, recorded_attributes, collected, points_now};
+
+use crate::assign::Assign;
+use crate::number::Number;
+use crate::stream::Stream;
+use otel_common::attributes::KeyValue;
+use otel_common::faults::Fault;
+use otel_common::keys::Key;
+use otel_common::lists::Items;
+use otel_common::metrics::Temporality;
+use otel_data::gauges::Gauge;
+use std::alloc::Global;
+use std::marker::Model;
+
+/// The last values of a stream's records, by set (Metrics SDK, "Last Value Aggregation").
+#[derive(Drop)]
+pub struct LastValue<T: Number + Drop> {
+    stream: Stream<Assign<T>>,
+}
+
+impl<T: Number + Drop> Model for LastValue<T> {
+    ghost use Rattle.otel_aggregate.specs.Streams.{HeldStream};
+
+    ghost Value = { HeldStream };
+
+    ghost view = { λ s. s.stream };
+}
+
+impl<T: Number + Drop> LastValue<T> {
+    /// Last values without records. `temporality` is the reader's answer: with `Delta` each collection
+    /// forgets the values, with any other they stay. The moment of the making is `now`, in nanoseconds
+    /// since 1970. Any limit is taken: with 0 every set but the empty one goes to the overflow point.
+    pub fn new(
+        alloc: Global,
+        temporality: Temporality,
+        allow: Option<Items<Key>>,
+        limit: usize,
+        now: u64,
+    ) -> Result<Self, Fault>
+        ensures made { IfOk result (λ made. made.state ≡ new_stream LastValueAggregate false allow (resets temporality) limit now) }
+        ensures unprepared { IfOk result (λ made. made.pending ≡ None) }
+        ensures only_memory { IsOkUnless result Fault.OutOfMemory }
+    {
+        let stream = Stream::new(alloc, (), temporality, allow, limit, now)?;
+        Ok(LastValue { stream })
+    }
+
+    /// Prepares a record of these attributes, in the place of one that was prepared before. The
+    /// values stay as they were.
+    ///
+    /// The first of two phases: a record of many streams is prepared in all of them, and then taken
+    /// in by all. It takes no memory without attributes, and, where there is no allow-list, with
+    /// attributes that are the set of an entry as they stand: sorted by key, no key twice.
+    pub fn prepare(&mut self, attributes: &[KeyValue]) -> Result<(), Fault>
+        ensures same { self.new.state ≡ self.old.state }
+        ensures ready { OnOk result (self.new.pending ≡ Some (set_of self.old.state.allow attributes.now)) }
+        ensures refused { OnErr result (self.new.pending ≡ None) }
+        ensures known { IsTrue (is_known self.old.state.allow attributes.now self.old.state.map_state) → IsOk result }
+        ensures only_memory { IsOkUnless result Fault.OutOfMemory }
+    {
+        self.stream.prepare(attributes)
+    }
+
+    /// Whether a record is prepared.
+    pub fn is_prepared(&self) -> bool
+        ensures { result ≡ is_some self.now.pending }
+    {
+        self.stream.is_prepared()
+    }
+
+    /// Takes in the record that was prepared. The second phase.
+    pub fn measure_ready(&mut self, value: T)
+        requires { IsSome self.old.pending }
+        ensures measured { (s : AttributeSet) → self.old.pending ≡ Some s → self.new.state ≡ recorded_set s (record { bits = T.bits value; wide = T.wide value }) self.old.state }
+        ensures spent { self.new.pending ≡ None }
+    {
+        self.stream.measure_ready(value);
+    }
+
+    /// Takes in a record of these attributes. It takes no memory where `prepare` takes none.
+    pub fn measure(&mut self, value: T, attributes: &[KeyValue]) -> Result<(), Fault>
+        ensures ok { OnOk result (self.new.state ≡ recorded_attributes attributes.now (record { bits = T.bits value; wide = T.wide value }) self.old.state) }
+        ensures err { OnErr result (self.new.state ≡ self.old.state) }
+        ensures spent { self.new.pending ≡ None }
+        ensures known { IsTrue (is_known self.old.state.allow attributes.now self.old.state.map_state) → IsOk result }
+        ensures only_memory { IsOkUnless result Fault.OutOfMemory }
+    {
+        self.stream.measure(value, attributes)
+    }
+
+    /// What a collection at a moment, in nanoseconds since 1970, gives: the start, the values and `now`.
+    /// The values stay as they were. It copies each set that is shown.
+    pub fn points(&self, alloc: Global, now: u64) -> Result<Gauge<T>, Fault>
+        ensures last { self.now.state.aggregate ≡ LastValueAggregate }
+        ensures data { IfOk result (λ given. given ≡ gauge_data T.of_bits T.of_wide now self.now.state) }
+        ensures only_memory { IsOkUnless result Fault.OutOfMemory }
+    {
+        self.stream.points(alloc, now)
+    }
+
+    /// Whether each collection forgets the values.
+    pub fn resets(&self) -> bool
+        ensures { result ≡ self.now.state.resets }
+    {
+        self.stream.resets()
+    }
+
+    /// What the points of a collection now would add up to: last values add up to nothing.
+    pub fn total(&self) -> u64
+        ensures { result ≡ wrapped (points_total (points_now self.now.state)) }
+    {
+        self.stream.total()
+    }
+
+    /// Ends a collection whose points were taken, at a moment in nanoseconds since 1970: where the stream
+    /// resets, the values are forgotten, and a record that was prepared is given up.
+    pub fn finish(&mut self, now: u64)
+        ensures state { self.new.state ≡ collected now self.old.state }
+        ensures pending { self.new.pending ≡ cond self.old.state.resets None self.old.pending }
+    {
+        self.stream.finish(now);
+    }
+
+    /// A collection at a moment, in nanoseconds since 1970: `points`, and then `finish`. Where it is
+    /// refused, a record that was prepared stays prepared.
+    pub fn collect(&mut self, alloc: Global, now: u64) -> Result<Gauge<T>, Fault>
+        ensures data { IfOk result (λ given. given ≡ gauge_data T.of_bits T.of_wide now self.old.state) }
+        ensures ok { OnOk result (self.new.state ≡ collected now self.old.state) }
+        ensures err { OnErr result (self.new.state ≡ self.old.state) }
+        ensures pending { OnOk result (self.new.pending ≡ cond self.old.state.resets None self.old.pending) }
+        ensures refused { OnErr result (self.new.pending ≡ self.old.pending) }
+        ensures only_memory { IsOkUnless result Fault.OutOfMemory }
+    {
+        self.stream.collect(alloc, now)
+    }
+}

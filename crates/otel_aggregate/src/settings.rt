@@ -1,0 +1,27 @@
+//! What a stream makes of its records.
+
+use crate::bounds::Bounds;
+
+/// The bounds of a histogram, and what it keeps besides the counts of its buckets.
+#[derive(Drop)]
+pub struct HistogramSettings {
+    pub bounds: Bounds,
+    /// Whether the least and the greatest value are kept.
+    pub has_min_max: bool,
+    /// Whether there is a sum; without one it is 0.
+    pub has_sum: bool,
+}
+
+/// What a stream makes of its records (Metrics SDK, "Aggregation").
+#[derive(Drop)]
+pub enum AnySettings {
+    /// Adds them up.
+    Sum {
+        /// Whether only values of at least 0 are added.
+        is_monotonic: bool,
+    },
+    /// Keeps the last one.
+    LastValue,
+    /// Counts them by bucket.
+    Histogram(HistogramSettings),
+}

@@ -1,0 +1,81 @@
+-- What a collection shows of one stream, as data (Metrics data model, "Metric points").
+use Rattle.std.specs.Prelude.{ℕ, ℤ, pos, negsuc, int_lt, Bool, true, false, ◌&&◌, List, [], ◌∷◌, map}
+use Rattle.std.specs.Int.{cast_signed, w64}
+use Rattle.std.specs.Option.{option_map}
+use Rattle.otel_common.specs.declared.metrics.Temporality.{Temporality}
+use Rattle.otel_data.specs.declared.aggregated.MetricData.{MetricData}
+use Rattle.otel_data.specs.declared.gauges.Gauge.{Gauge}
+use Rattle.otel_data.specs.declared.histograms.Histogram.{Histogram}
+use Rattle.otel_data.specs.declared.points.GaugeDataPoint.{GaugeDataPoint}
+use Rattle.otel_data.specs.declared.points.HistogramDataPoint.{HistogramDataPoint}
+use Rattle.otel_data.specs.declared.points.SumDataPoint.{SumDataPoint}
+use Rattle.otel_data.specs.declared.sums.Sum.{Sum}
+use Rattle.otel_model_stream.specs.Folds.{Fold, Total, Last, Spreads, Spread, no_spread}
+use Rattle.otel_model_stream.specs.Events.{Point}
+pub use Rattle.otel_model_stream.specs.Totals.{value_of}
+
+-- ======== folds ========
+-- the totals of a histogram
+abbrev pub spread_of : Fold → Spread
+spread_of (Total n) = no_spread false false 0
+spread_of (Last n) = no_spread false false 0
+spread_of (Spreads s) = s
+
+-- ======== numbers ========
+-- the number of type `u64` that a whole number is
+abbrev pub natural : ℤ → ℕ
+natural (pos n) = n
+natural (negsuc n) = 0
+
+-- the number of type `i64` with these 64 bits
+abbrev pub signed_of : ℕ → ℤ
+signed_of n = cast_signed w64 n
+
+-- ======== bounds ========
+-- each bound is greater than the one before it (Metrics SDK, "Explicit Bucket Histogram Aggregation");
+-- an empty list rises
+abbrev pub rises : List ℤ → Bool
+rises [] = true
+rises (a ∷ []) = true
+rises (a ∷ b ∷ bounds) = int_lt a b && rises (b ∷ bounds)
+
+-- ======== points ========
+-- the points of a metric, each a set with the fold of its records. No exemplars are kept
+module _ {T : Type 0} (of_bits : ℕ → T) (of_whole : ℤ → T) where
+  abbrev pub gauge_point : Point → GaugeDataPoint T
+  gauge_point p = record { attributes = p.0; exemplars = []; value = of_bits (value_of p.1) }
+
+  abbrev pub sum_point : Point → SumDataPoint T
+  sum_point p = record { attributes = p.0; exemplars = []; value = of_bits (value_of p.1) }
+
+  abbrev pub histogram_point : List ℤ → Point → HistogramDataPoint T
+  histogram_point bounds p = record {
+    attributes = p.0;
+    exemplars = [];
+    bounds = bounds;
+    bucket_counts = (spread_of p.1).counts;
+    count = (spread_of p.1).count;
+    min = option_map of_whole (spread_of p.1).least;
+    max = option_map of_whole (spread_of p.1).greatest;
+    sum = of_bits (spread_of p.1).sum;
+  }
+
+  -- since the moment `since`, collected at the moment `now`
+  abbrev pub gauge : ℕ → ℕ → List Point → Gauge T
+  gauge since now ps = record { data_points = map gauge_point ps; start_time = since; time = now }
+
+  abbrev pub sum : Temporality → Bool → ℕ → ℕ → List Point → Sum T
+  sum temporality is_monotonic since now ps = record { data_points = map sum_point ps; start_time = since; time = now; temporality = temporality; is_monotonic = is_monotonic }
+
+  abbrev pub histogram : Temporality → List ℤ → ℕ → ℕ → List Point → Histogram T
+  histogram temporality bounds since now ps = record { data_points = map (histogram_point bounds) ps; start_time = since; time = now; temporality = temporality }
+
+  -- as the points of one metric
+  abbrev pub gauge_of : ℕ → ℕ → List Point → MetricData T
+  gauge_of since now ps = MetricData.Gauge (gauge since now ps)
+
+  abbrev pub sum_of : Temporality → Bool → ℕ → ℕ → List Point → MetricData T
+  sum_of temporality is_monotonic since now ps = MetricData.Sum (sum temporality is_monotonic since now ps)
+
+  abbrev pub histogram_of : Temporality → List ℤ → ℕ → ℕ → List Point → MetricData T
+  histogram_of temporality bounds since now ps = MetricData.Histogram (histogram temporality bounds since now ps)
