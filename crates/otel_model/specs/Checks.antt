@@ -2,6 +2,7 @@
 -- name syntax" and "Instrument unit"; Metrics SDK, "Explicit Bucket Histogram Aggregation").
 use Rattle.std.specs.Prelude.{ℕ, ◌-◌, ◌^◌, nat_lt, nat_le, nat_eq, ℤ, int_lt, Bool, true, false, cond, ◌&&◌, ◌||◌, not, List, [], ◌∷◌, length, Option, Some, None, codes, is_none}
 use Rattle.std.specs.List.{list_any}
+pub use Rattle.otel_model_stream.specs.Data.{rises}
 use Rattle.std.specs.Option.{option_or}
 
 -- ======== names ========
@@ -84,12 +85,6 @@ abbrev pub is_good_unit : List ℕ → Bool
 is_good_unit unit = is_none (unit_fault unit)
 
 -- ======== bounds ========
--- each bound is greater than the one before it; an empty list rises
-abbrev pub rises : List ℤ → Bool
-rises [] = true
-rises (a ∷ []) = true
-rises (a ∷ b ∷ bounds) = int_lt a b && rises (b ∷ bounds)
-
 -- what is answered where bounds do not rise: those of an instrument
 abbrev pub bounds_fault_text : List ℕ
 bounds_fault_text = codes "Bucket boundaries must be sorted and non-duplicate"

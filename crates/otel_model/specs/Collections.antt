@@ -18,13 +18,6 @@ pub use Rattle.otel_model_stream.specs.Data.{value_of, spread_of, natural, signe
 use Rattle.otel_model.specs.Demands.{Aggregation, ReaderAnswers, Demand}
 use Rattle.otel_model.specs.Streams.{is_drained, is_delta, is_monotonic_kind}
 
--- the totals of a histogram
-abbrev pub spread_of : Fold → Spread
-spread_of (Total n) = no_spread false false 0
-spread_of (Last n) = no_spread false false 0
-spread_of (Spreads s) = s
-
-=======
 -- ======== differences ========
 -- a sum of values that were summed before shows in a delta stream what was added since its collection before
 abbrev pub shows_differences : ReaderAnswers → Demand → Bool
