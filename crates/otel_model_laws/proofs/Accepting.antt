@@ -1,5 +1,5 @@
 -- A record that is answered by `Done` is accepted once, and nothing else is.
-use Rattle.std.proofs.Common.{◌≡◌, ⊎_elim, ℕ, zero, suc, ◌+◌, true, List, [], ◌∷◌, length, refl, arith, sym, ◌∙◌, ap, Option, Some, None}
+use Rattle.std.proofs.Common.{◌≡◌, ⊎_elim, ℕ, zero, suc, ◌+◌, true, List, [], ◌∷◌, length, refl, sym, ◌∙◌, ap, Option, Some, None}
 use Rattle.std.specs.Prelude.{◌^◌, slice_get, sum_by}
 use Rattle.std.proofs.lemmas.Bool.{false≢true}
 use Rattle.std.proofs.lemmas.List.Sums.{sum_by_push, sum_by-cons}
@@ -15,15 +15,7 @@ use Rattle.otel_model.specs.Only.{is_short}
 use Rattle.otel_model.proofs.Single.{step_cases}
 use Rattle.otel_model_laws.specs.Books.{one_each, bits_of, added_by, if_done, added_among, EachCallIsBooked, EachRunIsBooked}
 use Rattle.otel_model_laws.proofs.Booked.{recorded_there, handle_there}
-
-plus_zero : (n : ℕ) → n + 0 ≡ n
-plus_zero n = omega arith
-
-exchanged : (a b c : ℕ) → (a + b) + c ≡ (a + c) + b
-exchanged a b c = omega arith
-
-grouped : (a b c : ℕ) → a + (b + c) ≡ (a + b) + c
-grouped a b c = omega arith
+use Rattle.otel_model_laws.proofs.Plus.{plus_zero, exchanged, grouped}
 
 -- one more at one place
 total_more : (f : InstrumentState → ℕ) (g : InstrumentState → InstrumentState) (k : ℕ) → ((i : InstrumentState) → f (g i) ≡ wrapped (f i + k))

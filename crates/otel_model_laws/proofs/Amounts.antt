@@ -17,6 +17,7 @@ use Rattle.otel_model.specs.Accepted.{accepted_amount, accepted_for}
 use Rattle.otel_model.proofs.Gather.{cond_same}
 use Rattle.otel_model.proofs.Single.{some_is}
 pub use Rattle.otel_model_laws.specs.Lawful.{EachOf, kinds_of, handles_of, AreDistinct, held_for}
+use Rattle.otel_model_laws.proofs.Plus.{zero_plus, exchanged, grouped}
 
 -- ======== what is accepted ========
 amount_more : (σ : Aggregate) (v : Amount) (i : InstrumentState) → accepted_amount σ (accepted v i) ≡ wrapped (accepted_amount σ i + size σ v)
@@ -28,15 +29,6 @@ nothing_yet : (σ : Aggregate) (about : About) → accepted_amount σ (new_instr
 nothing_yet Sum about = refl
 nothing_yet LastValue about = refl
 nothing_yet (Histogram bounds m s) about = refl
-
-exchanged : (a b c : ℕ) → (a + b) + c ≡ (a + c) + b
-exchanged a b c = omega arith
-
-grouped : (a b c : ℕ) → a + (b + c) ≡ (a + b) + c
-grouped a b c = omega arith
-
-zero_plus : (n : ℕ) → 0 + n ≡ n
-zero_plus n = omega arith
 
 module _ (σ : Aggregate) (x : Identity) (v : Amount) where
   abbrev total : List (List Identity) → List InstrumentState → ℕ
@@ -120,7 +112,7 @@ each_without P h (p ∷ ps) a = go (p.0 == h) (each_without P h ps a.1)
     go true ih = a.1
     go false ih = (a.0, ih)
 
-or_false : (a b : Bool) → a ≡ false → b ≡ false → (a || b) ≡ false
+pub or_false : (a b : Bool) → a ≡ false → b ≡ false → (a || b) ≡ false
 or_false a b e f = λ i. e i || f i
 
 apart : (a b : ℕ) → a < b → (a == b) ≡ false

@@ -13,21 +13,15 @@ use Rattle.otel_model.proofs.Numbers.{ids, streams_apart}
 use Rattle.otel_model.proofs.Runs.{streams_law, feeds_law}
 use Rattle.otel_model.proofs.Single.{some_is}
 use Rattle.otel_model_laws.proofs.Alike.{fate_stays}
-use Rattle.otel_model_laws.proofs.Feeding.{is_one, fed_demanded}
+use Rattle.otel_model_laws.proofs.Amounts.{or_false}
+use Rattle.otel_model_laws.proofs.Feeding.{is_one, or_right, fed_demanded}
 
 -- ======== each once ========
-or_false : (a b : Bool) → a ≡ false → b ≡ false → (a || b) ≡ false
-or_false a b e f = λ i. e i || f i
-
 -- what was seen doesn't come again
 unseen : (seen xs : List Identity) (y : Identity) → has_identity seen y ≡ true → has_identity (each_once seen xs) y ≡ false
 unseen seen [] y e = refl
 unseen seen (x ∷ xs) y e = go (has_identity seen x) refl (unseen seen xs y e) (unseen (x ∷ seen) xs y (or_right (identity_eq x y) (has_identity seen y) e))
   where
-    or_right : (a b : Bool) → b ≡ true → (a || b) ≡ true
-    or_right true b e = refl
-    or_right false b e = e
-
     other : has_identity seen x ≡ false → identity_eq x y ≡ false
     other n = ⊎_elim (λ t. absurd (true≢false (sym e ∙ (ap (has_identity seen) (sym (identity_eq_true x y t)) ∙ n)))) (λ t. t) (cases_Bool (identity_eq x y))
 
@@ -109,10 +103,6 @@ has_stream (c ∷ ds) x d e f = ⊎_elim
     there : (b : Bool) → has_identity (ids (filter keeps ds)) x ≡ true → has_identity (ids (cond (not b) (c ∷ filter keeps ds) (filter keeps ds))) x ≡ true
     there true g = g
     there false g = or_right (identity_eq c.identity x) (has_identity (ids (filter keeps ds)) x) g
-      where
-        or_right : (a b : Bool) → b ≡ true → (a || b) ≡ true
-        or_right true b e = refl
-        or_right false b e = e
 
 known_stays : (ds more : List Demand) (x : Identity) → is_known ds x ≡ true → is_known (ds ++ more) x ≡ true
 known_stays [] more x e = absurd (false≢true e)

@@ -62,7 +62,7 @@ is_one false b e = inr e
 or_left : (a b : Bool) → a ≡ true → (a || b) ≡ true
 or_left a b e = λ i. e i || b
 
-or_right : (a b : Bool) → b ≡ true → (a || b) ≡ true
+pub or_right : (a b : Bool) → b ≡ true → (a || b) ≡ true
 or_right true b e = refl
 or_right false b e = e
 

@@ -1,3 +1,4 @@
+pub mod Plus
 pub mod Reorder
 pub mod Differences
 pub mod Alike

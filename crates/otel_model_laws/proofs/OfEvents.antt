@@ -1,5 +1,5 @@
 -- A stream is what a list of events made of it, and so it balances.
-use Rattle.std.proofs.Common.{◌≡◌, ℕ, ◌+◌, Bool, true, false, List, [], ◌∷◌, ◌++◌, refl, arith, sym, ◌∙◌, ap, cond, subst, append_assoc}
+use Rattle.std.proofs.Common.{◌≡◌, ℕ, ◌+◌, Bool, true, false, List, [], ◌∷◌, ◌++◌, refl, sym, ◌∙◌, ap, cond, subst, append_assoc}
 use Rattle.std.specs.Prelude.{◌^◌, sum_by}
 use Rattle.std.proofs.lemmas.List.{append-nil}
 use Rattle.std.proofs.lemmas.List.Sums.{sum_by_push}
@@ -21,6 +21,7 @@ use Rattle.otel_model.proofs.Follow.{run_append, recorded_append}
 use Rattle.otel_model.proofs.Gather.{cond_same}
 use Rattle.otel_model.proofs.Recorded.{recorded_is}
 use Rattle.otel_model_laws.specs.Lawful.{IsOfEvents, IsBalanced}
+use Rattle.otel_model_laws.proofs.Plus.{zero_plus}
 
 answers_append : (σ : Aggregate) (kind : Kind) (limit : ℕ) (m : Machine) (es fs : List Event) → points_given σ kind limit m (es ++ fs) ≡ points_given σ kind limit m es ++ points_given σ kind limit (run σ kind limit m es) fs
 answers_append σ kind limit m [] fs = refl
@@ -107,9 +108,6 @@ pub events_at_first : (answers : ReaderAnswers) (now : ℕ) (d : Demand) → IsO
 events_at_first answers now d = record { events = []; machine = refl; recorded = refl; exported = sym (cond_same (is_delta answers d) 0) }
 
 -- ======== balance ========
-zero_plus : (n : ℕ) → 0 + n ≡ n
-zero_plus n = omega arith
-
 kind_when : (answers : ReaderAnswers) (d : Demand) → is_drained d ≡ false → kind_of answers d ≡ cond (is_delta answers d) Delta Cumulative
 kind_when answers d e = ap (λ b. cond b Drained (cond (is_delta answers d) Delta Cumulative)) e
 

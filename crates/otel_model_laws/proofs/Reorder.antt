@@ -121,7 +121,7 @@ stream_alike answers feeds next c e s k m p q = λ i. record {
   exported = q i;
 }
 
-map_alike : {A B : Type 0} (f g : A → B) (xs : List A) → ((x : A) → f x ≡ g x) → map f xs ≡ map g xs
+pub map_alike : {A B : Type 0} (f g : A → B) (xs : List A) → ((x : A) → f x ≡ g x) → map f xs ≡ map g xs
 map_alike f g [] e = refl
 map_alike f g (x ∷ xs) e = λ i. e x i ∷ map_alike f g xs e i
 

@@ -70,6 +70,9 @@ if_named name spec i = cond (bytes_eq name i.name) (Some spec) None
 abbrev pub limited : ℕ → StreamSpec
 limited n = record nothing_said { limit = Some n }
 
+abbrev pub limit_1 : Views
+limit_1 = if_named a (limited 1) ∷ []
+
 abbrev pub named : Text → StreamSpec
 named name = record nothing_said { name = Some name }
 

@@ -1,12 +1,14 @@
 -- Worked rows on what makes a stream the same stream, which demand decides, allow-lists, and instruments that ignore.
-use Rattle.std.specs.Prelude.{◌≡◌, pos, true, List, [], ◌∷◌, ◌++◌, replicate, Some, None, codes}
+use Rattle.std.specs.Prelude.{◌≡◌, pos, Bool, true, cond, List, [], ◌∷◌, ◌++◌, replicate, Some, None, codes}
 use Rattle.std.proofs.Common.{refl}
 use Rattle.otel_common.specs.Canonical.{canon}
+use Rattle.otel_common.specs.Equality.{bytes_eq}
+use Rattle.otel_common.specs.Scopes.{scope_eq}
 use Rattle.otel_common.specs.declared.attributes.KeyValue.{KeyValue}
 use Rattle.otel_model_stream.specs.Sets.{over_set, set_of}
-use Rattle.otel_model.specs.Calls.{Text, Counter, Histogram, ObservableCounter, Gauge, About, Call, Meter, Build, Record, Collect}
-use Rattle.otel_model.specs.Demands.{nothing_said}
-use Rattle.otel_model_laws.proofs.Rows.{a, b, m, about, with_own_bounds, u64, i64, x1, y1, pair, if_named, limited, named, cumulative, delta, AloneShows, one, delta_sum, cumulative_sum, last_values, cumulative_histogram, spread, on, add, observe}
+use Rattle.otel_model.specs.Calls.{Text, kind_eq, Counter, Histogram, ObservableCounter, Gauge, About, Call, Meter, Build, Record, Collect}
+use Rattle.otel_model.specs.Demands.{Instrument, Views, nothing_said}
+use Rattle.otel_model_laws.proofs.Rows.{a, b, m, scope_named, about, with_own_bounds, u64, i64, x1, y1, pair, if_named, limited, named, cumulative, delta, AloneShows, one, delta_sum, cumulative_sum, last_values, cumulative_histogram, spread, on, add, observe}
 
 -- 1 at the first and 2 at the second of two instruments
 abbrev both : About → About → List Call
@@ -102,6 +104,34 @@ all_views = (refl, refl)
 pub views_see_case : AloneShows (if_named (codes "A") (named b) ∷ []) cumulative (on counter (add 1 [] ∷ Collect 0 200 [] ∷ [])) (one a (cumulative_sum (([], 1) ∷ [])) ∷ [])
 unfolding canon
 views_see_case = (refl, refl)
+
+-- and with its description, unit, kind and scope
+abbrev renamed_if : (Instrument → Bool) → Views
+renamed_if test = (λ i. cond (test i) (Some (named b)) None) ∷ []
+
+abbrev full : About
+full = record counter { description = Some (codes "d"); unit = Some (codes "u") }
+
+abbrev one_record : List Call
+one_record = on full (add 1 [] ∷ Collect 0 200 [] ∷ [])
+
+pub views_see_description : AloneShows (renamed_if (λ i. bytes_eq i.description (codes "d"))) cumulative one_record (one b (cumulative_sum (([], 1) ∷ [])) ∷ [])
+unfolding canon
+views_see_description = (refl, refl)
+
+pub views_see_unit : AloneShows (renamed_if (λ i. bytes_eq i.unit (codes "u"))) cumulative one_record (one b (cumulative_sum (([], 1) ∷ [])) ∷ [])
+unfolding canon
+views_see_unit = (refl, refl)
+
+pub views_see_kind : AloneShows (renamed_if (λ i. kind_eq i.kind Counter)) cumulative (on (about Gauge a) (Build (Some 0) full 100 ∷ add 1 [] ∷ Record 1 (u64 2) [] ∷ Collect 0 200 [] ∷ []))
+    ((one a (last_values (([], 1) ∷ [])) ++ one b (cumulative_sum (([], 2) ∷ []))) ∷ [])
+unfolding canon
+views_see_kind = (refl, refl)
+
+pub views_see_scope : AloneShows (renamed_if (λ i. scope_eq i.scope m)) cumulative (Meter m ∷ Meter (scope_named b) ∷ Build (Some 0) full 100 ∷ Build (Some 1) full 100 ∷ add 1 [] ∷ Record 1 (u64 2) [] ∷ Collect 0 200 [] ∷ [])
+    ((one b (cumulative_sum (([], 1) ∷ [])) ++ one a (cumulative_sum (([], 2) ∷ []))) ∷ [])
+unfolding canon
+views_see_scope = (refl, refl)
 
 -- without places all but the empty set overflows
 pub no_places : AloneShows (if_named a (limited 0) ∷ []) delta (on counter (add 1 [] ∷ add 2 x1 ∷ Collect 0 200 [] ∷ [])) (one a (delta_sum (([], 1) ∷ (over_set, 2) ∷ [])) ∷ [])

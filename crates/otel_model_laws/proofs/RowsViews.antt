@@ -1,11 +1,11 @@
 -- Worked rows on views, fates, and the limits and aggregations of readers, on the machine and read off the calls.
-use Rattle.std.specs.Prelude.{ℕ, ℤ, pos, true, false, List, [], ◌∷◌, ◌++◌, Some}
+use Rattle.std.specs.Prelude.{◌≡◌, ℕ, ℤ, pos, true, false, List, [], ◌∷◌, ◌++◌, Some}
 use Rattle.std.proofs.Common.{refl}
 use Rattle.otel_common.specs.Canonical.{canon}
 use Rattle.otel_model_stream.specs.Sets.{over_set}
 use Rattle.otel_model.specs.Calls.{Counter, UpDownCounter, Histogram, ObservableCounter, Call, Build, Record, Collect}
-use Rattle.otel_model.specs.Demands.{Aggregation, Drop, Default, Sum, LastValue, ExplicitBucketHistogram, Views, ReaderAnswers}
-use Rattle.otel_model_laws.proofs.Rows.{Seen, a, b, about, with_own_bounds, u64, x1, y1, if_named, limited, named, aggregating, but_for, limit_of, default_of, cumulative, delta, AloneShows, Shows, one, delta_sum, cumulative_sum, plain_sum, cumulative_histogram, plain_spread, spread, on, add, observe}
+use Rattle.otel_model.specs.Demands.{Aggregation, Drop, Default, Sum, LastValue, ExplicitBucketHistogram, Views, ReaderAnswers, own_demand}
+use Rattle.otel_model_laws.proofs.Rows.{Seen, a, b, m, about, with_own_bounds, u64, x1, y1, if_named, limited, named, aggregating, but_for, limit_of, default_of, cumulative, delta, AloneShows, Shows, one, delta_sum, cumulative_sum, plain_sum, cumulative_histogram, plain_spread, spread, on, add, observe}
 
 -- one cumulative reader
 abbrev CumulativeShows : Views → List Call → List Seen → Type 0
@@ -61,6 +61,10 @@ unfolding canon
 nothing_where_all_dropped = (refl, refl)
 
 -- ======== limits of readers ========
+-- where neither a view nor the reader says one
+pub usual_limit : (own_demand cumulative m (about Counter a)).limit ≡ 2000
+usual_limit = refl
+
 abbrev limited_delta : ReaderAnswers
 limited_delta = but_for Counter (limit_of 1) delta
 

@@ -9,9 +9,7 @@ use Rattle.otel_model.specs.Machine.{changed_at}
 use Rattle.otel_model_laws.specs.Books.{count_in, sum_in, one_each, bits_of, added_by, if_done}
 use Rattle.otel_model_laws.specs.Shares.{Book, booked, BookedOneByOne, BookFollowsCalls, SharesAddUp}
 use Rattle.otel_model_laws.proofs.Accepting.{call_law}
-
-grouped : (a b c : ℕ) → (a + b) + c ≡ a + (b + c)
-grouped a b c = omega arith
+use Rattle.otel_model_laws.proofs.Plus.{plus_zero, exchanged, grouped}
 
 -- what a call adds is added to the book
 more : (new old first book k : ℕ) → wrapped new ≡ wrapped (old + k) → wrapped old ≡ wrapped (first + book) → wrapped new ≡ wrapped (first + (book + k))
@@ -19,7 +17,7 @@ more new old first book k e f =
     e ∙ (sym (mod-add-mod old (2 ^ 64) k)
     ∙ (ap (λ m. wrapped (m + k)) f
     ∙ (mod-add-mod (first + book) (2 ^ 64) k
-    ∙ ap wrapped (grouped first book k))))
+    ∙ ap wrapped (sym (grouped first book k)))))
 
 pub book_law : BookFollowsCalls
 book_law views first book old call reply new s b = record {
@@ -27,16 +25,13 @@ book_law views first book old call reply new s b = record {
   sum = more (sum_in new) (sum_in old) first.sum book.sum (if_done reply (added_by bits_of call)) (call_law views old call reply new s).1 b.sum;
 }
 
-exchanged : (a b k : ℕ) → (a + k) + b ≡ (a + b) + k
-exchanged a b k = omega arith
-
 one_share : (f : Book → ℕ) (g : Book → Book) (k : ℕ) → ((share : Book) → f (g share) ≡ f share + k) → (shares : List Book) (n : ℕ) → n < length shares → sum_by f (changed_at n g shares) ≡ sum_by f shares + k
 one_share f g k e [] n h = absurd (omega arith)
 one_share f g k e (s ∷ shares) zero h =
-    sum_by-cons f (g s) shares ∙ (ap (λ m. m + sum_by f shares) (e s) ∙ (exchanged (f s) (sum_by f shares) k ∙ sym (ap (λ m. m + k) (sum_by-cons f s shares))))
+    sum_by-cons f (g s) shares ∙ (ap (λ m. m + sum_by f shares) (e s) ∙ (exchanged (f s) k (sum_by f shares) ∙ sym (ap (λ m. m + k) (sum_by-cons f s shares))))
 one_share f g k e (s ∷ shares) (suc n) h =
     let below : n < length shares = omega arith in
-    sum_by-cons f s (changed_at n g shares) ∙ (ap (λ m. f s + m) (one_share f g k e shares n below) ∙ (sym (grouped (f s) (sum_by f shares) k) ∙ sym (ap (λ m. m + k) (sum_by-cons f s shares))))
+    sum_by-cons f s (changed_at n g shares) ∙ (ap (λ m. f s + m) (one_share f g k e shares n below) ∙ (grouped (f s) (sum_by f shares) k ∙ sym (ap (λ m. m + k) (sum_by-cons f s shares))))
 
 pub shares_law : SharesAddUp
 shares_law shares n v h = λ i. record {
@@ -44,14 +39,11 @@ shares_law shares n v h = λ i. record {
   sum = one_share (λ (share : Book). share.sum) (booked v) v.bits (λ share. refl) shares n h i;
 }
 
-plus_zero : (n : ℕ) → n + 0 ≡ n
-plus_zero n = omega arith
-
 one_longer : (vs : List Amount) (v : Amount) (k : ℕ) → k + length (vs ++ v ∷ []) ≡ (k + length vs) + 1
-one_longer vs v k = ap (λ m. k + m) (length_push vs v) ∙ sym (grouped k (length vs) 1)
+one_longer vs v k = ap (λ m. k + m) (length_push vs v) ∙ grouped k (length vs) 1
 
 one_added : (vs : List Amount) (v : Amount) (k : ℕ) → k + sum_by bits_of (vs ++ v ∷ []) ≡ (k + sum_by bits_of vs) + v.bits
-one_added vs v k = ap (λ m. k + m) (sum_by_push bits_of vs v) ∙ sym (grouped k (sum_by bits_of vs) v.bits)
+one_added vs v k = ap (λ m. k + m) (sum_by_push bits_of vs v) ∙ grouped k (sum_by bits_of vs) v.bits
 
 pub one_by_one_law : BookedOneByOne
 one_by_one_law vs v book = (

@@ -25,11 +25,8 @@ use Rattle.otel_model.specs.Laws.{AreApart, AreNumbered, names}
 use Rattle.otel_model.proofs.Follow.{run_append, recorded_append}
 use Rattle.otel_model.proofs.Gather.{map_both}
 use Rattle.otel_model_laws.specs.Lawful.{EachOf}
+use Rattle.otel_model_laws.proofs.Reorder.{map_alike}
 use Rattle.otel_model_laws.specs.Showing.{IsHeldOnlyBy, HandlesByNumber, CollectsAfterObservations, ObservationsByNumber}
-
-map_alike : {A B : Type 0} (f g : A → B) (xs : List A) → ((x : A) → f x ≡ g x) → map f xs ≡ map g xs
-map_alike f g [] e = refl
-map_alike f g (x ∷ xs) e = λ i. e x i ∷ map_alike f g xs e i
 
 -- the events are sent where the stream is fed
 where_fed : (answers : ReaderAnswers) (s : Stream) (e : Event) (b : Bool) → cond b (stream_with answers (e ∷ []) s) s ≡ stream_with answers (cond b (e ∷ []) []) s
