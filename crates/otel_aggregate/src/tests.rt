@@ -147,7 +147,15 @@ fn row_3(rt: HostRuntime) -> Result<(), Fail> {
     sum.measure(2, &one(alloc, "y", 1)?)?;
     sum.measure(4, &one(alloc, "z", 1)?)?;
     sum.measure(8, &one(alloc, "x", 1)?)?;
-    assert!(rt; gives(alloc, &mut sum, 100, 200, &[("x", 9), ("y", 2), (OVERFLOW, 4)])?);
+    assert!(rt;
+        gives(
+            alloc,
+            &mut sum,
+            100,
+            200,
+            &[("x", 9), ("y", 2), (OVERFLOW, 4)]
+        )?
+    );
     Ok(())
 }
 
@@ -184,7 +192,15 @@ fn row_22(rt: HostRuntime) -> Result<(), Fail> {
     sum.measure(1, &[])?;
     sum.measure(2, &one(alloc, "x", 1)?)?;
     sum.measure(4, &one(alloc, "y", 1)?)?;
-    assert!(rt; gives(alloc, &mut sum, 100, 200, &[("", 1), ("x", 2), (OVERFLOW, 4)])?);
+    assert!(rt;
+        gives(
+            alloc,
+            &mut sum,
+            100,
+            200,
+            &[("", 1), ("x", 2), (OVERFLOW, 4)]
+        )?
+    );
     Ok(())
 }
 
@@ -219,8 +235,7 @@ fn the_order_of_attributes_does_not_matter(rt: HostRuntime) -> Result<(), Fail> 
     let mut doubled = two(alloc, ("a", 2), ("a", 9))?;
     doubled.push(attribute(alloc, "b", 1)?)?;
     sum.measure(4, &doubled)?;
-LET wanted = [(BOTH, 7)]
-    assert!(rt; grows_to(alloc, &mut sum, &[("", 1)])?);
+    assert!(rt; grows_to(alloc, &mut sum, &[(BOTH, 7)])?);
     Ok(())
 }
 
@@ -232,8 +247,7 @@ fn an_allow_list_drops_other_keys(rt: HostRuntime) -> Result<(), Fail> {
     sum.measure(1, &two(alloc, ("b", 1), ("a", 2))?)?;
     sum.measure(2, &two(alloc, ("c", 2), ("b", 1))?)?;
     sum.measure(4, &one(alloc, "a", 1)?)?;
-LET wanted = [("", 4), ("b", 3)]
-    assert!(rt; grows_to(alloc, &mut sum, &[("", 1)])?);
+    assert!(rt; grows_to(alloc, &mut sum, &[("", 4), ("b", 3)])?);
     Ok(())
 }
 
@@ -274,11 +288,10 @@ fn a_map_gives_its_sets_in_order(rt: HostRuntime) -> Result<(), Fail> {
     assert!(rt; map.is_prepared());
     map.measure_ready(2);
     map.measure(4, &[])?;
-LET wanted = [("", 4), (BOTH, 3)]
     let points = into_points(alloc, map.collect_readonly(alloc)?)?;
-    assert!(rt; are(points.as_slice().iter(), &[("x", 5)]));
+    assert!(rt; are(alloc, points.as_slice().iter(), &[("", 4), (BOTH, 3)])?);
     let points = into_points(alloc, map.collect_and_reset(alloc)?)?;
-    assert!(rt; are(points.as_slice().iter(), &[("x", 5)]));
+    assert!(rt; are(alloc, points.as_slice().iter(), &[("", 4), (BOTH, 3)])?);
     assert_eq!(rt; map.collect_and_reset(alloc)?.len(), 0);
     assert_eq!(rt; map.collect_readonly(alloc)?.len(), 0);
     Ok(())
