@@ -7,9 +7,9 @@ use Rattle.otel_common.specs.Equality.{set_eq, set_eq-Decides}
 use Rattle.otel_common.proofs.CanonLaws.{canon-canon}
 use Rattle.otel_model_stream.specs.Folds.{Fold}
 use Rattle.otel_model_stream.specs.Sets.{none_set}
-use Rattle.otel_model_stream.specs.Entries.{Entry, is_of, has, stays, reset}
+use Rattle.otel_model_stream.specs.Entries.{Entry, is_of, has, stays, reset, AreCanonical}
 use Rattle.otel_model_stream.specs.Lists.{changed_at}
-use Rattle.otel_aggregate.specs.Tallies.{index_of, pending_set, IsNew, IsSound, AreCanonical}
+use Rattle.otel_aggregate.specs.Tallies.{index_of, pending_set, IsNew, IsSound}
 use Rattle.otel_aggregate.specs.declared.table.Pending.{Pending}
 use Rattle.otel_aggregate.specs.declared.table.Pending.TheVariants.{Nothing, Empty, Known, New}
 use Rattle.otel_aggregate.proofs.CanonicalSets.{some-set, some-canon}

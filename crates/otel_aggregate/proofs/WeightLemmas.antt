@@ -1,5 +1,5 @@
 -- What the points of tallies add up to, one tally after another.
-use Rattle.std.proofs.Common.{ℕ, ◌+◌, ◌<◌, ◌^◌, ◌≡◌, List, [], ◌∷◌, map, filter, Bool, true, false, cond, refl, ap, arith, sym, ◌∙◌}
+use Rattle.std.proofs.Common.{ℕ, ◌+◌, ◌<◌, ◌^◌, ◌≡◌, List, [], ◌∷◌, map, filter, Bool, true, false, cond, ap, arith, sym, ◌∙◌}
 use Rattle.std.proofs.Math.Nat.{mod-eq_of_lt}
 use Rattle.std.proofs.lemmas.List.Sums.{sum_by-cons}
 use Rattle.otel_model_stream.specs.Events.{Point}

@@ -5,8 +5,7 @@ use Rattle.otel_common.specs.declared.attributes.KeyValue.{KeyValue}
 use Rattle.otel_model_stream.specs.Sets.{AttributeSet, AllowList, none_set, set_of}
 use Rattle.otel_model_stream.specs.Folds.{Aggregate, Sum, LastValue, Histogram, Amount, empty_of, sample_of}
 use Rattle.otel_model_stream.specs.Entries.{Point, points}
-use Rattle.otel_model_stream.specs.Maps.{MapState, new_map, measured, evicted_map}
-use Rattle.otel_aggregate.specs.Tallies.{knows}
+use Rattle.otel_model_stream.specs.Maps.{MapState, new_map, measured, evicted_map, without_lists, knows}
 
 pub record StreamState : Type 0 where
   pub map_state : MapState
@@ -46,7 +45,7 @@ pub record HeldStream : Type 0 where
 
 -- these attributes are none or, where there is no allow-list, the set of an entry as they stand
 abbrev pub is_known : AllowList → List KeyValue → MapState → Bool
-is_known None l m = knows l m
+is_known None l m = knows l (without_lists m)
 is_known (Some allow) l m = set_eq l none_set
 
 -- after a record of an amount under a set

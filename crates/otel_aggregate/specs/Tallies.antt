@@ -1,5 +1,5 @@
 -- The tallies of a map, as the model's entries.
-use Rattle.std.specs.Prelude.{ℕ, zero, suc, Bool, true, false, ◌≡◌, ◌||◌, List, [], ◌∷◌, map, cond, Option, Some, None, IsTrue, slice_get}
+use Rattle.std.specs.Prelude.{ℕ, suc, Bool, true, false, ◌≡◌, List, [], ◌∷◌, map, cond, Option, Some, None, IsTrue, slice_get}
 use Rattle.std.specs.List.{AllByRecursion}
 use Rattle.std.specs.Option.{option_map}
 use Rattle.std.specs.Global.{Vec}
@@ -18,10 +18,6 @@ use Rattle.otel_aggregate.specs.declared.table.Tally.{Tally}
 pub record Held : Type 0 where
   pub state : MapState
   pub pending : Option AttributeSet
-
--- these attributes are none, or as they stand the set of an entry
-abbrev pub knows : List KeyValue → MapState → Bool
-knows l m = set_eq l none_set || has l m.table.entries
 
 -- `meaning` is what an aggregator's records come to
 module _ {A : Type 0} (meaning : A → Fold) where
@@ -76,7 +72,3 @@ IsSound entries room Nothing = Unit {0}
 IsSound entries room Empty = Unit {0}
 IsSound entries room (Known i) = (s : AttributeSet) × (index_of s entries ≡ Some i)
 IsSound entries room (New set) = IsNew entries room set.items
-
--- each entry is of a canonical set
-abbrev pub AreCanonical : List Entry → Type 0
-AreCanonical entries = AllByRecursion (λ entry. canon entry.set ≡ entry.set) entries

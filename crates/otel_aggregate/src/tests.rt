@@ -9,10 +9,16 @@ use otel_common::attributes::{KeyValue, Value};
 use otel_common::keys::Key;
 use otel_common::lists::Items;
 use otel_common::metrics::Temporality;
+use otel_data::points::SumDataPoint;
+use otel_data::sums::Sum as SumData;
 use std::alloc::Global;
+use std::slice::Iter;
 use std::test::Fail;
 
 const OVERFLOW: &str = "otel.metric.overflow";
+
+/// The set [a=2, b=1].
+const BOTH: &str = "a2 b1";
 
 fn attribute(alloc: Global, key: &str, value: i64) -> Result<KeyValue, Fail> {
     Ok(KeyValue::new(Key::new(alloc, key)?, Value::I64(value)))
@@ -37,27 +43,75 @@ fn delta(alloc: Global, limit: usize) -> Result<Sum<u64>, Fail> {
     Ok(Sum::new(alloc, Temporality::Delta, None, limit, 100, true)?)
 }
 
-/// Each point of a collection at 200: the key of its first attribute, or nothing, and its value.
-fn shown(alloc: Global, sum: &mut Sum<u64>) -> Result<Vec<(String, u64)>, Fail> {
-    let mut all = Vec::new(alloc);
-    for point in sum.collect(alloc, 200)?.data_points() {
-        let mut key = String::new(alloc);
-        for attribute in point.attributes().take(1) {
-            key.push_str(attribute.key.as_str())?;
-        }
-        all.push((key, point.value()))?;
-    }
-    Ok(all)
+fn overflow(alloc: Global) -> Result<Vec<KeyValue>, Fail> {
+    Ok(vec![in alloc; KeyValue::new(Key::new(alloc, OVERFLOW)?, Value::Bool(true))]?)
 }
 
-fn holds(points: &[(String, u64)], wanted: &[(&str, u64)]) -> bool {
+/// The set of a name: none, the overflow set, the one of both keys, or that of this key at 1.
+fn set_named(alloc: Global, name: &str) -> Result<Vec<KeyValue>, Fail> {
+    if name.is_empty() {
+        return Ok(Vec::new(alloc));
+    }
+    if name == OVERFLOW {
+        return overflow(alloc);
+    }
+    if name == BOTH {
+        return two(alloc, ("a", 2), ("b", 1));
+    }
+    one(alloc, name, 1)
+}
+
+/// The point of a set of this name, without exemplars.
+fn point(alloc: Global, name: &str, value: u64) -> Result<SumDataPoint<u64>, Fail> {
+    let attributes = Items::from(set_named(alloc, name)?);
+    Ok(SumDataPoint::new(attributes, Items::from(Vec::new(alloc)), value))
+}
+
+/// Whether these are the points of the sets, whole and in order.
+fn are(
+    alloc: Global,
+    points: Iter<'_, SumDataPoint<u64>>,
+    wanted: &[(&str, u64)],
+) -> Result<bool, Fail> {
     let mut same = points.len() == wanted.len();
-    for (point, want) in points.iter().zip(wanted) {
-        if point.0.as_str() != want.0 || point.1 != want.1 {
+    for (given, want) in points.zip(wanted) {
+        if *given != point(alloc, want.0, want.1)? {
             same = false;
         }
     }
-    same
+    Ok(same)
+}
+
+/// Whether the data are of these points between these moments, and of a sum that only grows.
+fn holds(
+    alloc: Global,
+    data: &SumData<u64>,
+    temporality: Temporality,
+    start: u64,
+    now: u64,
+    wanted: &[(&str, u64)],
+) -> Result<bool, Fail> {
+    let moments = data.start_time() == start && data.time() == now;
+    let kind = data.temporality() == temporality && data.is_monotonic();
+    Ok(are(alloc, data.data_points(), wanted)? && moments && kind)
+}
+
+/// Whether a collection at 200 of a cumulative sum made at 100 gives these points.
+fn grows_to(alloc: Global, sum: &mut Sum<u64>, wanted: &[(&str, u64)]) -> Result<bool, Fail> {
+    let data = sum.collect(alloc, 200)?;
+    holds(alloc, &data, Temporality::Cumulative, 100, 200, wanted)
+}
+
+/// Whether a collection of a delta sum gives these points between these moments.
+fn gives(
+    alloc: Global,
+    sum: &mut Sum<u64>,
+    start: u64,
+    now: u64,
+    wanted: &[(&str, u64)],
+) -> Result<bool, Fail> {
+    let data = sum.collect(alloc, now)?;
+    holds(alloc, &data, Temporality::Delta, start, now, wanted)
 }
 
 #[test]
@@ -68,8 +122,8 @@ fn past_the_limit_the_overflow_entry_is_used(rt: HostRuntime) -> Result<(), Fail
     sum.measure(2, &one(alloc, "y", 1)?)?;
     sum.measure(4, &one(alloc, "z", 1)?)?;
     sum.measure(8, &one(alloc, "x", 1)?)?;
-    assert!(rt; holds(&shown(alloc, &mut sum)?, &[("x", 9), (OVERFLOW, 6)]));
-    assert!(rt; holds(&shown(alloc, &mut sum)?, &[("x", 9), (OVERFLOW, 6)]));
+    assert!(rt; grows_to(alloc, &mut sum, &[("x", 9), (OVERFLOW, 6)])?);
+    assert!(rt; grows_to(alloc, &mut sum, &[("x", 9), (OVERFLOW, 6)])?);
     Ok(())
 }
 
@@ -77,16 +131,11 @@ fn past_the_limit_the_overflow_entry_is_used(rt: HostRuntime) -> Result<(), Fail
 fn the_empty_set_comes_first_and_is_not_counted(rt: HostRuntime) -> Result<(), Fail> {
     let alloc = rt.alloc();
     let mut sum = cumulative(alloc, None, 1)?;
-    assert!(rt; holds(&shown(alloc, &mut sum)?, &[]));
+    assert!(rt; grows_to(alloc, &mut sum, &[])?);
     sum.measure(2, &one(alloc, "x", 1)?)?;
     sum.measure(1, &[])?;
     sum.measure(4, &one(alloc, "y", 1)?)?;
-    assert!(rt;
-        holds(
-            &shown(alloc, &mut sum)?,
-            &[("", 1), ("x", 2), (OVERFLOW, 4)]
-        )
-    );
+    assert!(rt; grows_to(alloc, &mut sum, &[("", 1), ("x", 2), (OVERFLOW, 4)])?);
     Ok(())
 }
 
@@ -99,10 +148,13 @@ fn row_3(rt: HostRuntime) -> Result<(), Fail> {
     sum.measure(4, &one(alloc, "z", 1)?)?;
     sum.measure(8, &one(alloc, "x", 1)?)?;
     assert!(rt;
-        holds(
-            &shown(alloc, &mut sum)?,
+        gives(
+            alloc,
+            &mut sum,
+            100,
+            200,
             &[("x", 9), ("y", 2), (OVERFLOW, 4)]
-        )
+        )?
     );
     Ok(())
 }
@@ -112,25 +164,24 @@ fn row_4(rt: HostRuntime) -> Result<(), Fail> {
     let alloc = rt.alloc();
     let mut sum = delta(alloc, 1)?;
     sum.measure(1, &one(alloc, "x", 1)?)?;
-    assert!(rt; holds(&shown(alloc, &mut sum)?, &[("x", 1)]));
+    assert!(rt; gives(alloc, &mut sum, 100, 200, &[("x", 1)])?);
     sum.measure(2, &one(alloc, "y", 1)?)?;
-    assert!(rt; holds(&shown(alloc, &mut sum)?, &[(OVERFLOW, 2)]));
+    assert!(rt; gives(alloc, &mut sum, 200, 300, &[(OVERFLOW, 2)])?);
     sum.measure(4, &one(alloc, "y", 1)?)?;
-    assert!(rt; holds(&shown(alloc, &mut sum)?, &[("y", 4)]));
+    assert!(rt; gives(alloc, &mut sum, 300, 400, &[("y", 4)])?);
     Ok(())
 }
 
 #[test]
 fn row_7(rt: HostRuntime) -> Result<(), Fail> {
     let alloc = rt.alloc();
-    let overflow = vec![in alloc; KeyValue::new(Key::new(alloc, OVERFLOW)?, Value::Bool(true))]?;
     let mut sum = delta(alloc, 1)?;
-    sum.measure(1, &overflow)?;
+    sum.measure(1, &overflow(alloc)?)?;
     sum.measure(2, &one(alloc, "x", 1)?)?;
-    assert!(rt; holds(&shown(alloc, &mut sum)?, &[(OVERFLOW, 3)]));
-    assert!(rt; holds(&shown(alloc, &mut sum)?, &[]));
+    assert!(rt; gives(alloc, &mut sum, 100, 200, &[(OVERFLOW, 3)])?);
+    assert!(rt; gives(alloc, &mut sum, 200, 300, &[])?);
     sum.measure(5, &one(alloc, "x", 1)?)?;
-    assert!(rt; holds(&shown(alloc, &mut sum)?, &[(OVERFLOW, 5)]));
+    assert!(rt; gives(alloc, &mut sum, 300, 400, &[(OVERFLOW, 5)])?);
     Ok(())
 }
 
@@ -142,10 +193,13 @@ fn row_22(rt: HostRuntime) -> Result<(), Fail> {
     sum.measure(2, &one(alloc, "x", 1)?)?;
     sum.measure(4, &one(alloc, "y", 1)?)?;
     assert!(rt;
-        holds(
-            &shown(alloc, &mut sum)?,
+        gives(
+            alloc,
+            &mut sum,
+            100,
+            200,
             &[("", 1), ("x", 2), (OVERFLOW, 4)]
-        )
+        )?
     );
     Ok(())
 }
@@ -155,12 +209,20 @@ fn row_22(rt: HostRuntime) -> Result<(), Fail> {
 fn delta_moments(rt: HostRuntime) -> Result<(), Fail> {
     let alloc = rt.alloc();
     let mut sum = delta(alloc, 10)?;
-    let _ = sum.collect(alloc, 200)?;
+    assert!(rt; gives(alloc, &mut sum, 100, 200, &[])?);
     sum.measure(1, &[])?;
-    let data = sum.collect(alloc, 300)?;
-    assert_eq!(rt; data.start_time(), 200);
-    assert_eq!(rt; data.time(), 300);
-    assert_eq!(rt; data.temporality(), Temporality::Delta);
+    assert!(rt; gives(alloc, &mut sum, 200, 300, &[("", 1)])?);
+    Ok(())
+}
+
+/// And where its points add up to 0.
+#[test]
+fn delta_moments_of_zero(rt: HostRuntime) -> Result<(), Fail> {
+    let alloc = rt.alloc();
+    let mut sum = delta(alloc, 10)?;
+    sum.measure(0, &one(alloc, "x", 1)?)?;
+    assert!(rt; gives(alloc, &mut sum, 100, 200, &[("x", 0)])?);
+    assert!(rt; gives(alloc, &mut sum, 200, 300, &[])?);
     Ok(())
 }
 
@@ -173,7 +235,7 @@ fn the_order_of_attributes_does_not_matter(rt: HostRuntime) -> Result<(), Fail> 
     let mut doubled = two(alloc, ("a", 2), ("a", 9))?;
     doubled.push(attribute(alloc, "b", 1)?)?;
     sum.measure(4, &doubled)?;
-    assert!(rt; holds(&shown(alloc, &mut sum)?, &[("a", 7)]));
+    assert!(rt; grows_to(alloc, &mut sum, &[(BOTH, 7)])?);
     Ok(())
 }
 
@@ -185,7 +247,7 @@ fn an_allow_list_drops_other_keys(rt: HostRuntime) -> Result<(), Fail> {
     sum.measure(1, &two(alloc, ("b", 1), ("a", 2))?)?;
     sum.measure(2, &two(alloc, ("c", 2), ("b", 1))?)?;
     sum.measure(4, &one(alloc, "a", 1)?)?;
-    assert!(rt; holds(&shown(alloc, &mut sum)?, &[("", 4), ("b", 3)]));
+    assert!(rt; grows_to(alloc, &mut sum, &[("", 4), ("b", 3)])?);
     Ok(())
 }
 
@@ -196,15 +258,24 @@ fn a_record_is_prepared_and_then_taken_in(rt: HostRuntime) -> Result<(), Fail> {
     assert!(rt; !sum.is_prepared());
     sum.prepare(&one(alloc, "x", 1)?)?;
     assert!(rt; sum.is_prepared());
-    assert_eq!(rt; sum.points(alloc, 200)?.data_points().count(), 0);
+    assert!(rt; grows_to(alloc, &mut sum, &[])?);
+    assert!(rt; sum.is_prepared());
     sum.measure_ready(5);
     assert!(rt; !sum.is_prepared());
     let data = sum.points(alloc, 300)?;
-    assert_eq!(rt; data.start_time(), 100);
-    assert_eq!(rt; data.time(), 300);
-    assert_eq!(rt; data.temporality(), Temporality::Cumulative);
-    assert!(rt; data.is_monotonic());
-    assert!(rt; holds(&shown(alloc, &mut sum)?, &[("x", 5)]));
+    assert!(rt; holds(alloc, &data, Temporality::Cumulative, 100, 300, &[("x", 5)])?);
+    assert!(rt; grows_to(alloc, &mut sum, &[("x", 5)])?);
+    Ok(())
+}
+
+/// A collection that resets gives up a record that was prepared.
+#[test]
+fn a_delta_collection_gives_up_a_record(rt: HostRuntime) -> Result<(), Fail> {
+    let alloc = rt.alloc();
+    let mut sum = delta(alloc, 10)?;
+    sum.prepare(&one(alloc, "x", 1)?)?;
+    assert!(rt; gives(alloc, &mut sum, 100, 200, &[])?);
+    assert!(rt; !sum.is_prepared());
     Ok(())
 }
 
@@ -212,19 +283,15 @@ fn a_record_is_prepared_and_then_taken_in(rt: HostRuntime) -> Result<(), Fail> {
 fn a_map_gives_its_sets_in_order(rt: HostRuntime) -> Result<(), Fail> {
     let alloc = rt.alloc();
     let mut map: ValueMap<Increment<u64>> = ValueMap::new(alloc, (), 2)?;
-    map.measure(1, &two(alloc, ("y", 1), ("x", 1))?)?;
-    map.prepare(&two(alloc, ("x", 1), ("y", 1))?)?;
+    map.measure(1, &two(alloc, ("b", 1), ("a", 2))?)?;
+    map.prepare(&two(alloc, ("a", 2), ("b", 1))?)?;
     assert!(rt; map.is_prepared());
     map.measure_ready(2);
     map.measure(4, &[])?;
     let points = into_points(alloc, &true, map.collect_readonly(alloc)?)?;
-    let points = points.as_slice();
-    assert_eq!(rt; points.len(), 2);
-    assert_eq!(rt; points[0].value(), 4);
-    assert_eq!(rt; points[0].attributes().count(), 0);
-    assert_eq!(rt; points[1].value(), 3);
-    assert_eq!(rt; points[1].attributes().count(), 2);
-    assert_eq!(rt; map.collect_and_reset(alloc)?.len(), 2);
+    assert!(rt; are(alloc, points.as_slice().iter(), &[("", 4), (BOTH, 3)])?);
+    let points = into_points(alloc, &true, map.collect_and_reset(alloc)?)?;
+    assert!(rt; are(alloc, points.as_slice().iter(), &[("", 4), (BOTH, 3)])?);
     assert_eq!(rt; map.collect_and_reset(alloc)?.len(), 0);
     assert_eq!(rt; map.collect_readonly(alloc)?.len(), 0);
     Ok(())

@@ -3,11 +3,11 @@
 ghost use Rattle.std.specs.Prelude.{◌≡◌, true, false, is_some, None, Some, IsTrue, IsSome, OnOk, OnErr, IfOk, IsOk, IsOkUnless};
 ghost use Rattle.otel_common.specs.Canonical.{canon};
 ghost use Rattle.otel_model_stream.specs.Entries.{entry_for, points};
-ghost use Rattle.otel_model_stream.specs.Maps.{new_map, with_place, measured, evicted_map};
+ghost use Rattle.otel_model_stream.specs.Maps.{new_map, with_place, measured, evicted_map, readonly_points, resetting_points, without_lists, SucceedsIfKnown};
 ghost use Rattle.otel_model_stream.specs.Folds.{wrapped};
 ghost use Rattle.otel_model_stream.specs.Sets.{AttributeSet};
 ghost use Rattle.otel_model_stream.specs.Totals.{points_total};
-ghost use Rattle.otel_aggregate.specs.Tallies.{IsPlace, copies, knows};
+ghost use Rattle.otel_aggregate.specs.Tallies.{IsPlace, copies};
 
 use crate::aggregator::Aggregator;
 use crate::sets::overflow_set;
@@ -55,8 +55,8 @@ impl<A: Aggregator> Model for ValueMap<A> {
     ghost use Rattle.std.specs.Prelude.{◌≡◌, ◌&&◌, nat_lt, is_some, IfSome, false};
     ghost use Rattle.indexmap.specs.IndexMap.{spare};
     ghost use Rattle.otel_model_stream.specs.Sets.{none_set, over_set};
-    ghost use Rattle.otel_model_stream.specs.Entries.{number_counted, has};
-    ghost use Rattle.otel_aggregate.specs.Tallies.{Held, entries_of, state_of, pending_set, IsSound, AreCanonical};
+    ghost use Rattle.otel_model_stream.specs.Entries.{number_counted, has, AreCanonical};
+    ghost use Rattle.otel_aggregate.specs.Tallies.{Held, entries_of, state_of, pending_set, IsSound};
 
     ghost Value = { Held };
 
@@ -112,7 +112,7 @@ impl<A: Aggregator> ValueMap<A> {
         ensures same { self.new.state ≡ self.old.state }
         ensures ready { OnOk result (self.new.pending ≡ Some (canon attributes.now)) }
         ensures refused { OnErr result (self.new.pending ≡ None) }
-        ensures known { IsTrue (knows attributes.now self.old.state) → IsOk result }
+        ensures known { SucceedsIfKnown attributes.now (without_lists self.old.state) result }
         ensures only_memory { IsOkUnless result Fault.OutOfMemory }
     {
         self.pending = Pending::Nothing;
@@ -213,7 +213,7 @@ impl<A: Aggregator> ValueMap<A> {
         ensures ok { OnOk result (self.new.state ≡ measured (canon attributes.now) (A.sample value) self.old.state) }
         ensures err { OnErr result (self.new.state ≡ self.old.state) }
         ensures spent { self.new.pending ≡ None }
-        ensures known { IsTrue (knows attributes.now self.old.state) → IsOk result }
+        ensures known { SucceedsIfKnown attributes.now (without_lists self.old.state) result }
         ensures only_memory { IsOkUnless result Fault.OutOfMemory }
     {
         self.prepare(attributes)?;
@@ -260,7 +260,7 @@ impl<A: Aggregator> ValueMap<A> {
     /// The points of a collection that changes nothing: of the empty set if it was updated, and of
     /// every entry.
     pub fn collect_readonly(&self, alloc: Global) -> Result<Vec<(Items<KeyValue>, A)>, Fault>
-        ensures points { IfOk result (λ given. copies A.meaning given.items ≡ points true self.now.state.table) }
+        ensures points { IfOk result (λ given. copies A.meaning given.items ≡ readonly_points self.now.state) }
         ensures only_memory { IsOkUnless result Fault.OutOfMemory }
     {
         self.points(alloc, true)
@@ -270,7 +270,7 @@ impl<A: Aggregator> ValueMap<A> {
     /// forgets all records, evicts the entries that had none, and gives up a record that was prepared.
     /// Where it is refused, all stays as it was.
     pub fn collect_and_reset(&mut self, alloc: Global) -> Result<Vec<(Items<KeyValue>, A)>, Fault>
-        ensures points { IfOk result (λ given. copies A.meaning given.items ≡ points false self.old.state.table) }
+        ensures points { IfOk result (λ given. copies A.meaning given.items ≡ resetting_points self.old.state) }
         ensures ok { OnOk result (self.new.state ≡ evicted_map self.old.state) }
         ensures err { OnErr result (self.new.state ≡ self.old.state) }
         ensures spent { OnOk result (self.new.pending ≡ None) }

@@ -14,7 +14,7 @@ use Rattle.otel_common.specs.Equality.{set_eq, key_value_eq_equiv}
 use Rattle.otel_common.specs.declared.attributes.KeyValue.{KeyValue}
 use Rattle.otel_model_stream.specs.Sets.{AttributeSet, none_set, over_set}
 use Rattle.otel_model_stream.specs.Folds.{Fold, Sample}
-use Rattle.otel_model_stream.specs.Entries.{Entry, fresh, is_of, has, number_counted, placed, place, entry_for, on, at_entry, write, take_handle, drop_handle, stays, reset}
+use Rattle.otel_model_stream.specs.Entries.{Entry, fresh, is_of, has, AreCanonical, number_counted, placed, place, entry_for, on, at_entry, write, take_handle, drop_handle, stays, reset}
 use Rattle.otel_model_stream.specs.Maps.{MapState, KnownMap, knows, keys, is_admitted, given_with, measured_list, bound_list, collected_known, evicted_known, drained_known, updated_bound, unbound, AreListed}
 use Rattle.otel_model_stream.proofs.Sets.{set_eq_true, set_eq_self}
 use Rattle.otel_model_stream.proofs.Lists.{or_false, same_sym}
@@ -111,6 +111,27 @@ none_left : (ls : List (List KeyValue)) → filter (λ l. false) ls ≡ []
 none_left [] = refl
 none_left (l ∷ ls) = none_left ls
 
+member-passes : (test : List KeyValue → Bool) (p : List KeyValue) (ls : List (List KeyValue)) → test p ≡ true → is_member set_eq ls p ≡ true → is_member set_eq (filter test ls) p ≡ true
+member-passes test p [] t h = h
+member-passes test p (l ∷ ls) t h = go (test l) (set_eq p l) refl refl h (member-passes test p ls t)
+  where
+    rest : List (List KeyValue)
+    rest = filter test ls
+
+    go : (b c : Bool) → test l ≡ b → set_eq p l ≡ c → (c || is_member set_eq ls p) ≡ true → (is_member set_eq ls p ≡ true → is_member set_eq rest p ≡ true) → is_member set_eq (cond b (l ∷ rest) rest) p ≡ true
+    go true c e f h ih = both c (is_member set_eq ls p) (set_eq p l) (is_member set_eq rest p) h (λ i. f ∙ i) ih
+    go false true e f h ih = absurd (false≢true (sym e ∙ ap test (sym (set_eq_true p l f)) ∙ t))
+    go false false e f h ih = ih h
+
+-- a list that is the set of an entry is canonical
+canonical : (p : List KeyValue) (es : List Entry) → AreCanonical es → has p es ≡ true → canon p ≡ p
+canonical p [] all h = absurd (false≢true h)
+canonical p (e ∷ es) all h = go (is_of p e) refl h (canonical p es all.1)
+  where
+    go : (b : Bool) → is_of p e ≡ b → (b || has p es) ≡ true → (has p es ≡ true → canon p ≡ p) → canon p ≡ p
+    go true t h ih = subst (λ s. canon s ≡ s) (set_eq_true e.set p t) all.0
+    go false t h ih = ih h
+
 -- ======== a record or a bind of a list ========
 -- the set gets a place, and an entry is changed
 module _ (l : List KeyValue) (k : KnownMap) (g : AttributeSet) (f : Entry → Entry) (same : KeepsSet f) where
@@ -172,6 +193,19 @@ known_before p k h =
     (λ t.
     both (is_member set_eq left_lists p) (has p left_entries) (is_member set_eq k.given p) (has p k.map_state.table.entries) t
     (member-filter (λ l. has (canon l) left_entries) p k.given) (has-evicted p k.map_state.table.entries))
+  where
+    left_entries : List Entry
+    left_entries = (evicted_known k).map_state.table.entries
+
+    left_lists : List (List KeyValue)
+    left_lists = (evicted_known k).given
+
+pub known_placed : (p : List KeyValue) (k : KnownMap) → AreCanonical k.map_state.table.entries → knows p k ≡ true → has (canon p) (evicted_known k).map_state.table.entries ≡ true → knows p (evicted_known k) ≡ true
+known_placed p k all h there =
+    both (set_eq p none_set) (is_member set_eq k.given p || has p k.map_state.table.entries) (set_eq p none_set) (is_member set_eq left_lists p || has p left_entries) h (λ t. t)
+    (λ t.
+    both (is_member set_eq k.given p) (has p k.map_state.table.entries) (is_member set_eq left_lists p) (has p left_entries) t
+    (member-passes (λ l. has (canon l) left_entries) p k.given there) (λ i. ap (λ s. has s left_entries) (sym (canonical p k.map_state.table.entries all i)) ∙ there))
   where
     left_entries : List Entry
     left_entries = (evicted_known k).map_state.table.entries

@@ -1,5 +1,5 @@
 -- Worked rows, computed on the windows and on the machine.
-use Rattle.std.proofs.Common.{◌≡◌, ℕ, ℤ, List, [], ◌∷◌, map, Bool, true, false, Option, Some, None, refl, replicate, ◌++◌, cond, sym, ap, ◌∙◌, true≢false}
+use Rattle.std.proofs.Common.{◌≡◌, ℕ, ℤ, List, [], ◌∷◌, map, length, Bool, true, false, Option, Some, None, refl, replicate, ◌++◌, cond, sym, ap, ◌∙◌, true≢false}
 use Rattle.std.specs.Cmp.{Equal-is}
 use Rattle.std.specs.Ordering.{eq_by_cmp}
 use Rattle.std.specs.Prelude.{codes, pos, negsuc}
@@ -9,8 +9,9 @@ use Rattle.otel_common.specs.declared.attributes.KeyValue.{KeyValue}
 use Rattle.otel_common.specs.declared.attributes.Value.TheVariants as value
 use Rattle.otel_common.proofs.CanonLaws.{key_cmp-IsAntisymmetric, canon-unique}
 use Rattle.otel_model_stream.specs.Sets.{AttributeSet, none_set, over_set, kept, set_of}
-use Rattle.otel_model_stream.specs.Folds.{Aggregate, Sum, LastValue, Histogram, Amount, Total, Last, Spreads}
+use Rattle.otel_model_stream.specs.Folds.{Aggregate, Sum, LastValue, Histogram, Amount, Sample, Total, Last, Spreads, sample_of}
 use Rattle.otel_model_stream.specs.Events.{Event, Record, Bind, RecordBound, Unbind, Collect, Kind, Delta, Cumulative, Point}
+use Rattle.otel_model_stream.specs.Maps.{MapState, new_map, bound_map, bound_to, updated_bound, unbound, readonly_points, resetting_points, draining_points, evicted_map, KnownMap, without_lists, knows, keys, measured_list, bound_list, evicted_known, drained_known}
 use Rattle.otel_model_stream.specs.Machine.{begin, answers}
 use Rattle.otel_model_stream.specs.Windows.{opening, collections}
 
@@ -204,3 +205,88 @@ row_24 = (
   λ i. collections Sum Cumulative 2000 opening (two (none_kept x1 refl i) (none_kept y1 refl i)),
   λ i. answers Sum Cumulative 2000 (begin Sum) (two (none_kept x1 refl i) (none_kept y1 refl i)),
 )
+
+-- ======== handles of a map ========
+-- a map of sums with room for one set
+abbrev sums : MapState
+sums = new_map 1 (Total 0)
+
+abbrev held_twice : MapState
+held_twice = bound_map x1 (bound_map x1 sums)
+
+-- two handles are of one entry, which stays until both are let go
+pub two_handles : (held_twice.table.entries ≡ record { set = x1; counted = true; updated = false; fold = Total 0; handles = 2 } ∷ [])
+    × (length (evicted_map (unbound x1 held_twice)).table.entries ≡ 1)
+    × ((evicted_map (unbound x1 (unbound x1 held_twice))).table.entries ≡ [])
+two_handles = (refl, refl, refl)
+
+-- the handle of a set past the limit is of the overflow entry, and of one with an entry its own
+pub handles_go : (bound_to x1 sums ≡ x1) × (bound_to x1 held_twice ≡ x1) × (bound_to y1 held_twice ≡ over_set)
+handles_go = (refl, refl, refl)
+
+-- records through a handle of an entry; a quiet entry that a handle holds is shown by a read-only collection alone
+pub through_a_handle : (resetting_points (updated_bound x1 (sample_of Sum (amount 4)) held_twice) ≡ sum x1 4 ∷ [])
+    × (resetting_points held_twice ≡ [])
+    × (readonly_points held_twice ≡ sum x1 0 ∷ [])
+    × (draining_points held_twice ≡ sum x1 0 ∷ [])
+through_a_handle = (refl, refl, refl, refl)
+
+abbrev held_none : MapState
+held_none = bound_map none_set sums
+
+-- a handle of the empty set, which takes no place
+pub handle_of_none : (bound_to none_set sums ≡ none_set)
+    × (held_none.table.none.handles ≡ 1)
+    × (held_none.table.entries ≡ [])
+    × (readonly_points held_none ≡ [])
+    × (readonly_points (updated_bound none_set (sample_of Sum (amount 4)) held_none) ≡ sum none_set 4 ∷ [])
+    × ((unbound none_set held_none).table.none.handles ≡ 0)
+handle_of_none = (refl, refl, refl, refl, refl, refl)
+
+-- ======== what a map knows ========
+-- a map of last values with room for ten sets, that knows no list
+abbrev last_values : KnownMap
+last_values = without_lists (new_map 10 (Last 0))
+
+abbrev last_value : ℕ → Sample
+last_value n = sample_of LastValue (amount n)
+
+abbrev b1_a2 : List KeyValue
+b1_a2 = b 1 ∷ a 2 ∷ []
+
+abbrev AreKeys : KnownMap → (all entries : ℕ) → (sorted as_given : Bool) → Type 0
+AreKeys k all entries sorted as_given = (keys k ≡ all) × (length k.map_state.table.entries ≡ entries) × (knows a2_b1 k ≡ sorted) × (knows b1_a2 k ≡ as_given)
+
+abbrev as_given_first : KnownMap
+as_given_first = measured_list b1_a2 (last_value 1) last_values
+
+-- a list that isn't its own set is a key beside it
+pub row_31 : AreKeys as_given_first 2 1 true true
+unfolding canon
+row_31 = (refl, refl, refl, refl)
+
+-- a collection after a record keeps both, and one without leaves none
+pub row_31_collected : (resetting_points as_given_first.map_state ≡ (a2_b1, Last 1) ∷ []) × AreKeys (evicted_known as_given_first) 2 1 true true
+unfolding canon
+row_31_collected = (refl, (refl, refl, refl, refl))
+
+pub row_31_quiet : (resetting_points (evicted_known as_given_first).map_state ≡ []) × AreKeys (evicted_known (evicted_known as_given_first)) 0 0 false false
+unfolding canon
+row_31_quiet = (refl, (refl, refl, refl, refl))
+
+pub row_31_drained : AreKeys (drained_known as_given_first) 0 0 false false
+unfolding canon
+row_31_drained = (refl, refl, refl, refl)
+
+-- so it is where a bind admitted it
+pub row_31_bound : AreKeys (bound_list b1_a2 last_values) 2 1 true true
+unfolding canon
+row_31_bound = (refl, refl, refl, refl)
+
+abbrev sorted_first : KnownMap
+sorted_first = measured_list b1_a2 (last_value 2) (measured_list a2_b1 (last_value 1) last_values)
+
+-- another order of a set that has an entry is no key
+pub row_32 : (resetting_points sorted_first.map_state ≡ (a2_b1, Last 2) ∷ []) × AreKeys sorted_first 1 1 true false
+unfolding canon
+row_32 = (refl, (refl, refl, refl, refl))

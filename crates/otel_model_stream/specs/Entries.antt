@@ -1,7 +1,8 @@
 -- The table of one stream: an entry for the empty set, and a list of entries in order of making
 -- (Metrics SDK, "Cardinality limits").
-use Rattle.std.specs.Prelude.{ℕ, ◌+◌, ◌-◌, List, [], ◌∷◌, ◌++◌, map, filter, length, nat_lt, Bool, true, false, cond, ◌||◌}
-use Rattle.std.specs.List.{list_any}
+use Rattle.std.specs.Prelude.{◌≡◌, ℕ, ◌+◌, ◌-◌, List, [], ◌∷◌, ◌++◌, map, filter, length, nat_lt, Bool, true, false, cond, ◌||◌}
+use Rattle.std.specs.List.{list_any, AllByRecursion}
+use Rattle.otel_common.specs.Canonical.{canon}
 use Rattle.otel_common.specs.Equality.{set_eq}
 use Rattle.otel_model_stream.specs.Sets.{AttributeSet, none_set, over_set}
 use Rattle.otel_model_stream.specs.Folds.{Fold, Sample, recorded, cleared}
@@ -36,6 +37,10 @@ is_of s e = set_eq e.set s
 -- whether the set s has an entry
 abbrev pub has : AttributeSet → List Entry → Bool
 has s es = list_any (is_of s) es
+
+-- each entry is of a canonical set
+abbrev pub AreCanonical : List Entry → Type 0
+AreCanonical es = AllByRecursion (λ e. canon e.set ≡ e.set) es
 
 -- how many entries the limit counts
 abbrev pub number_counted : List Entry → ℕ

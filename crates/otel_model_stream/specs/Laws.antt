@@ -6,7 +6,7 @@ use Rattle.otel_common.specs.declared.attributes.KeyValue.{KeyValue}
 use Rattle.otel_model_stream.specs.Sets.{AttributeSet, none_set}
 use Rattle.otel_model_stream.specs.Folds.{Aggregate, Histogram, Amount, Sample, Fold, Total, Last, Spreads, wrapped, recorded, cleared, empty_of, sample_of, folded, fold_of}
 use Rattle.otel_model_stream.specs.Events.{Event, Record, Bind, RecordBound, Unbind, Collect, Kind, Delta, Cumulative, Drained, held_by, without}
-use Rattle.otel_model_stream.specs.Entries.{Entry, Table, has}
+use Rattle.otel_model_stream.specs.Entries.{Entry, Table, has, AreCanonical}
 use Rattle.otel_model_stream.specs.Maps.{MapState, measured, bound_map, bound_to, updated_bound, unbound, readonly_points, resetting_points, draining_points, evicted_map, drained_map, KnownMap, without_lists, knows, keys, is_admitted, measured_list, bound_list, evicted_known, drained_known, AreListed}
 use Rattle.otel_model_stream.specs.Machine.{Machine, begin, step, run, answer, answers, points}
 use Rattle.otel_model_stream.specs.Windows.{opening, window, collections, places_of, points_of, uncounted_of, counted}
@@ -145,6 +145,11 @@ IsKnownOnceBound = (l : List KeyValue) (k : KnownMap) → IsTrue (is_admitted (c
 -- what a map knows it still knows after a measure or a bind
 abbrev pub IsStillKnown : Type 0
 IsStillKnown = (p l : List KeyValue) (v : Sample) (k : KnownMap) → IsTrue (knows p k) → IsTrue (knows p (measured_list l v k)) × IsTrue (knows p (bound_list l k))
+
+-- and after a resetting collection, as long as the entry of its set stays
+abbrev pub IsKnownWhilePlaced : Type 0
+IsKnownWhilePlaced = (p : List KeyValue) (k : KnownMap) → AreCanonical k.map_state.table.entries → IsTrue (knows p k)
+    → IsTrue (has (canon p) (evicted_known k).map_state.table.entries) → IsTrue (knows p (evicted_known k))
 
 -- after a resetting collection it knows no list that it didn't know before
 abbrev pub IsKnownBefore : Type 0

@@ -1,5 +1,5 @@
 use Rattle.otel_model_stream.proofs.knowing.Goals as goal
-use Rattle.otel_model_stream.proofs.KnownLists.{known_measured, known_bound, known_still, known_before, known_drained, keys_few}
+use Rattle.otel_model_stream.proofs.KnownLists.{known_measured, known_bound, known_still, known_placed, known_before, known_drained, keys_few}
 
 pub returns-clause-measured : goal.returns-clause-measured
 returns-clause-measured c = known_measured
@@ -18,3 +18,6 @@ returns-clause-drained c = known_drained
 
 pub returns-clause-few : goal.returns-clause-few
 returns-clause-few c = keys_few
+
+pub returns-clause-placed : goal.returns-clause-placed
+returns-clause-placed c = known_placed

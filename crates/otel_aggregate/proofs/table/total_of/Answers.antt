@@ -1,4 +1,4 @@
-use Rattle.std.proofs.Common.{◌≡◌, ◌+◌, ◌||◌, ◌∷◌, ◌%◌, Bool, [], List, ap, sym, subst, ◌∙◌, arith, rules}
+use Rattle.std.proofs.Common.{◌≡◌, ◌+◌, ◌||◌, ◌∷◌, Bool, List, ap, sym, ◌∙◌, arith, rules}
 use Rattle.otel_model_stream.specs.Folds.{wrapped}
 use Rattle.otel_model_stream.specs.Entries.{Entry}
 use Rattle.otel_model_stream.specs.Totals.{points_total}

@@ -4,9 +4,9 @@ use Rattle.std.specs.Prelude.{IsSome}
 use Rattle.otel_common.specs.declared.attributes.KeyValue.{KeyValue}
 use Rattle.otel_model_stream.specs.Folds.{Fold, Sample}
 use Rattle.otel_model_stream.specs.Sets.{none_set}
-use Rattle.otel_model_stream.specs.Entries.{Entry, Table, entry_for, write, recorded_at, number_counted, has}
+use Rattle.otel_model_stream.specs.Entries.{Entry, Table, entry_for, write, recorded_at, number_counted, has, AreCanonical}
 use Rattle.otel_model_stream.specs.Maps.{MapState, with_place}
-use Rattle.otel_aggregate.specs.Tallies.{Held, entries_of, state_of, pending_set, IsPlace, IsSound, AreCanonical}
+use Rattle.otel_aggregate.specs.Tallies.{Held, entries_of, state_of, pending_set, IsPlace, IsSound}
 use Rattle.otel_aggregate.specs.declared.table.Pending.TheVariants.{Nothing}
 use Rattle.otel_aggregate.proofs.PlaceLemmas.{index_of-within, count-changed_at, has-changed_at, at_entry-none, at_entry-some}
 use Rattle.otel_aggregate.proofs.PendingLemmas.{nothing-left, canonical-changed_at}

@@ -9,9 +9,9 @@ use Rattle.otel_common.specs.Equality.{set_eq}
 use Rattle.otel_common.specs.declared.attributes.KeyValue.{KeyValue}
 use Rattle.otel_model_stream.specs.Folds.{Fold}
 use Rattle.otel_model_stream.specs.Sets.{none_set, over_set}
-use Rattle.otel_model_stream.specs.Entries.{Entry, fresh, has, number_counted}
+use Rattle.otel_model_stream.specs.Entries.{Entry, fresh, has, number_counted, AreCanonical}
 use Rattle.otel_model_stream.specs.Maps.{MapState, with_place}
-use Rattle.otel_aggregate.specs.Tallies.{entries_of, state_of, index_of, pending_set, IsNew, IsSound, AreCanonical}
+use Rattle.otel_aggregate.specs.Tallies.{entries_of, state_of, index_of, pending_set, IsNew, IsSound}
 use Rattle.otel_aggregate.specs.declared.table.Pending.{Pending}
 use Rattle.otel_aggregate.specs.declared.table.Pending.TheVariants.{New}
 use Rattle.otel_aggregate.proofs.PlaceLemmas.{Placing, has-index, has-push, count-push, place_admitted, place_over, place_over_made, over_is_some}

@@ -1,7 +1,7 @@
 use Rattle.std.proofs.Common.{List, ap, subst, sym, ◌∙◌}
 use Rattle.otel_model_stream.specs.Sets.{none_set}
-use Rattle.otel_model_stream.specs.Entries.{Entry, has}
-use Rattle.otel_aggregate.specs.Tallies.{entries_of, AreCanonical}
+use Rattle.otel_model_stream.specs.Entries.{Entry, has, AreCanonical}
+use Rattle.otel_aggregate.specs.Tallies.{entries_of}
 use Rattle.otel_aggregate.proofs.PendingLemmas.{canonical-evicted, has-evicted}
 use Rattle.otel_aggregate.proofs.value_map.ValueMap.reset_and_evict.Goals as goal
 
