@@ -3,7 +3,7 @@
 use opentelemetry_sdk::common::{Array, KeyValue, Value};
 use opentelemetry_sdk::metrics::Temporality;
 use opentelemetry_sdk::metrics::data::{
-    AggregatedMetrics, Metric, MetricData, ResourceMetrics, ScopeMetrics, Sum,
+    AggregatedMetrics, Gauge, Histogram, Metric, MetricData, ResourceMetrics, ScopeMetrics, Sum,
 };
 use opentelemetry_sdk::metrics::provider::Reply;
 use percent_encoding::{AsciiSet, CONTROLS, PercentEncode, ascii_set, utf8_percent_encode};
@@ -56,14 +56,59 @@ fn write_scope<W: Write>(output: &mut W, scope: &ScopeMetrics) -> io::Result<()>
 /// Prints the points of one metric.
 fn write_metric<W: Write>(output: &mut W, scope: &str, metric: &Metric) -> io::Result<()> {
     match metric.data() {
-        AggregatedMetrics::U64(MetricData::Sum(sum)) => {
-            write_sum(output, scope, metric.name(), sum)
-        }
+        AggregatedMetrics::U64(points) => write_points(output, scope, metric.name(), points),
+        AggregatedMetrics::I64(points) => write_points(output, scope, metric.name(), points),
     }
 }
 
+/// Prints the points of one metric, of one number type.
+fn write_points<W: Write, T: Copy + Display>(
+    output: &mut W,
+    scope: &str,
+    name: &str,
+    points: &MetricData<T>,
+) -> io::Result<()> {
+    match points {
+        MetricData::Gauge(gauge) => write_gauge(output, scope, name, gauge),
+        MetricData::Sum(sum) => write_sum(output, scope, name, sum),
+        MetricData::Histogram(histogram) => write_histogram(output, scope, name, histogram),
+    }
+}
+
+/// Prints how the line of a point begins.
+fn write_beginning<W: Write>(output: &mut W, scope: &str, name: &str) -> io::Result<()> {
+    write!(output, "point ")?;
+    write_name(output, scope)?;
+    write!(output, " ")?;
+    write_name(output, name)
+}
+
+/// Prints the points of a gauge.
+fn write_gauge<W: Write, T: Copy + Display>(
+    output: &mut W,
+    scope: &str,
+    name: &str,
+    gauge: &Gauge<T>,
+) -> io::Result<()> {
+    let start = gauge.start_time().unwrap();
+    let time = gauge.time();
+    for point in gauge.data_points() {
+        write_beginning(output, scope, name)?;
+        write!(output, " gauge {start} {time} ")?;
+        write_attributes(output, point.attributes())?;
+        let value = point.value();
+        writeln!(output, " {value}")?;
+    }
+    Ok(())
+}
+
 /// Prints the points of a sum.
-fn write_sum<W: Write>(output: &mut W, scope: &str, name: &str, sum: &Sum<u64>) -> io::Result<()> {
+fn write_sum<W: Write, T: Copy + Display>(
+    output: &mut W,
+    scope: &str,
+    name: &str,
+    sum: &Sum<T>,
+) -> io::Result<()> {
     let temporality = temporality_word(sum.temporality());
     let monotonic = if sum.is_monotonic() {
         "monotonic"
@@ -73,14 +118,60 @@ fn write_sum<W: Write>(output: &mut W, scope: &str, name: &str, sum: &Sum<u64>) 
     let start = sum.start_time();
     let time = sum.time();
     for point in sum.data_points() {
-        write!(output, "point ")?;
-        write_name(output, scope)?;
-        write!(output, " ")?;
-        write_name(output, name)?;
+        write_beginning(output, scope, name)?;
         write!(output, " sum {temporality} {monotonic} {start} {time} ")?;
         write_attributes(output, point.attributes())?;
         let value = point.value();
         writeln!(output, " {value}")?;
+    }
+    Ok(())
+}
+
+/// Prints the points of a histogram.
+fn write_histogram<W: Write, T: Copy + Display>(
+    output: &mut W,
+    scope: &str,
+    name: &str,
+    histogram: &Histogram<T>,
+) -> io::Result<()> {
+    let temporality = temporality_word(histogram.temporality());
+    let start = histogram.start_time();
+    let time = histogram.time();
+    for point in histogram.data_points() {
+        write_beginning(output, scope, name)?;
+        write!(output, " histogram {temporality} {start} {time} ")?;
+        write_attributes(output, point.attributes())?;
+        let count = point.count();
+        let sum = point.sum();
+        write!(output, " {count} {sum} ")?;
+        write_optional(output, point.min())?;
+        write!(output, " ")?;
+        write_optional(output, point.max())?;
+        write!(output, " ")?;
+        write_counts(output, point.bucket_counts())?;
+        writeln!(output)?;
+    }
+    Ok(())
+}
+
+/// Prints a number, or that there is none.
+fn write_optional<W: Write, T: Copy + Display>(output: &mut W, value: Option<T>) -> io::Result<()> {
+    match value {
+        Some(value) => write!(output, "{value}"),
+        None => write!(output, "none"),
+    }
+}
+
+/// Prints how many values fell into each bucket; a hyphen where there are no buckets.
+fn write_counts<W: Write>(output: &mut W, counts: Iter<'_, u64>) -> io::Result<()> {
+    if counts.len() == 0 {
+        return write!(output, "-");
+    }
+    for (index, count) in counts.enumerate() {
+        if index > 0 {
+            write!(output, ",")?;
+        }
+        write!(output, "{count}")?;
     }
     Ok(())
 }
@@ -166,6 +257,16 @@ fn count_scope(scope: &ScopeMetrics) -> usize {
 /// How many points a metric has.
 fn count_metric(metric: &Metric) -> usize {
     match metric.data() {
-        AggregatedMetrics::U64(MetricData::Sum(sum)) => sum.data_points().len(),
+        AggregatedMetrics::U64(points) => count_points_of(points),
+        AggregatedMetrics::I64(points) => count_points_of(points),
+    }
+}
+
+/// How many points a metric has, of one number type.
+fn count_points_of<T>(points: &MetricData<T>) -> usize {
+    match points {
+        MetricData::Gauge(gauge) => gauge.data_points().len(),
+        MetricData::Sum(sum) => sum.data_points().len(),
+        MetricData::Histogram(histogram) => histogram.data_points().len(),
     }
 }

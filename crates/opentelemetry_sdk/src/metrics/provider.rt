@@ -2,5 +2,6 @@
 
 pub use otel_data::numbers::NumberValue;
 pub use otel_provider::calls::{Call, Reply};
+pub use otel_provider::laws::{copied_call, copied_numbers, copied_reply};
 pub use otel_provider::provider::{MeterProviderBuilder, SdkMeterProvider};
 pub use otel_provider::sorts::InstrumentSort;

@@ -131,15 +131,19 @@ fn push_points(
     Ok(())
 }
 
-/// Adds a text for each point of a metric.
+/// Adds a text for each point of a metric, which is a sum of unsigned numbers; of another, one that says so.
 fn push_metric(
     alloc: Global,
     points: &mut Vec<String>,
     scope: &InstrumentationScope,
     metric: &Metric,
 ) -> Result<(), Fail> {
-    let AggregatedMetrics::U64(MetricData::Sum(sum)) = metric.data();
-    let start = format!(in alloc; "{} {} ", scope.name(), metric.name())?;
+    let mut start = format!(in alloc; "{} {} ", scope.name(), metric.name())?;
+    let AggregatedMetrics::U64(MetricData::Sum(sum)) = metric.data() else {
+        start.push_str("is no sum of unsigned numbers")?;
+        points.push(start)?;
+        return Ok(());
+    };
     push_points(alloc, points, start.as_str(), sum)
 }
 
