@@ -4,9 +4,9 @@ use Rattle.std.proofs.Common.{refl}
 use Rattle.otel_common.specs.Canonical.{canon}
 use Rattle.otel_common.specs.declared.attributes.KeyValue.{KeyValue}
 use Rattle.otel_model_stream.specs.Sets.{over_set}
-use Rattle.otel_model.specs.Calls.{Counter, ObservableCounter, Call, Bind, RecordBound, Collect}
+use Rattle.otel_model.specs.Calls.{Counter, ObservableCounter, ObservableGauge, Call, Bind, RecordBound, Collect}
 use Rattle.otel_model.specs.Demands.{Views, nothing_said}
-use Rattle.otel_model_laws.proofs.Rows.{Seen, a, about, u64, x1, y1, z1, pair, if_named, limited, limit_1, cumulative, delta, Shows, one, delta_sum, cumulative_sum, on, add, observe}
+use Rattle.otel_model_laws.proofs.Rows.{Seen, a, about, u64, x1, y1, z1, pair, if_named, limited, limit_1, cumulative, delta, AloneShows, Shows, one, delta_sum, cumulative_sum, last_values, on, add, observe}
 
 abbrev limit_2 : Views
 limit_2 = if_named a (limited 2) ∷ []
@@ -77,3 +77,33 @@ pub row_21 : Shows limit_1 (delta ∷ []) 0 delta
     (one a (delta_sum ((x1, 10) ∷ (over_set, 30) ∷ [])) ∷ one a (delta_sum ((x1, 0) ∷ (over_set, 0) ∷ [])) ∷ [])
 unfolding canon
 row_21 = (refl, refl)
+
+-- ======== drained streams ========
+-- a collection of observed sums forgets all places, at a cumulative reader too
+pub places_forgotten : AloneShows limit_1 cumulative (on (about ObservableCounter a) (Collect 0 200 (observe 0 1 x1 ∷ []) ∷ Collect 0 300 (observe 0 2 y1 ∷ []) ∷ []))
+    (one a (cumulative_sum ((x1, 1) ∷ [])) ∷ one a (cumulative_sum ((y1, 2) ∷ [])) ∷ [])
+unfolding canon
+places_forgotten = (refl, refl)
+
+pub places_forgotten_delta : AloneShows limit_1 delta (on (about ObservableCounter a) (Collect 0 200 (observe 0 1 x1 ∷ []) ∷ Collect 0 300 (observe 0 2 y1 ∷ []) ∷ []))
+    (one a (delta_sum ((x1, 1) ∷ [])) ∷ one a (delta_sum ((y1, 2) ∷ [])) ∷ [])
+unfolding canon
+places_forgotten_delta = (refl, refl)
+
+-- and so their order
+pub order_forgotten : AloneShows [] cumulative (on (about ObservableCounter a) (Collect 0 200 (observe 0 1 x1 ∷ observe 0 2 y1 ∷ []) ∷ Collect 0 300 (observe 0 3 y1 ∷ observe 0 4 x1 ∷ []) ∷ []))
+    (one a (cumulative_sum ((x1, 1) ∷ (y1, 2) ∷ [])) ∷ one a (cumulative_sum ((y1, 3) ∷ (x1, 4) ∷ [])) ∷ [])
+unfolding canon
+order_forgotten = (refl, refl)
+
+-- and the overflow set
+pub overflow_forgotten : AloneShows limit_1 cumulative (on (about ObservableCounter a) (Collect 0 200 (observe 0 1 x1 ∷ observe 0 2 y1 ∷ []) ∷ Collect 0 300 (observe 0 3 x1 ∷ []) ∷ []))
+    (one a (cumulative_sum ((x1, 1) ∷ (over_set, 2) ∷ [])) ∷ one a (cumulative_sum ((x1, 3) ∷ [])) ∷ [])
+unfolding canon
+overflow_forgotten = (refl, refl)
+
+-- an observable gauge keeps the places of the sets that were observed, and the overflow set
+pub gauge_keeps_places : AloneShows limit_1 cumulative (on (about ObservableGauge a) (Collect 0 200 (observe 0 1 x1 ∷ []) ∷ Collect 0 300 (observe 0 2 y1 ∷ []) ∷ Collect 0 400 (observe 0 3 y1 ∷ []) ∷ []))
+    (one a (last_values ((x1, 1) ∷ [])) ∷ one a (last_values ((over_set, 2) ∷ [])) ∷ one a (last_values ((y1, 3) ∷ [])) ∷ [])
+unfolding canon
+gauge_keeps_places = (refl, refl)
