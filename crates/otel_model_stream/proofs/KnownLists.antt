@@ -1,11 +1,12 @@
 -- What a map knows, call by call.
-use Rattle.std.proofs.Common.{◌≡◌, ℕ, ◌*◌, ◌≤◌, List, [], ◌∷◌, ◌++◌, map, filter, length, Bool, true, false, not, cond, ◌||◌, ◌&&◌, refl, sym, ap, ◌∙◌, subst, arith}
+use Rattle.std.proofs.Common.{◌≡◌, ℕ, ◌+◌, ◌*◌, ◌≤◌, List, [], ◌∷◌, ◌++◌, map, filter, length, Bool, true, false, not, cond, ◌||◌, ◌&&◌, refl, sym, ap, ◌∙◌, subst, arith, length-append}
 use Rattle.std.specs.Prelude.{nat_lt}
 use Rattle.std.specs.List.{AllByRecursion, IsDistinct}
 use Rattle.std.specs.Set.{is_member}
 use Rattle.std.proofs.lemmas.Bool.{false≢true, and_parts}
 use Rattle.std.proofs.lemmas.Cmp.{lists_equiv}
 use Rattle.std.proofs.lemmas.List.{append-nil, length-map, map-append}
+use Rattle.std.proofs.lemmas.List.Elements.{filter-append}
 use Rattle.std.proofs.lemmas.List.Folds.{list_any-append}
 use Rattle.std.proofs.lemmas.Map.Keys.{IsDistinct-push}
 use Rattle.std.proofs.lemmas.Map.Made.{length-le_from_is_member}
@@ -74,6 +75,23 @@ has-admitted s m a = go (set_eq s none_set) (has s es) (nat_lt (number_counted e
     go false true c d e = absurd (false≢true e)
     go false false false d e = absurd (false≢true e)
     go false false true d e = has-append s es (fresh m.empty s true) ∙ right (has s es) (set_eq s s || false) (left (set_eq s s) false (set_eq_self s))
+
+-- and the limit counts it, and counts no other
+pub counted_admitted : (s : AttributeSet) (m : MapState) → number_counted (placed m.limit m.empty s m.table.entries) ≡ number_counted m.table.entries + cond (is_admitted s m) 1 0
+counted_admitted s m = go (set_eq s none_set) (has s es) (nat_lt (number_counted es) m.limit) (has over_set es)
+  where
+    es : List Entry
+    es = m.table.entries
+
+    more : (e : Entry) → number_counted (es ++ e ∷ []) ≡ number_counted es + number_counted (e ∷ [])
+    more e = ap length (filter-append (λ (x : Entry). x.counted) es (e ∷ [])) ∙ length-append (filter (λ (x : Entry). x.counted) es) (filter (λ (x : Entry). x.counted) (e ∷ []))
+
+    go : (a b c d : Bool) → number_counted (cond a es (cond b es (cond c (es ++ fresh m.empty s true ∷ []) (cond d es (es ++ fresh m.empty over_set false ∷ []))))) ≡ number_counted es + cond (not a && (not b && c)) 1 0
+    go true b c d = omega arith
+    go false true c d = omega arith
+    go false false true d = more (fresh m.empty s true)
+    go false false false true = omega arith
+    go false false false false = more (fresh m.empty over_set false)
 
 -- and had none before
 absent : (s : AttributeSet) (m : MapState) → is_admitted s m ≡ true → has s m.table.entries ≡ false

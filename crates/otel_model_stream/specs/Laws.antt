@@ -1,13 +1,13 @@
 -- The laws of one stream, for every aggregate, kind, limit and list of events.
-use Rattle.std.specs.Prelude.{◌≡◌, ℕ, ◌+◌, ◌*◌, ◌≤◌, ℤ, Bool, ◌||◌, IsTrue, List, [], ◌∷◌, ◌++◌, map, filter, length, fold, sum_by, Some, None}
+use Rattle.std.specs.Prelude.{◌≡◌, ℕ, ◌+◌, ◌*◌, ◌≤◌, ℤ, Bool, cond, ◌||◌, IsTrue, List, [], ◌∷◌, ◌++◌, map, filter, length, fold, sum_by, Some, None}
 use Rattle.otel_common.specs.Canonical.{canon}
 use Rattle.otel_common.specs.Equality.{set_eq}
 use Rattle.otel_common.specs.declared.attributes.KeyValue.{KeyValue}
 use Rattle.otel_model_stream.specs.Sets.{AttributeSet, none_set}
 use Rattle.otel_model_stream.specs.Folds.{Aggregate, Histogram, Amount, Sample, Fold, Total, Last, Spreads, wrapped, recorded, cleared, empty_of, sample_of, folded, fold_of}
 use Rattle.otel_model_stream.specs.Events.{Event, Record, Bind, RecordBound, Unbind, Collect, Kind, Delta, Cumulative, Drained, held_by, without}
-use Rattle.otel_model_stream.specs.Entries.{Entry, Table, has, AreCanonical}
-use Rattle.otel_model_stream.specs.Maps.{MapState, measured, bound_map, bound_to, updated_bound, unbound, readonly_points, resetting_points, draining_points, evicted_map, drained_map, KnownMap, without_lists, knows, keys, is_admitted, measured_list, bound_list, evicted_known, drained_known, AreListed}
+use Rattle.otel_model_stream.specs.Entries.{Entry, Table, has, number_counted, AreCanonical}
+use Rattle.otel_model_stream.specs.Maps.{MapState, with_place, measured, bound_map, bound_to, updated_bound, unbound, readonly_points, resetting_points, draining_points, evicted_map, drained_map, KnownMap, without_lists, knows, keys, is_admitted, measured_list, bound_list, evicted_known, drained_known, AreListed}
 use Rattle.otel_model_stream.specs.Machine.{Machine, begin, step, run, answer, answers, points}
 use Rattle.otel_model_stream.specs.Windows.{opening, window, collections, places_of, points_of, uncounted_of, counted}
 use Rattle.otel_model_stream.specs.Totals.{recorded_total, weight, points_total}
@@ -133,6 +133,10 @@ IsDrained = (σ : Aggregate) (limit : ℕ) (m : Machine) → m.table.none.handle
 -- the list, and its set
 abbrev pub AreKnown : List KeyValue → KnownMap → Type 0
 AreKnown l k = IsTrue (knows l k) × IsTrue (knows (canon l) k)
+
+-- the limit counts one entry more once a set has a place that it admits, and else none
+abbrev pub IsCountedOnceAdmitted : Type 0
+IsCountedOnceAdmitted = (s : AttributeSet) (m : MapState) → number_counted (with_place s m).table.entries ≡ number_counted m.table.entries + cond (is_admitted s m) 1 0
 
 -- a measure that admits the set of a list makes both known
 abbrev pub IsKnownOnceMeasured : Type 0

@@ -4,7 +4,7 @@
 
 ghost use Rattle.std.specs.Prelude.{◌≡◌};
 ghost use Rattle.otel_model_stream.specs.Folds.{Aggregate, cleared, empty_of};
-ghost use Rattle.otel_model_stream.specs.Laws.{AreBucketsCounted, AreCountedOfWindows, AreKeysFew, ArePlacesOfWindows, ArePointsFew, ArePointsNow, ArePointsOfWindows, IsAllShown, IsClearedAlike, IsConserved, IsDrained, IsDraining, IsEmptyKnown, IsEvicted, IsFoldOfList, IsFoldedByOneMore, IsForgotten, IsHandleOfPlace, IsHeld, IsIdle, IsKnownBefore, IsKnownBySet, IsKnownOnceBound, IsKnownOnceMeasured, IsKnownWhilePlaced, IsListedAtFirst, IsListedOnceBound, IsListedOnceDrained, IsListedOnceEvicted, IsListedOnceMeasured, IsListedOnceUnbound, IsListedOnceUpdated, IsMeasured, IsReadonly, IsResetting, IsStillKnown, IsUnbound, IsUpdatedBound};
+ghost use Rattle.otel_model_stream.specs.Laws.{AreBucketsCounted, AreCountedOfWindows, AreKeysFew, ArePlacesOfWindows, ArePointsFew, ArePointsNow, ArePointsOfWindows, IsAllShown, IsClearedAlike, IsConserved, IsCountedOnceAdmitted, IsDrained, IsDraining, IsEmptyKnown, IsEvicted, IsFoldOfList, IsFoldedByOneMore, IsForgotten, IsHandleOfPlace, IsHeld, IsIdle, IsKnownBefore, IsKnownBySet, IsKnownOnceBound, IsKnownOnceMeasured, IsKnownWhilePlaced, IsListedAtFirst, IsListedOnceBound, IsListedOnceDrained, IsListedOnceEvicted, IsListedOnceMeasured, IsListedOnceUnbound, IsListedOnceUpdated, IsMeasured, IsReadonly, IsResetting, IsStillKnown, IsUnbound, IsUpdatedBound};
 
 /// For every list of events the entries are the places of the window so far, those counted are the
 /// ones that it counts, each collection has the points of its window, and one now would too.
@@ -53,6 +53,7 @@ pub fn maps()
 
 /// What a map knows: a list that admitted a set, and that set, as long as its entry stays.
 pub fn knowing()
+    ensures admitted { IsCountedOnceAdmitted }
     ensures measured { IsKnownOnceMeasured }
     ensures bound { IsKnownOnceBound }
     ensures still { IsStillKnown }

@@ -1,5 +1,8 @@
 use Rattle.otel_model_stream.proofs.knowing.Goals as goal
-use Rattle.otel_model_stream.proofs.KnownLists.{known_measured, known_bound, known_still, known_placed, known_before, known_drained, keys_few}
+use Rattle.otel_model_stream.proofs.KnownLists.{counted_admitted, known_measured, known_bound, known_still, known_placed, known_before, known_drained, keys_few}
+
+pub returns-clause-admitted : goal.returns-clause-admitted
+returns-clause-admitted c = counted_admitted
 
 pub returns-clause-measured : goal.returns-clause-measured
 returns-clause-measured c = known_measured
