@@ -12,6 +12,6 @@ answer_at a ObservableUpDownCounter = a.observable_up_down_counter
 answer_at a Gauge = a.gauge
 answer_at a ObservableGauge = a.observable_gauge
 
--- all of them
+-- all of them, as the model has them
 abbrev pub answers_of : Answers → ReaderAnswers
 answers_of a = answers_by (answer_at a)

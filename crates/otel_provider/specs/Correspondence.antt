@@ -1,6 +1,6 @@
 -- What the code's own values are in the words of the model, by cases. These words are believed: no contract says
--- that they are right. Tests of `opentelemetry_sdk` and `metrics_run` send each call and look at each reply, fault
--- and message, and edits of must-fail/ swap their parts.
+-- that they are right. Tests of `opentelemetry_sdk` and `metrics_run` send each kind of call, and look at each kind
+-- of reply, each fault and each message.
 use Rattle.std.specs.Prelude.{◌≡◌, ℕ, pos, Bool, false, true, List, [], Option, None, Some, Result, Ok, Err}
 use Rattle.std.specs.Int.{cast_unsigned, w64}
 use Rattle.otel_common.specs.declared.faults.Fault.{Fault}
