@@ -21,7 +21,7 @@ use Rattle.otel_provider.specs.declared.identity.Identity.{Identity}
 use Rattle.otel_provider.specs.declared.sorts.InstrumentSort.{InstrumentSort}
 use Rattle.otel_provider.specs.declared.sorts.InstrumentSort.TheVariants.{U64Counter}
 use Rattle.otel_provider.proofs.IdentityLemmas.{sound, test-same}
-use Rattle.otel_provider.proofs.Records.{AreNumbers, identity_at-is}
+use Rattle.otel_provider.proofs.Records.{HaveStreams, identity_at-is}
 
 -- ======== longer lists of streams ========
 get-front : (ks : List Kept) (k : Kept) (n : ℕ) (m : Kept) → slice_get ks n ≡ Some m → slice_get (ks ++ k ∷ []) n ≡ Some m
@@ -34,14 +34,14 @@ get-last [] k = refl
 get-last (x ∷ ks) k = get-last ks k
 
 -- the streams there keep their numbers
-named-front : (ks : List Kept) (k : Kept) (ns : List ℕ) → AreNumbers ns ks → named (ks ++ k ∷ []) ns ≡ named ks ns
+named-front : (ks : List Kept) (k : Kept) (ns : List ℕ) → HaveStreams ns ks → named (ks ++ k ∷ []) ns ≡ named ks ns
 named-front ks k [] all = refl
 named-front ks k (n ∷ ns) all =
     λ i. (identity_at-is (ks ++ k ∷ []) n (all.0.0) (get-front ks k n (all.0.0) all.0.1) ∙ sym (identity_at-is ks n (all.0.0) all.0.1)) i ++ named-front ks k ns all.1 i
 
 abbrev pub AreAllNumbers : List (List ℕ) → List Kept → Type 0
 AreAllNumbers [] ks = Unit {0}
-AreAllNumbers (ns ∷ feeds) ks = AreNumbers ns ks × AreAllNumbers feeds ks
+AreAllNumbers (ns ∷ feeds) ks = HaveStreams ns ks × AreAllNumbers feeds ks
 
 all_named-front : (ks : List Kept) (k : Kept) (feeds : List (List ℕ)) → AreAllNumbers feeds ks → map (named (ks ++ k ∷ [])) feeds ≡ map (named ks) feeds
 all_named-front ks k [] all = refl

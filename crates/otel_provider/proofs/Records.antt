@@ -43,10 +43,10 @@ abbrev pub AreApart : List Kept → Type 0
 AreApart ks = (i j : ℕ) (a b : Kept) → slice_get ks i ≡ Some a → slice_get ks j ≡ Some b
     → model.identity_eq (identity_of a.demand.identity) (identity_of b.demand.identity) ≡ true → i ≡ j
 
--- each of these numbers is that of a stream
-abbrev pub AreNumbers : List ℕ → List Kept → Type 0
-AreNumbers [] ks = Unit {0}
-AreNumbers (n ∷ ns) ks = ((k : Kept) × (slice_get ks n ≡ Some k)) × AreNumbers ns ks
+-- each of these numbers has a stream
+abbrev pub HaveStreams : List ℕ → List Kept → Type 0
+HaveStreams [] ks = Unit {0}
+HaveStreams (n ∷ ns) ks = ((k : Kept) × (slice_get ks n ≡ Some k)) × HaveStreams ns ks
 
 -- equality of identities holds of an identity and itself
 abbrev pub IsReflexive : Type 0
@@ -59,7 +59,7 @@ pub identity_at-is : (ks : List Kept) (n : ℕ) (k : Kept) → slice_get ks n �
 identity_at-is ks n k e = rw e refl
 
 -- an instrument feeds a stream by identity exactly if it feeds it by number
-named-has : IsReflexive → (ks : List Kept) → AreApart ks → (ns : List ℕ) → AreNumbers ns ks → (i : ℕ) (k : Kept) → slice_get ks i ≡ Some k
+named-has : IsReflexive → (ks : List Kept) → AreApart ks → (ns : List ℕ) → HaveStreams ns ks → (i : ℕ) (k : Kept) → slice_get ks i ≡ Some k
     → model.has_identity (named ks ns) (identity_of k.demand.identity) ≡ has_number i ns
 named-has self ks apart [] all i k e = refl
 named-has self ks apart (n ∷ ns) all i k e =
@@ -82,7 +82,7 @@ fed-named ks feeds n = ap (λ o. or_else o []) (slice_get-map (named ks) feeds n
 
 -- ======== all streams of a reader ========
 module _ (answers : model.ReaderAnswers) (self : IsReflexive) (all : List Kept) (apart : AreApart all) (feeds : List (List ℕ)) (next n value : ℕ) (l : List KeyValue)
-    (numbers : AreNumbers (or_else (slice_get feeds n) []) all)
+    (numbers : HaveStreams (or_else (slice_get feeds n) []) all)
     (ready : (i : ℕ) (k : Kept) → slice_get all i ≡ Some k → has_number i (or_else (slice_get feeds n) []) ≡ true → k.staged ≡ Some (set_of None l)) where
   abbrev ns : List ℕ
   ns = or_else (slice_get feeds n) []

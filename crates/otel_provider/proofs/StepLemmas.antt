@@ -86,7 +86,7 @@ get-below [] n h = absurd (omega arith)
 get-below (k ∷ ks) zero h = (k, refl)
 get-below (k ∷ ks) (suc n) h = get-below ks n (omega arith)
 
-numbers-named : (ks : List Kept) (ns : List ℕ) → AreNumbers ks ns → records.AreNumbers ns ks
+numbers-named : (ks : List Kept) (ns : List ℕ) → AreNumbers ks ns → records.HaveStreams ns ks
 numbers-named ks [] all = tt
 numbers-named ks (n ∷ ns) all = (get-below ks n (all 0 n (omega arith)), numbers-named ks ns (λ i d h. all (suc i) d (omega arith)))
 
@@ -188,7 +188,7 @@ staged-at s ks (n ∷ ns) all i k e h = by (n == i) refl h (λ q. staged-at s ks
     by true t q rest = staged-get s (slice_get ks n) k (ap (slice_get ks) (eqb-true n i t) ∙ e) (all 0 n (omega arith))
     by false t q rest = rest q
 
-fed-numbers : (ks : List Kept) (feeds : List (List ℕ)) (n : ℕ) → All (AreNumbers ks) feeds → records.AreNumbers (model.or_else (slice_get feeds n) []) ks
+fed-numbers : (ks : List Kept) (feeds : List (List ℕ)) (n : ℕ) → All (AreNumbers ks) feeds → records.HaveStreams (model.or_else (slice_get feeds n) []) ks
 fed-numbers ks [] n all = tt
 fed-numbers ks (ns ∷ feeds) zero all = numbers-named ks ns (all 0 ns (omega arith))
 fed-numbers ks (ns ∷ feeds) (suc n) all = fed-numbers ks feeds n (λ j d h. all (suc j) d (omega arith))
