@@ -23,7 +23,9 @@ fn attributes(alloc: Global) -> Result<Items<KeyValue>, Fail> {
 }
 
 fn exemplars<T: Drop>(alloc: Global, value: T) -> Result<Items<Exemplar<T>>, Fail> {
-    Ok(Items::from(vec![in alloc; Exemplar { value }]?))
+    let mut list = Vec::new(alloc);
+    list.push(Exemplar { value })?;
+    Ok(Items::from(list))
 }
 
 fn sum_point<T: Copy + Drop>(alloc: Global, value: T) -> Result<SumDataPoint<T>, Fail> {
@@ -55,17 +57,20 @@ fn histogram_point<T: Copy + Drop>(
 }
 
 fn sum<T: Copy + Drop>(alloc: Global, value: T) -> Result<Sum<T>, Fail> {
-    let points = vec![in alloc; sum_point(alloc, value)?]?;
+    let mut points = Vec::new(alloc);
+    points.push(sum_point(alloc, value)?)?;
     Ok(Sum::new(Items::from(points), 100, 200, Temporality::Delta, true))
 }
 
 fn gauge<T: Copy + Drop>(alloc: Global, value: T) -> Result<Gauge<T>, Fail> {
-    let points = vec![in alloc; gauge_point(alloc, value)?]?;
+    let mut points = Vec::new(alloc);
+    points.push(gauge_point(alloc, value)?)?;
     Ok(Gauge::new(Items::from(points), 300, 400))
 }
 
 fn histogram<T: Copy + Drop>(alloc: Global, value: T) -> Result<Histogram<T>, Fail> {
-    let points = vec![in alloc; histogram_point(alloc, value, value, value)?]?;
+    let mut points = Vec::new(alloc);
+    points.push(histogram_point(alloc, value, value, value)?)?;
     Ok(Histogram::new(Items::from(points), 500, 600, Temporality::LowMemory))
 }
 
@@ -76,31 +81,20 @@ fn metric(alloc: Global, name: &str, data: AggregatedMetrics) -> Result<Metric, 
     Ok(Metric::new(name, description, unit, data))
 }
 
-// The points of a metric in one line: of which aggregation and number type, from when to when, and what of.
-fn shown(alloc: Global, data: &AggregatedMetrics) -> Result<String, Fail> {
-    let text = match data {
-        AggregatedMetrics::U64(MetricData::Gauge(gauge)) => {
-            let start = gauge.start_time().unwrap_or(0);
-            format!(in alloc; "u64 gauge {start} {} {}", gauge.time(), gauge.data_points().count())?
-        }
-        AggregatedMetrics::U64(MetricData::Sum(sum)) => {
-            format!(in alloc; "u64 sum {} {} {}", sum.start_time(), sum.time(), sum.data_points().count())?
-        }
+// Of which number type and aggregation the points of a metric are, and when they were collected.
+fn shown(data: &AggregatedMetrics) -> (&'static str, u64) {
+    match data {
+        AggregatedMetrics::U64(MetricData::Gauge(gauge)) => ("u64 gauge", gauge.time()),
+        AggregatedMetrics::U64(MetricData::Sum(sum)) => ("u64 sum", sum.time()),
         AggregatedMetrics::U64(MetricData::Histogram(histogram)) => {
-            format!(in alloc; "u64 histogram {} {} {}", histogram.start_time(), histogram.time(), histogram.data_points().count())?
+            ("u64 histogram", histogram.time())
         }
-        AggregatedMetrics::I64(MetricData::Gauge(gauge)) => {
-            let start = gauge.start_time().unwrap_or(0);
-            format!(in alloc; "i64 gauge {start} {} {}", gauge.time(), gauge.data_points().count())?
-        }
-        AggregatedMetrics::I64(MetricData::Sum(sum)) => {
-            format!(in alloc; "i64 sum {} {} {}", sum.start_time(), sum.time(), sum.data_points().count())?
-        }
+        AggregatedMetrics::I64(MetricData::Gauge(gauge)) => ("i64 gauge", gauge.time()),
+        AggregatedMetrics::I64(MetricData::Sum(sum)) => ("i64 sum", sum.time()),
         AggregatedMetrics::I64(MetricData::Histogram(histogram)) => {
-            format!(in alloc; "i64 histogram {} {} {}", histogram.start_time(), histogram.time(), histogram.data_points().count())?
+            ("i64 histogram", histogram.time())
         }
-    };
-    Ok(text)
+    }
 }
 
 #[test]
@@ -192,12 +186,36 @@ fn histograms_answer_their_parts(rt: HostRuntime) -> Result<(), Fail> {
 fn collections_answer_their_parts(rt: HostRuntime) -> Result<(), Fail> {
     let alloc = rt.alloc();
     let mut metrics = Vec::new(alloc);
-    metrics.push(metric(alloc, "a", MetricData::from(gauge(alloc, 1_u64)?).into())?)?;
-    metrics.push(metric(alloc, "b", MetricData::from(sum(alloc, 1_u64)?).into())?)?;
-    metrics.push(metric(alloc, "c", MetricData::from(histogram(alloc, 1_u64)?).into())?)?;
-    metrics.push(metric(alloc, "d", MetricData::from(gauge(alloc, -1_i64)?).into())?)?;
-    metrics.push(metric(alloc, "e", MetricData::from(sum(alloc, -1_i64)?).into())?)?;
-    metrics.push(metric(alloc, "f", MetricData::from(histogram(alloc, -1_i64)?).into())?)?;
+    metrics.push(metric(
+        alloc,
+        "u64 gauge",
+        MetricData::from(gauge(alloc, 1_u64)?).into(),
+    )?)?;
+    metrics.push(metric(
+        alloc,
+        "u64 sum",
+        MetricData::from(sum(alloc, 1_u64)?).into(),
+    )?)?;
+    metrics.push(metric(
+        alloc,
+        "u64 histogram",
+        MetricData::from(histogram(alloc, 1_u64)?).into(),
+    )?)?;
+    metrics.push(metric(
+        alloc,
+        "i64 gauge",
+        MetricData::from(gauge(alloc, -1_i64)?).into(),
+    )?)?;
+    metrics.push(metric(
+        alloc,
+        "i64 sum",
+        MetricData::from(sum(alloc, -1_i64)?).into(),
+    )?)?;
+    metrics.push(metric(
+        alloc,
+        "i64 histogram",
+        MetricData::from(histogram(alloc, -1_i64)?).into(),
+    )?)?;
     let scope = ScopeMetrics::new(InstrumentationScope::default(alloc), Items::from(metrics));
     let scopes = vec![in alloc; scope]?;
     let resource = Resource::builder_empty(alloc).build();
@@ -205,22 +223,19 @@ fn collections_answer_their_parts(rt: HostRuntime) -> Result<(), Fail> {
     copied_collection();
     assert!(rt; all.resource().is_empty());
     assert_eq!(rt; all.scope_metrics().count(), 1);
-    let mut text = String::new(alloc);
+    let mut times = Vec::new(alloc);
     for scope in all.scope_metrics() {
         assert_eq!(rt; scope.scope().name(), "");
         assert_eq!(rt; scope.metrics().count(), 6);
         for metric in scope.metrics() {
             assert_eq!(rt; metric.description(), "all of them");
             assert_eq!(rt; metric.unit(), "1");
-            text.push_str(metric.name())?;
-            text.push_str(" ")?;
-            text.push_str(shown(alloc, metric.data())?.as_str())?;
-            text.push_str(", ")?;
+            let (name, time) = shown(metric.data());
+            assert_eq!(rt; metric.name(), name);
+            times.push(time)?;
         }
     }
-    let unsigned = "a u64 gauge 300 400 1, b u64 sum 100 200 1, c u64 histogram 500 600 1, ";
-    let signed = "d i64 gauge 300 400 1, e i64 sum 100 200 1, f i64 histogram 500 600 1, ";
-    assert_eq!(rt; text, format!(in alloc; "{unsigned}{signed}")?);
+    assert!(rt; times.as_slice() == [400, 200, 600, 400, 200, 600].as_slice());
     Ok(())
 }
 

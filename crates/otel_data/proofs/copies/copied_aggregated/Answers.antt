@@ -4,6 +4,6 @@ use Rattle.otel_data.proofs.copies.copied_aggregated.Goals as goal
 
 pub returns : goal.returns
 returns c = elim [
-  U64 a ↦ elim [ U64 b ↦ λ k. ap U64 (c.copied_data.ensures.unsigned a b k) | I64 b ↦ λ k. absurd k ]
+  | U64 a ↦ elim [ U64 b ↦ λ k. ap U64 (c.copied_data.ensures.unsigned a b k) | I64 b ↦ λ k. absurd k ]
   | I64 a ↦ elim [ U64 b ↦ λ k. absurd k | I64 b ↦ λ k. ap I64 (c.copied_data.ensures.signed a b k) ]
 ]
