@@ -1,6 +1,5 @@
 -- The tallies of a map, as the model's entries.
 use Rattle.std.specs.Prelude.{ℕ, suc, Bool, true, false, ◌≡◌, List, [], ◌∷◌, map, cond, Option, Some, None, IsTrue, slice_get}
-use Rattle.std.specs.List.{AllByRecursion}
 use Rattle.std.specs.Option.{option_map}
 use Rattle.std.specs.Global.{Vec}
 use Rattle.otel_common.specs.declared.attributes.KeyValue.{KeyValue}

@@ -1,6 +1,6 @@
 //! A bounded map from sets of attributes to aggregators.
 
-ghost use Rattle.std.specs.Prelude.{◌≡◌, true, false, is_some, None, Some, IsTrue, IsSome, OnOk, OnErr, IfOk, IsOk, IsOkUnless};
+ghost use Rattle.std.specs.Prelude.{◌≡◌, true, false, is_some, None, Some, IsSome, OnOk, OnErr, IfOk, IsOkUnless};
 ghost use Rattle.otel_common.specs.Canonical.{canon};
 ghost use Rattle.otel_model_stream.specs.Entries.{entry_for, points};
 ghost use Rattle.otel_model_stream.specs.Maps.{new_map, with_place, measured, evicted_map, readonly_points, resetting_points, without_lists, SucceedsIfKnown};
