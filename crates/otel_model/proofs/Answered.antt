@@ -80,11 +80,12 @@ each_metric P f holds (d ∷ ds) = (holds d, each_metric P f holds ds)
 of_metrics : (P : Views → ReaderAnswers → ℕ → OfMetric) → ((views : Views) (answers : ReaderAnswers) (r : ℕ) (before : List Call) (now : ℕ) (os : List Observed) (d : Demand) → P views answers r before os d (metric_at views answers r before now os d))
     → OfAnsweredMetrics P
 of_metrics P holds views resource identity readers calls replies new run r answers at earlier later answered rest now os c calls_are replies_are alike =
-    let before : List Call = made earlier answered in
-    (map (λ (d : Demand). (d.identity.scope, metric_at views answers r before now os d)) (streams_of views answers (builds_in before)),
-    each_metric (P views answers r before os) (λ d. (d.identity.scope, metric_at views answers r before now os d))
-    (λ d. record { scope = refl; name = refl; description = refl; unit = refl; holds = holds views answers r before now os d }) (streams_of views answers (builds_in before)),
-    answered_is views resource identity readers calls replies new run r answers at earlier later answered rest now os c calls_are replies_are alike)
+    let before : List Call = made earlier answered in (
+      map (λ (d : Demand). (d.identity.scope, metric_at views answers r before now os d)) (streams_of views answers (builds_in before)),
+      each_metric (P views answers r before os) (λ d. (d.identity.scope, metric_at views answers r before now os d))
+          (λ d. record { scope = refl; name = refl; description = refl; unit = refl; holds = holds views answers r before now os d }) (streams_of views answers (builds_in before)),
+      answered_is views resource identity readers calls replies new run r answers at earlier later answered rest now os c calls_are replies_are alike,
+    )
 
 -- ======== few points ========
 module _ {T : Type 0} (of_bits : ℕ → T) (of_whole : ℤ → T) (t : Temporality) (m : Bool) (since now : ℕ) where

@@ -72,7 +72,7 @@ impl Answers {
             ask(reader, InstrumentKind::ObservableCounter),
             ask(reader, InstrumentKind::ObservableUpDownCounter),
             ask(reader, InstrumentKind::Gauge),
-            ask(reader, InstrumentKind::ObservableGauge)
+            ask(reader, InstrumentKind::ObservableGauge),
         ]?;
         Ok(Answers {
             items: Items::from(answers),
