@@ -1,7 +1,7 @@
 -- What a reader's collections were answered with.
 use Rattle.std.proofs.Common.{◌≡◌, ℕ, ◌+◌, ◌≤◌, ◌<◌, ℤ, Bool, true, false, List, [], ◌∷◌, ◌++◌, length, map, refl, sym, ◌∙◌, ap, arith, fold, lit<, Option, Some, None, subst, cond}
 use Rattle.std.specs.Prelude.{slice_get, filter, ◌^◌, ◌&&◌}
-use Rattle.std.specs.Int.{cast_signed, cast_unsigned, w64}
+use Rattle.std.specs.Int.{cast_unsigned, w64}
 use Rattle.std.specs.List.{AllZip}
 use Rattle.std.proofs.lemmas.Int.{of_z-to_z}
 use Rattle.std.proofs.lemmas.List.{length-map}
@@ -19,17 +19,17 @@ use Rattle.otel_model_stream.specs.Events.{Point}
 use Rattle.otel_model_stream.specs.Totals.{weight, points_total}
 use Rattle.otel_model_stream.specs.Windows.{Window, point, records_of, is_hit, shown_places}
 use Rattle.otel_model.specs.Calls.{InstrumentKind, Observed, Call, Collect, Fault, Reply}
-use Rattle.otel_model.specs.Answered.{data_total, content_total, metric_total, IsMetricOf, HasMetrics, OfMetric, OfEachMetric, HasFewPoints, ShowsWindow, ShowsAll}
+use Rattle.otel_model.specs.Answered.{data_total, content_total, IsMetricOf, OfMetric, HasFewPoints, ShowsWindow, ShowsAll}
 use Rattle.otel_model.specs.Collections.{sum_point, histogram_point, data_by, natural, signed_of, aggregated, exported_temporality, metric, number_of_points, points_in, ScopedMetric, difference, differences}
 use Rattle.otel_model.specs.Demands.{Aggregation, Demand, ReaderAnswers, Views}
-use Rattle.otel_model.specs.History.{made, meters_in, builds_in, streams_of, feeds_by, history, window_of, collection_of, points_with, start_of, reported_of}
+use Rattle.otel_model.specs.History.{made, builds_in, streams_of, feeds_by, history, window_of, collection_of, points_with, start_of, reported_of}
 use Rattle.otel_model.specs.Laws.{IsRun, OfAnsweredMetrics, AreAnsweredFew, AreAnsweredTotals, IsAllAnswered}
 use Rattle.otel_model.specs.Machine.{new_state}
 use Rattle.otel_model.specs.Refusals.{refusal}
 use Rattle.otel_model.specs.Sent.{observed}
 use Rattle.otel_model.specs.State.{State, ReaderPart}
-use Rattle.otel_model.specs.Steps.{collect_from, collect_reply, answer_of, reply_by, Step, Run}
-use Rattle.otel_model.specs.Streams.{is_drained, is_delta, kind_of, is_monotonic_kind, has_sum, aggregate_from, aggregate_of}
+use Rattle.otel_model.specs.Steps.{collect_from, collect_reply, answer_of, reply_by, Run}
+use Rattle.otel_model.specs.Streams.{is_drained, is_delta, kind_of, is_monotonic_kind, has_sum, aggregate_from}
 use Rattle.otel_model.proofs.Runs.{run_agrees, agrees_new, collect_is}
 use Rattle.otel_model.proofs.Shown.{all_shown_law, few_law}
 

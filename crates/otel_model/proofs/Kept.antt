@@ -1,13 +1,13 @@
 -- No reader is lost, and none changes what it answered.
-use Rattle.std.proofs.Common.{◌≡◌, ⊎_elim, ℕ, zero, suc, List, [], ◌∷◌, length, map, refl, sym, ◌∙◌, ap, Option, Some, None, fold}
+use Rattle.std.proofs.Common.{◌≡◌, ⊎_elim, ℕ, zero, suc, List, [], ◌∷◌, length, map, refl, ◌∙◌, ap, Option, Some, None, fold}
 use Rattle.otel_common.specs.declared.scopes.InstrumentationScope.{InstrumentationScope}
-use Rattle.otel_model.specs.Calls.{About, Call, Meter, Build, Record, Bind, RecordBound, Unbind, Collect, Flush, Shutdown, Fault, Reply}
+use Rattle.otel_model.specs.Calls.{About, Call, Meter, Build, Record, Bind, RecordBound, Unbind, Collect, Flush, Shutdown, Fault}
 use Rattle.otel_model.specs.Demands.{Demand, ReaderAnswers, Views}
 use Rattle.otel_model.specs.State.{Shared, ReaderPart, State}
 use Rattle.otel_model.specs.Refusals.{refusal}
 use Rattle.otel_model.specs.Sent.{scope_of}
 use Rattle.otel_model.specs.Machine.{changed_at, demanded, build_demands, built, part_sent, readers_after, accepted_after}
-use Rattle.otel_model.specs.Steps.{after_by, after, Step, Run}
+use Rattle.otel_model.specs.Steps.{after_by, after}
 use Rattle.otel_model.specs.Laws.{answers_in, KeepsReaders, AreReadersKept, AreReadersKeptAtOnce}
 use Rattle.otel_model.proofs.Single.{step_cases}
 

@@ -1,13 +1,11 @@
 -- What a reader's collections were answered with (Metrics SDK, "Collect").
-use Rattle.std.specs.Prelude.{◌≡◌, ℕ, ◌+◌, ◌≤◌, ℤ, false, List, ◌∷◌, ◌++◌, length, sum_by}
+use Rattle.std.specs.Prelude.{◌≡◌, ℕ, ◌+◌, ◌≤◌, false, List, ◌∷◌, ◌++◌, length, sum_by}
 use Rattle.std.specs.Int.{cast_unsigned, w64}
 use Rattle.std.specs.List.{AllZip}
 use Rattle.otel_common.specs.declared.resource.Resource.{Resource}
 use Rattle.otel_common.specs.declared.scopes.InstrumentationScope.{InstrumentationScope}
 use Rattle.otel_data.specs.declared.aggregated.AggregatedMetrics.{AggregatedMetrics}
-use Rattle.otel_data.specs.declared.aggregated.AggregatedMetrics.TheVariants as AggregatedMetrics
 use Rattle.otel_data.specs.declared.aggregated.MetricData.{MetricData}
-use Rattle.otel_data.specs.declared.aggregated.MetricData.TheVariants as MetricData
 use Rattle.otel_data.specs.declared.collections.Metric.{Metric}
 use Rattle.otel_data.specs.declared.collections.ResourceMetrics.{ResourceMetrics}
 use Rattle.otel_model_stream.specs.Folds.{wrapped}

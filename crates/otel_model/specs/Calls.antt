@@ -1,5 +1,5 @@
 -- The calls of a provider and their replies, as plain data. What a collection gives is the data of `otel_data` itself.
-use Rattle.std.specs.Prelude.{ℕ, ◌+◌, nat_eq, ℤ, Bool, true, false, cond, List, map, Option, Some, None}
+use Rattle.std.specs.Prelude.{ℕ, ◌+◌, ℤ, Bool, true, false, cond, List, map, Option, Some, None}
 use Rattle.otel_common.specs.declared.attributes.KeyValue.{KeyValue}
 use Rattle.otel_common.specs.declared.scopes.InstrumentationScope.{InstrumentationScope}
 use Rattle.otel_data.specs.declared.collections.ResourceMetrics.{ResourceMetrics}

@@ -1,6 +1,6 @@
 -- Which names, units and bounds of an instrument are good, and which settings of a stream (Metrics API, "Instrument
 -- name syntax" and "Instrument unit"; Metrics SDK, "Explicit Bucket Histogram Aggregation").
-use Rattle.std.specs.Prelude.{ℕ, ◌-◌, ◌^◌, nat_lt, nat_le, nat_eq, ℤ, int_lt, Bool, true, false, cond, ◌&&◌, ◌||◌, not, List, [], ◌∷◌, length, Option, Some, None, codes, is_none}
+use Rattle.std.specs.Prelude.{ℕ, ◌-◌, ◌^◌, nat_lt, nat_le, nat_eq, ℤ, Bool, false, cond, ◌&&◌, ◌||◌, not, List, [], ◌∷◌, length, Option, Some, None, codes, is_none}
 use Rattle.std.specs.List.{list_any}
 pub use Rattle.otel_model_stream.specs.Data.{rises}
 use Rattle.std.specs.Option.{option_or}

@@ -1,5 +1,5 @@
 -- What a build demands of a reader, and the fate of what is demanded (Metrics SDK, "View" and "MetricReader").
-use Rattle.std.specs.Prelude.{ℕ, ℤ, pos, Bool, true, false, cond, ◌&&◌, ◌||◌, not, is_none, List, [], ◌∷◌, ◌++◌, map, filter, Option, Some, None, slice_get}
+use Rattle.std.specs.Prelude.{ℕ, ℤ, pos, Bool, true, false, cond, ◌&&◌, ◌||◌, not, is_none, List, [], ◌∷◌, ◌++◌, map, filter, Option, Some, None}
 use Rattle.std.specs.Bool.{beq}
 use Rattle.std.specs.List.{list_any}
 use Rattle.otel_common.specs.Equality.{bytes_eq}
@@ -17,7 +17,7 @@ pub use Rattle.otel_stream.specs.declared.demand.Demand.{Demand}
 pub use Rattle.otel_stream.specs.declared.demand.Identity.{Identity}
 use Rattle.otel_model_stream.specs.Sets.{AllowList}
 use Rattle.otel_model.specs.Checks.{is_good_name, optional_unit_fault, rises}
-use Rattle.otel_model.specs.Calls.{Text, lowered, or_else, InstrumentKind, Counter, UpDownCounter, Histogram, ObservableCounter, ObservableUpDownCounter, Gauge, ObservableGauge, kind_number, kind_eq, About}
+use Rattle.otel_model.specs.Calls.{Text, lowered, or_else, InstrumentKind, Counter, UpDownCounter, Histogram, ObservableCounter, ObservableUpDownCounter, Gauge, ObservableGauge, kind_eq, About}
 
 -- ======== identities ========
 -- whether two identities are the same
