@@ -41,7 +41,8 @@ impl<T: Number + Drop> Histogram<T> {
     /// buckets. The least and the greatest value are kept or not, and without a sum it is 0.
     ///
     /// `temporality` is the reader's answer: with `Delta` each collection starts the histograms again,
-    /// with any other they go on from `now`, the moment of the making, in nanoseconds since 1970. Any limit is taken: with 0 every set but the empty one goes to the overflow point.
+    /// with any other they go on from `now`, the moment of the making, in nanoseconds since 1970. Any
+    /// limit is taken: with 0 every set but the empty one goes to the overflow point.
     pub fn new(
         alloc: Global,
         temporality: Temporality,

@@ -83,7 +83,10 @@ fn shows<T: Number + Drop + PartialEq>(
     want: HistogramDataPoint<T>,
 ) -> Result<bool, Fail> {
     let data = histogram.collect(alloc, 200)?;
-    Ok(data.data_points().as_slice() == [want].as_slice())
+    match data.data_points().as_slice() {
+        [point] => Ok(*point == want),
+        _ => Ok(false),
+    }
 }
 
 #[test]
