@@ -1,6 +1,7 @@
 //! Whole collections: each heading, moment and point that there is, and nothing else.
 
 ghost use Rattle.std.specs.Prelude.{cond};
+ghost use Rattle.otel_stream.specs.declared.instrument.InstrumentKind.TheVariants.{Counter};
 
 use super::replies::{attributes, text};
 use crate::common::{InstrumentationScope, Items, Key, KeyValue, StringValue, Value};
@@ -23,7 +24,7 @@ struct Choosy {
 }
 
 impl MetricReader for Choosy {
-    ghost preference = { λ r kind. cond (⟦<InstrumentKind as PartialEq>⟧.eq kind InstrumentKind.Counter) r.counters r.others };
+    ghost preference = { λ r kind. cond (⟦<InstrumentKind as PartialEq>⟧.eq kind Counter) r.counters r.others };
 
     fn temporality(&self, kind: InstrumentKind) -> Temporality {
         if kind == InstrumentKind::Counter {
