@@ -1,0 +1,13 @@
+pub mod Answered
+pub mod Asked
+pub mod Builds
+pub mod Collects
+pub mod Commits
+pub mod Identities
+pub mod Outcomes
+pub mod OwnDemands
+pub mod PipelineLemmas
+pub mod PipelinesLemmas
+pub mod Records
+pub mod Shows
+pub mod Writes

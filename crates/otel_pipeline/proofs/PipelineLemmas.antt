@@ -1,0 +1,84 @@
+-- What records leave of a reader's streams: their identities, and so their number.
+use Rattle.std.proofs.Common.{Bool, true, false, cond, ◌&&◌, ◌≡◌, ℕ, List, [], ◌∷◌, ◌++◌, map, filter, length, Option, Some, None, slice_get, refl, sym, ◌∙◌, ap, arith, zero, suc}
+use Rattle.std.specs.Prelude.{All}
+use Rattle.std.proofs.lemmas.List.{length-map}
+use Rattle.otel_data.specs.declared.numbers.NumberValue.{NumberValue}
+use Rattle.otel_model.specs.Demands.{Identity, Demand, ReaderAnswers}
+use Rattle.otel_model.specs.Machine.{changed_at}
+use Rattle.otel_pipeline.specs.Pipelines.{AreNumbers, all_settled, committed_each, finished_all, stream_identities, identity_of, part_by, named, identity_at, is_streamed, streamed}
+use Rattle.otel_pipeline.specs.Streams.{Held, committed, settled}
+use Rattle.otel_pipeline.proofs.Answered.{commits, finishes}
+
+abbrev pub demands_of : List Held → List Demand
+demands_of ks = map (λ (k : Held). k.stream.demand) ks
+
+-- ======== demands stay ========
+pub demands-settled : (ks : List Held) → demands_of (all_settled ks) ≡ demands_of ks
+demands-settled [] = refl
+demands-settled (k ∷ ks) = ap (λ ds. k.stream.demand ∷ ds) (demands-settled ks)
+
+demands-changed : (value : NumberValue) (n : ℕ) (ks : List Held) → demands_of (changed_at n (committed value) ks) ≡ demands_of ks
+demands-changed value n [] = refl
+demands-changed value zero (k ∷ ks) = ap (λ d. d ∷ demands_of ks) (commits value k).1
+demands-changed value (suc n) (k ∷ ks) = ap (λ ds. k.stream.demand ∷ ds) (demands-changed value n ks)
+
+pub demands-committed : (value : NumberValue) (ns : List ℕ) (ks : List Held) → demands_of (committed_each value ns ks) ≡ demands_of ks
+demands-committed value [] ks = refl
+demands-committed value (n ∷ ns) ks = demands-committed value ns (changed_at n (committed value) ks) ∙ demands-changed value n ks
+
+pub demands-finished : (now : ℕ) (ks : List Held) → demands_of (finished_all now ks) ≡ demands_of ks
+demands-finished now [] = refl
+demands-finished now (k ∷ ks) = λ i. (finishes now k.resets k).1 i ∷ demands-finished now ks i
+
+-- ======== what is read off the demands ========
+identities-demands : (ks : List Held) → stream_identities ks ≡ map (λ (d : Demand). d.identity) (demands_of ks)
+identities-demands [] = refl
+identities-demands (k ∷ ks) = ap (λ xs. identity_of k ∷ xs) (identities-demands ks)
+
+pub identities-same : (a b : List Held) → demands_of a ≡ demands_of b → stream_identities a ≡ stream_identities b
+identities-same a b e = identities-demands a ∙ (ap (map (λ (d : Demand). d.identity)) e ∙ sym (identities-demands b))
+
+abbrev one_named : Option Demand → List Identity
+one_named None = []
+one_named (Some d) = d.identity ∷ []
+
+identity_at-demands : (ks : List Held) (n : ℕ) → identity_at ks n ≡ one_named (slice_get (demands_of ks) n)
+identity_at-demands [] n = refl
+identity_at-demands (k ∷ ks) zero = refl
+identity_at-demands (k ∷ ks) (suc n) = identity_at-demands ks n
+
+named-same : (a b : List Held) → demands_of a ≡ demands_of b → (ns : List ℕ) → named a ns ≡ named b ns
+named-same a b e [] = refl
+named-same a b e (n ∷ ns) = λ i. (identity_at-demands a n ∙ (ap (λ ds. one_named (slice_get ds n)) e ∙ sym (identity_at-demands b n))) i ++ named-same a b e ns i
+
+pub feeds-same : (a b : List Held) → demands_of a ≡ demands_of b → (feeds : List (List ℕ)) → map (named a) feeds ≡ map (named b) feeds
+feeds-same a b e [] = refl
+feeds-same a b e (ns ∷ feeds) = λ i. named-same a b e ns i ∷ feeds-same a b e feeds i
+
+-- ======== numbers stay ========
+pub length-from : (a b : List Held) → stream_identities a ≡ stream_identities b → length a ≡ length b
+length-from a b e = omega (arith, ap length e, length-map {A = Held} {B = Identity})
+
+-- numbers of as many streams
+pub numbers-kept : (a b : List Held) (feeds : List (List ℕ)) → length a ≡ length b → All (AreNumbers a) feeds → All (AreNumbers b) feeds
+numbers-kept a b feeds e all k d h k' d' h' = let q = all k d h k' d' h' in omega arith
+
+pub all_true : (a b c : Bool) → a ≡ true → b ≡ true → c ≡ true → (a && (b && c)) ≡ true
+all_true a b c p q r = λ i. p i && (q i && r i)
+
+-- ======== the model's part ========
+-- the model does not see which streams are ready
+pub part-same : (answers : ReaderAnswers) (a b : List Held) (feeds more : List (List ℕ)) → a ≡ b → feeds ≡ more → part_by answers a feeds ≡ part_by answers b more
+part-same answers a b feeds more e f = λ i. part_by answers (e i) (f i)
+
+streams-settled : (ks : List Held) → streamed (all_settled ks) ≡ streamed ks
+streams-settled [] = refl
+streams-settled (k ∷ ks) = by (is_streamed k) (streams-settled ks)
+  where
+    by : (b : Bool) → streamed (all_settled ks) ≡ streamed ks
+        → map (λ (h : Held). h.stream) (cond b (settled k ∷ filter is_streamed (all_settled ks)) (filter is_streamed (all_settled ks))) ≡ map (λ (h : Held). h.stream) (cond b (k ∷ filter is_streamed ks) (filter is_streamed ks))
+    by true rest = ap (λ ss. k.stream ∷ ss) rest
+    by false rest = rest
+
+pub part-settled : (answers : ReaderAnswers) (ks : List Held) (feeds : List (List ℕ)) → part_by answers (all_settled ks) feeds ≡ part_by answers ks feeds
+part-settled answers ks feeds = λ i. record { answers = answers; fates = demands-settled ks i; streams = streams-settled ks i; feeds = feeds-same (all_settled ks) ks (demands-settled ks) feeds i }

@@ -1,0 +1,38 @@
+-- Lists whose elements are changed one after another.
+use Rattle.std.proofs.Common.{◌≡◌, ◌≢◌, ℕ, zero, suc, ◌+◌, ◌<◌, ◌≤◌, List, [], ◌∷◌, map, length, get_or, set, refl, ◌∙◌, ap, arith, length-set, get_or-set_other, get_or-set_same, below_more}
+
+within-any : {X : Type 0} (ps : List X) (i : ℕ) (d e : X) → i < length ps → get_or ps i d ≡ get_or ps i e
+within-any [] i d e h = absurd (omega arith)
+within-any (p ∷ ps) zero d e h = refl
+within-any (p ∷ ps) (suc i) d e h = within-any ps i d e (omega arith)
+
+-- `seen` is what is seen of an element, `g` what is to be seen of it afterwards
+module _ {X Y : Type 0} (seen g : X → Y) where
+  -- the first i elements are seen as g says, and the others are as they were
+  pub record IsDoneUpto (old new : List X) (i : ℕ) : Type 0 where
+    pub long : length new ≡ length old
+    pub done : (k : ℕ) → k < i → (d : X) → seen (get_or new k d) ≡ g (get_or old k d)
+    pub rest : (k : ℕ) → i ≤ k → (d : X) → get_or new k d ≡ get_or old k d
+
+  pub done-none : (ps : List X) → IsDoneUpto ps ps 0
+  done-none ps = record { long = refl; done = λ k h d. absurd (omega arith); rest = λ k h d. refl }
+
+  -- one element more
+  pub done-more : (old new : List X) (i : ℕ) (d p : X) → i < length new → seen p ≡ g (get_or new i d) → IsDoneUpto old new i → IsDoneUpto old (set new i p) (i + 1)
+  done-more old new i d p h made so_far = record {
+    long = omega (arith, length-set {A = X}, so_far.long);
+    done = below_more _ _
+        (λ k l e. let other : k ≢ i = omega arith in rw get_or-set_other (so_far.done k l e))
+        (λ e. rw get_or-set_same (made ∙ ap g (so_far.rest i (omega arith) d ∙ within-any old i d e (omega (arith, so_far.long)))));
+    rest = λ k l e. let other : k ≢ i = omega arith in rw get_or-set_other (so_far.rest k (omega arith) e);
+  }
+
+  agree : (old new : List X) → length new ≡ length old → ((k : ℕ) → k < length old → (d : X) → seen (get_or new k d) ≡ g (get_or old k d)) → map seen new ≡ map g old
+  agree [] [] e h = refl
+  agree [] (q ∷ new) e h = absurd (omega arith)
+  agree (p ∷ old) [] e h = absurd (omega arith)
+  agree (p ∷ old) (q ∷ new) e h = λ i. h 0 (omega arith) p i ∷ agree old new (omega arith) (λ k l d. h (suc k) (omega arith) d) i
+
+  -- all elements
+  pub done-all : (old new : List X) (i : ℕ) → length old ≤ i → IsDoneUpto old new i → map seen new ≡ map g old
+  done-all old new i h done = agree old new done.long (λ k l d. done.done k (omega arith) d)

@@ -1,0 +1,172 @@
+-- A record that is made stream by stream is the model's record.
+use Rattle.std.proofs.Common.{◌≡◌, ℕ, zero, suc, ◌+◌, ◌<◌, ◌==◌, Bool, true, false, cond, not, ◌||◌, List, [], ◌∷◌, ◌++◌, map, length, Option, Some, None, slice_get, refl, sym, ◌∙◌, ap, subst, arith, eq-eqb, ne_eqb, eqb-true}
+use Rattle.std.specs.Bool.{beq}
+use Rattle.std.specs.Cmp.{booleans_Decides}
+use Rattle.std.specs.Option.{option_map}
+use Rattle.std.specs.Prelude.{All}
+use Rattle.std.proofs.Common.{⊎_elim}
+use Rattle.std.proofs.lemmas.Option.{slice_get-map}
+use Rattle.std.proofs.lemmas.Bool.{cases_Bool, true≢false}
+use Rattle.otel_common.specs.declared.attributes.KeyValue.{KeyValue}
+use Rattle.otel_data.specs.declared.numbers.NumberValue.{NumberValue}
+use Rattle.otel_aggregate.specs.Any.{is_signed_value, amount_of}
+use Rattle.otel_model_stream.specs.Folds.{Amount}
+use Rattle.otel_model_stream.specs.Sets.{AttributeSet}
+use Rattle.otel_model_stream.specs.Totals.{has_number}
+use Rattle.otel_model.specs.Calls.{or_else, Number, Record as RecordCall}
+use Rattle.otel_model.specs.Demands as model
+use Rattle.otel_model.specs.Machine.{stream_after, part_sent}
+use Rattle.otel_model.specs.Sent.{is_fed, set_for}
+use Rattle.otel_model.specs.State.{Stream}
+use Rattle.otel_model.proofs.Gather.{identity_eq_self}
+use Rattle.otel_pipeline.specs.Pipelines.{named, identity_at, identity_of, is_streamed, streamed, part_of, Piped, AreNumbers, ArePrepared, IsPrepared, IsPreparedFor, fed_by, recorded, committed_each, FeedsType}
+use Rattle.otel_pipeline.specs.Streams.{Held, with_record, committed, committed_by}
+use Rattle.otel_pipeline.proofs.Answered.{commits}
+use Rattle.otel_pipeline.proofs.Commits.{mapped_from, fold-changed}
+use Rattle.otel_pipeline.proofs.Identities.{AreApart, are_apart}
+use Rattle.otel_pipeline.proofs.PipelineLemmas.{demands_of, demands-committed, feeds-same}
+
+-- ======== a record is made once ========
+committed-settled : (v : Amount) (o : Option AttributeSet) (k : Held) → k.pending ≡ o → committed_by (committed_by o v k).pending v (committed_by o v k) ≡ committed_by o v k
+committed-settled v None k e = ap (λ o. committed_by o v k) e
+committed-settled v (Some s) k e = refl
+
+committed-if : (b : Bool) (v : Amount) (k : Held) → cond b (committed_by (cond b (committed_by k.pending v k) k).pending v (cond b (committed_by k.pending v k) k)) (cond b (committed_by k.pending v k) k) ≡ cond b (committed_by k.pending v k) k
+committed-if true v k = committed-settled v k.pending k refl
+committed-if false v k = refl
+
+abbrev fits : NumberValue → model.Demand → Bool
+fits value d = beq (is_signed_value value) d.identity.signed
+
+committed-twice : (value : NumberValue) (k : Held) → committed value (committed value k) ≡ committed value k
+committed-twice value k =
+    ap (λ d. cond (fits value d) (committed_by (committed value k).pending (amount_of value) (committed value k)) (committed value k)) (commits value k).1
+    ∙ committed-if (fits value k.stream.demand) (amount_of value) k
+
+-- ======== one stream ========
+-- what a stream is after a record, as its identity is fed or not
+sent_if : (answers : model.ReaderAnswers) (next n : ℕ) (v : Number) (l : List KeyValue) (feeds : List (List model.Identity)) (k : Held) (b : Bool) → is_fed feeds n (identity_of k) ≡ b
+    → stream_after answers feeds next (RecordCall n v l) k.stream ≡ (cond b (with_record (set_for k.stream.demand l) v.amount k) k).stream
+sent_if answers next n v l feeds k true e = rw e refl
+sent_if answers next n v l feeds k false e = rw e refl
+
+-- ======== numbers and identities ========
+-- each of these numbers has a stream
+abbrev pub HaveStreams : List ℕ → List Held → Type 0
+HaveStreams [] ks = Unit {0}
+HaveStreams (n ∷ ns) ks = ((k : Held) × (slice_get ks n ≡ Some k)) × HaveStreams ns ks
+
+pub some_same : (a b : Held) → Some a ≡ Some b → a ≡ b
+some_same a b e = cc
+
+pub identity_at-is : (ks : List Held) (n : ℕ) (k : Held) → slice_get ks n ≡ Some k → identity_at ks n ≡ identity_of k ∷ []
+identity_at-is ks n k e = rw e refl
+
+-- an instrument feeds a stream by identity exactly if it feeds it by number
+named-has : (ks : List Held) → AreApart ks → (ns : List ℕ) → HaveStreams ns ks → (i : ℕ) (k : Held) → slice_get ks i ≡ Some k
+    → model.has_identity (named ks ns) (identity_of k) ≡ has_number i ns
+named-has ks apart [] all i k e = refl
+named-has ks apart (n ∷ ns) all i k e =
+    let m = all.0.0 in
+    ap (λ xs. model.has_identity (xs ++ named ks ns) (identity_of k)) (identity_at-is ks n m all.0.1)
+    ∙ λ j. same j || named-has ks apart ns all.1 i k e j
+  where
+    same : model.identity_eq (identity_of (all.0.0)) (identity_of k) ≡ (n == i)
+    same = ⊎_elim
+        (λ t. t ∙ sym (eq-eqb n i (apart n i all.0.0 k all.0.1 e t)))
+        (λ f. f ∙ sym (ne_eqb n i (λ q. true≢false (sym (ap (λ (m : Held). model.identity_eq (identity_of m) (identity_of k)) (some_same _ _ (sym (all.0.1) ∙ ap (slice_get ks) q ∙ e)) ∙ identity_eq_self (identity_of k)) ∙ f))))
+        (cases_Bool (model.identity_eq (identity_of (all.0.0)) (identity_of k)))
+
+pub fed-named : (ks : List Held) (feeds : List (List ℕ)) (n : ℕ) → or_else (slice_get (map (named ks) feeds) n) [] ≡ named ks (or_else (slice_get feeds n) [])
+fed-named ks feeds n = ap (λ o. or_else o []) (slice_get-map (named ks) feeds n) ∙ cases (slice_get feeds n)
+  where
+    cases : (o : Option (List ℕ)) → or_else (option_map (named ks) o) [] ≡ named ks (or_else o [])
+    cases None = refl
+    cases (Some ns) = refl
+
+-- ======== all streams of a reader ========
+abbrev number : NumberValue → Number
+number value = record { signed = is_signed_value value; amount = amount_of value }
+
+module _ (answers : model.ReaderAnswers) (all : List Held) (apart : AreApart all) (feeds : List (List ℕ)) (next n : ℕ) (value : NumberValue) (l : List KeyValue)
+    (numbers : HaveStreams (or_else (slice_get feeds n) []) all)
+    (ready : (i : ℕ) (k : Held) → slice_get all i ≡ Some k → has_number i (or_else (slice_get feeds n) []) ≡ true → k.pending ≡ Some (set_for k.stream.demand l))
+    (typed : (x : model.Identity) → is_fed (map (named all) feeds) n x ≡ true → x.signed ≡ is_signed_value value) where
+  abbrev ns : List ℕ
+  ns = or_else (slice_get feeds n) []
+
+  abbrev after : Stream → Stream
+  after = stream_after answers (map (named all) feeds) next (RecordCall n (number value) l)
+
+  fed_at : (i : ℕ) (k : Held) → slice_get all i ≡ Some k → is_fed (map (named all) feeds) n (identity_of k) ≡ has_number i ns
+  fed_at i k at = ap (λ xs. model.has_identity xs (identity_of k)) (fed-named all feeds n) ∙ named-has all apart ns numbers i k at
+
+  one_sent : (i : ℕ) (k : Held) → slice_get all i ≡ Some k → (b : Bool) → has_number i ns ≡ b → after k.stream ≡ (cond b (committed value k) k).stream
+  one_sent i k at true h =
+      let fed : is_fed (map (named all) feeds) n (identity_of k) ≡ true = fed_at i k at ∙ h in
+      let same : fits value k.stream.demand ≡ true = (booleans_Decides (is_signed_value value) k.stream.demand.identity.signed).1 (sym (typed (identity_of k) fed)) in
+      sent_if answers next n (number value) l (map (named all) feeds) k true fed
+      ∙ ap (λ o. (committed_by o (amount_of value) k).stream) (sym (ready i k at h))
+      ∙ ap (λ b. (cond b (committed_by k.pending (amount_of value) k) k).stream) (sym same)
+  one_sent i k at false h = sent_if answers next n (number value) l (map (named all) feeds) k false (fed_at i k at ∙ h)
+
+  kept_streamed : (b : Bool) (k : Held) → is_streamed (cond b (committed value k) k) ≡ is_streamed k
+  kept_streamed true k = ap (λ (d : model.Demand). not (model.is_drop d.aggregation)) (commits value k).1
+  kept_streamed false k = refl
+
+  -- one stream more, whether it drops or not
+  more_sent : (b : Bool) (k m : Held) (ks ms : List Held) → is_streamed k ≡ b → is_streamed m ≡ b → after k.stream ≡ m.stream → map after (streamed ks) ≡ streamed ms
+      → map after (streamed (k ∷ ks)) ≡ streamed (m ∷ ms)
+  more_sent true k m ks ms p q e rest = rw (p, q) (λ i. e i ∷ rest i)
+  more_sent false k m ks ms p q e rest = rw (p, q) rest
+
+  rest_sent : (i : ℕ) (ks : List Held) → ((j : ℕ) (k : Held) → slice_get ks j ≡ Some k → slice_get all (i + j) ≡ Some k)
+      → map after (streamed ks) ≡ streamed (mapped_from ns (committed value) i ks)
+  rest_sent i [] at = refl
+  rest_sent i (k ∷ ks) at =
+      more_sent (is_streamed k) k _ ks (mapped_from ns (committed value) (suc i) ks) refl (kept_streamed (has_number i ns) k)
+      (one_sent i k (ap (slice_get all) (omega arith) ∙ at 0 k refl) (has_number i ns) refl)
+      (rest_sent (suc i) ks (λ j m e. ap (slice_get all) (omega arith) ∙ at (suc j) m e))
+
+  pub all_sent : map after (streamed all) ≡ streamed (committed_each value ns all)
+  all_sent = rest_sent 0 all (λ j k e. ap (slice_get all) (omega arith) ∙ e) ∙ ap streamed (sym (fold-changed (committed value) (committed-twice value) ns all))
+
+-- ======== numbers of streams ========
+get-below : (ks : List Held) (n : ℕ) → n < length ks → (k : Held) × (slice_get ks n ≡ Some k)
+get-below [] n h = absurd (omega arith)
+get-below (k ∷ ks) zero h = (k, refl)
+get-below (k ∷ ks) (suc n) h = get-below ks n (omega arith)
+
+pub numbers-named : (ks : List Held) (ns : List ℕ) → AreNumbers ks ns → HaveStreams ns ks
+numbers-named ks [] all = tt
+numbers-named ks (n ∷ ns) all = (get-below ks n (all 0 n (omega arith)), numbers-named ks ns (λ i d h. all (suc i) d (omega arith)))
+
+fed-numbers : (ks : List Held) (feeds : List (List ℕ)) (n : ℕ) → All (AreNumbers ks) feeds → HaveStreams (or_else (slice_get feeds n) []) ks
+fed-numbers ks [] n all = tt
+fed-numbers ks (ns ∷ feeds) zero all = numbers-named ks ns (all 0 ns (omega arith))
+fed-numbers ks (ns ∷ feeds) (suc n) all = fed-numbers ks feeds n (λ j d h. all (suc j) d (omega arith))
+
+-- a stream that is ready is ready by its number
+prepared-get : (l : List KeyValue) (o : Option Held) (k : Held) → o ≡ Some k → IsPrepared l o → k.pending ≡ Some (set_for k.stream.demand l)
+prepared-get l None k e h = absurd (cc)
+prepared-get l (Some m) k e h = subst (λ x. IsPrepared l (Some x)) (some_same m k e) h
+
+prepared-at : (l : List KeyValue) (ks : List Held) (ns : List ℕ) → ArePrepared l ks ns → (i : ℕ) (k : Held) → slice_get ks i ≡ Some k → has_number i ns ≡ true → k.pending ≡ Some (set_for k.stream.demand l)
+prepared-at l ks [] all i k e h = absurd (true≢false (sym h))
+prepared-at l ks (n ∷ ns) all i k e h = by (n == i) refl h (λ q. prepared-at l ks ns (λ j d h. all (suc j) d (omega arith)) i k e q)
+  where
+    by : (b : Bool) → (n == i) ≡ b → (b || has_number i ns) ≡ true → (has_number i ns ≡ true → k.pending ≡ Some (set_for k.stream.demand l)) → k.pending ≡ Some (set_for k.stream.demand l)
+    by true t q rest = prepared-get l (slice_get ks n) k (ap (slice_get ks) (eqb-true n i t) ∙ e) (all 0 n (omega arith))
+    by false t q rest = rest q
+
+-- ======== a reader ========
+pub recorded-sent : (next n : ℕ) (value : NumberValue) (l : List KeyValue) (p : Piped) → IsPreparedFor n l p → FeedsType n (is_signed_value value) (part_of p)
+    → recorded n value p ≡ part_sent next (RecordCall n (number value) l) (part_of p)
+recorded-sent next n value l p prepared typed =
+    let same : demands_of (committed_each value (fed_by n p) p.streams) ≡ demands_of p.streams = demands-committed value (fed_by n p) p.streams in
+    λ i. record {
+      answers = p.answers;
+      fates = same i;
+      streams = sym (all_sent p.answers p.streams (are_apart p.streams prepared.lawful.apart) p.feeds next n value l (fed-numbers p.streams p.feeds n prepared.lawful.numbers) (prepared-at l p.streams (fed_by n p) prepared.prepared) typed) i;
+      feeds = feeds-same (committed_each value (fed_by n p) p.streams) p.streams same p.feeds i;
+    }

@@ -1,0 +1,34 @@
+-- Collections, one stream or one scope more.
+use Rattle.std.proofs.Common.{◌≡◌, ℕ, zero, suc, ◌+◌, ◌<◌, Bool, true, false, cond, ◌&&◌, List, [], ◌∷◌, ◌++◌, map, filter, length, get_or, drop, refl, sym, ◌∙◌, ap, arith, append_assoc, add-one}
+use Rattle.otel_common.specs.Scopes.{scope_eq}
+use Rattle.otel_common.specs.declared.scopes.InstrumentationScope.{InstrumentationScope}
+use Rattle.otel_data.specs.declared.collections.Metric.{Metric}
+use Rattle.otel_model.specs.Collections.{ScopedMetric, in_scope, has_points}
+use Rattle.otel_pipeline.specs.Collections.{scoped, all_scoped, shown_in, shown_one, if_shown}
+use Rattle.otel_pipeline.specs.Pipelines.{is_streamed}
+use Rattle.otel_pipeline.specs.Streams.{Held}
+
+shown_first : (a b : Bool) (m : ScopedMetric) (xs : List ScopedMetric) (p : ScopedMetric → Bool) → p m ≡ b → map (λ (m : ScopedMetric). m.1) (filter p (cond a (m ∷ xs) xs)) ≡ if_shown (a && b) m.1 ++ map (λ (m : ScopedMetric). m.1) (filter p xs)
+shown_first true true m xs p e = rw e refl
+shown_first true false m xs p e = rw e refl
+shown_first false b m xs p e = refl
+
+scoped_first : (now : ℕ) (b : Bool) (k : Held) (ks : List Held) → map (scoped now) (cond b (k ∷ ks) ks) ≡ cond b (scoped now k ∷ map (scoped now) ks) (map (scoped now) ks)
+scoped_first now true k ks = refl
+scoped_first now false k ks = refl
+
+pub shown-cons : (scope : InstrumentationScope) (now : ℕ) (k : Held) (ks : List Held) → shown_in scope now (k ∷ ks) ≡ shown_one scope now k ++ shown_in scope now ks
+shown-cons scope now k ks =
+    ap (λ ms. (in_scope ms scope).metrics) (scoped_first now (is_streamed k) k (filter is_streamed ks))
+    ∙ shown_first (is_streamed k) _ (scoped now k) (all_scoped now ks) (λ (m : ScopedMetric). scope_eq m.0 scope && has_points m.1) refl
+
+shown_suc : (scope : InstrumentationScope) (now : ℕ) (ks : List Held) (i : ℕ) (k : Held) → i < length ks → k ≡ get_or ks i k → shown_in scope now (drop i ks) ≡ shown_one scope now k ++ shown_in scope now (drop (suc i) ks)
+shown_suc scope now [] i k h at = absurd (omega arith)
+shown_suc scope now (m ∷ ks) zero k h at = shown-cons scope now m ks ∙ ap (λ x. shown_one scope now x ++ shown_in scope now ks) (sym at)
+shown_suc scope now (m ∷ ks) (suc i) k h at = shown_suc scope now ks i k (omega arith) at
+
+-- one more stream's metric
+pub shown-more : (scope : InstrumentationScope) (now : ℕ) (done done' all : List Metric) (ks : List Held) (i : ℕ) (k : Held) → i < length ks → k ≡ get_or ks i k
+    → done' ≡ done ++ shown_one scope now k → done ++ shown_in scope now (drop i ks) ≡ all → done' ++ shown_in scope now (drop (i + 1) ks) ≡ all
+shown-more scope now done done' all ks i k h at e so_far =
+    rw (add-one, e, append_assoc) (ap (λ ms. done ++ ms) (sym (shown_suc scope now ks i k h at)) ∙ so_far)

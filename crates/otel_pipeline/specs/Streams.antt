@@ -1,0 +1,145 @@
+-- One stream of a reader: the model's stream, and what is no part of it.
+use Rattle.std.specs.Prelude.{ℕ, ◌+◌, Bool, true, false, not, cond, List, [], Option, None, Some, ◌≡◌}
+use Rattle.std.specs.Bool.{beq}
+use Rattle.otel_common.specs.declared.metrics.Temporality.TheVariants.{Cumulative, Delta}
+use Rattle.otel_data.specs.declared.collections.Metric.{Metric}
+use Rattle.otel_data.specs.declared.numbers.NumberValue.{NumberValue}
+use Rattle.otel_model_stream.specs.Sets.{AttributeSet}
+use Rattle.otel_model_stream.specs.Folds.{Amount, empty_of, sample_of, wrapped}
+use Rattle.otel_model_stream.specs.Entries.{Table, Point, place, recorded_at, points, evicted}
+use Rattle.otel_model_stream.specs.Totals.{size, points_total}
+use Rattle.otel_aggregate.specs.Any.{HeldAny, is_signed_value, amount_of}
+use Rattle.otel_aggregate.specs.Streams.{StreamState}
+use Rattle.otel_model.specs.Calls.{is_observable}
+use Rattle.otel_model.specs.Demands.{Aggregation, Drop, Default, Sum, LastValue, ExplicitBucketHistogram, Demand, is_valid}
+use Rattle.otel_model.specs.Collections.{aggregated, has_points}
+use Rattle.otel_model.specs.Machine.{new_stream}
+use Rattle.otel_model.specs.State.{Stream}
+use Rattle.otel_model.specs.Streams.{aggregate_of, is_monotonic_kind}
+
+-- a stream, whether each collection resets it, and the set of the record that is prepared
+pub record Held : Type 0 where
+  pub stream : Stream
+  pub resets : Bool
+  pub pending : Option AttributeSet
+
+-- ======== what a demand asks ========
+-- a sum is monotonic by its kind; the other aggregates are not
+abbrev pub asks_monotonic : Demand → Bool
+asks_monotonic d = by d.aggregation
+  where
+    by : Aggregation → Bool
+    by Drop = is_monotonic_kind d.identity.kind
+    by Default = is_monotonic_kind d.identity.kind
+    by Sum = is_monotonic_kind d.identity.kind
+    by LastValue = false
+    by (ExplicitBucketHistogram bounds m) = false
+
+-- the aggregate that a demand asks for, with these entries and this start
+abbrev pub asked : Demand → Bool → Table → ℕ → StreamState
+asked d resets table start = record {
+  map_state = record { limit = d.limit; empty = empty_of (aggregate_of d); table = table };
+  aggregate = aggregate_of d;
+  is_monotonic = asks_monotonic d;
+  allow = d.allow;
+  resets = resets;
+  start = start;
+}
+
+-- a demand that a stream of synchronous instruments can be made of
+pub record IsMakeable (d : Demand) : Type 0 where
+  pub synchronous : is_observable d.identity.kind ≡ false
+  pub valid : is_valid d.aggregation ≡ true
+
+-- the aggregate is the one that the demand asks for, and the demand is of synchronous instruments
+pub record IsAsked (d : Demand) (a : HeldAny) : Type 0 where
+  pub state : a.state ≡ asked d a.state.resets a.state.map_state.table a.state.start
+  pub signed : a.is_signed ≡ d.identity.signed
+  pub synchronous : is_observable d.identity.kind ≡ false
+
+-- a stream with this aggregate and these totals. It has no handles, and shows no differences
+abbrev pub held_of : Demand → HeldAny → ℕ → ℕ → Held
+held_of d a recorded exported = record {
+  stream = record {
+    demand = d;
+    machine = record { table = a.state.map_state.table; live = [] };
+    since = a.state.start;
+    reported = [];
+    recorded = recorded;
+    exported = exported;
+  };
+  resets = a.state.resets;
+  pending = a.pending;
+}
+
+-- a stream without records, made at a moment
+abbrev pub new_held : Bool → Demand → ℕ → Held
+new_held resets d now = record { stream = new_stream now d; resets = resets; pending = None }
+
+-- ======== records ========
+-- a record of the set
+abbrev pub with_record : AttributeSet → Amount → Held → Held
+with_record s v h = record {
+  stream = record {
+    demand = h.stream.demand;
+    machine = record {
+      table = recorded_at s (sample_of (aggregate_of h.stream.demand) v) (place h.stream.demand.limit (empty_of (aggregate_of h.stream.demand)) s h.stream.machine.table);
+      live = h.stream.machine.live;
+    };
+    since = h.stream.since;
+    reported = h.stream.reported;
+    recorded = wrapped (h.stream.recorded + size (aggregate_of h.stream.demand) v);
+    exported = h.stream.exported;
+  };
+  resets = h.resets;
+  pending = None;
+}
+
+abbrev pub committed_by : Option AttributeSet → Amount → Held → Held
+committed_by None v h = h
+committed_by (Some s) v h = with_record s v h
+
+-- the record that is prepared, if there is one, of a value of the stream's number type
+abbrev pub committed : NumberValue → Held → Held
+committed value h = cond (beq (is_signed_value value) h.stream.demand.identity.signed) (committed_by h.pending (amount_of value) h) h
+
+-- but for the set of the record that is prepared
+abbrev pub settled : Held → Held
+settled h = record { stream = h.stream; resets = h.resets; pending = None }
+
+-- ======== collections ========
+-- the points that a collection shows
+abbrev pub shown_points : Held → List Point
+shown_points h = points (not h.resets) h.stream.machine.table
+
+-- a stream that resets starts again at the moment of a collection
+abbrev pub restarted : ℕ → Held → Held
+restarted now h = record {
+  stream = record {
+    demand = h.stream.demand;
+    machine = record { table = evicted h.stream.machine.table; live = h.stream.machine.live };
+    since = now;
+    reported = h.stream.reported;
+    recorded = h.stream.recorded;
+    exported = wrapped (h.stream.exported + points_total (points false h.stream.machine.table));
+  };
+  resets = h.resets;
+  pending = h.pending;
+}
+
+-- a stream after a collection at a moment
+abbrev pub finished : ℕ → Held → Held
+finished now h = cond h.resets (restarted now h) h
+
+-- what a collection at a moment gives of the stream, with points or without
+abbrev pub shown_metric : ℕ → Held → Metric
+shown_metric now h = record {
+  name = h.stream.demand.spelling;
+  description = h.stream.demand.identity.description;
+  unit = h.stream.demand.identity.unit;
+  content = aggregated h.stream.demand.identity.signed (cond h.resets Delta Cumulative) (is_monotonic_kind h.stream.demand.identity.kind) h.stream.demand.aggregation h.stream.since now (shown_points h);
+}
+
+-- if it has points
+abbrev pub if_points : Metric → Option Metric
+if_points m = cond (has_points m) (Some m) None

@@ -1,0 +1,119 @@
+//! What a stream makes of its records, by its demand.
+
+ghost use Rattle.std.specs.Prelude.{◌≡◌, false, IfOk, IsOkUnless};
+ghost use Rattle.otel_aggregate.specs.Any as any;
+ghost use Rattle.otel_model.specs.Calls.{is_observable};
+ghost use Rattle.otel_model.specs.Demands as demands;
+ghost use Rattle.otel_model.specs.Streams.{aggregate_of, is_monotonic_kind, has_sum};
+ghost use Rattle.otel_model_stream.specs.Totals.{size};
+ghost use Rattle.otel_pipeline.specs.Streams.{IsMakeable, asks_monotonic};
+
+use otel_aggregate::bounds::Bounds;
+use otel_aggregate::settings::{AnySettings, HistogramSettings};
+use otel_common::faults::Fault;
+use otel_common::metrics::Aggregation;
+use otel_data::numbers::NumberValue;
+use otel_stream::demand::Demand;
+use otel_stream::instrument::InstrumentKind;
+
+/// Whether a demand makes no stream.
+pub(crate) fn is_drop(aggregation: &Aggregation) -> bool
+    ensures { result ≡ demands.is_drop aggregation.now }
+{
+    match aggregation {
+        Aggregation::Drop => true,
+        Aggregation::Default => false,
+        Aggregation::Sum => false,
+        Aggregation::LastValue => false,
+        Aggregation::ExplicitBucketHistogram { .. } => false,
+    }
+}
+
+/// Whether the sums of a kind never fall.
+fn is_monotonic(kind: InstrumentKind) -> bool
+    ensures { result ≡ is_monotonic_kind kind }
+{
+    match kind {
+        InstrumentKind::Counter => true,
+        InstrumentKind::UpDownCounter => false,
+        InstrumentKind::Histogram => true,
+        InstrumentKind::ObservableCounter => true,
+        InstrumentKind::ObservableUpDownCounter => false,
+        InstrumentKind::Gauge => false,
+        InstrumentKind::ObservableGauge => false,
+    }
+}
+
+/// Whether the values of a kind never fall, or stand alone: then a histogram of them has a sum.
+fn has_sum(kind: InstrumentKind) -> bool
+    ensures { result ≡ has_sum kind }
+{
+    match kind {
+        InstrumentKind::Counter => true,
+        InstrumentKind::UpDownCounter => false,
+        InstrumentKind::Histogram => true,
+        InstrumentKind::ObservableCounter => true,
+        InstrumentKind::ObservableUpDownCounter => false,
+        InstrumentKind::Gauge => true,
+        InstrumentKind::ObservableGauge => false,
+    }
+}
+
+/// What a stream of this demand makes of its records.
+pub(crate) fn settings_of(demand: &Demand) -> Result<AnySettings, Fault>
+    requires { IsMakeable demand.now }
+    ensures aggregate { IfOk result (λ s. any.aggregate_of s ≡ aggregate_of demand.now) }
+    ensures monotonic { IfOk result (λ s. any.is_monotonic_of s ≡ asks_monotonic demand.now) }
+    ensures only_memory { IsOkUnless result Fault.OutOfMemory }
+{
+    let kind = demand.identity.kind;
+    match &demand.aggregation {
+        Aggregation::LastValue => Ok(AnySettings::LastValue),
+        Aggregation::ExplicitBucketHistogram {
+            boundaries,
+            record_min_max,
+        } => {
+            let bounds = Bounds::new(boundaries.clone()?).unwrap();
+            Ok(AnySettings::Histogram(HistogramSettings {
+                bounds,
+                has_min_max: *record_min_max,
+                has_sum: has_sum(kind),
+            }))
+        }
+        Aggregation::Sum | Aggregation::Drop | Aggregation::Default => Ok(AnySettings::Sum {
+            is_monotonic: is_monotonic(kind),
+        }),
+    }
+}
+
+/// The 64 bits of a value.
+fn bits_of(value: NumberValue) -> u64
+    ensures { result ≡ (any.amount_of value).bits }
+{
+    match value {
+        NumberValue::U64(value) => value,
+        NumberValue::I64(value) => value.cast_unsigned(),
+    }
+}
+
+/// What a record of a value adds to the total of a stream of synchronous instruments.
+pub(crate) fn size_of(demand: &Demand, value: NumberValue) -> u64
+    requires { is_observable demand.now.identity.kind ≡ false }
+    ensures { result ≡ size (aggregate_of demand.now) (any.amount_of value) }
+{
+    match &demand.aggregation {
+        Aggregation::LastValue => 0,
+        Aggregation::ExplicitBucketHistogram { .. } => 1,
+        Aggregation::Sum | Aggregation::Drop | Aggregation::Default => bits_of(value),
+    }
+}
+
+/// Whether a value is of type `i64`.
+pub(crate) fn is_signed(value: NumberValue) -> bool
+    ensures { result ≡ any.is_signed_value value }
+{
+    match value {
+        NumberValue::U64(_) => false,
+        NumberValue::I64(_) => true,
+    }
+}

@@ -1,0 +1,11 @@
+//! The streams of one reader: what builds demand of it, and what records and collections do.
+#![tactic(auto)]
+
+pub mod about;
+mod aggregations;
+mod collecting;
+pub mod defaults;
+pub mod demands;
+pub mod pipeline;
+mod stream;
+mod streams;

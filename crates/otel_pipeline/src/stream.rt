@@ -1,0 +1,147 @@
+//! One stream of one reader.
+
+ghost use Rattle.std.specs.Prelude.{◌≡◌, nat_lt, false, [], Some, IfOk, IsOk, OnOk, IsOkUnless};
+ghost use Rattle.otel_common.specs.Temporalities.{resets};
+ghost use Rattle.otel_model.specs.Collections.{number_of_points};
+ghost use Rattle.otel_model.specs.Sent.{set_for};
+ghost use Rattle.otel_pipeline.specs.Streams.{IsMakeable, new_held, settled, committed, finished, shown_metric, if_points};
+
+use crate::aggregations::{is_signed, settings_of, size_of};
+use otel_aggregate::any::AnyAggregate;
+use otel_common::attributes::KeyValue;
+use otel_common::faults::Fault;
+use otel_common::laws::copied_attributes;
+use otel_common::metrics::Temporality;
+use otel_data::aggregated::{AggregatedMetrics, MetricData};
+use otel_data::collections::Metric;
+use otel_data::numbers::NumberValue;
+use otel_stream::demand::Demand;
+use std::alloc::Global;
+use std::marker::Model;
+
+/// A stream: what was demanded, and its records so far.
+#[derive(Drop)]
+pub(crate) struct Stream {
+    demand: Demand,
+    aggregate: AnyAggregate,
+    /// The total of all records, modulo 2^64.
+    recorded: u64,
+    /// The total of all points that collections gave which then reset the stream, modulo 2^64.
+    exported: u64,
+}
+
+impl Model for Stream {
+    ghost use Rattle.otel_pipeline.specs.Streams.{Held, IsAsked, held_of};
+
+    ghost Value = { Held };
+
+    ghost view = { λ s. held_of s.demand s.aggregate s.recorded s.exported };
+
+    ghost invariant = { λ s. IsAsked s.demand s.aggregate };
+}
+
+/// Whether a metric has points.
+fn has_points(metrics: &AggregatedMetrics) -> bool
+    ensures { result ≡ nat_lt 0 (number_of_points metrics.now) }
+{
+    let many = match metrics {
+        AggregatedMetrics::U64(MetricData::Gauge(gauge)) => gauge.data_points().len(),
+        AggregatedMetrics::U64(MetricData::Sum(sum)) => sum.data_points().len(),
+        AggregatedMetrics::U64(MetricData::Histogram(histogram)) => histogram.data_points().len(),
+        AggregatedMetrics::I64(MetricData::Gauge(gauge)) => gauge.data_points().len(),
+        AggregatedMetrics::I64(MetricData::Sum(sum)) => sum.data_points().len(),
+        AggregatedMetrics::I64(MetricData::Histogram(histogram)) => histogram.data_points().len(),
+    };
+    many > 0
+}
+
+impl Stream {
+    /// A stream without records, made at a moment, of a reader that answered this.
+    pub(crate) fn new(
+        alloc: Global,
+        temporality: Temporality,
+        demand: Demand,
+        now: u64,
+    ) -> Result<Stream, Fault>
+        requires { IsMakeable demand }
+        ensures made { IfOk result (λ s. s ≡ new_held (resets temporality) demand now) }
+        ensures only_memory { IsOkUnless result Fault.OutOfMemory }
+    {
+        copied_attributes();
+        let settings = settings_of(&demand)?;
+        let allow = demand.allow.clone()?;
+        let aggregate = AnyAggregate::new(
+            alloc,
+            settings,
+            demand.identity.signed,
+            temporality,
+            allow,
+            demand.limit,
+            now,
+        )?;
+        Ok(Stream {
+            demand,
+            aggregate,
+            recorded: 0,
+            exported: 0,
+        })
+    }
+
+    /// What was demanded.
+    pub(crate) fn demand(&self) -> &Demand
+        ensures { result.now ≡ self.now.stream.demand }
+    {
+        &self.demand
+    }
+
+    /// Prepares a record of these attributes. What the stream shows stays as it was.
+    pub(crate) fn prepare(&mut self, attributes: &[KeyValue]) -> Result<(), Fault>
+        ensures same { settled self.new ≡ settled self.old }
+        ensures ready { OnOk result (self.new.pending ≡ Some (set_for self.old.stream.demand attributes.now)) }
+        ensures free { attributes.now ≡ [] → IsOk result }
+        ensures only_memory { IsOkUnless result Fault.OutOfMemory }
+    {
+        self.aggregate.prepare(attributes)
+    }
+
+    /// Takes in the record that is prepared, if there is one, of a value of the stream's number type.
+    pub(crate) fn commit(&mut self, value: NumberValue)
+        ensures { self.new ≡ committed value self.old }
+    {
+        if self.aggregate.is_signed() != is_signed(value) {
+            return;
+        }
+        if self.aggregate.is_prepared() {
+            self.recorded = self.recorded.wrapping_add(size_of(&self.demand, value));
+            self.aggregate.commit(value);
+        }
+    }
+
+    /// Ends a collection at a moment that gave the stream's points.
+    pub(crate) fn finish(&mut self, now: u64)
+        ensures { settled self.new ≡ settled (finished now self.old) }
+    {
+        if self.aggregate.resets() {
+            self.exported = self.exported.wrapping_add(self.aggregate.total());
+        }
+        self.aggregate.finish(now);
+    }
+
+    /// What a collection at a moment gives of the stream, if it has points.
+    pub(crate) fn metric(&self, alloc: Global, now: u64) -> Result<Option<Metric>, Fault>
+        ensures metric { IfOk result (λ m. m ≡ if_points (shown_metric now self.now)) }
+        ensures only_memory { IsOkUnless result Fault.OutOfMemory }
+    {
+        let points = self.aggregate.points(alloc, now)?;
+        if !has_points(&points) {
+            return Ok(None);
+        }
+        let identity = &self.demand.identity;
+        Ok(Some(Metric::new(
+            self.demand.spelling.clone()?,
+            identity.description.clone()?,
+            identity.unit.clone()?,
+            points,
+        )))
+    }
+}

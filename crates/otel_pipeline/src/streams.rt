@@ -1,0 +1,46 @@
+//! What is done to the streams of one reader, one after another.
+
+ghost use Rattle.std.specs.Prelude.{◌≡◌, ◌<◌, [], map, OnOk, IsOk, IsOkUnless};
+ghost use Rattle.otel_pipeline.specs.Pipelines.{AreNumbers, ArePrepared, all_settled, committed_each, finished_all};
+
+use crate::stream::Stream;
+use otel_common::attributes::KeyValue;
+use otel_common::faults::Fault;
+use otel_data::numbers::NumberValue;
+
+/// Prepares a record in each of these streams.
+pub(crate) fn prepare_each(
+    streams: &mut Vec<Stream>,
+    feeds: &[usize],
+    attributes: &[KeyValue],
+) -> Result<(), Fault>
+    requires { AreNumbers (all_settled streams.old.items) feeds.now }
+    ensures same { all_settled streams.new.items ≡ all_settled streams.old.items }
+    ensures prepared { OnOk result (ArePrepared attributes.now streams.new.items feeds.now) }
+    ensures free { attributes.now ≡ [] → IsOk result }
+    ensures only_memory { IsOkUnless result Fault.OutOfMemory }
+{
+    for k in feeds {
+        streams[*k].prepare(attributes)?;
+    }
+    Ok(())
+}
+
+/// Ends a collection at a moment that gave the points of all streams.
+pub(crate) fn finish_each(streams: &mut Vec<Stream>, now: u64)
+    ensures { all_settled streams.new.items ≡ all_settled (finished_all now streams.old.items) }
+{
+    for i in 0..streams.len() {
+        streams[i].finish(now);
+    }
+}
+
+/// Makes the record in each of these streams.
+pub(crate) fn commit_each(streams: &mut Vec<Stream>, feeds: &[usize], value: NumberValue)
+    requires { AreNumbers streams.old.items feeds.now }
+    ensures { streams.new.items ≡ committed_each value feeds.now streams.old.items }
+{
+    for k in feeds {
+        streams[*k].commit(value);
+    }
+}
