@@ -1,6 +1,6 @@
 //! What a reader answers for each kind of instrument.
 
-ghost use Rattle.std.specs.Prelude.{◌≡◌, IfOk, IsOkUnless};
+ghost use Rattle.std.specs.Prelude.{◌≡◌, IfOk, IsOkUnless, option_copied};
 ghost use Rattle.otel_stream.specs.Answers.{kind_number, answers_by, answer_for};
 
 use crate::instrument::InstrumentKind;
@@ -86,6 +86,26 @@ impl Answers {
         match self.items.as_slice().get(place_of(kind)) {
             Some(answer) => answer.temporality,
             None => Temporality::Cumulative,
+        }
+    }
+
+    /// The limit that was wanted for a kind, if one was.
+    pub fn limit(&self, kind: InstrumentKind) -> Option<usize>
+        ensures { result ≡ (answer_for self.now kind).limit }
+    {
+        match self.items.as_slice().get(place_of(kind)) {
+            Some(answer) => answer.limit,
+            None => None,
+        }
+    }
+
+    /// The aggregation that was wanted for a kind, if one was.
+    pub fn aggregation(&self, kind: InstrumentKind) -> Option<&Aggregation>
+        ensures { option_copied result ≡ (answer_for self.now kind).aggregation }
+    {
+        match self.items.as_slice().get(place_of(kind)) {
+            Some(answer) => answer.aggregation.as_ref(),
+            None => None,
         }
     }
 }

@@ -1,0 +1,12 @@
+-- What is kept where a reader is asked.
+use Rattle.std.specs.Prelude.{Bool, true, false}
+use Rattle.otel_common.specs.declared.metrics.Aggregation.{Aggregation}
+use Rattle.otel_common.specs.declared.metrics.Aggregation.TheVariants.{Drop, Default, Sum, LastValue, ExplicitBucketHistogram}
+
+-- whether it is left to the reader
+abbrev pub is_default : Aggregation → Bool
+is_default Drop = false
+is_default Default = true
+is_default Sum = false
+is_default LastValue = false
+is_default (ExplicitBucketHistogram bounds m) = false

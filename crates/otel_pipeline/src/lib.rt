@@ -1,0 +1,6 @@
+//! The streams of one reader: what instruments demand of it.
+#![tactic(auto)]
+
+pub mod about;
+pub mod defaults;
+pub mod demands;
