@@ -4,3 +4,5 @@
 pub mod about;
 pub mod defaults;
 pub mod demands;
+#[cfg(test)]
+mod tests;
