@@ -1,11 +1,15 @@
 //! Instruments, as the builds of them say.
 
+ghost use Rattle.std.specs.Prelude.{◌≡◌};
+
 use otel_common::lists::Items;
 use otel_common::strings::StringValue;
 use otel_stream::instrument::InstrumentKind;
+use std::alloc::AllocError;
 use std::marker::Model;
 
 /// What a build says of its instrument, without its meter.
+#[derive(Drop)]
 pub struct About<'a> {
     pub kind: InstrumentKind,
     /// Whether its values are of type `i64`; else they are of type `u64`.
@@ -23,4 +27,19 @@ impl<'a> Model for About<'a> {
     ghost Value = { calls.About };
 
     ghost view = { λ a. record { kind = a.kind; signed = a.signed; name = a.name.now; description = a.description.now; unit = a.unit.now; bounds = a.bounds.now } };
+}
+
+impl<'a> Clone for About<'a> {
+    ghost is_clone = { λ s t. t ≡ s };
+
+    fn clone(&self) -> Result<About<'a>, AllocError> {
+        Ok(About {
+            kind: self.kind,
+            signed: self.signed,
+            name: self.name,
+            description: self.description,
+            unit: self.unit,
+            bounds: self.bounds,
+        })
+    }
 }

@@ -9,3 +9,5 @@ pub mod demands;
 pub mod pipeline;
 mod stream;
 mod streams;
+#[cfg(test)]
+mod tests;
