@@ -5,8 +5,13 @@ ghost use Rattle.std.specs.Prelude.{◌≤◌};
 use crate::plans::Plan;
 use opentelemetry_sdk::metrics::provider::{Call, Parts, Provider, Reply};
 
+/// Whether a call was carried out.
+fn is_made(reply: &Reply) -> bool {
+    !matches!(reply, Reply::Refused(_))
+}
+
 /// Makes calls that are not counted.
-fn uncounted_calls<P: Parts>(provider: &mut Provider<P>, calls: &[Call]) {
+fn prepare<P: Parts>(provider: &mut Provider<P>, calls: &[Call]) {
     for call in calls {
         let _ = provider.step(call);
     }
@@ -24,9 +29,8 @@ fn counted_calls<P: Parts>(provider: &mut Provider<P>, calls: &[Call], times: u6
         let Some(call) = calls.get(place) else {
             return made;
         };
-        match provider.step(call) {
-            Reply::Refused(_) => {}
-            _ => made += 1,
+        if is_made(&provider.step(call)) {
+            made += 1;
         }
         place = if place + 1 < calls.len() {
             place + 1
@@ -48,7 +52,7 @@ fn counted_rounds<P: Parts>(
 {
     let mut made: u64 = 0;
     for _ in 0..times {
-        uncounted_calls(provider, between);
+        prepare(provider, between);
         made += counted_calls(provider, calls, 1);
     }
     made
@@ -58,7 +62,7 @@ fn counted_rounds<P: Parts>(
 pub fn calls_of_plan<P: Parts>(provider: &mut Provider<P>, plan: &Plan, times: u64) -> u64
     ensures { result ≤ times }
 {
-    uncounted_calls(provider, plan.before.as_slice());
+    prepare(provider, plan.before.as_slice());
     if plan.between.is_empty() {
         return counted_calls(provider, plan.counted.as_slice(), times);
     }

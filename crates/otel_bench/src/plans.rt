@@ -11,6 +11,18 @@ use opentelemetry_sdk::metrics::Temporality;
 use opentelemetry_sdk::metrics::provider::{Call, InstrumentSort};
 use std::alloc::Global;
 
+/// How many sets of attributes have points of their own before the limit.
+const SETS: usize = 2_000;
+
+/// How many sets are recorded past the limit.
+const SETS_PAST: usize = 500;
+
+/// How many streams, or meters, a provider has that has many.
+const MANY: usize = 10_000;
+
+/// How many streams are built where there are many.
+const MORE: usize = 2_000;
+
 /// The readers of a provider, and the calls that are made of it.
 #[derive(Drop)]
 pub struct Plan {
@@ -37,7 +49,7 @@ impl Plan {
     }
 }
 
-/// Records of one set, which was recorded before with the attributes in the order of `first`.
+/// Records of one set, with its attributes as they stand in `then`; it was recorded before as they stand in `first`.
 fn known_set(
     alloc: Global,
     sort: InstrumentSort,
@@ -75,20 +87,20 @@ fn other_order(alloc: Global, sort: InstrumentSort) -> Result<Plan, Fault> {
 fn new_sets(alloc: Global, sort: InstrumentSort) -> Result<Plan, Fault> {
     let before = instrument(alloc, sort)?;
     let mut counted = Vec::new(alloc);
-    add_records_of_sets(alloc, &mut counted, 0, 2000)?;
+    add_records_of_sets(alloc, &mut counted, 0, SETS)?;
     Ok(Plan::new(alloc, before, counted))
 }
 
 /// Records of sets past the limit.
 fn past_limit(alloc: Global, sort: InstrumentSort) -> Result<Plan, Fault> {
     let mut before = instrument(alloc, sort)?;
-    add_records_of_sets(alloc, &mut before, 0, 2500)?;
+    add_records_of_sets(alloc, &mut before, 0, SETS + SETS_PAST)?;
     let mut counted = Vec::new(alloc);
-    add_records_of_sets(alloc, &mut counted, 2000, 2500)?;
+    add_records_of_sets(alloc, &mut counted, SETS, SETS + SETS_PAST)?;
     Ok(Plan::new(alloc, before, counted))
 }
 
-/// Collections of 2,000 sets, each recorded since the one before.
+/// Collections of all sets up to the limit, each of them recorded again before each collection.
 fn collections(
     alloc: Global,
     sort: InstrumentSort,
@@ -98,24 +110,24 @@ fn collections(
     let counted = vec![in alloc; collect()]?;
     let mut plan = Plan::new(alloc, before, counted);
     plan.temporality = temporality;
-    add_records_of_sets(alloc, &mut plan.between, 0, 2000)?;
+    add_records_of_sets(alloc, &mut plan.between, 0, SETS)?;
     Ok(plan)
 }
 
 /// Builds of new streams.
 fn builds(alloc: Global, sort: InstrumentSort) -> Result<Plan, Fault> {
     let mut before = meters(alloc, 1)?;
-    add_builds(alloc, &mut before, sort, 0, 10000)?;
+    add_builds(alloc, &mut before, sort, 0, MANY)?;
     let mut counted = Vec::new(alloc);
-    add_builds(alloc, &mut counted, sort, 10000, 12000)?;
+    add_builds(alloc, &mut counted, sort, MANY, MANY + MORE)?;
     Ok(Plan::new(alloc, before, counted))
 }
 
 /// Collections over many meters.
 fn of_meters(alloc: Global, sort: InstrumentSort) -> Result<Plan, Fault> {
-    let mut before = meters(alloc, 10000)?;
-    add_builds_of_meters(alloc, &mut before, sort, 10000)?;
-    add_records_of_instruments(alloc, &mut before, 10000)?;
+    let mut before = meters(alloc, MANY)?;
+    add_builds_of_meters(alloc, &mut before, sort, MANY)?;
+    add_records_of_instruments(alloc, &mut before, MANY)?;
     let counted = vec![in alloc; collect()]?;
     Ok(Plan::new(alloc, before, counted))
 }
