@@ -1,0 +1,74 @@
+//! The cases and their names.
+
+use opentelemetry_sdk::metrics::Temporality;
+use opentelemetry_sdk::metrics::provider::InstrumentSort;
+
+/// The calls that are counted.
+#[derive(Clone, Copy)]
+pub enum Case {
+    /// Records of one set of attributes sorted by key, at each of this many readers.
+    KnownSet {
+        sort: InstrumentSort,
+        attributes: usize,
+        readers: usize,
+    },
+    /// Records of one set of 4 attributes, which was recorded in the order of its keys and comes in another.
+    OtherOrder {
+        sort: InstrumentSort,
+    },
+    /// Records of sets of 4 attributes, each for the first time; 2,000 in all.
+    NewSets {
+        sort: InstrumentSort,
+    },
+    /// Records of sets of 4 attributes where there are 2,000 others.
+    PastLimit {
+        sort: InstrumentSort,
+    },
+    /// Collections of 2,000 sets of 4 attributes.
+    Collections {
+        sort: InstrumentSort,
+        temporality: Temporality,
+    },
+    /// Builds of new streams where there are 10,000 others; 2,000 in all.
+    Builds {
+        sort: InstrumentSort,
+    },
+    /// Collections over 10,000 meters of one instrument each.
+    Meters {
+        sort: InstrumentSort,
+    },
+}
+
+/// Records of one set of attributes, at each of a number of readers.
+fn known(sort: InstrumentSort, attributes: usize, readers: usize) -> Option<Case> {
+    Some(Case::KnownSet {
+        sort,
+        attributes,
+        readers,
+    })
+}
+
+/// Collections of an instrument's 2,000 sets.
+fn collected(sort: InstrumentSort, temporality: Temporality) -> Option<Case> {
+    Some(Case::Collections { sort, temporality })
+}
+
+/// The case of a name.
+pub fn case_named(name: &str) -> Option<Case> {
+    let sort = InstrumentSort::U64Counter;
+    match name {
+        "known0" => known(sort, 0, 1),
+        "known1" => known(sort, 1, 1),
+        "known4" => known(sort, 4, 1),
+        "known10" => known(sort, 10, 1),
+        "known4_two_readers" => known(sort, 4, 2),
+        "known4_other_order" => Some(Case::OtherOrder { sort }),
+        "new4" => Some(Case::NewSets { sort }),
+        "past_limit4" => Some(Case::PastLimit { sort }),
+        "collect_cumulative" => collected(sort, Temporality::Cumulative),
+        "collect_delta" => collected(sort, Temporality::Delta),
+        "build" => Some(Case::Builds { sort }),
+        "collect_meters" => Some(Case::Meters { sort }),
+        _ => None,
+    }
+}

@@ -1,0 +1,75 @@
+//! The calls that are counted, over any provider.
+
+ghost use Rattle.std.specs.Prelude.{◌≤◌};
+
+use crate::plans::Plan;
+use opentelemetry_sdk::metrics::provider::{Call, Parts, Provider, Reply};
+
+/// Whether a call was carried out.
+fn is_made(reply: &Reply) -> bool {
+    !matches!(reply, Reply::Refused(_))
+}
+
+/// Makes calls that are not counted.
+fn prepare<P: Parts>(provider: &mut Provider<P>, calls: &[Call]) {
+    for call in calls {
+        let _ = provider.step(call);
+    }
+}
+
+/// Makes this many calls, one after another, and after the last the first again. It says how many were carried out.
+/// `measure.sh` counts the instructions of this function, with all that it calls.
+#[inline(never)]
+fn counted_calls<P: Parts>(provider: &mut Provider<P>, calls: &[Call], times: u64) -> u64
+    ensures { result ≤ times }
+{
+    let mut made: u64 = 0;
+    let mut place: usize = 0;
+    for _ in 0..times {
+        let Some(call) = calls.get(place) else {
+            return made;
+        };
+        if is_made(&provider.step(call)) {
+            made += 1;
+        }
+        place = if place + 1 < calls.len() {
+            place + 1
+        } else {
+            0
+        };
+    }
+    made
+}
+
+/// Counts this many calls, each after calls that are not counted.
+fn counted_rounds<P: Parts>(
+    provider: &mut Provider<P>,
+    between: &[Call],
+    calls: &[Call],
+    times: u64,
+) -> u64
+    ensures { result ≤ times }
+{
+    let mut made: u64 = 0;
+    for _ in 0..times {
+        prepare(provider, between);
+        made += counted_calls(provider, calls, 1);
+    }
+    made
+}
+
+/// Makes the calls of a plan, of which this many are counted, and says how many of those were carried out.
+pub fn calls_of_plan<P: Parts>(provider: &mut Provider<P>, plan: &Plan, times: u64) -> u64
+    ensures { result ≤ times }
+{
+    prepare(provider, plan.before.as_slice());
+    if plan.between.is_empty() {
+        return counted_calls(provider, plan.counted.as_slice(), times);
+    }
+    counted_rounds(
+        provider,
+        plan.between.as_slice(),
+        plan.counted.as_slice(),
+        times,
+    )
+}
