@@ -75,7 +75,7 @@ streamed-push (x ∷ ks) k = by (is_streamed x) (streamed-push ks k)
 
 -- ======== what is known ========
 -- the place of the first that passes, by cases on the list
-position-cons : {X : Type 0} (p : X → Bool) (x : X) (xs : List X) → position p (x ∷ xs) ≡ cond (p x) (Some 0) (option_map suc (position p xs))
+pub position-cons : {X : Type 0} (p : X → Bool) (x : X) (xs : List X) → position p (x ∷ xs) ≡ cond (p x) (Some 0) (option_map suc (position p xs))
 position-cons p x xs = by (p x)
   where
     later : (n m : ℕ) (b : Bool) → nat_lt n m ≡ b → cond (nat_lt (1 + n) (suc m)) (Some (1 + n)) None ≡ option_map suc (cond b (Some n) None)
@@ -92,7 +92,7 @@ some_or false None = refl
 some_or false (Some n) = refl
 
 -- what isn't found isn't there
-any-position : {X : Type 0} (p : X → Bool) (xs : List X) → is_some (position p xs) ≡ list_any p xs
+pub any-position : {X : Type 0} (p : X → Bool) (xs : List X) → is_some (position p xs) ≡ list_any p xs
 any-position p [] = refl
 any-position p (x ∷ xs) = ap is_some (position-cons p x xs) ∙ (some_or (p x) (position p xs) ∙ ap (λ b. p x || b) (any-position p xs))
 

@@ -8,6 +8,7 @@ ghost use Rattle.otel_model.specs.Streams.{aggregate_of, is_monotonic_kind, has_
 ghost use Rattle.otel_model_stream.specs.Totals.{size};
 ghost use Rattle.otel_pipeline.specs.Streams.{IsMakeable, asks_monotonic};
 
+use crate::numbers::bits_of;
 use otel_aggregate::bounds::Bounds;
 use otel_aggregate::settings::{AnySettings, HistogramSettings};
 use otel_common::faults::Fault;
@@ -86,16 +87,6 @@ pub(crate) fn settings_of(demand: &Demand) -> Result<AnySettings, Fault>
     }
 }
 
-/// The 64 bits of a value.
-fn bits_of(value: NumberValue) -> u64
-    ensures { result ≡ (any.amount_of value).bits }
-{
-    match value {
-        NumberValue::U64(value) => value,
-        NumberValue::I64(value) => value.cast_unsigned(),
-    }
-}
-
 /// What a record of a value adds to the total of a stream of synchronous instruments.
 pub(crate) fn size_of(demand: &Demand, value: NumberValue) -> u64
     requires { is_observable demand.now.identity.kind ≡ false }
@@ -105,15 +96,5 @@ pub(crate) fn size_of(demand: &Demand, value: NumberValue) -> u64
         Aggregation::LastValue => 0,
         Aggregation::ExplicitBucketHistogram { .. } => 1,
         Aggregation::Sum | Aggregation::Drop | Aggregation::Default => bits_of(value),
-    }
-}
-
-/// Whether a value is of type `i64`.
-pub(crate) fn is_signed(value: NumberValue) -> bool
-    ensures { result ≡ any.is_signed_value value }
-{
-    match value {
-        NumberValue::U64(_) => false,
-        NumberValue::I64(_) => true,
     }
 }

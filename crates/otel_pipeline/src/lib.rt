@@ -6,6 +6,7 @@ mod aggregations;
 mod collecting;
 pub mod defaults;
 pub mod demands;
+pub mod numbers;
 pub mod pipeline;
 mod stream;
 mod streams;

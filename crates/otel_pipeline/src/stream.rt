@@ -6,7 +6,8 @@ ghost use Rattle.otel_model.specs.Collections.{number_of_points};
 ghost use Rattle.otel_model.specs.Sent.{set_for};
 ghost use Rattle.otel_pipeline.specs.Streams.{IsMakeable, new_held, settled, committed, finished, shown_metric, if_points};
 
-use crate::aggregations::{is_signed, settings_of, size_of};
+use crate::aggregations::{settings_of, size_of};
+use crate::numbers::is_signed;
 use otel_aggregate::any::AnyAggregate;
 use otel_common::attributes::KeyValue;
 use otel_common::faults::Fault;

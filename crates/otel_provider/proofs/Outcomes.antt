@@ -26,3 +26,11 @@ IfOk-both (Err e) f p q = tt
 pub OnErr-weaker : {T E : Type 0} (r : Result T E) {P Q : Type 0} → (P → Q) → OnErr r P → OnErr r Q
 OnErr-weaker (Ok x) f p = p
 OnErr-weaker (Err e) f p = f p
+
+pub OnErr-both : {T E : Type 0} (r : Result T E) {P Q R : Type 0} → (P → Q → R) → OnErr r P → OnErr r Q → OnErr r R
+OnErr-both (Ok x) f p q = p
+OnErr-both (Err e) f p q = f p q
+
+pub IfOk-three : {T E : Type 0} (r : Result T E) {P R : T → Type 0} {Q S : Type 0} → ((x : T) → P x → Q → S → R x) → IfOk r P → OnOk r Q → OnOk r S → IfOk r R
+IfOk-three (Ok x) f p q s = f x p q s
+IfOk-three (Err e) f p q s = tt

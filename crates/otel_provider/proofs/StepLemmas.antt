@@ -1,35 +1,29 @@
 -- Calls that the provider carries out are the model's.
-use Rattle.std.proofs.Common.{◌≡◌, ℕ, zero, suc, ◌+◌, ◌<◌, ◌==◌, Bool, true, false, cond, not, ◌||◌, List, [], ◌∷◌, ◌++◌, map, length, take, Option, Some, None, slice_get, refl, sym, ◌∙◌, ap, subst, arith, true≢false, option_map, eqb-true}
-use Rattle.std.specs.Prelude.{All}
-use Rattle.std.specs.List.{list_any, position_or_len, IsDistinct, AllByRecursion}
-use Rattle.std.proofs.lemmas.Option.{slice_get-map}
+use Rattle.std.proofs.Common.{◌≡◌, ◌⊎◌, inl, inr, ℕ, zero, suc, ◌+◌, ◌<◌, Bool, true, false, cond, not, ◌||◌, ◌&&◌, List, [], ◌∷◌, ◌++◌, map, length, take, Option, Some, None, option_map, slice_get, refl, sym, ◌∙◌, ap, subst, arith, true≢false}
+use Rattle.std.specs.Prelude.{All, is_none, is_some, nat_lt, position}
+use Rattle.std.specs.List.{list_any, position_or_len}
+use Rattle.std.proofs.lemmas.Bool.{and_parts}
 use Rattle.otel_common.specs.Scopes.{scope_eq, scope_eq-Decides}
 use Rattle.otel_common.specs.declared.attributes.KeyValue.{KeyValue}
-use Rattle.otel_common.specs.declared.scopes.InstrumentationScope.{InstrumentationScope}
-use Rattle.otel_model_stream.specs.Sets.{AttributeSet}
-use Rattle.otel_model_stream.specs.Totals.{has_number}
-use Rattle.otel_model.specs.Calls as model
-use Rattle.otel_model.specs.Demands as demands
-use Rattle.otel_model.specs.State.{ReaderPart, InstrumentState}
-use Rattle.otel_model.specs.Sent.{has_scope}
-use Rattle.otel_model.specs.Steps.{number_from, reply_by, after_by}
-use Rattle.otel_model.specs.Refusals.{meter_refusal, record_refusal}
 use Rattle.otel_common.specs.declared.faults.Fault.{Fault}
+use Rattle.otel_common.specs.declared.scopes.InstrumentationScope.{InstrumentationScope}
+use Rattle.otel_data.specs.declared.numbers.NumberValue.{NumberValue}
+use Rattle.otel_data.specs.declared.numbers.NumberValue.TheVariants as number
+use Rattle.otel_aggregate.specs.Any.{is_signed_value, amount_of}
+use Rattle.otel_model.specs.Calls as model
+use Rattle.otel_model.specs.Checks.{is_good_name, optional_unit_fault}
+use Rattle.otel_model.specs.Demands.{is_good, are_good_bounds}
 use Rattle.otel_model.specs.Machine as machine
+use Rattle.otel_model.specs.Refusals.{meter_refusal, record_refusal}
 use Rattle.otel_model.specs.Resources.{Resource}
-use Rattle.otel_model.proofs.Gather.{identity_eq_true, identity_eq_self}
-use Rattle.otel_provider.specs.Answers.{answers_of}
-use Rattle.otel_provider.specs.Identities.{identity_of, identity_test, demand_of, demand_by}
-use Rattle.otel_provider.specs.Correspondence.{about}
-use Rattle.otel_provider.specs.States.{wanted, IsMade, IsFault, IsNoMeter, state_of, shared_of}
-use Rattle.otel_provider.specs.Streams.{Kept, committed, committed_by, amount, staged_set}
-use Rattle.otel_provider.specs.Pipelines.{Piped, part_of, named, identity_at, built, planned, recorded, fed_by, committed_each, stream_identities, AreNumbers, AreStaged, IsStaged, IsReadyFor, IsStagedFor}
-use Rattle.otel_provider.specs.declared.identity.Demand.{Demand}
-use Rattle.otel_provider.specs.declared.identity.Identity.{Identity}
-use Rattle.otel_provider.specs.declared.sorts.InstrumentSort.{InstrumentSort}
-use Rattle.otel_provider.proofs.Builds.{AreAllNumbers, built-good, built-bad, built-without}
-use Rattle.otel_provider.proofs.IdentityLemmas.{identity_test-Decides, identity_of-tells}
-use Rattle.otel_provider.proofs.Records as records
+use Rattle.otel_model.specs.Sent.{has_scope}
+use Rattle.otel_model.specs.State.{ReaderPart, InstrumentState}
+use Rattle.otel_model.specs.Steps.{number_from, reply_by, after_by}
+use Rattle.otel_pipeline.specs.Pipelines.{Piped, part_of, recorded, IsBuildableIn, IsPreparedFor}
+use Rattle.otel_pipeline.proofs.Builds.{any-position, position-cons}
+use Rattle.otel_pipeline.proofs.Records.{recorded-sent}
+use Rattle.otel_provider.specs.Correspondence.{number_of}
+use Rattle.otel_provider.specs.States.{IsMade, IsFault, IsScopeOf, IsNoMeter, IsGoodIn, FeedType, state_of, shared_of}
 
 -- ======== meters ========
 scope_eq-flip : (a b : InstrumentationScope) → scope_eq a b ≡ scope_eq b a
@@ -80,145 +74,47 @@ meter_number scope ms n e = ap (λ m. Some m) (e ∙ omega arith) ∙ sym (by (l
     by true h = rw (has_scope-flip scope ms, h) (number_there scope 0 ms h)
     by false h = rw (has_scope-flip scope ms, h) (number_last scope 0 ms)
 
--- ======== numbers of streams ========
-get-below : (ks : List Kept) (n : ℕ) → n < length ks → (k : Kept) × (slice_get ks n ≡ Some k)
-get-below [] n h = absurd (omega arith)
-get-below (k ∷ ks) zero h = (k, refl)
-get-below (k ∷ ks) (suc n) h = get-below ks n (omega arith)
-
-numbers-named : (ks : List Kept) (ns : List ℕ) → AreNumbers ks ns → records.HaveStreams ns ks
-numbers-named ks [] all = tt
-numbers-named ks (n ∷ ns) all = (get-below ks n (all 0 n (omega arith)), numbers-named ks ns (λ i d h. all (suc i) d (omega arith)))
-
-all_numbers-named : (ks : List Kept) (feeds : List (List ℕ)) → All (AreNumbers ks) feeds → AreAllNumbers feeds ks
-all_numbers-named ks [] all = tt
-all_numbers-named ks (ns ∷ feeds) all = (numbers-named ks ns (all 0 ns (omega arith)), all_numbers-named ks feeds (λ i d h. all (suc i) d (omega arith)))
-
 -- ======== builds ========
--- what a reader plans and carries out is what the model's build leaves
-built-wanted : (scope : Option InstrumentationScope) (sort : InstrumentSort) (name : List ℕ) (description unit : Option (List ℕ)) (now : ℕ) (p : Piped)
-    → IsReadyFor (wanted scope sort name description unit) now p → part_of (built p) ≡ machine.built [] scope (about sort name description unit) now (part_of p)
-built-wanted None sort name description unit now p ready = built-without (about sort name description unit) now p ready.plan
-built-wanted (Some scope) sort name description unit now p ready = by (demands.is_good (about sort name description unit)) refl
-  where
-    by : (b : Bool) → demands.is_good (about sort name description unit) ≡ b → part_of (built p) ≡ machine.built [] (Some scope) (about sort name description unit) now (part_of p)
-    by true good = built-good now scope sort name description unit p (all_numbers-named p.streams p.feeds ready.lawful.numbers) good (ready.plan ∙ ap (λ b. Some (planned p.answers (cond b (Some (demand_by scope sort name description unit)) None) now p.streams)) good)
-    by false bad = built-bad (Some scope) (about sort name description unit) now p bad (ready.plan ∙ ap (λ b. Some (planned p.answers (cond b (Some (demand_by scope sort name description unit)) None) now p.streams)) bad)
+pub good-or-none : (scope : Option InstrumentationScope) (about : model.About) → IsGoodIn scope about → (scope ≡ None ⊎ is_good about ≡ true)
+good-or-none None about good = inl refl
+good-or-none (Some scope) about good = inr good
 
-pub all_built : (scope : Option InstrumentationScope) (sort : InstrumentSort) (name : List ℕ) (description unit : Option (List ℕ)) (now : ℕ) (ps : List Piped)
-    → All (IsReadyFor (wanted scope sort name description unit) now) ps → map (λ (p : Piped). part_of (built p)) ps ≡ map (machine.built [] scope (about sort name description unit) now) (map part_of ps)
-all_built scope sort name description unit now [] all = refl
-all_built scope sort name description unit now (p ∷ ps) all =
-    λ i. built-wanted scope sort name description unit now p (all 0 p (omega arith)) i ∷ all_built scope sort name description unit now ps (λ j d h. all (suc j) d (omega arith)) i
+pub buildable-in : (scope : Option InstrumentationScope) (about : model.About) → IsGoodIn scope about → model.is_observable about.kind ≡ false → IsBuildableIn scope about
+buildable-in None about good sync = tt
+buildable-in (Some scope) about good sync = record {
+  synchronous = sync;
+  bounds = (and_parts (is_none (optional_unit_fault about.unit)) (are_good_bounds about.kind about.bounds) (and_parts (is_good_name about.name) _ good).1).1;
+}
+
+-- an instrument whose name, unit or bounds are bad has no scope
+pub good-in : (scope : Option InstrumentationScope) (about : model.About) (b : Bool) → is_good about ≡ b → IsGoodIn (cond b scope None) about
+good-in scope about false e = tt
+good-in None about true e = tt
+good-in (Some scope) about true e = e
+
+-- and demands nothing
+built-alike : (scope : Option InstrumentationScope) (about : model.About) (now : ℕ) (b : Bool) → is_good about ≡ b → (p : ReaderPart) → machine.built [] (cond b scope None) about now p ≡ machine.built [] scope about now p
+built-alike scope about now true e p = refl
+built-alike None about now false e p = refl
+built-alike (Some scope) about now false e p = rw e refl
+
+pub all-alike : (scope : Option InstrumentationScope) (about : model.About) (now : ℕ) (b : Bool) → is_good about ≡ b → (ps : List ReaderPart) → map (machine.built [] (cond b scope None) about now) ps ≡ map (machine.built [] scope about now) ps
+all-alike scope about now b e [] = refl
+all-alike scope about now b e (p ∷ ps) = λ i. built-alike scope about now b e p i ∷ all-alike scope about now b e ps i
 
 -- ======== records ========
--- the demands of streams do not change
-demand-committed : (value : ℕ) (o : Option AttributeSet) (k : Kept) → (committed_by o value k).demand ≡ k.demand
-demand-committed value None k = refl
-demand-committed value (Some s) k = refl
+-- a value with its number type
+pub number-is : (value : NumberValue) → number_of value ≡ record { signed = is_signed_value value; amount = amount_of value }
+number-is (number.U64 n) = refl
+number-is (number.I64 z) = refl
 
-abbrev demands_of : List Kept → List Demand
-demands_of ks = map (λ (k : Kept). k.demand) ks
-
-demands-changed : (value n : ℕ) (ks : List Kept) → demands_of (machine.changed_at n (committed value) ks) ≡ demands_of ks
-demands-changed value n [] = refl
-demands-changed value zero (k ∷ ks) = ap (λ d. d ∷ demands_of ks) (demand-committed value k.staged k)
-demands-changed value (suc n) (k ∷ ks) = ap (λ ds. k.demand ∷ ds) (demands-changed value n ks)
-
-demands-committed : (value : ℕ) (ns : List ℕ) (ks : List Kept) → demands_of (committed_each value ns ks) ≡ demands_of ks
-demands-committed value [] ks = refl
-demands-committed value (n ∷ ns) ks = demands-committed value ns (machine.changed_at n (committed value) ks) ∙ demands-changed value n ks
-
--- and all that the model reads off them
-abbrev one_named : Option Demand → List demands.Identity
-one_named None = []
-one_named (Some d) = identity_of d.identity ∷ []
-
-identity_at-demands : (ks : List Kept) (n : ℕ) → identity_at ks n ≡ one_named (slice_get (demands_of ks) n)
-identity_at-demands [] n = refl
-identity_at-demands (k ∷ ks) zero = refl
-identity_at-demands (k ∷ ks) (suc n) = identity_at-demands ks n
-
-named-same : (a b : List Kept) → demands_of a ≡ demands_of b → (ns : List ℕ) → named a ns ≡ named b ns
-named-same a b e [] = refl
-named-same a b e (n ∷ ns) = λ i. (identity_at-demands a n ∙ (ap (λ ds. one_named (slice_get ds n)) e ∙ sym (identity_at-demands b n))) i ++ named-same a b e ns i
-
-feeds-same : (a b : List Kept) → demands_of a ≡ demands_of b → (feeds : List (List ℕ)) → map (named a) feeds ≡ map (named b) feeds
-feeds-same a b e [] = refl
-feeds-same a b e (ns ∷ feeds) = λ i. named-same a b e ns i ∷ feeds-same a b e feeds i
-
-fates-demands : (ks : List Kept) → map (λ (k : Kept). demand_of k.demand) ks ≡ map demand_of (demands_of ks)
-fates-demands [] = refl
-fates-demands (k ∷ ks) = ap (λ ds. demand_of k.demand ∷ ds) (fates-demands ks)
-
-some_is : (a b : Identity) → Some a ≡ Some b → a ≡ b
-some_is a b e = cc
-
--- identities that are distinct by the code's test are apart
-not_among : (x : Identity) (xs : List Identity) → AllByRecursion (λ y. identity_test x y ≡ false) xs → (j : ℕ) (y : Identity) → slice_get xs j ≡ Some y → x ≡ y → ⊥
-not_among x [] all j y q e = cc
-not_among x (z ∷ xs) all zero y q e = true≢false (sym ((identity_test-Decides x z).1 (e ∙ sym (some_is z y q))) ∙ all.0)
-not_among x (z ∷ xs) all (suc j) y q e = not_among x xs all.1 j y q e
-
-apart_by : (xs : List Identity) → IsDistinct identity_test xs → (i j : ℕ) (x y : Identity) → slice_get xs i ≡ Some x → slice_get xs j ≡ Some y → x ≡ y → i ≡ j
-unfolding IsDistinct
-apart_by [] distinct i j x y p q e = absurd (cc)
-apart_by (z ∷ xs) distinct zero zero x y p q e = refl
-apart_by (z ∷ xs) distinct zero (suc j) x y p q e = absurd (not_among z xs distinct.0 j y q (some_is z x p ∙ e))
-apart_by (z ∷ xs) distinct (suc i) zero x y p q e = absurd (not_among z xs distinct.0 i x p (some_is z y q ∙ sym e))
-apart_by (z ∷ xs) distinct (suc i) (suc j) x y p q e = ap suc (apart_by xs distinct.1 i j x y p q e)
-
-pub are_apart : (ks : List Kept) → IsDistinct identity_test (stream_identities ks) → records.AreApart ks
-are_apart ks distinct i j a b p q t =
-    apart_by (stream_identities ks) distinct i j a.demand.identity b.demand.identity
-    (slice_get-map (λ (k : Kept). k.demand.identity) ks i ∙ ap (option_map (λ (k : Kept). k.demand.identity)) p)
-    (slice_get-map (λ (k : Kept). k.demand.identity) ks j ∙ ap (option_map (λ (k : Kept). k.demand.identity)) q)
-    (identity_of-tells a.demand.identity b.demand.identity (identity_eq_true (identity_of a.demand.identity) (identity_of b.demand.identity) t))
-
--- a stream that is ready is ready by its number
-staged-get : (s : AttributeSet) (o : Option Kept) (k : Kept) → o ≡ Some k → IsStaged s o → k.staged ≡ Some s
-staged-get s None k e h = absurd (cc)
-staged-get s (Some m) k e h = let same : m ≡ k = cc in sym (ap (λ (x : Kept). x.staged) same) ∙ h
-
-staged-at : (s : AttributeSet) (ks : List Kept) (ns : List ℕ) → AreStaged s ks ns → (i : ℕ) (k : Kept) → slice_get ks i ≡ Some k → has_number i ns ≡ true → k.staged ≡ Some s
-staged-at s ks [] all i k e h = absurd (true≢false (sym h))
-staged-at s ks (n ∷ ns) all i k e h = by (n == i) refl h (λ q. staged-at s ks ns (λ j d l. all (suc j) d (omega arith)) i k e q)
-  where
-    by : (b : Bool) → (n == i) ≡ b → (b || has_number i ns) ≡ true → (has_number i ns ≡ true → k.staged ≡ Some s) → k.staged ≡ Some s
-    by true t q rest = staged-get s (slice_get ks n) k (ap (slice_get ks) (eqb-true n i t) ∙ e) (all 0 n (omega arith))
-    by false t q rest = rest q
-
-fed-numbers : (ks : List Kept) (feeds : List (List ℕ)) (n : ℕ) → All (AreNumbers ks) feeds → records.HaveStreams (model.or_else (slice_get feeds n) []) ks
-fed-numbers ks [] n all = tt
-fed-numbers ks (ns ∷ feeds) zero all = numbers-named ks ns (all 0 ns (omega arith))
-fed-numbers ks (ns ∷ feeds) (suc n) all = fed-numbers ks feeds n (λ j d h. all (suc j) d (omega arith))
-
-pub recorded-sent : (next n value : ℕ) (l : List KeyValue) (p : Piped) → IsStagedFor n l p
-    → recorded n value p ≡ machine.part_sent next (model.Call.Record n (record { signed = false; amount = amount value }) l) (part_of p)
-recorded-sent next n value l p staged =
-    let same : demands_of (committed_each value (fed_by n p) p.streams) ≡ demands_of p.streams = demands-committed value (fed_by n p) p.streams in
-    λ i. record {
-      answers = answers_of p.answers;
-      fates = (fates-demands (committed_each value (fed_by n p) p.streams) ∙ (ap (map demand_of) same ∙ sym (fates-demands p.streams))) i;
-      streams = sym (records.all_sent (answers_of p.answers) identity_eq_self p.streams (are_apart p.streams staged.lawful.apart) p.feeds next n value l (fed-numbers p.streams p.feeds n staged.lawful.numbers) (staged-at (staged_set l) p.streams (fed_by n p) staged.staged)) i;
-      feeds = feeds-same (committed_each value (fed_by n p) p.streams) p.streams same p.feeds i;
-    }
-
-pub all_recorded : (next n value : ℕ) (l : List KeyValue) (ps : List Piped) → All (IsStagedFor n l) ps
-    → map (recorded n value) ps ≡ map (machine.part_sent next (model.Call.Record n (record { signed = false; amount = amount value }) l)) (map part_of ps)
-all_recorded next n value l [] all = refl
-all_recorded next n value l (p ∷ ps) all = λ i. recorded-sent next n value l p (all 0 p (omega arith)) i ∷ all_recorded next n value l ps (λ j d h. all (suc j) d (omega arith)) i
-
--- ======== what a build demands ========
-pub wanted-none : (o : Option InstrumentationScope) (scope : InstrumentationScope) (sort : InstrumentSort) (name : List ℕ) (description unit : Option (List ℕ)) → o ≡ Some scope
-    → demands.is_good (about sort name description unit) ≡ false → None ≡ wanted o sort name description unit
-wanted-none o scope sort name description unit e bad =
-    sym (ap (λ s. wanted s sort name description unit) e ∙ ap (λ b. cond b (Some (demand_by scope sort name description unit)) None) bad)
-
-pub wanted-some : (o : Option InstrumentationScope) (scope : InstrumentationScope) (sort : InstrumentSort) (name : List ℕ) (description unit : Option (List ℕ)) (d : Demand) → o ≡ Some scope
-    → demands.is_good (about sort name description unit) ≡ true → d ≡ demand_by scope sort name description unit → Some d ≡ wanted o sort name description unit
-wanted-some o scope sort name description unit d e good made =
-    ap (λ x. Some x) made ∙ sym (ap (λ s. wanted s sort name description unit) e ∙ ap (λ b. cond b (Some (demand_by scope sort name description unit)) None) good)
+pub all_recorded : (next n : ℕ) (value : NumberValue) (l : List KeyValue) (ps : List Piped) → All (IsPreparedFor n l) ps → FeedType n (number_of value) (map part_of ps)
+    → map (recorded n value) ps ≡ map (machine.part_sent next (model.Call.Record n (number_of value) l)) (map part_of ps)
+all_recorded next n value l [] all typed = refl
+all_recorded next n value l (p ∷ ps) all typed =
+    λ i. (recorded-sent next n value l p (all 0 p (omega arith)) (λ x fed. typed.0 x fed ∙ ap (λ (v : model.Number). v.signed) (number-is value))
+      ∙ ap (λ v. machine.part_sent next (model.Call.Record n v l) (part_of p)) (sym (number-is value))) i
+    ∷ all_recorded next n value l ps (λ j d h. all (suc j) d (omega arith)) typed.1 i
 
 -- ======== lent readers ========
 -- what was lent whole comes back whole
@@ -228,8 +124,10 @@ lent_back zero (y ∷ ys) zs e = absurd (omega arith)
 lent_back (suc n) [] zs e = absurd (omega arith)
 lent_back (suc n) (y ∷ ys) zs e = ap (λ xs. y ∷ xs) (lent_back n ys zs (omega arith))
 
-pub ready_wanted : (a b : Option Demand) (now : ℕ) (ps : List Piped) → a ≡ b → All (IsReadyFor a now) ps → All (IsReadyFor b now) ps
-ready_wanted a b now ps e all = subst (λ d. All (IsReadyFor d now) ps) e all
+pub get-inside : {X : Type 0} (xs : List X) (n : ℕ) (x : X) → slice_get xs n ≡ Some x → n < length xs
+get-inside [] n x e = absurd (cc)
+get-inside (y ∷ xs) zero x e = omega arith
+get-inside (y ∷ xs) (suc n) x e = let q = get-inside xs n x e in omega arith
 
 -- ======== whole calls ========
 -- a build of a meter that isn't there
@@ -239,17 +137,54 @@ no_meter-fault resource meters instruments meter f none =
     subst P (sym none.is) (none.unknown resource instruments)
 
 -- a record that is accepted
-pub record-made : (resource : Resource) (meters : List InstrumentationScope) (instruments more : List InstrumentState) (ps : List Piped) (readers : List ReaderPart) (n bits : ℕ) (v : model.Number) (l : List KeyValue)
-    → v ≡ record { signed = false; amount = amount bits } → record_refusal (slice_get instruments n) v.signed ≡ None
-    → more ≡ machine.changed_at n (machine.accepted (amount bits)) instruments
-    → readers ≡ map (machine.part_sent 0 (model.Call.Record n (record { signed = false; amount = amount bits }) l)) (map part_of ps)
+pub record-made : (resource : Resource) (meters : List InstrumentationScope) (instruments more : List InstrumentState) (ps : List Piped) (readers : List ReaderPart) (n : ℕ) (v : model.Number) (l : List KeyValue)
+    → record_refusal (slice_get instruments n) v.signed ≡ None
+    → more ≡ machine.changed_at n (machine.accepted v.amount) instruments
+    → readers ≡ map (machine.part_sent 0 (model.Call.Record n v l)) (map part_of ps)
     → IsMade (state_of resource meters instruments ps) (model.Call.Record n v l) model.Reply.Done (record { shared = shared_of resource meters more; readers = readers })
-record-made resource meters instruments more ps readers n bits v l is fits accepted sent = record {
+record-made resource meters instruments more ps readers n v l fits accepted sent = record {
   answer = sym (ap (λ o. reply_by o model.Reply.Done) fits);
   state =
-      (λ i. record {
-        shared = shared_of resource meters ((accepted ∙ ap (λ (w : model.Number). machine.changed_at n (machine.accepted w.amount) instruments) (sym is)) i);
-        readers = (sent ∙ ap (λ (w : model.Number). map (machine.part_sent 0 (model.Call.Record n w l)) (map part_of ps)) (sym is)) i;
-      })
+      (λ i. record { shared = shared_of resource meters (accepted i); readers = sent i })
       ∙ sym (ap (λ o. after_by o (state_of resource meters instruments ps) (machine.accepted_after [] (state_of resource meters instruments ps) (model.Call.Record n v l))) fits);
 }
+
+-- a build, of an instrument that may be bad
+pub build-made : (resource : Resource) (meters : List InstrumentationScope) (instruments more : List InstrumentState) (ps : List Piped) (readers : List ReaderPart) (meter : Option ℕ) (scope named : Option InstrumentationScope) (about : model.About) (now n : ℕ)
+    → IsScopeOf meters meter scope → named ≡ cond (is_good about) scope None → n ≡ length instruments → more ≡ instruments ++ machine.new_instrument about ∷ []
+    → readers ≡ map (machine.built [] named about now) (map part_of ps)
+    → IsMade (state_of resource meters instruments ps) (model.Call.Build meter about now) (model.Reply.Instrument n) (record { shared = shared_of resource meters more; readers = readers })
+build-made resource meters instruments more ps readers meter scope named about now n at named_is number made built =
+    let known : meter_refusal (shared_of resource meters instruments) meter ≡ None = at.known resource instruments in
+    record {
+      answer = ap model.Reply.Instrument number ∙ sym (ap (λ o. reply_by o (model.Reply.Instrument (length instruments))) known);
+      state =
+          (λ i. record {
+            shared = shared_of resource meters (made i);
+            readers = (built ∙ (ap (λ s. map (machine.built [] s about now) (map part_of ps)) named_is ∙ (all-alike scope about now (is_good about) refl (map part_of ps) ∙ ap (λ s. map (machine.built [] s about now) (map part_of ps)) at.is))) i;
+          })
+          ∙ sym (ap (λ o. after_by o (state_of resource meters instruments ps) (machine.accepted_after [] (state_of resource meters instruments ps) (model.Call.Build meter about now))) known);
+    }
+
+position-first : {X : Type 0} (p : X → Bool) (xs : List X) (n : ℕ) → position p xs ≡ Some n → n ≡ position_or_len p xs
+position-first p [] n e = absurd (cc)
+position-first p (x ∷ xs) n e = next (p x) (position p xs) (λ m q. position-first p xs m q) (sym (position-cons p x xs) ∙ e)
+  where
+    next : (b : Bool) (o : Option ℕ) → ((m : ℕ) → o ≡ Some m → m ≡ position_or_len p xs) → cond b (Some 0) (option_map suc o) ≡ Some n → n ≡ cond (not b) (1 + position_or_len p xs) 0
+    next true o rest q = let z : 0 ≡ n = cc in sym z
+    next false None rest q = absurd (cc)
+    next false (Some m) rest q = let z : suc m ≡ n = cc in let y = rest m refl in omega arith
+
+-- a meter that is known stays as it is
+pub meter-known : (resource : Resource) (meters : List InstrumentationScope) (instruments : List InstrumentState) (ps : List Piped) (scope : InstrumentationScope) (n : ℕ) → position (scope_eq scope) meters ≡ Some n
+    → IsMade (state_of resource meters instruments ps) (model.Call.Meter scope) (model.Reply.Meter (Some n)) (state_of resource meters instruments ps)
+meter-known resource meters instruments ps scope n at =
+    let there : list_any (scope_eq scope) meters ≡ true = sym (any-position (scope_eq scope) meters) ∙ ap is_some at in
+    let first : n ≡ position_or_len (scope_eq scope) meters = position-first (scope_eq scope) meters n at in
+    record {
+      answer = ap model.Reply.Meter (meter_number scope meters n first);
+      state = ap (λ ms. state_of resource ms instruments ps) (sym (ap (λ b. cond b meters (meters ++ scope ∷ [])) (has_scope-flip scope meters ∙ there)));
+    }
+
+pub meter-unknown : (meters : List InstrumentationScope) (scope : InstrumentationScope) → position (scope_eq scope) meters ≡ None → has_scope scope meters ≡ false
+meter-unknown meters scope at = has_scope-flip scope meters ∙ (sym (any-position (scope_eq scope) meters) ∙ ap is_some at)

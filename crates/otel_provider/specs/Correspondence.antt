@@ -1,7 +1,7 @@
 -- What the code's own values are in the words of the model, by cases. These words are believed: no contract says
 -- that they are right. Tests of `opentelemetry_sdk` and `metrics_run` send each kind of call, and look at each kind
 -- of reply, each fault and each message.
-use Rattle.std.specs.Prelude.{◌≡◌, ℕ, pos, Bool, false, true, List, [], Option, None, Some, Result, Ok, Err}
+use Rattle.std.specs.Prelude.{◌≡◌, ℕ, ℤ, pos, Bool, false, true, List, [], Option, None, Some, Result, Ok, Err}
 use Rattle.std.specs.Int.{cast_unsigned, w64}
 use Rattle.otel_common.specs.declared.faults.Fault.{Fault}
 use Rattle.otel_common.specs.declared.faults.Fault.TheVariants as fault
@@ -15,17 +15,25 @@ use Rattle.otel_provider.specs.declared.calls.Call.TheVariants.{Meter, Build, Re
 use Rattle.otel_provider.specs.declared.calls.Reply.{Reply}
 use Rattle.otel_provider.specs.declared.calls.Reply.TheVariants as reply
 use Rattle.otel_provider.specs.declared.sorts.InstrumentSort.{InstrumentSort}
-use Rattle.otel_provider.specs.declared.sorts.InstrumentSort.TheVariants.{U64Counter}
+use Rattle.otel_provider.specs.declared.sorts.InstrumentSort.TheVariants.{U64Counter, I64UpDownCounter, U64Gauge, I64Gauge, U64Histogram}
 
 -- ======== instruments ========
 abbrev pub kind_of : InstrumentSort → model.InstrumentKind
 kind_of U64Counter = model.Counter
+kind_of I64UpDownCounter = model.UpDownCounter
+kind_of U64Gauge = model.Gauge
+kind_of I64Gauge = model.Gauge
+kind_of U64Histogram = model.Histogram
 
 abbrev pub is_signed : InstrumentSort → Bool
 is_signed U64Counter = false
+is_signed I64UpDownCounter = true
+is_signed U64Gauge = false
+is_signed I64Gauge = true
+is_signed U64Histogram = false
 
-abbrev pub about : InstrumentSort → List ℕ → Option (List ℕ) → Option (List ℕ) → model.About
-about sort name description unit = record { kind = kind_of sort; signed = is_signed sort; name = name; description = description; unit = unit; bounds = None }
+abbrev pub about : InstrumentSort → List ℕ → Option (List ℕ) → Option (List ℕ) → Option (List ℤ) → model.About
+about sort name description unit bounds = record { kind = kind_of sort; signed = is_signed sort; name = name; description = description; unit = unit; bounds = bounds }
 
 -- ======== calls ========
 abbrev pub number_of : NumberValue → model.Number
@@ -34,7 +42,7 @@ number_of (number.I64 z) = record { signed = true; amount = record { bits = cast
 
 abbrev pub call_of : Call → model.Call
 call_of (Meter scope) = model.Call.Meter scope
-call_of (Build meter sort name description unit now) = model.Call.Build meter (about sort name description unit) now
+call_of (Build meter sort name description unit boundaries now) = model.Call.Build meter (about sort name description unit boundaries) now
 call_of (Record instrument value attributes) = model.Call.Record instrument (number_of value) attributes
 call_of (Collect reader now) = model.Call.Collect reader now []
 

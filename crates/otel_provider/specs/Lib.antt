@@ -1,13 +1,6 @@
-pub mod Answers
-pub mod Collections
 pub mod Correspondence
 pub mod Fresh
 pub mod Headline
-pub mod Identities
 pub mod Instruments
-pub mod Pipelines
-pub mod Plans
 pub mod Providers
-pub mod Sorts
 pub mod States
-pub mod Streams

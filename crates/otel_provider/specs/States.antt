@@ -1,24 +1,18 @@
 -- The state of a provider in the words of the model, and what a call does to it.
-use Rattle.std.specs.Prelude.{◌≡◌, ◌<◌, ℕ, false, cond, List, [], ◌∷◌, ◌++◌, map, length, slice_get, Option, None, Some}
+use Rattle.std.specs.Prelude.{◌≡◌, ◌<◌, ℕ, true, false, List, [], ◌∷◌, ◌++◌, map, length, slice_get, Option, None, Some}
+use Rattle.std.specs.List.{AllByRecursion as EachOf}
 use Rattle.otel_common.specs.declared.faults.Fault.{Fault}
 use Rattle.otel_common.specs.declared.faults.Fault.TheVariants as fault
 use Rattle.otel_common.specs.declared.scopes.InstrumentationScope.{InstrumentationScope}
 use Rattle.otel_model.specs.Calls as model
-use Rattle.otel_model.specs.Demands.{is_good}
+use Rattle.otel_model.specs.Demands.{Identity, is_good}
 use Rattle.otel_model.specs.Resources.{Resource}
 use Rattle.otel_model.specs.State.{InstrumentState, Shared, ReaderPart, State}
 use Rattle.otel_model.specs.Machine as machine
-use Rattle.otel_model.specs.Refusals.{refusal, meter_refusal, record_refusal}
-use Rattle.otel_model.specs.Sent.{scope_of}
+use Rattle.otel_model.specs.Refusals.{refusal, meter_refusal}
+use Rattle.otel_model.specs.Sent.{is_fed, scope_of}
 use Rattle.otel_model.specs.Steps.{reply_of, after}
-use Rattle.otel_provider.specs.Identities.{demand_by}
-use Rattle.otel_provider.specs.Instruments.{new_state}
-use Rattle.otel_provider.specs.Pipelines.{Piped, part_of}
-use Rattle.otel_data.specs.declared.numbers.NumberValue.{NumberValue}
-use Rattle.otel_provider.specs.Correspondence.{about, number_of}
-use Rattle.otel_provider.specs.Streams.{amount}
-use Rattle.otel_provider.specs.declared.identity.Demand.{Demand}
-use Rattle.otel_provider.specs.declared.sorts.InstrumentSort.{InstrumentSort}
+use Rattle.otel_pipeline.specs.Pipelines.{Piped, part_of, FeedsType}
 
 -- providers have no identity of their own and no handles yet, and can't be shut down
 abbrev pub shared_of : Resource → List InstrumentationScope → List InstrumentState → Shared
@@ -43,11 +37,6 @@ IsFault o fault.WrongNumber = o ≡ Some model.Fault.WrongNumber
 abbrev pub IsFaultOf : State → model.Call → Fault → Type 0
 IsFaultOf st call f = IsFault (refusal st.shared (length st.readers) call) f
 
--- what a build demands: nothing without a meter, or with a bad name or unit
-abbrev pub wanted : Option InstrumentationScope → InstrumentSort → List ℕ → Option (List ℕ) → Option (List ℕ) → Option Demand
-wanted None sort name description unit = None
-wanted (Some scope) sort name description unit = cond (is_good (about sort name description unit)) (Some (demand_by scope sort name description unit)) None
-
 -- a fault other than want of memory
 abbrev pub IsNamed : Fault → Type 0
 IsNamed fault.OutOfMemory = ⊥
@@ -56,16 +45,7 @@ IsNamed fault.UnknownInstrument = Unit {0}
 IsNamed fault.UnknownReader = Unit {0}
 IsNamed fault.WrongNumber = Unit {0}
 
--- what a build of this demand leaves of the readers: what the model's leaves for any instrument that demands it
-abbrev pub AreBuilt : Option Demand → ℕ → List ReaderPart → List ReaderPart → Type 0
-AreBuilt demand now old new = (scope : Option InstrumentationScope) (sort : InstrumentSort) (name : List ℕ) (description unit : Option (List ℕ))
-    → demand ≡ wanted scope sort name description unit → new ≡ map (machine.built [] scope (about sort name description unit) now) old
-
--- an instrument more, and at each reader the streams that its demand makes
-pub record IsBuilt (demand : Option Demand) (sort : InstrumentSort) (now : ℕ) (old new : State) : Type 0 where
-  pub shared : new.shared ≡ record old.shared { instruments = old.shared.instruments ++ new_state sort ∷ [] }
-  pub readers : AreBuilt demand now old.readers new.readers
-
+-- ======== builds ========
 -- the scope that a build's meter has among these
 pub record IsScopeOf (meters : List InstrumentationScope) (meter : Option ℕ) (scope : Option InstrumentationScope) : Type 0 where
   pub is : scope ≡ scope_of meters meter
@@ -76,12 +56,27 @@ pub record IsNoMeter (meters : List InstrumentationScope) (meter : Option ℕ) (
   pub is : f ≡ fault.UnknownMeter
   pub unknown : (resource : Resource) (instruments : List InstrumentState) → meter_refusal (shared_of resource meters instruments) meter ≡ Some model.Fault.UnknownMeter
 
--- a value of type `u64` with these bits
-abbrev pub IsNumber : NumberValue → ℕ → Type 0
-IsNumber value bits = number_of value ≡ record { signed = false; amount = amount bits }
+-- an instrument without a scope ignores its records; with one its name, unit and bounds are good
+abbrev pub IsGoodIn : Option InstrumentationScope → model.About → Type 0
+IsGoodIn None about = Unit {0}
+IsGoodIn (Some scope) about = is_good about ≡ true
+
+-- ======== number types ========
+-- what an instrument feeds has its number type, at a reader that knows all instruments
+pub record IsTyped (is : List InstrumentState) (p : ReaderPart) : Type 0 where
+  pub as_many : length p.feeds ≡ length is
+  pub types : (n : ℕ) (x : Identity) (i : InstrumentState) → is_fed p.feeds n x ≡ true → slice_get is n ≡ Some i → x.signed ≡ i.signed
+
+-- at each reader
+abbrev pub AreTyped : List InstrumentState → List ReaderPart → Type 0
+AreTyped is ps = EachOf (IsTyped is) ps
+
+-- the instrument of this number feeds streams of one number type, at each reader
+abbrev pub FeedType : ℕ → model.Number → List ReaderPart → Type 0
+FeedType n v ps = EachOf (FeedsType n v.signed) ps
 
 -- a value that the instrument of this number takes
-pub record IsValueFor (instruments : List InstrumentState) (instrument : ℕ) (value : NumberValue) (bits : ℕ) : Type 0 where
-  pub is : IsNumber value bits
-  pub there : instrument < length instruments
-  pub fits : record_refusal (slice_get instruments instrument) (number_of value).signed ≡ None
+pub record IsTakenBy (instruments : List InstrumentState) (n : ℕ) (v : model.Number) : Type 0 where
+  pub instrument : InstrumentState
+  pub there : slice_get instruments n ≡ Some instrument
+  pub typed : v.signed ≡ instrument.signed

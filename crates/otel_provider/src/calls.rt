@@ -16,17 +16,20 @@ pub enum Call {
     Meter {
         scope: InstrumentationScope,
     },
-    /// Builds an instrument of a meter. Without a meter, and with a name or unit that
-    /// `validate_instrument_name` or `validate_instrument_unit` refuses, it ignores its records. An
-    /// absent description or unit is the empty text. Instruments of one meter that agree in sort,
-    /// description, unit and, but for the case of ASCII letters, name share a stream at each reader.
-    /// `now` is the moment of the build, in nanoseconds since 1970.
+    /// Builds an instrument of a meter. Without a meter, and with a name, a unit or bounds that
+    /// `validate_instrument_name`, `validate_instrument_unit` or `validate_bucket_boundaries` refuses, it
+    /// ignores its records. An absent description or unit is the empty text. `boundaries` are those of the
+    /// buckets of a histogram, and are looked at for a histogram alone. Instruments of one meter that agree
+    /// in sort, description, unit and, but for the case of ASCII letters, name share a stream at each
+    /// reader; the first of them decides the bounds. `now` is the moment of the build, in nanoseconds since
+    /// 1970.
     Build {
         meter: Option<usize>,
         sort: InstrumentSort,
         name: StringValue,
         description: Option<StringValue>,
         unit: Option<StringValue>,
+        boundaries: Option<Items<i64>>,
         now: u64,
     },
     /// Records a value with attributes, in any order, at an instrument.

@@ -1,13 +1,14 @@
 //! The state of a provider before its first call.
 
 ghost use Rattle.std.specs.Prelude.{◌≡◌, ◌++◌, ◌∷◌, [], IfOk, IsOkUnless};
+ghost use Rattle.otel_model.specs.Demands.{answers_by};
 ghost use Rattle.otel_model.specs.Machine.{new_state};
 ghost use Rattle.otel_model.specs.Resources.{empty_resource};
-ghost use Rattle.otel_provider.specs.Answers.{answers_of};
 
-use crate::answers::Answers;
 use crate::provider_core::Core;
 use otel_common::faults::Fault;
+use otel_stream::answers::Answers;
+use otel_stream::reader::MetricReader;
 use std::alloc::Global;
 use std::marker::Model;
 
@@ -39,12 +40,13 @@ impl FreshCore {
         }
     }
 
-    /// With a reader more, which answered this.
-    pub(crate) fn with_reader(self, answers: Answers) -> Result<FreshCore, Fault>
-        ensures reader { IfOk result (λ f. f ≡ record { resource = self.resource; readers = self.readers ++ answers_of answers ∷ [] }) }
+    /// With a reader more, which is asked what it wants.
+    pub(crate) fn with_reader<R: MetricReader>(self, reader: &R) -> Result<FreshCore, Fault>
+        ensures reader { IfOk result (λ f. f ≡ record { resource = self.resource; readers = self.readers ++ answers_by (R.preference reader.now) ∷ [] }) }
         ensures only_memory { IsOkUnless result Fault.OutOfMemory }
     {
         let FreshCore { core } = self;
+        let answers = Answers::of(core.allocator(), reader)?;
         let core = core.with_reader(answers)?;
         Ok(FreshCore { core })
     }

@@ -1,16 +1,16 @@
 //! Instruments, as the provider keeps them.
 
-ghost use Rattle.std.specs.Prelude.{◌≡◌, Some, None, OnOk, IfErr, MatchResult};
+ghost use Rattle.std.specs.Prelude.{◌≡◌, Some, None, OnOk, IfErr};
 ghost use Rattle.otel_model.specs.Machine.{accepted};
 ghost use Rattle.otel_model.specs.Refusals.{record_refusal};
 ghost use Rattle.otel_provider.specs.Instruments.{new_state};
 ghost use Rattle.otel_provider.specs.Correspondence.{number_of};
-ghost use Rattle.otel_provider.specs.States.{IsFault, IsNamed, IsNumber};
-ghost use Rattle.otel_provider.specs.Streams.{amount};
+ghost use Rattle.otel_provider.specs.States.{IsFault, IsNamed};
 
 use crate::sorts::InstrumentSort;
 use otel_common::faults::Fault;
 use otel_data::numbers::NumberValue;
+use otel_pipeline::numbers::{bits_of, is_signed};
 use std::marker::Model;
 
 /// An instrument, and the number and the sum of the records that it accepted, both modulo 2^64.
@@ -42,23 +42,24 @@ impl Instrument {
         }
     }
 
-    /// The bits of a value, if it has the instrument's number type.
-    pub(crate) fn bits_of(&self, value: NumberValue) -> Result<u64, Fault>
-        ensures number { MatchResult result (IsNumber value) (IsFault (record_refusal (Some self.now) (number_of value).signed)) }
-        ensures named { IfErr result IsNamed }
+    /// Whether a value has the instrument's number type.
+    pub(crate) fn check(&self, value: NumberValue) -> Result<(), Fault>
+        ensures typed { OnOk result ((number_of value).signed ≡ self.now.signed) }
         ensures fits { OnOk result (record_refusal (Some self.now) (number_of value).signed ≡ None) }
+        ensures fault { IfErr result (IsFault (record_refusal (Some self.now) (number_of value).signed)) }
+        ensures named { IfErr result IsNamed }
     {
-        match (self.sort, value) {
-            (InstrumentSort::U64Counter, NumberValue::U64(value)) => Ok(value),
-            (InstrumentSort::U64Counter, NumberValue::I64(_)) => Err(Fault::WrongNumber),
+        if self.sort.is_signed() != is_signed(value) {
+            return Err(Fault::WrongNumber);
         }
+        Ok(())
     }
 
     /// Counts a record.
-    pub(crate) fn accept(&mut self, value: u64)
-        ensures { self.new ≡ accepted (amount value) self.old }
+    pub(crate) fn accept(&mut self, value: NumberValue)
+        ensures { self.new ≡ accepted (number_of value).amount self.old }
     {
         self.count = self.count.wrapping_add(1);
-        self.sum = self.sum.wrapping_add(value);
+        self.sum = self.sum.wrapping_add(bits_of(value));
     }
 }

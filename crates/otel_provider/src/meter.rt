@@ -1,11 +1,13 @@
-//! The checks of an instrument's name and unit.
+//! The checks of an instrument's name, unit and bounds.
 
-ghost use Rattle.std.specs.Prelude.{◌≡◌, not, nat_lt};
+ghost use Rattle.std.specs.Prelude.{◌≡◌, cond, not, nat_lt, Some, None};
 ghost use Rattle.std.specs.List.{list_any};
 ghost use Rattle.std.specs.Option.{option_map};
-ghost use Rattle.otel_model.specs.Checks.{name_fault, name_fault_text, optional_unit_fault, unit_fault_text, starts_badly, is_name_byte};
+ghost use Rattle.otel_model.specs.Checks.{name_fault, name_fault_text, optional_unit_fault, unit_fault_text, starts_badly, is_name_byte, bounds_fault_text};
+ghost use Rattle.otel_model_stream.specs.Data.{rises};
 ghost use Rattle.otel_provider.specs.Correspondence.{IsAnswer};
 
+use otel_aggregate::bounds::is_rising;
 use otel_common::metrics::MetricError;
 
 const NAME_EMPTY: &str = "name must be non-empty";
@@ -20,6 +22,8 @@ const NAME_CHARACTER: &str =
 const UNIT_LENGTH: &str = "unit must be less than 64 characters";
 
 const UNIT_CHARACTER: &str = "characters in unit must be ASCII";
+
+const BOUNDS: &str = "Bucket boundaries must be sorted and non-duplicate";
 
 /// The greatest length of a name, in bytes.
 const NAME_MAX: usize = 255;
@@ -96,4 +100,15 @@ pub fn validate_instrument_unit(unit: Option<&str>) -> Result<(), MetricError>
         return Err(MetricError::InvalidInstrumentConfiguration(UNIT_CHARACTER));
     }
     Ok(())
+}
+
+/// Tells whether the bounds of a histogram's buckets are good: each is greater than the one before it. No bounds
+/// at all are good (Metrics API, "ExplicitBucketBoundaries"). Takes no memory.
+pub fn validate_bucket_boundaries(boundaries: &[i64]) -> Result<(), MetricError>
+    ensures { IsAnswer (cond (rises boundaries.now) None (Some bounds_fault_text)) result }
+{
+    if is_rising(boundaries) {
+        return Ok(());
+    }
+    Err(MetricError::InvalidInstrumentConfiguration(BOUNDS))
 }

@@ -3,24 +3,33 @@
 ghost use Rattle.std.specs.Prelude.{◌≡◌, [], false, All, map, IsOk, OnOk, OnErr, IsOkUnless};
 ghost use Rattle.std.specs.Option.{option_map};
 ghost use Rattle.otel_model.specs.Calls as model;
+ghost use Rattle.otel_model.specs.Machine as machine;
 ghost use Rattle.otel_model.specs.Machine.{part_sent};
-ghost use Rattle.otel_provider.specs.States.{AreBuilt};
-ghost use Rattle.otel_provider.specs.Streams.{amount};
-ghost use Rattle.otel_provider.specs.Pipelines.{part_of, built, recorded, IsPlanned, IsReadyFor, IsStagedFor};
+ghost use Rattle.otel_pipeline.specs.Pipelines.{part_of, built, recorded, IsBuildableIn, IsPlanned, IsReadyFor, IsPreparedFor};
+ghost use Rattle.otel_provider.specs.Correspondence.{number_of};
+ghost use Rattle.otel_provider.specs.States.{IsGoodIn, FeedType};
 
-use crate::identity::Demand;
-use crate::pipeline::Pipeline;
 use otel_common::attributes::KeyValue;
 use otel_common::faults::Fault;
+use otel_common::scopes::InstrumentationScope;
+use otel_data::numbers::NumberValue;
+use otel_pipeline::about::About;
+use otel_pipeline::pipeline::Pipeline;
 
-/// Gets all readers ready for a build that demands this, or nothing. What they have stays as it was.
-fn plan_all(pipelines: &mut [Pipeline], demand: Option<&Demand>, now: u64) -> Result<(), Fault>
+/// Plans a build at all readers. What they have stays as it was.
+fn plan_all(
+    pipelines: &mut [Pipeline],
+    scope: Option<&InstrumentationScope>,
+    about: &About<'_>,
+    now: u64,
+) -> Result<(), Fault>
+    requires { IsBuildableIn (option_map (λ s. s.now) scope) about.now }
     ensures same { map part_of pipelines.new ≡ map part_of pipelines.old }
-    ensures ready { OnOk result (All (IsReadyFor (option_map (λ d. d.now) demand.entry) now) pipelines.new) }
+    ensures ready { OnOk result (All (IsReadyFor (option_map (λ s. s.now) scope.entry) about.now now) pipelines.new) }
     ensures only_memory { IsOkUnless result Fault.OutOfMemory }
 {
     for i in 0..pipelines.len() {
-        pipelines[i].plan(demand, now)?;
+        pipelines[i].plan(scope, about, now)?;
     }
     Ok(())
 }
@@ -35,25 +44,25 @@ fn build_all(pipelines: &mut [Pipeline])
     }
 }
 
-/// Gets the streams that an instrument feeds ready for a record, at all readers.
-fn stage_all(
+/// Prepares a record in the streams that an instrument feeds, at all readers.
+fn prepare_all(
     pipelines: &mut [Pipeline],
     instrument: usize,
     attributes: &[KeyValue],
 ) -> Result<(), Fault>
     ensures same { map part_of pipelines.new ≡ map part_of pipelines.old }
-    ensures staged { OnOk result (All (IsStagedFor instrument attributes.now) pipelines.new) }
+    ensures prepared { OnOk result (All (IsPreparedFor instrument attributes.now) pipelines.new) }
     ensures free { attributes.now ≡ [] → IsOk result }
     ensures only_memory { IsOkUnless result Fault.OutOfMemory }
 {
     for i in 0..pipelines.len() {
-        pipelines[i].stage(instrument, attributes)?;
+        pipelines[i].prepare(instrument, attributes)?;
     }
     Ok(())
 }
 
 /// Makes the record in the streams that an instrument feeds, at all readers.
-fn commit_all(pipelines: &mut [Pipeline], instrument: usize, value: u64)
+fn commit_all(pipelines: &mut [Pipeline], instrument: usize, value: NumberValue)
     ensures { map part_of pipelines.new ≡ map (recorded instrument value) pipelines.old }
 {
     for i in 0..pipelines.len() {
@@ -61,17 +70,20 @@ fn commit_all(pipelines: &mut [Pipeline], instrument: usize, value: u64)
     }
 }
 
-/// Builds what is demanded, or nothing, at all readers or at none.
+/// Builds an instrument at all readers or at none. Without a scope it demands nothing.
 pub(crate) fn build_or_none(
     pipelines: &mut [Pipeline],
-    demand: Option<&Demand>,
+    scope: Option<&InstrumentationScope>,
+    about: &About<'_>,
     now: u64,
 ) -> Result<(), Fault>
-    ensures ok { OnOk result (AreBuilt (option_map (λ d. d.now) demand.entry) now (map part_of pipelines.old) (map part_of pipelines.new)) }
+    requires good { IsGoodIn (option_map (λ s. s.now) scope) about.now }
+    requires synchronous { model.is_observable about.now.kind ≡ false }
+    ensures ok { OnOk result (map part_of pipelines.new ≡ map (machine.built [] (option_map (λ s. s.now) scope.entry) about.now now) (map part_of pipelines.old)) }
     ensures err { OnErr result (map part_of pipelines.new ≡ map part_of pipelines.old) }
     ensures only_memory { IsOkUnless result Fault.OutOfMemory }
 {
-    plan_all(pipelines, demand, now)?;
+    plan_all(pipelines, scope, about, now)?;
     build_all(pipelines);
     Ok(())
 }
@@ -80,15 +92,16 @@ pub(crate) fn build_or_none(
 pub(crate) fn record_or_none(
     pipelines: &mut [Pipeline],
     instrument: usize,
-    value: u64,
+    value: NumberValue,
     attributes: &[KeyValue],
 ) -> Result<(), Fault>
-    ensures ok { OnOk result (map part_of pipelines.new ≡ map (part_sent 0 (model.Call.Record instrument (record { signed = false; amount = amount value }) attributes.now)) (map part_of pipelines.old)) }
+    requires { FeedType instrument (number_of value) (map part_of pipelines.old) }
+    ensures ok { OnOk result (map part_of pipelines.new ≡ map (part_sent 0 (model.Call.Record instrument (number_of value) attributes.now)) (map part_of pipelines.old)) }
     ensures err { OnErr result (map part_of pipelines.new ≡ map part_of pipelines.old) }
     ensures free { attributes.now ≡ [] → IsOk result }
     ensures only_memory { IsOkUnless result Fault.OutOfMemory }
 {
-    stage_all(pipelines, instrument, attributes)?;
+    prepare_all(pipelines, instrument, attributes)?;
     commit_all(pipelines, instrument, value);
     Ok(())
 }

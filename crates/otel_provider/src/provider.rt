@@ -12,7 +12,6 @@ ghost use Rattle.otel_provider.specs.Headline.{OfReaders, OfStreams, OfAnswers, 
 ghost use Rattle.otel_provider.specs.Providers.{state_of, resource_of, answers_of_readers, builder_readers, provider_readers};
 ghost use Rattle.otel_provider.specs.Correspondence.{call_of, reply_of};
 
-use crate::answers::Answers;
 use crate::balanced::BalancedCore;
 use crate::calls::{Call, Reply};
 use crate::fresh::FreshCore;
@@ -55,16 +54,15 @@ impl<P: Parts> ProviderBuilder<P> {
     /// Adds the reader, and asks it for the temporality that it wants for each kind of instrument. Readers
     /// are numbered from 0, in order of adding.
     ///
-    /// Refused only for want of memory; then the builder is given up. Takes memory twice at most.
+    /// Refused only for want of memory; then the builder is given up. Takes memory three times at most.
     pub fn with_reader(self, reader: P::Reader) -> Result<Self, Fault>
         ensures answers { IfOk result (λ b. answers_of_readers b ≡ answers_of_readers self ++ answers_by (P.Reader.preference reader) ∷ []) }
         ensures resource { IfOk result (λ b. resource_of b ≡ resource_of self) }
         ensures kept { IfOk result (λ b. builder_readers b ≡ builder_readers self ++ reader ∷ []) }
         ensures only_memory { IsOkUnless result Fault.OutOfMemory }
     {
-        let ProviderBuilder { core, readers } = self;
-        let core = core.with_reader(Answers::of(&reader))?;
-        let mut readers = readers;
+        let ProviderBuilder { core, mut readers } = self;
+        let core = core.with_reader(&reader)?;
         readers.push(reader)?;
         Ok(ProviderBuilder { core, readers })
     }
@@ -110,15 +108,15 @@ impl<P: Parts> Provider<P> {
     /// One call, and its reply. A call that is refused changes nothing; `OutOfMemory` only comes where no
     /// other fault stands.
     ///
-    /// - `Meter` copies the scope and looks it up once.
-    /// - `Build` copies scope and texts, and at each reader looks up the identity once. It is made at all
-    ///   readers or at none.
+    /// - `Meter` looks the scope up. A new one is copied; one that is known takes no memory.
+    /// - `Build` copies scope, texts and bounds at each reader, and looks up the identity there once. It is made
+    ///   at all readers or at none.
     /// - `Record` looks the attributes up in each stream that the instrument feeds, once and without memory
     ///   where they are sorted by key, no key twice, and have a point there. Else it sorts a copy and looks
     ///   that up, and a new set takes memory besides. Without attributes there is no look-up, and the call
     ///   is never refused for memory. It is made in all streams or in none.
-    /// - `Collect` goes over the reader's streams once for each meter, and copies the resource and each set that
-    ///   is shown.
+    /// - `Collect` goes once over the reader's streams, their points and the meters, and copies the resource, the
+    ///   scopes and each set that is shown.
     ///   Then the streams whose reader wants `Delta` start again, which takes no memory; nothing else
     ///   changes, and other readers' streams never.
     pub fn step(&mut self, call: &Call) -> Reply

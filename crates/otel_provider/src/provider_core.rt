@@ -1,36 +1,40 @@
 //! The state of a provider: all of it that is no boxed object.
 
-ghost use Rattle.std.specs.Prelude.{◌≡◌, ◌∷◌, ◌++◌, [], ℕ, List, Option, length, map, slice_get, Some, OnOk, OnErr, IfOk, IfErr, IsOkUnless, MatchResult};
+ghost use Rattle.std.specs.Prelude.{◌≡◌, ◌∷◌, ◌++◌, [], ℕ, ℤ, List, Option, false, cond, length, map, slice_get, Some, None, true, OnOk, OnErr, IfOk, IfErr, IsOk, IsOkUnless, MatchResult};
 ghost use Rattle.std.specs.Option.{option_map};
 ghost use Rattle.otel_model.specs.Calls as model;
-ghost use Rattle.otel_model.specs.Demands.{is_good};
-ghost use Rattle.otel_model.specs.Machine.{new_state, new_part};
+ghost use Rattle.otel_model.specs.Demands.{is_good, are_good_bounds};
+ghost use Rattle.otel_model.specs.Machine.{new_state, new_part, new_instrument, built};
 ghost use Rattle.otel_model.specs.Refusals.{record_refusal};
 ghost use Rattle.otel_model.specs.Resources.{empty_resource};
+ghost use Rattle.otel_model.specs.Sent.{has_scope};
 ghost use Rattle.otel_model.specs.Steps.{Step, Run};
-ghost use Rattle.otel_provider.specs.Answers.{answers_of};
-ghost use Rattle.otel_provider.specs.Correspondence.{about, number_of, call_of, reply_of};
-ghost use Rattle.otel_provider.specs.States.{IsMade, IsFault, IsFaultOf, IsNamed, IsBuilt, IsScopeOf, IsNoMeter, IsValueFor, wanted};
+ghost use Rattle.otel_pipeline.specs.Pipelines.{part_of};
+ghost use Rattle.otel_provider.specs.Correspondence.{about, kind_of, is_signed, number_of, call_of, reply_of};
+ghost use Rattle.otel_provider.specs.States.{IsMade, IsFault, IsFaultOf, IsNamed, IsScopeOf, IsNoMeter, IsGoodIn, IsTakenBy};
 ghost use Rattle.otel_provider.specs.declared.sorts.InstrumentSort.{InstrumentSort};
 
-use crate::answers::Answers;
 use crate::calls::{Call, Reply};
-use crate::copies::copy_scope;
-use crate::identity::Demand;
 use crate::instrument::Instrument;
-use crate::meter::{validate_instrument_name, validate_instrument_unit};
-use crate::pipeline::Pipeline;
+use crate::meter::{
+    validate_bucket_boundaries, validate_instrument_name, validate_instrument_unit,
+};
 use crate::pipelines::{build_or_none, record_or_none};
 use crate::sorts::InstrumentSort;
 use indexmap::IndexSet;
 use otel_common::attributes::KeyValue;
 use otel_common::faults::Fault;
+use otel_common::laws::copied_scope;
 use otel_common::lists::Items;
 use otel_common::resource::Resource;
 use otel_common::scopes::InstrumentationScope;
 use otel_common::strings::StringValue;
 use otel_data::collections::ResourceMetrics;
 use otel_data::numbers::NumberValue;
+use otel_pipeline::about::About;
+use otel_pipeline::pipeline::Pipeline;
+use otel_stream::answers::Answers;
+use otel_stream::instrument::InstrumentKind;
 use std::alloc::Global;
 use std::marker::Model;
 
@@ -45,23 +49,50 @@ pub struct Core {
 }
 
 impl Model for Core {
+    ghost use Rattle.std.specs.Prelude.{map};
     ghost use Rattle.otel_model.specs.State.{State};
-    ghost use Rattle.otel_provider.specs.States.{state_of};
+    ghost use Rattle.otel_pipeline.specs.Pipelines.{part_of};
+    ghost use Rattle.otel_provider.specs.States.{state_of, AreTyped};
 
     ghost Value = { State };
 
     ghost view = { λ c. state_of c.resource c.meters.keys c.instruments.items c.pipelines.items };
+
+    ghost invariant = { λ c. AreTyped c.instruments.items (map part_of c.pipelines.items) };
 }
 
-/// Whether the name and the unit of an instrument are good.
-fn is_good(name: &StringValue, unit: &Option<StringValue>) -> bool
-    ensures { (sort : InstrumentSort) (description : Option (List ℕ)) → result ≡ is_good (about sort name.now description unit.now) }
+/// Whether the bounds of an instrument are good: those of a histogram alone are looked at.
+fn has_good_bounds(about: &About<'_>) -> bool
+    ensures { result ≡ are_good_bounds about.now.kind about.now.bounds }
 {
-    let unit = match unit {
+    match (about.kind, about.bounds) {
+        (InstrumentKind::Histogram, Some(bounds)) => {
+            validate_bucket_boundaries(bounds.as_slice()).is_ok()
+        }
+        _ => true,
+    }
+}
+
+/// Whether the name, the unit and the bounds of an instrument are good.
+fn is_good(about: &About<'_>) -> bool
+    ensures { result ≡ is_good about.now }
+{
+    let unit = match about.unit {
         Some(unit) => Some(unit.as_str()),
         None => None,
     };
-    validate_instrument_name(name.as_str()).is_ok() && validate_instrument_unit(unit).is_ok()
+    validate_instrument_name(about.name.as_str()).is_ok()
+        && validate_instrument_unit(unit).is_ok()
+        && has_good_bounds(about)
+}
+
+/// A copy of a scope.
+fn copy_scope(scope: &InstrumentationScope) -> Result<InstrumentationScope, Fault>
+    ensures copy { IfOk result (λ s. s ≡ scope.now) }
+    ensures only_memory { IsOkUnless result Fault.OutOfMemory }
+{
+    copied_scope();
+    Ok(scope.clone()?)
 }
 
 /// The scope of the meter that a build names; without a meter there is none.
@@ -80,40 +111,61 @@ fn scope_of(
     }
 }
 
-/// What a build demands: nothing without a scope, or with a bad name or unit.
-fn demand_for(
-    alloc: Global,
-    scope: Option<&InstrumentationScope>,
-    sort: InstrumentSort,
-    name: &StringValue,
-    description: &Option<StringValue>,
-    unit: &Option<StringValue>,
-) -> Result<Option<Demand>, Fault>
-    ensures demand { IfOk result (λ d. d ≡ wanted (option_map (λ s. s.now) scope.entry) sort name.now description.now unit.now) }
-    ensures only_memory { IsOkUnless result Fault.OutOfMemory }
+/// The scope, unless the name, the unit or the bounds of the instrument are bad.
+fn good_scope<'a>(
+    scope: Option<&'a InstrumentationScope>,
+    about: &About<'_>,
+) -> Option<&'a InstrumentationScope>
+    ensures { option_map (λ s. s.now) result ≡ cond (is_good about.now) (option_map (λ s. s.now) scope.entry) None }
 {
-    let Some(scope) = scope else {
-        return Ok(None);
-    };
-    if !is_good(name, unit) {
-        return Ok(None);
+    if is_good(about) {
+        scope
+    } else {
+        None
     }
-    Ok(Some(Demand::new(alloc, scope, sort, name, description, unit)?))
 }
 
-/// The value's bits, where it has the number type of the instrument.
-fn value_for(
+/// Whether there is an instrument of this number, and a value has its number type.
+fn check_value(
     instruments: &[Instrument],
     instrument: usize,
     value: NumberValue,
-) -> Result<u64, Fault>
-    ensures value { MatchResult result (IsValueFor instruments.now instrument value) (IsFault (record_refusal (slice_get instruments.now instrument) (number_of value).signed)) }
+) -> Result<(), Fault>
+    ensures taken { OnOk result (IsTakenBy instruments.now instrument (number_of value)) }
+    ensures fits { OnOk result (record_refusal (slice_get instruments.now instrument) (number_of value).signed ≡ None) }
+    ensures fault { IfErr result (IsFault (record_refusal (slice_get instruments.now instrument) (number_of value).signed)) }
     ensures named { IfErr result IsNamed }
 {
     match instruments.get(instrument) {
-        Some(found) => found.bits_of(value),
+        Some(found) => found.check(value),
         None => Err(Fault::UnknownInstrument),
     }
+}
+
+/// Makes an instrument, at all readers or at none. Without a scope it demands nothing.
+fn make(
+    instruments: &mut Vec<Instrument>,
+    pipelines: &mut [Pipeline],
+    scope: Option<&InstrumentationScope>,
+    sort: InstrumentSort,
+    about: &About<'_>,
+    now: u64,
+) -> Result<usize, Fault>
+    requires good { IsGoodIn (option_map (λ s. s.now) scope) about.now }
+    requires kind { about.now.kind ≡ kind_of sort }
+    requires signed { about.now.signed ≡ is_signed sort }
+    ensures number { IfOk result (λ n. n ≡ length instruments.old.items) }
+    ensures instruments { OnOk result (instruments.new.items ≡ instruments.old.items ++ new_instrument about.now ∷ []) }
+    ensures readers { OnOk result (map part_of pipelines.new ≡ map (built [] (option_map (λ s. s.now) scope.entry) about.now now) (map part_of pipelines.old)) }
+    ensures same { OnErr result (instruments.new.items ≡ instruments.old.items) }
+    ensures same_readers { OnErr result (map part_of pipelines.new ≡ map part_of pipelines.old) }
+    ensures only_memory { IsOkUnless result Fault.OutOfMemory }
+{
+    instruments.reserve(1)?;
+    build_or_none(pipelines, scope, about, now)?;
+    let number = instruments.len();
+    instruments.push_reserved(Instrument::new(sort));
+    Ok(number)
 }
 
 impl Core {
@@ -130,9 +182,15 @@ impl Core {
         }
     }
 
+    /// The allocator.
+    pub(crate) fn allocator(&self) -> Global {
+        self.alloc
+    }
+
     /// A reader more, without streams, which answered this.
     pub(crate) fn with_reader(self, answers: Answers) -> Result<Core, Fault>
-        ensures reader { IfOk result (λ core. core ≡ record { shared = self.shared; readers = self.readers ++ new_part (answers_of answers) ∷ [] }) }
+        requires { self.shared.instruments ≡ [] }
+        ensures reader { IfOk result (λ core. core ≡ record { shared = self.shared; readers = self.readers ++ new_part answers ∷ [] }) }
         ensures only_memory { IsOkUnless result Fault.OutOfMemory }
     {
         let mut core = self;
@@ -144,29 +202,13 @@ impl Core {
     fn meter(&mut self, scope: &InstrumentationScope) -> Result<usize, Fault>
         ensures ok { IfOk result (λ n. IsMade self.old (model.Call.Meter scope.now) (model.Reply.Meter (Some n)) self.new) }
         ensures err { OnErr result (self.new ≡ self.old) }
+        ensures known { has_scope scope.now self.old.shared.meters ≡ true → IsOk result }
         ensures only_memory { IsOkUnless result Fault.OutOfMemory }
     {
-        let scope = copy_scope(scope)?;
-        let (number, _) = self.meters.insert_full(scope)?;
-        Ok(number)
-    }
-
-    /// Makes an instrument that demands this, or nothing, at all readers or at none.
-    fn make(
-        &mut self,
-        demand: Option<&Demand>,
-        sort: InstrumentSort,
-        now: u64,
-    ) -> Result<usize, Fault>
-        ensures number { IfOk result (λ n. n ≡ length self.old.shared.instruments) }
-        ensures ok { OnOk result (IsBuilt (option_map (λ d. d.now) demand.entry) sort now self.old self.new) }
-        ensures err { OnErr result (self.new ≡ self.old) }
-        ensures only_memory { IsOkUnless result Fault.OutOfMemory }
-    {
-        self.instruments.reserve(1)?;
-        build_or_none(&mut self.pipelines, demand, now)?;
-        let number = self.instruments.len();
-        self.instruments.push_reserved(Instrument::new(sort));
+        if let Some(number) = self.meters.get_index_of(scope) {
+            return Ok(number);
+        }
+        let (number, _) = self.meters.insert_full(copy_scope(scope)?)?;
         Ok(number)
     }
 
@@ -175,21 +217,27 @@ impl Core {
         &mut self,
         meter: Option<usize>,
         sort: InstrumentSort,
-        name: &StringValue,
-        description: &Option<StringValue>,
-        unit: &Option<StringValue>,
+        about: &About<'_>,
         now: u64,
     ) -> Result<usize, Fault>
-        ensures ok { IfOk result (λ n. IsMade self.old (model.Call.Build meter (about sort name.now description.now unit.now) now) (model.Reply.Instrument n) self.new) }
+        requires kind { about.now.kind ≡ kind_of sort }
+        requires signed { about.now.signed ≡ is_signed sort }
+        ensures ok { IfOk result (λ n. IsMade self.old (model.Call.Build meter about.now now) (model.Reply.Instrument n) self.new) }
         ensures err { OnErr result (self.new ≡ self.old) }
-        ensures fault { IfErr result (IsFaultOf self.old (model.Call.Build meter (about sort name.now description.now unit.now) now)) }
+        ensures fault { IfErr result (IsFaultOf self.old (model.Call.Build meter about.now now)) }
     {
         let scope = match scope_of(&self.meters, meter) {
             Ok(scope) => scope,
             Err(fault) => return Err(fault),
         };
-        let demand = demand_for(self.alloc, scope, sort, name, description, unit)?;
-        self.make(demand.as_ref(), sort, now)
+        make(
+            &mut self.instruments,
+            &mut self.pipelines,
+            good_scope(scope, about),
+            sort,
+            about,
+            now,
+        )
     }
 
     /// Records a value with attributes at an instrument, in all the streams that it feeds or in none.
@@ -204,10 +252,9 @@ impl Core {
         ensures fault { IfErr result (IsFaultOf self.old (model.Call.Record instrument (number_of value) attributes.now)) }
         ensures free { attributes.now ≡ [] → IfErr result IsNamed }
     {
-        let value = match value_for(&self.instruments, instrument, value) {
-            Ok(value) => value,
-            Err(fault) => return Err(fault),
-        };
+        if let Err(fault) = check_value(&self.instruments, instrument, value) {
+            return Err(fault);
+        }
         record_or_none(&mut self.pipelines, instrument, value, attributes)?;
         self.instruments[instrument].accept(value);
         Ok(())
@@ -238,14 +285,14 @@ impl Core {
         &mut self,
         meter: Option<usize>,
         sort: InstrumentSort,
-        name: &StringValue,
-        description: &Option<StringValue>,
-        unit: &Option<StringValue>,
+        about: &About<'_>,
         now: u64,
     ) -> Reply
-        ensures { Step [] self.old (model.Call.Build meter (about sort name.now description.now unit.now) now) (reply_of result) self.new }
+        requires kind { about.now.kind ≡ kind_of sort }
+        requires signed { about.now.signed ≡ is_signed sort }
+        ensures { Step [] self.old (model.Call.Build meter about.now now) (reply_of result) self.new }
     {
-        match self.build(meter, sort, name, description, unit, now) {
+        match self.build(meter, sort, about, now) {
             Ok(number) => Reply::Instrument(number),
             Err(fault) => Reply::Refused(fault),
         }
@@ -286,8 +333,19 @@ impl Core {
                 name,
                 description,
                 unit,
+                boundaries,
                 now,
-            } => { self.step_build(*meter, *sort, name, description, unit, *now) }
+            } => {
+                let about = About {
+                    kind: sort.kind(),
+                    signed: sort.is_signed(),
+                    name,
+                    description,
+                    unit,
+                    bounds: boundaries,
+                };
+                self.step_build(*meter, *sort, &about, *now)
+            }
             Call::Record {
                 instrument,
                 value,

@@ -1,49 +1,49 @@
-//! The kind and the number type of an instrument.
+//! What builds make.
 
 ghost use Rattle.std.specs.Prelude.{◌≡◌};
-ghost use Rattle.std.specs.Cmp.{partial_equiv_from_equiv};
-ghost use Rattle.std.specs.Hash.{same_Alike};
-ghost use Rattle.otel_provider.specs.Sorts.{sort_number, sort_eq, sort_eq-Decides, sort_eq_equiv, sort_writes};
+ghost use Rattle.otel_provider.specs.Correspondence.{kind_of, is_signed};
 
-use std::hash::{Hash, Hasher};
+use otel_stream::instrument::InstrumentKind;
 
-/// What a build makes: a kind of instrument, and the type of its values.
-#[derive(Clone, Copy, Debug)]
+/// What a build makes: a kind of instrument, and the type of its values (Metrics API, "Instrument").
+#[derive(Clone, Copy, Debug, PartialEq, Eq, Hash)]
 pub enum InstrumentSort {
-    /// A counter of `u64`, whose sums are monotonic (Metrics API, "Counter").
+    /// A counter of `u64`: it adds values that are never negative.
     U64Counter,
+    /// A counter of `i64`: it adds values of either sign.
+    I64UpDownCounter,
+    /// A gauge of `u64`: it keeps the last value.
+    U64Gauge,
+    /// A gauge of `i64`: it keeps the last value.
+    I64Gauge,
+    /// A histogram of `u64`: it tells how values spread.
+    U64Histogram,
 }
 
 impl InstrumentSort {
-    fn number(self) -> u8
-        ensures { result ≡ sort_number self }
+    /// The kind of the instrument.
+    pub fn kind(self) -> InstrumentKind
+        ensures { result ≡ kind_of self }
     {
         match self {
-            InstrumentSort::U64Counter => 0,
+            InstrumentSort::U64Counter => InstrumentKind::Counter,
+            InstrumentSort::I64UpDownCounter => InstrumentKind::UpDownCounter,
+            InstrumentSort::U64Gauge => InstrumentKind::Gauge,
+            InstrumentSort::I64Gauge => InstrumentKind::Gauge,
+            InstrumentSort::U64Histogram => InstrumentKind::Histogram,
         }
     }
-}
 
-impl PartialEq for InstrumentSort {
-    ghost eq = { sort_eq };
-
-    ghost laws = { partial_equiv_from_equiv sort_eq_equiv };
-
-    fn eq(&self, other: &InstrumentSort) -> bool {
-        self.number() == other.number()
-    }
-}
-
-impl Eq for InstrumentSort {
-    ghost laws = { sort_eq_equiv };
-}
-
-impl Hash for InstrumentSort {
-    ghost hash_input = { sort_writes };
-
-    ghost respects_eq = { (same_Alike sort_writes sort_eq-Decides).fed };
-
-    fn hash<H: Hasher>(&self, state: &mut H) {
-        state.write_u8(self.number());
+    /// Whether its values are of type `i64`; else they are of type `u64`.
+    pub fn is_signed(self) -> bool
+        ensures { result ≡ is_signed self }
+    {
+        match self {
+            InstrumentSort::U64Counter => false,
+            InstrumentSort::I64UpDownCounter => true,
+            InstrumentSort::U64Gauge => false,
+            InstrumentSort::I64Gauge => true,
+            InstrumentSort::U64Histogram => false,
+        }
     }
 }

@@ -1,5 +1,5 @@
-use Rattle.otel_provider.specs.Pipelines.{part_of, built}
-use Rattle.otel_provider.proofs.PipelinesLemmas.{IsDoneUpto}
+use Rattle.otel_pipeline.specs.Pipelines.{part_of, built}
+use Rattle.otel_pipeline.proofs.PipelinesLemmas.{IsDoneUpto}
 use Rattle.otel_provider.proofs.pipelines.build_all.Given as goal
 
 -- what was planned is carried out at the readers so far

@@ -1,6 +1,6 @@
 use Rattle.std.proofs.Common.{arith}
-use Rattle.otel_provider.specs.Pipelines.{part_of, recorded}
-use Rattle.otel_provider.proofs.PipelinesLemmas.{done-none, done-more, done-all}
+use Rattle.otel_pipeline.specs.Pipelines.{part_of, recorded}
+use Rattle.otel_pipeline.proofs.PipelinesLemmas.{done-none, done-more, done-all}
 use Rattle.otel_provider.proofs.pipelines.commit_all.Goals as goal
 
 pub loop-i-init : goal.loop-i-init

@@ -1,5 +1,5 @@
-use Rattle.otel_provider.specs.Pipelines.{part_of, recorded}
-use Rattle.otel_provider.proofs.PipelinesLemmas.{IsDoneUpto}
+use Rattle.otel_pipeline.specs.Pipelines.{part_of, recorded}
+use Rattle.otel_pipeline.proofs.PipelinesLemmas.{IsDoneUpto}
 use Rattle.otel_provider.proofs.pipelines.commit_all.Given as goal
 
 -- the record is made at the readers so far

@@ -1,27 +1,53 @@
-use Rattle.std.proofs.Common.{◌≡◌, ◌<◌, ◌∙◌, ap, sym, List, map, length, slice_get, None, arith, false}
+use Rattle.std.proofs.Common.{◌≡◌, ◌<◌, ◌∙◌, ap, sym, subst, List, map, length, slice_get, None, arith}
 use Rattle.otel_model.specs.Calls as model
-use Rattle.otel_model.specs.Machine.{accepted, part_sent}
+use Rattle.otel_model.specs.Machine.{accepted, changed_at, part_sent}
 use Rattle.otel_model.specs.Refusals.{record_refusal}
 use Rattle.otel_model.specs.State.{InstrumentState}
-use Rattle.otel_provider.specs.Pipelines.{part_of}
+use Rattle.otel_pipeline.specs.Pipelines.{part_of}
+use Rattle.otel_pipeline.proofs.Writes.{set-changed}
 use Rattle.otel_provider.specs.Correspondence.{number_of}
-use Rattle.otel_provider.specs.States.{IsValueFor}
-use Rattle.otel_provider.specs.Streams.{amount}
-use Rattle.otel_provider.proofs.StepLemmas.{lent_back, record-made}
-use Rattle.otel_provider.proofs.Writes.{set-changed}
+use Rattle.otel_provider.specs.States.{IsTakenBy, AreTyped}
+use Rattle.otel_provider.proofs.StepLemmas.{lent_back, record-made, get-inside}
+use Rattle.otel_provider.proofs.Typed.{typed-feeds, typed-sent}
 use Rattle.otel_provider.proofs.provider_core.Core.record.Goals as goal
+
+-- the instrument feeds streams of its number type, which is the value's
+pub record_or_none-requires : goal.record_or_none-requires
+record_or_none-requires c =
+    let taken : IsTakenBy c.deref.result.now c.args.instrument (number_of c.args.value) = c.in_default.ensures.taken in
+    typed-feeds c.args.instrument (number_of c.args.value) c.self.inside.instruments.items taken.instrument (map part_of c.deref_mut.result.now)
+    (ap (λ is. slice_get is c.args.instrument) (sym c.deref.ensures.value) ∙ taken.there) taken.typed
+    (subst (λ ps. AreTyped c.self.inside.instruments.items (map part_of ps)) (sym c.deref_mut.ensures.value) c.self.invariant)
+
+pub invariant_of-self : goal.invariant_of-self
+invariant_of-self c =
+    let lent = lent_back c.self.inside.pipelines.len c.record_or_none.new.pipelines _ (omega arith) in
+    subst (λ ps. AreTyped c.self.inside.instruments.items ps) (sym (ap (map part_of) lent ∙ (c.in_err-record_or_none.ensures.err ∙ ap (map part_of) c.deref_mut.ensures.value))) c.self.invariant
+
+pub invariant_of-self-2 : goal.invariant_of-self-2
+invariant_of-self-2 c =
+    let n = c.args.instrument in
+    let v = number_of c.args.value in
+    let instruments : List InstrumentState = c.self.inside.instruments.items in
+    let lent = lent_back c.self.inside.pipelines.len c.record_or_none.new.pipelines _ (omega arith) in
+    let taken : IsTakenBy c.deref.result.now n v = c.in_default.ensures.taken in
+    let there : n < length instruments = get-inside instruments n taken.instrument (ap (λ is. slice_get is n) (sym c.deref.ensures.value) ∙ taken.there) in
+    rw (set-changed (accepted v.amount) instruments n c.index_mut.result.now c.accept.new.self there c.index_mut.ensures.value c.accept.ensures)
+    (subst (λ ps. AreTyped (changed_at n (accepted v.amount) instruments) ps) (sym (ap (map part_of) lent ∙ (c.in_ok-record_or_none.ensures.ok ∙ ap (λ ps. map (part_sent 0 (model.Call.Record n v c.args.attributes.now)) (map part_of ps)) c.deref_mut.ensures.value)))
+    (typed-sent v.amount n 0 (model.Call.Record n v c.args.attributes.now) instruments (map part_of c.self.inside.pipelines.items) c.self.invariant))
 
 -- the value fits, the readers made the record, and the instrument accepted it
 pub returns-clause-ok : goal.returns-clause-ok
 returns-clause-ok c =
-    let instruments : List InstrumentState = c.self.inside.instruments.items in
     let n = c.args.instrument in
-    let bits = c.in-Ok.value in
-    let for_it : IsValueFor c.deref.result.now n c.args.value bits = c.in-Ok.ensures.value in
-    let fits : record_refusal (slice_get instruments n) (number_of c.args.value).signed ≡ None = ap (λ is. record_refusal (slice_get is n) (number_of c.args.value).signed) (sym c.deref.ensures.value) ∙ for_it.fits in
-    let there : n < length instruments = omega (arith, for_it.there, ap length c.deref.ensures.value) in
+    let v = number_of c.args.value in
+    let instruments : List InstrumentState = c.self.inside.instruments.items in
+    let lent = lent_back c.self.inside.pipelines.len c.record_or_none.new.pipelines _ (omega arith) in
+    let taken : IsTakenBy c.deref.result.now n v = c.in_default.ensures.taken in
+    let there : n < length instruments = get-inside instruments n taken.instrument (ap (λ is. slice_get is n) (sym c.deref.ensures.value) ∙ taken.there) in
+    let fits : record_refusal (slice_get instruments n) v.signed ≡ None = ap (λ is. record_refusal (slice_get is n) v.signed) (sym c.deref.ensures.value) ∙ c.in_default.ensures.fits in
     rw (← c.self.view_is)
-    (record-made c.self.inside.resource c.self.inside.meters.keys instruments _ c.self.inside.pipelines.items _ n bits (number_of c.args.value) c.args.attributes.now for_it.is fits
-    (set-changed (accepted (amount bits)) instruments n c.index_mut.result.now c.accept.new.self there c.index_mut.ensures.value c.accept.ensures)
-    (ap (map part_of) (lent_back c.self.inside.pipelines.len c.record_or_none.new.pipelines _ (omega arith))
-    ∙ (c.in_ok-record_or_none.ensures.ok ∙ ap (λ ps. map (part_sent 0 (model.Call.Record n (record { signed = false; amount = amount bits }) c.args.attributes.now)) (map part_of ps)) c.deref_mut.ensures.value)))
+    (record-made c.self.inside.resource c.self.inside.meters.keys instruments _ c.self.inside.pipelines.items _ n v c.args.attributes.now fits
+    (set-changed (accepted v.amount) instruments n c.index_mut.result.now c.accept.new.self there c.index_mut.ensures.value c.accept.ensures)
+    (ap (map part_of) lent
+    ∙ (c.in_ok-record_or_none.ensures.ok ∙ ap (λ ps. map (part_sent 0 (model.Call.Record n v c.args.attributes.now)) (map part_of ps)) c.deref_mut.ensures.value)))

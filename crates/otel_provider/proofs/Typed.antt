@@ -1,0 +1,125 @@
+-- What an instrument feeds has its number type, whatever is called.
+use Rattle.std.proofs.Common.{◌≡◌, ◌⊎◌, inl, inr, ⊎_elim, ℕ, zero, suc, ◌+◌, Bool, true, false, cond, ◌||◌, List, [], ◌∷◌, ◌++◌, map, length, set, Option, Some, None, slice_get, refl, sym, ◌∙◌, ap, subst, arith}
+use Rattle.std.specs.Prelude.{fold, Result, Ok, Err, OnOk, OnErr}
+use Rattle.std.proofs.lemmas.Bool.{false≢true}
+use Rattle.std.proofs.lemmas.List.{length-append}
+use Rattle.otel_common.specs.declared.scopes.InstrumentationScope.{InstrumentationScope}
+use Rattle.otel_model_stream.specs.Folds.{Amount}
+use Rattle.otel_model.specs.Calls.{About, Call, Collect, Number}
+use Rattle.otel_model.specs.Demands.{Identity, Demand, has_identity, is_known, is_dropped, is_good, fed, own_demand, identity_eq}
+use Rattle.otel_model.specs.Machine.{changed_at, accepted, new_instrument, demanded, build_demands, with_feeds, built, part_sent}
+use Rattle.otel_model.specs.Sent.{is_fed}
+use Rattle.otel_model.specs.State.{InstrumentState, ReaderPart}
+use Rattle.otel_model.proofs.Gather.{identity_eq_true}
+use Rattle.otel_model_laws.proofs.Feeding.{is_one, fed_demanded}
+use Rattle.otel_pipeline.specs.Pipelines.{Piped, part_of, FeedsType}
+use Rattle.otel_provider.specs.States.{IsTyped, AreTyped, FeedType}
+
+some_is : {X : Type 0} (a b : X) → Some a ≡ Some b → a ≡ b
+some_is a b e = cc
+
+-- ======== one instrument more ========
+-- what is fed was fed before by an instrument that was there, or is fed by the new one
+fed-split : (feeds : List (List Identity)) (f : List Identity) (is : List InstrumentState) (new : InstrumentState) (n : ℕ) (x : Identity) (i : InstrumentState) → length feeds ≡ length is
+    → is_fed (feeds ++ f ∷ []) n x ≡ true → slice_get (is ++ new ∷ []) n ≡ Some i
+    → ((is_fed feeds n x ≡ true) × (slice_get is n ≡ Some i)) ⊎ ((has_identity f x ≡ true) × (new ≡ i))
+fed-split [] f [] new zero x i e h g = inr (h, some_is new i g)
+fed-split [] f [] new (suc n) x i e h g = absurd (cc)
+fed-split [] f (j ∷ is) new n x i e h g = absurd (omega arith)
+fed-split (xs ∷ feeds) f [] new n x i e h g = absurd (omega arith)
+fed-split (xs ∷ feeds) f (j ∷ is) new zero x i e h g = inl (h, g)
+fed-split (xs ∷ feeds) f (j ∷ is) new (suc n) x i e h g = fed-split feeds f is new n x i (omega arith) h g
+
+-- demands keep what instruments feed
+same-feeds : (now : ℕ) (ds : List Demand) (p : ReaderPart) → (fold (demanded now) p ds).feeds ≡ p.feeds
+same-feeds now [] p = refl
+same-feeds now (d ∷ ds) p = same-feeds now ds (demanded now p d)
+
+-- demands of one number type
+abbrev OfType : Bool → List Demand → Type 0
+OfType signed [] = Unit {0}
+OfType signed (d ∷ ds) = (d.identity.signed ≡ signed) × OfType signed ds
+
+demands-typed : (scope : Option InstrumentationScope) (about : About) (p : ReaderPart) → OfType about.signed (build_demands [] p scope about)
+demands-typed None about p = tt
+demands-typed (Some scope) about p = by (is_good about)
+  where
+    by : (b : Bool) → OfType about.signed (cond b (own_demand p.answers scope about ∷ []) [])
+    by true = (refl, tt)
+    by false = tt
+
+known-typed : (signed : Bool) (ds : List Demand) (x : Identity) → OfType signed ds → is_known ds x ≡ true → x.signed ≡ signed
+known-typed signed [] x all e = absurd (false≢true e)
+known-typed signed (d ∷ ds) x all e = ⊎_elim
+    (λ t. sym (ap (λ (y : Identity). y.signed) (identity_eq_true d.identity x t)) ∙ all.0)
+    (λ t. known-typed signed ds x all.1 t)
+    (is_one (identity_eq d.identity x) (is_known ds x) e)
+
+one-built : (is : List InstrumentState) (scope : Option InstrumentationScope) (about : About) (now : ℕ) (p : ReaderPart) → IsTyped is p → IsTyped (is ++ new_instrument about ∷ []) (built [] scope about now p)
+one-built is scope about now p typed =
+    let ds : List Demand = build_demands [] p scope about in
+    let after : ReaderPart = fold (demanded now) p ds in
+    let new : List Identity = fed (is_dropped after.fates) ds in
+    let same : after.feeds ≡ p.feeds = same-feeds now ds p in
+    record {
+      as_many = omega (arith, ap length same, typed.as_many, length-append {A = List Identity}, length-append {A = InstrumentState});
+      types = λ n x i f g. ⊎_elim
+          (λ t. typed.types n x i t.0 t.1)
+          (λ t. known-typed about.signed ds x (demands-typed scope about p) (fed_demanded (is_dropped after.fates) ds x t.0) ∙ ap (λ (j : InstrumentState). j.signed) t.1)
+          (fed-split p.feeds new is (new_instrument about) n x i typed.as_many (subst (λ (fs : List (List Identity)). is_fed (fs ++ new ∷ []) n x ≡ true) same f) g);
+    }
+
+pub typed-built : (is : List InstrumentState) (scope : Option InstrumentationScope) (about : About) (now : ℕ) (ps : List ReaderPart) → AreTyped is ps → AreTyped (is ++ new_instrument about ∷ []) (map (built [] scope about now) ps)
+typed-built is scope about now [] all = tt
+typed-built is scope about now (p ∷ ps) all = (one-built is scope about now p all.0, typed-built is scope about now ps all.1)
+
+-- ======== records ========
+-- an instrument that accepts keeps its number type
+signed-accepted : (v : Amount) (m n : ℕ) (is : List InstrumentState) (i : InstrumentState) → slice_get (changed_at m (accepted v) is) n ≡ Some i → (j : InstrumentState) × (slice_get is n ≡ Some j) × (j.signed ≡ i.signed)
+signed-accepted v m n [] i e = absurd (cc)
+signed-accepted v zero zero (j ∷ is) i e = (j, refl, ap (λ (k : InstrumentState). k.signed) (some_is (accepted v j) i e))
+signed-accepted v zero (suc n) (j ∷ is) i e = (i, e, refl)
+signed-accepted v (suc m) zero (j ∷ is) i e = (i, e, refl)
+signed-accepted v (suc m) (suc n) (j ∷ is) i e = signed-accepted v m n is i e
+
+length-accepted : (v : Amount) (m : ℕ) (is : List InstrumentState) → length (changed_at m (accepted v) is) ≡ length is
+length-accepted v m [] = refl
+length-accepted v zero (j ∷ is) = refl
+length-accepted v (suc m) (j ∷ is) = ap suc (length-accepted v m is)
+
+pub typed-sent : (v : Amount) (m next : ℕ) (c : Call) (is : List InstrumentState) (ps : List ReaderPart) → AreTyped is ps → AreTyped (changed_at m (accepted v) is) (map (part_sent next c) ps)
+typed-sent v m next c is [] all = tt
+typed-sent v m next c is (p ∷ ps) all = (record {
+  as_many = all.0.as_many ∙ sym (length-accepted v m is);
+  types = λ n x i f g. let before = signed-accepted v m n is i g in all.0.types n x before.0 f before.1 ∙ before.2;
+}, typed-sent v m next c is ps all.1)
+
+-- what an instrument feeds, by its own number type
+pub typed-feeds : (n : ℕ) (v : Number) (is : List InstrumentState) (i : InstrumentState) (ps : List ReaderPart) → slice_get is n ≡ Some i → v.signed ≡ i.signed → AreTyped is ps → FeedType n v ps
+typed-feeds n v is i [] at same all = tt
+typed-feeds n v is i (p ∷ ps) at same all = (λ x f. all.0.types n x i f at ∙ sym same, typed-feeds n v is i ps at same all.1)
+
+-- ======== readers ========
+-- one more, before there are instruments
+pub typed-push : (ps : List ReaderPart) (p : ReaderPart) → AreTyped [] ps → p.feeds ≡ [] → AreTyped [] (ps ++ p ∷ [])
+typed-push [] p all e = (record { as_many = ap length e; types = λ n x i f g. absurd (cc) }, tt)
+typed-push (q ∷ ps) p all e = (all.0, typed-push ps p all.1 e)
+
+-- one of them changes, but for what feeds it
+pub typed-set : (is : List InstrumentState) (ps : List Piped) (r : ℕ) (p new : Piped) → slice_get ps r ≡ Some p → (part_of new).feeds ≡ (part_of p).feeds → AreTyped is (map part_of ps) → AreTyped is (map part_of (set ps r new))
+typed-set is [] r p new at e all = tt
+typed-set is (q ∷ ps) zero p new at e all =
+    let same : (part_of q).feeds ≡ (part_of new).feeds = ap (λ (x : Piped). (part_of x).feeds) (some_is q p at) ∙ sym e in
+    (record { as_many = ap length (sym same) ∙ all.0.as_many; types = λ n x i f g. all.0.types n x i (ap (λ fs. is_fed fs n x) same ∙ f) g }, all.1)
+typed-set is (q ∷ ps) (suc r) p new at e all = (all.0, typed-set is ps r p new at e all.1)
+
+-- whether an instrument was made or not
+pub typed-made : {T E : Type 0} (r : Result T E) (is more : List InstrumentState) (scope : Option InstrumentationScope) (about : About) (now : ℕ) (ps readers : List ReaderPart)
+    → OnOk r (more ≡ is ++ new_instrument about ∷ []) → OnOk r (readers ≡ map (built [] scope about now) ps) → OnErr r (more ≡ is) → OnErr r (readers ≡ ps) → AreTyped is ps → AreTyped more readers
+typed-made (Ok t) is more scope about now ps readers m e same same_readers all = rw (m, e) (typed-built is scope about now ps all)
+typed-made (Err t) is more scope about now ps readers m e same same_readers all = rw (same, same_readers) all
+
+-- what a collection or a failed call leaves of what feeds
+pub same_feeds-by : {T E : Type 0} (r : Result T E) (next now : ℕ) (new p : Piped) → OnOk r ((q : ℕ) → part_of new ≡ part_sent next (Collect q now []) (part_of p)) → OnErr r (part_of new ≡ part_of p) → (part_of new).feeds ≡ (part_of p).feeds
+same_feeds-by (Ok t) next now new p ok err = ap (λ (x : ReaderPart). x.feeds) (ok 0)
+same_feeds-by (Err t) next now new p ok err = ap (λ (x : ReaderPart). x.feeds) err
