@@ -2,6 +2,7 @@
 
 use crate::sets::allowed_attributes;
 use otel_common::attributes::{KeyValue, Value};
+use otel_common::faults::Fault;
 use otel_common::keys::Key;
 use std::alloc::Global;
 use std::test::Fail;
@@ -9,7 +10,7 @@ use std::test::Fail;
 /// A set of attributes, by their keys and values.
 type Set = &'static [(&'static str, i64)];
 
-fn attributes(alloc: Global, set: Set) -> Result<Vec<KeyValue>, Fail> {
+fn attributes(alloc: Global, set: Set) -> Result<Vec<KeyValue>, Fault> {
     let mut made = Vec::new(alloc);
     for (key, value) in set {
         made.push(KeyValue::new(Key::new(alloc, *key)?, Value::I64(*value)))?;
@@ -18,7 +19,7 @@ fn attributes(alloc: Global, set: Set) -> Result<Vec<KeyValue>, Fail> {
 }
 
 /// Whether an allow-list of one key leaves this set of another.
-fn leaves(alloc: Global, key: &str, set: Set, left: Set) -> Result<bool, Fail> {
+fn leaves(alloc: Global, key: &str, set: Set, left: Set) -> Result<bool, Fault> {
     let given = attributes(alloc, set)?;
     let allowed = allowed_attributes(alloc, &[Key::new(alloc, key)?], &given)?;
     Ok(allowed == attributes(alloc, left)?)

@@ -37,7 +37,16 @@ fn made<T: Number + Drop>(
     bounds: Bounds,
     is_whole: bool,
 ) -> Result<Histogram<T>, Fault> {
-    Histogram::new(alloc, temporality, None, 10, 100, bounds, is_whole, is_whole)
+    Histogram::new(
+        alloc,
+        temporality,
+        None,
+        10,
+        100,
+        bounds,
+        is_whole,
+        is_whole,
+    )
 }
 
 /// Takes in records of these values under a set.
@@ -206,7 +215,12 @@ fn check_buckets_are_selected_correctly(rt: HostRuntime) -> Result<(), Fail> {
         ends: None,
         sum: 0,
     };
-    let mut histogram = made(alloc, Temporality::Cumulative, rising(alloc, &bounds)?, false)?;
+    let mut histogram = made(
+        alloc,
+        Temporality::Cumulative,
+        rising(alloc, &bounds)?,
+        false,
+    )?;
     assert!(rt; shows(alloc, &mut histogram, NONE, &bounds, &values, want).unwrap_or(false));
     Ok(())
 }
@@ -233,8 +247,12 @@ fn explicit_bucket_histogram_aggregation(rt: HostRuntime) -> Result<(), Fail> {
 #[test]
 fn a_histogram_record_is_prepared(rt: HostRuntime) -> Result<(), Fail> {
     let alloc = rt.alloc();
-    let mut histogram: Histogram<i64> =
-        made(alloc, Temporality::Cumulative, rising(alloc, &[0])?, true)?;
+    let mut histogram: Histogram<i64> = made(
+        alloc,
+        Temporality::Cumulative,
+        rising(alloc, &[0])?,
+        true,
+    )?;
     assert!(rt; !histogram.resets());
     assert!(rt; !histogram.is_prepared());
     assert!(rt; histogram.prepare(&[]).is_ok());

@@ -152,16 +152,18 @@ fn made<T: Number + Drop>(alloc: Global, kind: Kind, limit: usize) -> Result<Sum
         None => None,
         Some(key) => Some(Items::from(vec![in alloc; Key::new(alloc, key)?]?)),
     };
-    Ok(Sum::new(alloc, kind.temporality, allow, limit, 100, kind.is_monotonic)?)
+    Ok(Sum::new(
+        alloc,
+        kind.temporality,
+        allow,
+        limit,
+        100,
+        kind.is_monotonic,
+    )?)
 }
 
 /// Whether a sum of this kind and limit, made at 100, goes so from step to step.
-fn follows(
-    alloc: Global,
-    kind: Kind,
-    limit: usize,
-    steps: &[Step],
-) -> Result<bool, Fault> {
+fn follows(alloc: Global, kind: Kind, limit: usize, steps: &[Step]) -> Result<bool, Fault> {
     let mut sum = made(alloc, kind, limit)?;
     let mut as_wanted = sum.resets() == (kind.temporality == Temporality::Delta);
     for step in steps {

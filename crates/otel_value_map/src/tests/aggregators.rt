@@ -5,6 +5,7 @@ use crate::assign::Assign;
 use crate::bounds::{Bounds, is_rising};
 use crate::buckets::{Buckets, BucketsConfig, counted_once};
 use crate::number::Number;
+use otel_common::faults::Fault;
 use otel_common::lists::Items;
 use std::alloc::Global;
 use std::test::Fail;
@@ -15,7 +16,7 @@ fn made_of<A: Aggregator>(
     config: &A::InitConfig,
     first: A::PreComputedValue,
     second: A::PreComputedValue,
-) -> Result<A, Fail> {
+) -> Result<A, Fault> {
     let mut aggregator: A = create_fold(alloc, config)?;
     update_fold(&mut aggregator, first);
     aggregator.update(second);
@@ -28,7 +29,7 @@ fn adds_up<T: Number + Drop + PartialEq>(
     values: [T; 2],
     want: T,
     weight: u64,
-) -> Result<bool, Fail> {
+) -> Result<bool, Fault> {
     let mut sum: Increment<T> = made_of(alloc, &(), values[0], values[1])?;
     let is_sum = sum.copy(alloc)?.value == want && sum.weight() == weight;
     reset_fold(&mut sum);
@@ -38,10 +39,11 @@ fn adds_up<T: Number + Drop + PartialEq>(
 /// Whether of two values the second is kept, weighs nothing, is copied, and is 0 after a reset.
 fn keeps_the_last<T: Number + Drop + PartialEq>(
     alloc: Global,
-    values: [T; 2],
-) -> Result<bool, Fail> {
-    let mut last: Assign<T> = made_of(alloc, &(), values[0], values[1])?;
-    let is_last = last.copy(alloc)?.value == values[1] && last.weight() == 0;
+    first: T,
+    second: T,
+) -> Result<bool, Fault> {
+    let mut last: Assign<T> = made_of(alloc, &(), first, second)?;
+    let is_last = last.copy(alloc)?.value == second && last.weight() == 0;
     reset_fold(&mut last);
     Ok(is_last && last.value == T::zero())
 }
@@ -55,12 +57,12 @@ fn an_increment_adds_up(rt: HostRuntime) -> Result<(), Fail> {
 
 #[test]
 fn an_assign_keeps_the_last(rt: HostRuntime) -> Result<(), Fail> {
-    assert!(rt; keeps_the_last(rt.alloc(), [4u64, 3])?);
-    assert!(rt; keeps_the_last(rt.alloc(), [3i64, -4])?);
+    assert!(rt; keeps_the_last(rt.alloc(), 4u64, 3)?);
+    assert!(rt; keeps_the_last(rt.alloc(), 3i64, -4)?);
     Ok(())
 }
 
-fn rising(alloc: Global, bounds: &[i64]) -> Result<Option<Bounds>, Fail> {
+fn rising(alloc: Global, bounds: &[i64]) -> Result<Option<Bounds>, Fault> {
     Ok(Bounds::new(Items::from(Vec::from_clones(alloc, bounds)?)))
 }
 
@@ -76,13 +78,17 @@ fn bounds_that_rise(rt: HostRuntime) -> Result<(), Fail> {
     Ok(())
 }
 
+/// Whether a copy of the bounds is these.
+fn is_copied(alloc: Global, bounds: &Bounds, want: &[i64]) -> Result<bool, Fault> {
+    Ok(bounds.copy(alloc)?.as_slice() == want)
+}
+
 #[test]
 fn bounds_rise(rt: HostRuntime) -> Result<(), Fail> {
-    let alloc = rt.alloc();
-    let bounds = rising(alloc, &[1, 3])?.ok_or("bounds that do not rise")?;
+    let bounds = rising(rt.alloc(), &[1, 3])?.ok_or("bounds that do not rise")?;
     assert_eq!(rt; bounds.number_of_buckets(), 3);
     assert!(rt; bounds.as_slice() == [1, 3].as_slice());
-    assert!(rt; bounds.copy(alloc)?.as_slice() == [1, 3].as_slice());
+    assert!(rt; is_copied(rt.alloc(), &bounds, &[1, 3]).unwrap_or(false));
     assert_eq!(rt; bounds.bucket_of(1), 0);
     assert_eq!(rt; bounds.bucket_of(2), 1);
     assert_eq!(rt;
@@ -98,7 +104,7 @@ fn counted<T: Number + Drop>(
     first: (T, usize),
     second: (T, usize),
     third: (T, usize),
-) -> Result<Buckets<T>, Fail> {
+) -> Result<Buckets<T>, Fault> {
     let config = BucketsConfig {
         number: 2,
         has_min_max: true,

@@ -5,6 +5,7 @@ use crate::aggregator::Increment;
 use crate::number::Number;
 use crate::value_map::ValueMap;
 use otel_common::attributes::KeyValue;
+use otel_common::faults::Fault;
 use otel_common::lists::Items;
 use std::alloc::Global;
 use std::test::Fail;
@@ -16,12 +17,14 @@ const BOTH: Set = &[("a", 2), ("b", 1)];
 
 const TURNED: Set = &[("b", 1), ("a", 2)];
 
+const OTHER: Set = &[("c", 1)];
+
 /// Whether this is a sum of the set.
 fn is_sum<T: Number + Drop + PartialEq>(
     alloc: Global,
     given: &(Items<KeyValue>, Increment<T>),
     want: &(Set, T),
-) -> Result<bool, Fail> {
+) -> Result<bool, Fault> {
     let set = attributes(alloc, want.0)?;
     Ok(given.0.as_slice() == set.as_slice() && given.1.value == want.1)
 }
@@ -31,7 +34,7 @@ fn are_sums<T: Number + Drop + PartialEq>(
     alloc: Global,
     given: &[(Items<KeyValue>, Increment<T>)],
     wanted: &[(Set, T)],
-) -> Result<bool, Fail> {
+) -> Result<bool, Fault> {
     let mut are = given.len() == wanted.len();
     for (given, want) in given.iter().zip(wanted) {
         if !is_sum(alloc, given, want)? {
@@ -47,7 +50,7 @@ fn takes_in<T: Number + Drop>(
     map: &mut ValueMap<Increment<T>>,
     set: Set,
     value: T,
-) -> Result<bool, Fail> {
+) -> Result<bool, Fault> {
     map.prepare(&attributes(alloc, set)?)?;
     let is_prepared = map.is_prepared();
     if is_prepared {
@@ -56,18 +59,25 @@ fn takes_in<T: Number + Drop>(
     Ok(is_prepared)
 }
 
-/// A map with a limit of 2 after three records, of which one is given up.
-fn recorded<T: Number + Drop>(
+/// Takes in a record in one call.
+fn record<T: Number + Drop>(
     alloc: Global,
+    map: &mut ValueMap<Increment<T>>,
+    set: Set,
     value: T,
-    of_none: T,
-) -> Result<ValueMap<Increment<T>>, Fail> {
-    let mut map: ValueMap<Increment<T>> = ValueMap::new(alloc, (), 2)?;
-    map.measure(value, &attributes(alloc, TURNED)?)?;
-    map.prepare(&attributes(alloc, &[("c", 1)])?)?;
+) -> Result<(), Fault> {
+    map.measure(value, &attributes(alloc, set)?)
+}
+
+/// Prepares a record and gives it up, and tells whether none is prepared then.
+fn gives_up<T: Number + Drop>(
+    alloc: Global,
+    map: &mut ValueMap<Increment<T>>,
+    set: Set,
+) -> Result<bool, Fault> {
+    map.prepare(&attributes(alloc, set)?)?;
     map.give_up();
-    map.measure(of_none, &[])?;
-    Ok(map)
+    Ok(!map.is_prepared())
 }
 
 /// Whether a collection that changes nothing gives these sums, and what they add up to.
@@ -76,7 +86,7 @@ fn shows<T: Number + Drop + PartialEq>(
     map: &ValueMap<Increment<T>>,
     wanted: &[(Set, T)],
     total: u64,
-) -> Result<bool, Fail> {
+) -> Result<bool, Fault> {
     let given = map.collect_readonly(alloc)?;
     Ok(map.total(true) == total && are_sums(alloc, &given, wanted)?)
 }
@@ -86,7 +96,7 @@ fn gives<T: Number + Drop + PartialEq>(
     alloc: Global,
     map: &mut ValueMap<Increment<T>>,
     wanted: &[(Set, T)],
-) -> Result<bool, Fail> {
+) -> Result<bool, Fault> {
     let given = map.collect_and_reset(alloc)?;
     are_sums(alloc, &given, wanted)
 }
@@ -94,21 +104,28 @@ fn gives<T: Number + Drop + PartialEq>(
 #[test]
 fn a_map_gives_its_sets_in_order(rt: HostRuntime) -> Result<(), Fail> {
     let alloc = rt.alloc();
-    let mut map = recorded::<u64>(alloc, 1, 4)?;
-    assert!(rt; takes_in(alloc, &mut map, BOTH, 2)?);
-    assert!(rt; shows(alloc, &map, &[(NONE, 4), (BOTH, 3)], 7)?);
-    assert!(rt; gives(alloc, &mut map, &[(NONE, 4), (BOTH, 3)])?);
-    assert!(rt; gives(alloc, &mut map, &[])?);
-    assert!(rt; shows(alloc, &map, &[], 0)?);
+    let mut map: ValueMap<Increment<u64>> = ValueMap::new(alloc, (), 2)?;
+    assert!(rt; record(alloc, &mut map, TURNED, 1).is_ok());
+    assert!(rt; takes_in(alloc, &mut map, BOTH, 2).unwrap_or(false));
+    assert!(rt; gives_up(alloc, &mut map, OTHER).unwrap_or(false));
+    assert!(rt; record(alloc, &mut map, NONE, 4).is_ok());
+    assert!(rt; shows(alloc, &map, &[(NONE, 4), (BOTH, 3)], 7).unwrap_or(false));
+    assert!(rt; gives(alloc, &mut map, &[(NONE, 4), (BOTH, 3)]).unwrap_or(false));
+    assert!(rt; gives(alloc, &mut map, &[]).unwrap_or(false));
+    assert!(rt; shows(alloc, &map, &[], 0).unwrap_or(false));
     Ok(())
 }
 
 #[test]
 fn a_map_of_signed_sums(rt: HostRuntime) -> Result<(), Fail> {
     let alloc = rt.alloc();
-    let mut map = recorded::<i64>(alloc, 1, -4)?;
-    assert!(rt; takes_in(alloc, &mut map, BOTH, 2)?);
-    assert!(rt; shows(alloc, &map, &[(NONE, -4), (BOTH, 3)], 18446744073709551615)?);
-    assert!(rt; gives(alloc, &mut map, &[(NONE, -4), (BOTH, 3)])?);
+    let mut map: ValueMap<Increment<i64>> = ValueMap::new(alloc, (), 2)?;
+    assert!(rt; record(alloc, &mut map, TURNED, 1).is_ok());
+    assert!(rt; takes_in(alloc, &mut map, NONE, -4).unwrap_or(false));
+    assert!(rt; record(alloc, &mut map, BOTH, 2).is_ok());
+    assert!(rt;
+        shows(alloc, &map, &[(NONE, -4), (BOTH, 3)], 18446744073709551615).unwrap_or(false)
+    );
+    assert!(rt; gives(alloc, &mut map, &[(NONE, -4), (BOTH, 3)]).unwrap_or(false));
     Ok(())
 }
