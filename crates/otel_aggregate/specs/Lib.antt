@@ -1,5 +1,4 @@
 pub mod Data
 pub mod Streams
-pub mod Tallies
 pub mod Any
 pub mod Inner

@@ -8,9 +8,6 @@ ghost use Rattle.otel_model_stream.specs.Totals.{points_total};
 ghost use Rattle.otel_aggregate.specs.Data.{histogram_data};
 ghost use Rattle.otel_aggregate.specs.Streams.{new_stream, keeps_min_max, keeps_sum, is_known, recorded_set, recorded_attributes, collected, points_now};
 
-use crate::bounds::Bounds;
-use crate::buckets::Buckets;
-use crate::number::Number;
 use crate::settings::HistogramSettings;
 use crate::stream::Stream;
 use otel_common::attributes::KeyValue;
@@ -19,6 +16,9 @@ use otel_common::keys::Key;
 use otel_common::lists::Items;
 use otel_common::metrics::Temporality;
 use otel_data::histograms::Histogram as HistogramData;
+use otel_value_map::bounds::Bounds;
+use otel_value_map::buckets::Buckets;
+use otel_value_map::number::Number;
 use std::alloc::Global;
 use std::marker::Model;
 

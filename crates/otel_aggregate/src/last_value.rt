@@ -8,8 +8,6 @@ ghost use Rattle.otel_model_stream.specs.Totals.{points_total};
 ghost use Rattle.otel_aggregate.specs.Data.{gauge_data};
 ghost use Rattle.otel_aggregate.specs.Streams.{new_stream, is_known, recorded_set, recorded_attributes, collected, points_now};
 
-use crate::assign::Assign;
-use crate::number::Number;
 use crate::stream::Stream;
 use otel_common::attributes::KeyValue;
 use otel_common::faults::Fault;
@@ -17,6 +15,8 @@ use otel_common::keys::Key;
 use otel_common::lists::Items;
 use otel_common::metrics::Temporality;
 use otel_data::gauges::Gauge;
+use otel_value_map::assign::Assign;
+use otel_value_map::number::Number;
 use std::alloc::Global;
 use std::marker::Model;
 

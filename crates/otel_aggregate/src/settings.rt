@@ -1,6 +1,6 @@
 //! What a stream makes of its records.
 
-use crate::bounds::Bounds;
+use otel_value_map::bounds::Bounds;
 
 /// The bounds of a histogram, and what it keeps besides the counts of its buckets.
 #[derive(Drop)]

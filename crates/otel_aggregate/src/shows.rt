@@ -6,12 +6,8 @@ ghost use Rattle.otel_common.specs.declared.metrics.Temporality.{Temporality as 
 ghost use Rattle.otel_model_stream.specs.Entries.{Point};
 ghost use Rattle.otel_model_stream.specs.Folds.{Aggregate, Sum as SumAggregate, LastValue as LastValueAggregate, Histogram as HistogramAggregate, empty_of, sample_of, bounds_of};
 ghost use Rattle.otel_model_stream.specs.Data.{sum_point, gauge_point, histogram_point};
-ghost use Rattle.otel_aggregate.specs.Tallies.{copies};
+ghost use Rattle.otel_value_map.specs.Tallies.{copies};
 
-use crate::aggregator::{Aggregator, Increment};
-use crate::assign::Assign;
-use crate::buckets::{Buckets, BucketsConfig};
-use crate::number::Number;
 use crate::settings::HistogramSettings;
 use otel_common::attributes::KeyValue;
 use otel_common::faults::Fault;
@@ -21,6 +17,10 @@ use otel_data::gauges::Gauge;
 use otel_data::histograms::Histogram;
 use otel_data::points::{GaugeDataPoint, HistogramDataPoint, SumDataPoint};
 use otel_data::sums::Sum;
+use otel_value_map::aggregator::{Aggregator, Increment};
+use otel_value_map::assign::Assign;
+use otel_value_map::buckets::{Buckets, BucketsConfig};
+use otel_value_map::number::Number;
 use std::alloc::Global;
 
 /// An aggregator whose records are shown by a collection.

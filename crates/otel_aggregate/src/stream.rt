@@ -9,14 +9,14 @@ ghost use Rattle.otel_model_stream.specs.Totals.{points_total};
 ghost use Rattle.otel_aggregate.specs.Data.{temporality_of};
 ghost use Rattle.otel_aggregate.specs.Streams.{new_stream, is_known, recorded_set, recorded_attributes, collected, points_now};
 
-use crate::sets::allowed_attributes;
 use crate::shows::{Shows, into_points};
-use crate::value_map::ValueMap;
 use otel_common::attributes::KeyValue;
 use otel_common::faults::Fault;
 use otel_common::keys::Key;
 use otel_common::lists::Items;
 use otel_common::metrics::Temporality;
+use otel_value_map::sets::allowed_attributes;
+use otel_value_map::value_map::ValueMap;
 use std::alloc::Global;
 use std::marker::Model;
 

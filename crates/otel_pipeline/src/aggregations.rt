@@ -9,7 +9,7 @@ ghost use Rattle.otel_model_stream.specs.Totals.{size};
 ghost use Rattle.otel_pipeline.specs.Streams.{IsMakeable, asks_monotonic};
 
 use crate::numbers::bits_of;
-use otel_aggregate::bounds::Bounds;
+use otel_value_map::bounds::Bounds;
 use otel_aggregate::settings::{AnySettings, HistogramSettings};
 use otel_common::faults::Fault;
 use otel_common::metrics::Aggregation;

@@ -5,7 +5,7 @@ ghost use Rattle.otel_model.specs.Demands.{is_valid, fits, default_bounds, kind_
 ghost use Rattle.otel_pipeline.specs.Defaults.{is_default};
 
 use crate::about::About;
-use otel_aggregate::bounds::is_rising;
+use otel_value_map::bounds::is_rising;
 use otel_common::faults::Fault;
 use otel_common::laws::copied_aggregation;
 use otel_common::lists::Items;

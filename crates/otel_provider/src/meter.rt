@@ -7,7 +7,7 @@ ghost use Rattle.otel_model.specs.Checks.{name_fault, name_fault_text, optional_
 ghost use Rattle.otel_model_stream.specs.Data.{rises};
 ghost use Rattle.otel_provider.specs.Correspondence.{IsAnswer};
 
-use otel_aggregate::bounds::is_rising;
+use otel_value_map::bounds::is_rising;
 use otel_common::metrics::MetricError;
 
 const NAME_EMPTY: &str = "name must be non-empty";

@@ -1,26 +1,53 @@
 //! Streams of any aggregate, as the layer above uses them.
 
-use super::{attribute, one};
+use super::histograms::{Spread, is_spread, rising};
+use super::last_values::are_last_values;
+use super::sums::are_sums;
+use super::{X, attributes};
 use crate::any::AnyAggregate;
-use crate::bounds::Bounds;
 use crate::settings::{AnySettings, HistogramSettings};
 use otel_common::attributes::KeyValue;
+use otel_common::faults::Fault;
 use otel_common::keys::Key;
 use otel_common::lists::Items;
 use otel_common::metrics::Temporality;
 use otel_data::aggregated::{AggregatedMetrics, MetricData};
 use otel_data::numbers::NumberValue;
-use otel_data::points::{GaugeDataPoint, HistogramDataPoint, SumDataPoint};
 use std::alloc::Global;
 use std::test::Fail;
 
+/// The value of the one point of x=1, by its aggregate and number type.
+#[derive(Drop)]
+enum Shown {
+    SumU64(u64),
+    SumI64(i64),
+    LastValueU64(u64),
+    LastValueI64(i64),
+    HistogramU64(Spread<u64>),
+    HistogramI64(Spread<i64>),
+}
+
+/// What a stream shows after two records of x=1: its point, its total, and its total after a collection.
+#[derive(Drop)]
+struct Wanted {
+    shown: Shown,
+    total: u64,
+    total_after: u64,
+}
+
 fn spreading(alloc: Global) -> Result<AnySettings, Fail> {
-    let bounds = Bounds::new(Items::from(vec![in alloc; 0, 5]?)).ok_or("bounds that do not rise")?;
     Ok(AnySettings::Histogram(HistogramSettings {
-        bounds,
+        bounds: rising(alloc, &[0, 5])?,
         has_min_max: true,
         has_sum: true,
     }))
+}
+
+fn is_signed(value: NumberValue) -> bool {
+    match value {
+        NumberValue::U64(_) => false,
+        NumberValue::I64(_) => true,
+    }
 }
 
 /// Takes in a record, if the value is of the stream's type.
@@ -28,7 +55,7 @@ fn record(
     stream: &mut AnyAggregate,
     value: NumberValue,
     attributes: &[KeyValue],
-) -> Result<(), Fail> {
+) -> Result<(), Fault> {
     stream.prepare(attributes)?;
     let fits = match value {
         NumberValue::U64(_) => !stream.is_signed(),
@@ -40,257 +67,182 @@ fn record(
     Ok(())
 }
 
-/// A stream with a limit of 10, made at 100, after two records of x=1.
-fn recorded(
+/// Takes in two records of x=1.
+fn record_both(
+    alloc: Global,
+    stream: &mut AnyAggregate,
+    values: [NumberValue; 2],
+) -> Result<(), Fault> {
+    let attributes = attributes(alloc, X)?;
+    record(stream, values[0], &attributes)?;
+    record(stream, values[1], &attributes)
+}
+
+/// Whether the data of unsigned numbers are of this one point.
+fn is_unsigned_shown(alloc: Global, data: &MetricData<u64>, want: Shown) -> Result<bool, Fault> {
+    match (data, want) {
+        (MetricData::Sum(data), Shown::SumU64(value)) => {
+            are_sums(alloc, data, 100, 200, &[(X, value)])
+        }
+        (MetricData::Gauge(data), Shown::LastValueU64(value)) => {
+            are_last_values(alloc, data, 100, 200, &[(X, value)])
+        }
+        (MetricData::Histogram(data), Shown::HistogramU64(spread)) => {
+            is_spread(alloc, data, X, &[0, 5], spread)
+        }
+        _ => Ok(false),
+    }
+}
+
+/// Whether the data of signed numbers are of this one point.
+fn is_signed_shown(alloc: Global, data: &MetricData<i64>, want: Shown) -> Result<bool, Fault> {
+    match (data, want) {
+        (MetricData::Sum(data), Shown::SumI64(value)) => {
+            are_sums(alloc, data, 100, 200, &[(X, value)])
+        }
+        (MetricData::Gauge(data), Shown::LastValueI64(value)) => {
+            are_last_values(alloc, data, 100, 200, &[(X, value)])
+        }
+        (MetricData::Histogram(data), Shown::HistogramI64(spread)) => {
+            is_spread(alloc, data, X, &[0, 5], spread)
+        }
+        _ => Ok(false),
+    }
+}
+
+/// Whether the points of a stream at 200 are this one.
+fn shows(alloc: Global, stream: &AnyAggregate, want: Shown) -> Result<bool, Fault> {
+    match stream.points(alloc, 200)? {
+        AggregatedMetrics::U64(data) => is_unsigned_shown(alloc, &data, want),
+        AggregatedMetrics::I64(data) => is_signed_shown(alloc, &data, want),
+    }
+}
+
+/// Whether a stream shows what is wanted after two records of x=1, and has nothing prepared.
+fn is_as_wanted(
+    alloc: Global,
+    stream: &mut AnyAggregate,
+    values: [NumberValue; 2],
+    want: Wanted,
+) -> Result<bool, Fault> {
+    record_both(alloc, stream, values)?;
+    let is_shown = shows(alloc, stream, want.shown)?;
+    let is_still = !stream.is_prepared() && stream.total() == want.total;
+    stream.finish(200);
+    Ok(is_shown && is_still && stream.total() == want.total_after)
+}
+
+/// Whether a stream with a limit of 10, made at 100, shows what is wanted after two records of x=1.
+fn follows(
     alloc: Global,
     settings: AnySettings,
     temporality: Temporality,
-    first: NumberValue,
-    second: NumberValue,
-) -> Result<AnyAggregate, Fail> {
-    let is_signed = match first {
-        NumberValue::U64(_) => false,
-        NumberValue::I64(_) => true,
-    };
+    values: [NumberValue; 2],
+    want: Wanted,
+) -> Result<bool, Fault> {
+    let is_signed = is_signed(values[0]);
     let mut stream = AnyAggregate::new(alloc, settings, is_signed, temporality, None, 10, 100)?;
-    let attributes = one(alloc, "x", 1)?;
-    record(&mut stream, first, &attributes)?;
-    record(&mut stream, second, &attributes)?;
-    Ok(stream)
-}
-
-/// Whether a collection shows one point of x=1, this sum.
-fn shows_sum_u64(alloc: Global, stream: &AnyAggregate, want: u64) -> Result<bool, Fail> {
-    let want = SumDataPoint::new(
-        Items::from(one(alloc, "x", 1)?),
-        Items::from(Vec::new(alloc)),
-        want,
-    );
-    match stream.points(alloc, 200)? {
-        AggregatedMetrics::U64(MetricData::Sum(given)) => {
-            Ok(given.data_points().as_slice() == [want].as_slice())
-        }
-        _ => Ok(false),
-    }
-}
-
-/// Whether a collection shows one point of x=1, this sum.
-fn shows_sum_i64(alloc: Global, stream: &AnyAggregate, want: i64) -> Result<bool, Fail> {
-    let want = SumDataPoint::new(
-        Items::from(one(alloc, "x", 1)?),
-        Items::from(Vec::new(alloc)),
-        want,
-    );
-    match stream.points(alloc, 200)? {
-        AggregatedMetrics::I64(MetricData::Sum(given)) => {
-            Ok(given.data_points().as_slice() == [want].as_slice())
-        }
-        _ => Ok(false),
-    }
-}
-
-/// Whether a collection shows one point of x=1, this gauge.
-fn shows_gauge_u64(alloc: Global, stream: &AnyAggregate, want: u64) -> Result<bool, Fail> {
-    let want = GaugeDataPoint::new(
-        Items::from(one(alloc, "x", 1)?),
-        Items::from(Vec::new(alloc)),
-        want,
-    );
-    match stream.points(alloc, 200)? {
-        AggregatedMetrics::U64(MetricData::Gauge(given)) => {
-            Ok(given.data_points().as_slice() == [want].as_slice())
-        }
-        _ => Ok(false),
-    }
-}
-
-/// Whether a collection shows one point of x=1, this gauge.
-fn shows_gauge_i64(alloc: Global, stream: &AnyAggregate, want: i64) -> Result<bool, Fail> {
-    let want = GaugeDataPoint::new(
-        Items::from(one(alloc, "x", 1)?),
-        Items::from(Vec::new(alloc)),
-        want,
-    );
-    match stream.points(alloc, 200)? {
-        AggregatedMetrics::I64(MetricData::Gauge(given)) => {
-            Ok(given.data_points().as_slice() == [want].as_slice())
-        }
-        _ => Ok(false),
-    }
-}
-
-/// Whether a collection shows one point of x=1, a histogram of these counts, ends and sum.
-fn shows_histogram_u64(
-    alloc: Global,
-    stream: &AnyAggregate,
-    counts: [u64; 3],
-    ends: (u64, u64),
-    sum: u64,
-) -> Result<bool, Fail> {
-    let want = HistogramDataPoint::new(
-        Items::from(one(alloc, "x", 1)?),
-        Items::from(Vec::new(alloc)),
-        Items::from(vec![in alloc; 0, 5]?),
-        Items::from(Vec::from_clones(alloc, &counts)?),
-        2,
-        Some(ends.0),
-        Some(ends.1),
-        sum,
-    );
-    match stream.points(alloc, 200)? {
-        AggregatedMetrics::U64(MetricData::Histogram(given)) => {
-            Ok(given.data_points().as_slice() == [want].as_slice())
-        }
-        _ => Ok(false),
-    }
-}
-
-/// Whether a collection shows one point of x=1, a histogram of these counts, ends and sum.
-fn shows_histogram_i64(
-    alloc: Global,
-    stream: &AnyAggregate,
-    counts: [u64; 3],
-    ends: (i64, i64),
-    sum: i64,
-) -> Result<bool, Fail> {
-    let want = HistogramDataPoint::new(
-        Items::from(one(alloc, "x", 1)?),
-        Items::from(Vec::new(alloc)),
-        Items::from(vec![in alloc; 0, 5]?),
-        Items::from(Vec::from_clones(alloc, &counts)?),
-        2,
-        Some(ends.0),
-        Some(ends.1),
-        sum,
-    );
-    match stream.points(alloc, 200)? {
-        AggregatedMetrics::I64(MetricData::Histogram(given)) => {
-            Ok(given.data_points().as_slice() == [want].as_slice())
-        }
-        _ => Ok(false),
-    }
+    let resets = stream.resets() == (temporality == Temporality::Delta);
+    Ok(resets && is_as_wanted(alloc, &mut stream, values, want)?)
 }
 
 #[test]
 fn unsigned_sums(rt: HostRuntime) -> Result<(), Fail> {
-    let alloc = rt.alloc();
     let settings = AnySettings::Sum { is_monotonic: true };
-    let mut stream = recorded(
-        alloc,
-        settings,
-        Temporality::Delta,
-        NumberValue::U64(3),
-        NumberValue::U64(4),
-    )?;
-    assert!(rt; shows_sum_u64(alloc, &stream, 7)?);
-    assert!(rt; !stream.is_prepared());
-    assert_eq!(rt; stream.total(), 7);
-    assert_eq!(rt; stream.resets(), true);
-    stream.finish(200);
-    assert_eq!(rt; stream.total(), 0);
+    let values = [NumberValue::U64(3), NumberValue::U64(4)];
+    let want = Wanted {
+        shown: Shown::SumU64(7),
+        total: 7,
+        total_after: 0,
+    };
+    assert!(rt; follows(rt.alloc(), settings, Temporality::Delta, values, want)?);
     Ok(())
 }
 
 #[test]
 fn signed_sums(rt: HostRuntime) -> Result<(), Fail> {
-    let alloc = rt.alloc();
     let settings = AnySettings::Sum {
         is_monotonic: false,
     };
-    let mut stream = recorded(
-        alloc,
-        settings,
-        Temporality::Cumulative,
-        NumberValue::I64(-3),
-        NumberValue::I64(1),
-    )?;
-    assert!(rt; shows_sum_i64(alloc, &stream, -2)?);
-    assert!(rt; !stream.is_prepared());
-    assert_eq!(rt; stream.total(), 18446744073709551614);
-    assert_eq!(rt; stream.resets(), false);
-    stream.finish(200);
-    assert_eq!(rt; stream.total(), 18446744073709551614);
+    let values = [NumberValue::I64(-3), NumberValue::I64(1)];
+    let want = Wanted {
+        shown: Shown::SumI64(-2),
+        total: 18446744073709551614,
+        total_after: 18446744073709551614,
+    };
+    assert!(rt; follows(rt.alloc(), settings, Temporality::Cumulative, values, want)?);
     Ok(())
 }
 
 #[test]
 fn unsigned_last_values(rt: HostRuntime) -> Result<(), Fail> {
-    let alloc = rt.alloc();
     let settings = AnySettings::LastValue;
-    let mut stream = recorded(
-        alloc,
-        settings,
-        Temporality::Cumulative,
-        NumberValue::U64(3),
-        NumberValue::U64(2),
-    )?;
-    assert!(rt; shows_gauge_u64(alloc, &stream, 2)?);
-    assert!(rt; !stream.is_prepared());
-    assert_eq!(rt; stream.total(), 0);
-    assert_eq!(rt; stream.resets(), false);
-    stream.finish(200);
-    assert_eq!(rt; stream.total(), 0);
+    let values = [NumberValue::U64(3), NumberValue::U64(2)];
+    let want = Wanted {
+        shown: Shown::LastValueU64(2),
+        total: 0,
+        total_after: 0,
+    };
+    assert!(rt; follows(rt.alloc(), settings, Temporality::Cumulative, values, want)?);
     Ok(())
 }
 
 #[test]
 fn signed_last_values(rt: HostRuntime) -> Result<(), Fail> {
-    let alloc = rt.alloc();
     let settings = AnySettings::LastValue;
-    let mut stream = recorded(
-        alloc,
-        settings,
-        Temporality::Delta,
-        NumberValue::I64(3),
-        NumberValue::I64(-2),
-    )?;
-    assert!(rt; shows_gauge_i64(alloc, &stream, -2)?);
-    assert!(rt; !stream.is_prepared());
-    assert_eq!(rt; stream.total(), 0);
-    assert_eq!(rt; stream.resets(), true);
-    stream.finish(200);
-    assert_eq!(rt; stream.total(), 0);
+    let values = [NumberValue::I64(3), NumberValue::I64(-2)];
+    let want = Wanted {
+        shown: Shown::LastValueI64(-2),
+        total: 0,
+        total_after: 0,
+    };
+    assert!(rt; follows(rt.alloc(), settings, Temporality::Delta, values, want)?);
     Ok(())
 }
 
 #[test]
 fn unsigned_histograms(rt: HostRuntime) -> Result<(), Fail> {
-    let alloc = rt.alloc();
-    let settings = spreading(alloc)?;
-    let mut stream = recorded(
-        alloc,
-        settings,
-        Temporality::Cumulative,
-        NumberValue::U64(5),
-        NumberValue::U64(6),
-    )?;
-    assert!(rt; shows_histogram_u64(alloc, &stream, [0, 1, 1], (5, 6), 11)?);
-    assert!(rt; !stream.is_prepared());
-    assert_eq!(rt; stream.total(), 2);
-    assert_eq!(rt; stream.resets(), false);
-    stream.finish(200);
-    assert_eq!(rt; stream.total(), 2);
+    let settings = spreading(rt.alloc())?;
+    let values = [NumberValue::U64(5), NumberValue::U64(6)];
+    let spread = Spread {
+        counts: &[0, 1, 1],
+        count: 2,
+        ends: Some((5, 6)),
+        sum: 11,
+    };
+    let want = Wanted {
+        shown: Shown::HistogramU64(spread),
+        total: 2,
+        total_after: 2,
+    };
+    assert!(rt; follows(rt.alloc(), settings, Temporality::Cumulative, values, want)?);
     Ok(())
 }
 
 #[test]
 fn signed_histograms(rt: HostRuntime) -> Result<(), Fail> {
-    let alloc = rt.alloc();
-    let settings = spreading(alloc)?;
-    let mut stream = recorded(
-        alloc,
-        settings,
-        Temporality::Delta,
-        NumberValue::I64(-1),
-        NumberValue::I64(0),
-    )?;
-    assert!(rt; shows_histogram_i64(alloc, &stream, [2, 0, 0], (-1, 0), -1)?);
-    assert!(rt; !stream.is_prepared());
-    assert_eq!(rt; stream.total(), 2);
-    assert_eq!(rt; stream.resets(), true);
-    stream.finish(200);
-    assert_eq!(rt; stream.total(), 0);
+    let settings = spreading(rt.alloc())?;
+    let values = [NumberValue::I64(-1), NumberValue::I64(0)];
+    let spread = Spread {
+        counts: &[2, 0, 0],
+        count: 2,
+        ends: Some((-1, 0)),
+        sum: -1,
+    };
+    let want = Wanted {
+        shown: Shown::HistogramI64(spread),
+        total: 2,
+        total_after: 0,
+    };
+    assert!(rt; follows(rt.alloc(), settings, Temporality::Delta, values, want)?);
     Ok(())
+}
+
+/// Whether last values of one key show a record of two attributes.
+fn drops_other_keys(alloc: Global, gauge: &mut AnyAggregate) -> Result<bool, Fault> {
+    let attributes = attributes(alloc, "y=1 x=1")?;
+    record(gauge, NumberValue::U64(4), &attributes)?;
+    shows(alloc, gauge, Shown::LastValueU64(4))
 }
 
 #[test]
@@ -300,8 +252,6 @@ fn an_allow_list_serves_every_aggregate(rt: HostRuntime) -> Result<(), Fail> {
     let settings = AnySettings::LastValue;
     let temporality = Temporality::Cumulative;
     let mut gauge = AnyAggregate::new(alloc, settings, false, temporality, Some(allow), 10, 100)?;
-    let attributes = vec![in alloc; attribute(alloc, "y", 1)?, attribute(alloc, "x", 1)?]?;
-    record(&mut gauge, NumberValue::U64(4), &attributes)?;
-    assert!(rt; shows_gauge_u64(alloc, &gauge, 4)?);
+    assert!(rt; drops_other_keys(alloc, &mut gauge).unwrap_or(false));
     Ok(())
 }

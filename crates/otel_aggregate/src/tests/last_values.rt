@@ -1,81 +1,118 @@
 //! Last values: whole points, of both number types.
 
-use super::one;
-use crate::aggregator::{Aggregator, create_fold, reset_fold, update_fold};
-use crate::assign::Assign;
+use super::{B, NONE, Set, X, attributes};
 use crate::last_value::LastValue;
-use crate::number::Number;
-use otel_common::attributes::KeyValue;
+use otel_common::faults::Fault;
 use otel_common::lists::Items;
 use otel_common::metrics::Temporality;
+use otel_data::gauges::Gauge;
 use otel_data::points::GaugeDataPoint;
+use otel_value_map::number::Number;
 use std::alloc::Global;
 use std::test::Fail;
 
-/// Last values with a limit of 10, made at 100.
-fn values<T: Number + Drop>(alloc: Global, temporality: Temporality) -> Result<LastValue<T>, Fail> {
-    Ok(LastValue::new(alloc, temporality, None, 10, 100)?)
+/// The points of these sets and values, without exemplars.
+fn points<T: Copy + Drop>(
+    alloc: Global,
+    wanted: &[(Set, T)],
+) -> Result<Vec<GaugeDataPoint<T>>, Fault> {
+    let mut points = Vec::new(alloc);
+    for (set, value) in wanted {
+        let attributes = Items::from(attributes(alloc, *set)?);
+        points.push(GaugeDataPoint::new(attributes, Items::from(Vec::new(alloc)), *value))?;
+    }
+    Ok(points)
 }
 
-/// A point of these parts, without exemplars.
-fn point<T>(alloc: Global, attributes: Vec<KeyValue>, value: T) -> GaugeDataPoint<T> {
-    GaugeDataPoint::new(Items::from(attributes), Items::from(Vec::new(alloc)), value)
+/// Whether the data are of these points, whole and in order, between these moments.
+pub fn are_last_values<T: Copy + Drop + PartialEq>(
+    alloc: Global,
+    data: &Gauge<T>,
+    start: u64,
+    now: u64,
+    wanted: &[(Set, T)],
+) -> Result<bool, Fault> {
+    let wanted = points(alloc, wanted)?;
+    let moments = data.start_time() == Some(start) && data.time() == now;
+    Ok(moments && data.data_points().as_slice() == wanted.as_slice())
+}
+
+/// Last values with a limit of 10, made at 100.
+fn made<T: Number + Drop>(alloc: Global, temporality: Temporality) -> Result<LastValue<T>, Fault> {
+    LastValue::new(alloc, temporality, None, 10, 100)
+}
+
+fn measure<T: Number + Drop>(
+    alloc: Global,
+    gauge: &mut LastValue<T>,
+    set: Set,
+    value: T,
+) -> Result<(), Fault> {
+    gauge.measure(value, &attributes(alloc, set)?)
+}
+
+/// Takes in a record without attributes in two phases.
+fn take_in(gauge: &mut LastValue<i64>, value: i64) -> Result<(), Fault> {
+    gauge.prepare(&[])?;
+    if gauge.is_prepared() {
+        gauge.measure_ready(value);
+    }
+    Ok(())
+}
+
+/// Whether points between two moments are these.
+fn shows(
+    alloc: Global,
+    gauge: &LastValue<i64>,
+    now: u64,
+    wanted: &[(Set, i64)],
+) -> Result<bool, Fault> {
+    let data = gauge.points(alloc, now)?;
+    are_last_values(alloc, &data, 100, now, wanted)
+}
+
+/// Whether a collection between two moments gives these points.
+fn gives<T: Number + Drop + PartialEq>(
+    alloc: Global,
+    gauge: &mut LastValue<T>,
+    start: u64,
+    now: u64,
+    wanted: &[(Set, T)],
+) -> Result<bool, Fault> {
+    let data = gauge.collect(alloc, now)?;
+    are_last_values(alloc, &data, start, now, wanted)
 }
 
 #[test]
 fn last_value_aggregation(rt: HostRuntime) -> Result<(), Fail> {
     let alloc = rt.alloc();
-    let mut gauge = values::<u64>(alloc, Temporality::Cumulative)?;
-    gauge.measure(2, &one(alloc, "b", 2)?)?;
-    let data = gauge.collect(alloc, 200)?;
-    assert!(rt;
-        data.data_points().as_slice() == [point(alloc, one(alloc, "b", 2)?, 2u64)].as_slice()
-    );
-    assert_eq!(rt; data.start_time(), Some(100));
-    assert_eq!(rt; data.time(), 200);
+    let mut gauge = made::<u64>(alloc, Temporality::Cumulative)?;
+    assert!(rt; measure(alloc, &mut gauge, B, 2).is_ok());
+    assert!(rt; gives(alloc, &mut gauge, 100, 200, &[(B, 2)]).unwrap_or(false));
     Ok(())
 }
 
 #[test]
 fn the_last_value_stays(rt: HostRuntime) -> Result<(), Fail> {
     let alloc = rt.alloc();
-    let mut gauge = values::<i64>(alloc, Temporality::Cumulative)?;
+    let mut gauge = made::<i64>(alloc, Temporality::Cumulative)?;
     assert!(rt; !gauge.resets());
     assert!(rt; !gauge.is_prepared());
-    gauge.measure(7, &[])?;
-    gauge.prepare(&[])?;
-    assert!(rt; gauge.is_prepared());
-    gauge.measure_ready(-3);
+    assert!(rt; gauge.measure(7, &[]).is_ok());
+    assert!(rt; take_in(&mut gauge, -3).is_ok());
     assert_eq!(rt; gauge.total(), 0);
-    let want = [point(alloc, Vec::new(alloc), -3i64)];
-    assert!(rt; gauge.points(alloc, 200)?.data_points().as_slice() == want.as_slice());
+    assert!(rt; shows(alloc, &gauge, 200, &[(NONE, -3)]).unwrap_or(false));
     gauge.finish(200);
-    assert!(rt; gauge.collect(alloc, 300)?.data_points().as_slice() == want.as_slice());
+    assert!(rt; gives(alloc, &mut gauge, 100, 300, &[(NONE, -3)]).unwrap_or(false));
     Ok(())
 }
 
 #[test]
 fn a_delta_value_is_forgotten(rt: HostRuntime) -> Result<(), Fail> {
     let alloc = rt.alloc();
-    let mut gauge = values::<i64>(alloc, Temporality::Delta)?;
-    gauge.measure(7, &one(alloc, "x", 1)?)?;
-    let want = [point(alloc, one(alloc, "x", 1)?, 7i64)];
-    assert!(rt; gauge.collect(alloc, 200)?.data_points().as_slice() == want.as_slice());
-    let data = gauge.collect(alloc, 300)?;
-    assert_eq!(rt; data.data_points().count(), 0);
-    assert_eq!(rt; data.start_time(), Some(200));
-    Ok(())
-}
-
-#[test]
-fn an_assign_keeps_the_last(rt: HostRuntime) -> Result<(), Fail> {
-    let alloc = rt.alloc();
-    let mut last: Assign<i64> = create_fold(alloc, &())?;
-    update_fold(&mut last, 3);
-    last.update(-4);
-    assert_eq!(rt; last.copy(alloc)?.value, -4);
-    assert_eq!(rt; last.weight(), 0);
-    reset_fold(&mut last);
-    assert_eq!(rt; last.value, 0);
+    let mut gauge = made::<i64>(alloc, Temporality::Delta)?;
+    assert!(rt; measure(alloc, &mut gauge, X, 7).is_ok());
+    assert!(rt; gives(alloc, &mut gauge, 100, 200, &[(X, 7)]).unwrap_or(false));
+    assert!(rt; gives(alloc, &mut gauge, 200, 300, &[]).unwrap_or(false));
     Ok(())
 }

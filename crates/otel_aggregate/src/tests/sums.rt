@@ -1,32 +1,344 @@
-//! Sums of both number types, as whole points, and signed numbers.
+//! Sums: what collections give after each of some steps, as whole points.
 
-use super::one;
-use crate::number::Number;
+use super::{B, NONE, OVERFLOW, Set, X, Y, Z, attributes};
 use crate::sum::Sum;
-use otel_common::attributes::KeyValue;
+use otel_common::faults::Fault;
+use otel_common::keys::Key;
 use otel_common::lists::Items;
 use otel_common::metrics::Temporality;
 use otel_data::points::SumDataPoint;
+use otel_data::sums::Sum as SumData;
+use otel_value_map::number::Number;
 use std::alloc::Global;
 use std::test::Fail;
 
-/// A point of these parts, without exemplars.
-fn point<T>(alloc: Global, attributes: Vec<KeyValue>, value: T) -> SumDataPoint<T> {
-    SumDataPoint::new(Items::from(attributes), Items::from(Vec::new(alloc)), value)
+/// What a sum is made with, besides its limit: its keys, if there is an allow-list.
+#[derive(Clone, Copy)]
+struct Kind {
+    temporality: Temporality,
+    is_monotonic: bool,
+    allow: Option<&'static str>,
+}
+
+const CUMULATIVE: Kind = Kind {
+    temporality: Temporality::Cumulative,
+    is_monotonic: true,
+    allow: None,
+};
+
+const DELTA: Kind = Kind {
+    temporality: Temporality::Delta,
+    is_monotonic: true,
+    allow: None,
+};
+
+/// What is done to a sum, or what is seen of it.
+#[derive(Clone, Copy)]
+enum Step {
+    Record(Set, u64),
+    Prepare(Set),
+    TakeIn(u64),
+    IsPrepared(bool),
+    Total(u64),
+    /// What is shown between two moments, and nothing changes.
+    Shows(u64, u64, &'static [(Set, u64)]),
+    Finish(u64),
+    /// A collection between two moments.
+    Gives(u64, u64, &'static [(Set, u64)]),
+}
+
+/// The points of these sets and values, without exemplars.
+fn points<T: Copy + Drop>(
+    alloc: Global,
+    wanted: &[(Set, T)],
+) -> Result<Vec<SumDataPoint<T>>, Fault> {
+    let mut points = Vec::new(alloc);
+    for (set, value) in wanted {
+        let attributes = Items::from(attributes(alloc, *set)?);
+        points.push(SumDataPoint::new(attributes, Items::from(Vec::new(alloc)), *value))?;
+    }
+    Ok(points)
+}
+
+/// Whether the data are of these points, whole and in order, between these moments.
+pub fn are_sums<T: Copy + Drop + PartialEq>(
+    alloc: Global,
+    data: &SumData<T>,
+    start: u64,
+    now: u64,
+    wanted: &[(Set, T)],
+) -> Result<bool, Fault> {
+    let wanted = points(alloc, wanted)?;
+    let moments = data.start_time() == start && data.time() == now;
+    Ok(moments && data.data_points().as_slice() == wanted.as_slice())
+}
+
+/// Whether the data are of a sum of this kind.
+fn is_of<T>(data: &SumData<T>, kind: Kind) -> bool {
+    data.temporality() == kind.temporality && data.is_monotonic() == kind.is_monotonic
+}
+
+/// Takes in a record.
+fn record<T: Number + Drop>(
+    alloc: Global,
+    sum: &mut Sum<T>,
+    set: Set,
+    value: T,
+) -> Result<bool, Fault> {
+    sum.measure(value, &attributes(alloc, set)?)?;
+    Ok(true)
+}
+
+fn prepare<T: Number + Drop>(alloc: Global, sum: &mut Sum<T>, set: Set) -> Result<bool, Fault> {
+    sum.prepare(&attributes(alloc, set)?)?;
+    Ok(true)
+}
+
+/// Takes in what was prepared, if anything was.
+fn take_in<T: Number + Drop>(sum: &mut Sum<T>, value: T) -> bool {
+    let is_prepared = sum.is_prepared();
+    if is_prepared {
+        sum.measure_ready(value);
+    }
+    is_prepared
+}
+
+fn finish<T: Number + Drop>(sum: &mut Sum<T>, now: u64) -> bool {
+    sum.finish(now);
+    true
+}
+
+/// Whether a sum shows these points between two moments.
+fn shows<T: Number + Drop + PartialEq>(
+    alloc: Global,
+    sum: &Sum<T>,
+    kind: Kind,
+    moments: (u64, u64),
+    wanted: &[(Set, T)],
+) -> Result<bool, Fault> {
+    let data = sum.points(alloc, moments.1)?;
+    Ok(are_sums(alloc, &data, moments.0, moments.1, wanted)? && is_of(&data, kind))
+}
+
+/// Whether a collection gives these points between two moments.
+fn gives<T: Number + Drop + PartialEq>(
+    alloc: Global,
+    sum: &mut Sum<T>,
+    kind: Kind,
+    moments: (u64, u64),
+    wanted: &[(Set, T)],
+) -> Result<bool, Fault> {
+    let data = sum.collect(alloc, moments.1)?;
+    Ok(are_sums(alloc, &data, moments.0, moments.1, wanted)? && is_of(&data, kind))
+}
+
+/// Does a step, and tells whether what is seen is as wanted.
+fn goes(alloc: Global, sum: &mut Sum<u64>, kind: Kind, step: &Step) -> Result<bool, Fault> {
+    match step {
+        Step::Record(set, value) => record(alloc, sum, *set, *value),
+        Step::Prepare(set) => prepare(alloc, sum, *set),
+        Step::TakeIn(value) => Ok(take_in(sum, *value)),
+        Step::IsPrepared(want) => Ok(sum.is_prepared() == *want),
+        Step::Total(want) => Ok(sum.total() == *want),
+        Step::Shows(start, now, want) => shows(alloc, sum, kind, (*start, *now), *want),
+        Step::Finish(now) => Ok(finish(sum, *now)),
+        Step::Gives(start, now, want) => gives(alloc, sum, kind, (*start, *now), *want),
+    }
+}
+
+/// A sum of this kind without records, made at 100.
+fn made<T: Number + Drop>(alloc: Global, kind: Kind, limit: usize) -> Result<Sum<T>, Fault> {
+    let allow = match kind.allow {
+        None => None,
+        Some(key) => Some(Items::from(vec![in alloc; Key::new(alloc, key)?]?)),
+    };
+    Ok(Sum::new(
+        alloc,
+        kind.temporality,
+        allow,
+        limit,
+        100,
+        kind.is_monotonic,
+    )?)
+}
+
+/// Whether a sum of this kind and limit, made at 100, goes so from step to step.
+fn follows(alloc: Global, kind: Kind, limit: usize, steps: &[Step]) -> Result<bool, Fault> {
+    let mut sum = made(alloc, kind, limit)?;
+    let mut as_wanted = sum.resets() == (kind.temporality == Temporality::Delta);
+    for step in steps {
+        if !goes(alloc, &mut sum, kind, step)? {
+            as_wanted = false;
+        }
+    }
+    Ok(as_wanted)
+}
+
+#[test]
+fn past_the_limit_the_overflow_entry_is_used(rt: HostRuntime) -> Result<(), Fail> {
+    let steps: [Step; 6] = [
+        Step::Record(X, 1),
+        Step::Record(Y, 2),
+        Step::Record(Z, 4),
+        Step::Record(X, 8),
+        Step::Gives(100, 200, &[(X, 9), (OVERFLOW, 6)]),
+        Step::Gives(100, 200, &[(X, 9), (OVERFLOW, 6)]),
+    ];
+    assert!(rt; follows(rt.alloc(), CUMULATIVE, 1, &steps)?);
+    Ok(())
+}
+
+#[test]
+fn the_empty_set_comes_first_and_is_not_counted(rt: HostRuntime) -> Result<(), Fail> {
+    let steps: [Step; 5] = [
+        Step::Gives(100, 200, &[]),
+        Step::Record(X, 2),
+        Step::Record(NONE, 1),
+        Step::Record(Y, 4),
+        Step::Gives(100, 200, &[(NONE, 1), (X, 2), (OVERFLOW, 4)]),
+    ];
+    assert!(rt; follows(rt.alloc(), CUMULATIVE, 1, &steps)?);
+    Ok(())
+}
+
+#[test]
+fn row_3(rt: HostRuntime) -> Result<(), Fail> {
+    let steps: [Step; 5] = [
+        Step::Record(X, 1),
+        Step::Record(Y, 2),
+        Step::Record(Z, 4),
+        Step::Record(X, 8),
+        Step::Gives(100, 200, &[(X, 9), (Y, 2), (OVERFLOW, 4)]),
+    ];
+    assert!(rt; follows(rt.alloc(), DELTA, 2, &steps)?);
+    Ok(())
+}
+
+#[test]
+fn row_4(rt: HostRuntime) -> Result<(), Fail> {
+    let steps: [Step; 6] = [
+        Step::Record(X, 1),
+        Step::Gives(100, 200, &[(X, 1)]),
+        Step::Record(Y, 2),
+        Step::Gives(200, 300, &[(OVERFLOW, 2)]),
+        Step::Record(Y, 4),
+        Step::Gives(300, 400, &[(Y, 4)]),
+    ];
+    assert!(rt; follows(rt.alloc(), DELTA, 1, &steps)?);
+    Ok(())
+}
+
+#[test]
+fn row_7(rt: HostRuntime) -> Result<(), Fail> {
+    let steps: [Step; 6] = [
+        Step::Record(OVERFLOW, 1),
+        Step::Record(X, 2),
+        Step::Gives(100, 200, &[(OVERFLOW, 3)]),
+        Step::Gives(200, 300, &[]),
+        Step::Record(X, 5),
+        Step::Gives(300, 400, &[(OVERFLOW, 5)]),
+    ];
+    assert!(rt; follows(rt.alloc(), DELTA, 1, &steps)?);
+    Ok(())
+}
+
+#[test]
+fn row_22(rt: HostRuntime) -> Result<(), Fail> {
+    let steps: [Step; 4] = [
+        Step::Record(NONE, 1),
+        Step::Record(X, 2),
+        Step::Record(Y, 4),
+        Step::Gives(100, 200, &[(NONE, 1), (X, 2), (OVERFLOW, 4)]),
+    ];
+    assert!(rt; follows(rt.alloc(), DELTA, 1, &steps)?);
+    Ok(())
+}
+
+/// A delta collection has the moments since the one before, also where that had no points.
+#[test]
+fn delta_moments(rt: HostRuntime) -> Result<(), Fail> {
+    let steps: [Step; 3] = [
+        Step::Gives(100, 200, &[]),
+        Step::Record(NONE, 1),
+        Step::Gives(200, 300, &[(NONE, 1)]),
+    ];
+    assert!(rt; follows(rt.alloc(), DELTA, 10, &steps)?);
+    Ok(())
+}
+
+/// And where its points add up to 0.
+#[test]
+fn delta_moments_of_zero(rt: HostRuntime) -> Result<(), Fail> {
+    let steps: [Step; 3] = [
+        Step::Record(X, 0),
+        Step::Gives(100, 200, &[(X, 0)]),
+        Step::Gives(200, 300, &[]),
+    ];
+    assert!(rt; follows(rt.alloc(), DELTA, 10, &steps)?);
+    Ok(())
+}
+
+#[test]
+fn the_order_of_attributes_does_not_matter(rt: HostRuntime) -> Result<(), Fail> {
+    let steps: [Step; 4] = [
+        Step::Record("b=1 a=2", 1),
+        Step::Record("a=2 b=1", 2),
+        Step::Record("a=2 a=9 b=1", 4),
+        Step::Gives(100, 200, &[("a=2 b=1", 7)]),
+    ];
+    assert!(rt; follows(rt.alloc(), CUMULATIVE, 10, &steps)?);
+    Ok(())
+}
+
+#[test]
+fn an_allow_list_drops_other_keys(rt: HostRuntime) -> Result<(), Fail> {
+    let kind = Kind {
+        allow: Some("b"),
+        ..CUMULATIVE
+    };
+    let steps: [Step; 4] = [
+        Step::Record("b=1 a=2", 1),
+        Step::Record("c=2 b=1", 2),
+        Step::Record("a=1", 4),
+        Step::Gives(100, 200, &[(NONE, 4), ("b=1", 3)]),
+    ];
+    assert!(rt; follows(rt.alloc(), kind, 10, &steps)?);
+    Ok(())
+}
+
+#[test]
+fn a_record_is_prepared_and_then_taken_in(rt: HostRuntime) -> Result<(), Fail> {
+    let steps: [Step; 8] = [
+        Step::IsPrepared(false),
+        Step::Prepare(X),
+        Step::IsPrepared(true),
+        Step::Gives(100, 200, &[]),
+        Step::TakeIn(5),
+        Step::IsPrepared(false),
+        Step::Shows(100, 300, &[(X, 5)]),
+        Step::Gives(100, 200, &[(X, 5)]),
+    ];
+    assert!(rt; follows(rt.alloc(), CUMULATIVE, 10, &steps)?);
+    Ok(())
+}
+
+/// A collection that resets gives up a record that was prepared.
+#[test]
+fn a_delta_collection_gives_up_a_record(rt: HostRuntime) -> Result<(), Fail> {
+    let steps: [Step; 3] = [
+        Step::Prepare(X),
+        Step::Gives(100, 200, &[]),
+        Step::IsPrepared(false),
+    ];
+    assert!(rt; follows(rt.alloc(), DELTA, 10, &steps)?);
+    Ok(())
 }
 
 #[test]
 fn sum_aggregation(rt: HostRuntime) -> Result<(), Fail> {
-    let alloc = rt.alloc();
-    for temporality in [Temporality::Cumulative, Temporality::Delta] {
-        let mut sum: Sum<u64> = Sum::new(alloc, temporality, None, 10, 100, true)?;
-        sum.measure(3, &one(alloc, "b", 2)?)?;
-        let data = sum.collect(alloc, 200)?;
-        assert!(rt;
-            data.data_points().as_slice() == [point(alloc, one(alloc, "b", 2)?, 3u64)].as_slice()
-        );
-        assert_eq!(rt; data.temporality(), temporality);
-        assert!(rt; data.is_monotonic());
+    let steps: [Step; 2] = [Step::Record(B, 3), Step::Gives(100, 200, &[(B, 3)])];
+    for kind in [CUMULATIVE, DELTA] {
+        assert!(rt; follows(rt.alloc(), kind, 10, &steps)?);
     }
     Ok(())
 }
@@ -34,34 +346,19 @@ fn sum_aggregation(rt: HostRuntime) -> Result<(), Fail> {
 #[test]
 fn row_13(rt: HostRuntime) -> Result<(), Fail> {
     let alloc = rt.alloc();
-    let mut sum: Sum<i64> = Sum::new(alloc, Temporality::Cumulative, None, 10, 100, false)?;
-    sum.prepare(&[])?;
-    assert!(rt; sum.is_prepared());
-    sum.measure_ready(9223372036854775807);
-    sum.measure(1, &[])?;
+    let kind = Kind {
+        is_monotonic: false,
+        ..CUMULATIVE
+    };
+    let want = [(NONE, -9223372036854775808i64)];
+    let mut sum = made::<i64>(alloc, kind, 10)?;
+    assert!(rt; prepare(alloc, &mut sum, NONE).is_ok());
+    assert!(rt; take_in(&mut sum, 9223372036854775807));
+    assert!(rt; record(alloc, &mut sum, NONE, 1).is_ok());
     assert_eq!(rt; sum.total(), 9223372036854775808);
     assert!(rt; !sum.resets());
-    let want = [point(alloc, Vec::new(alloc), -9223372036854775808i64)];
-    assert!(rt; sum.points(alloc, 200)?.data_points().as_slice() == want.as_slice());
+    assert!(rt; shows(alloc, &sum, kind, (100, 200), &want).unwrap_or(false));
     sum.finish(200);
-    let data = sum.collect(alloc, 300)?;
-    assert!(rt; data.data_points().as_slice() == want.as_slice());
-    assert!(rt; !data.is_monotonic());
+    assert!(rt; gives(alloc, &mut sum, kind, (100, 300), &want).unwrap_or(false));
     Ok(())
-}
-
-#[test]
-fn signed_numbers_wrap(rt: HostRuntime) {
-    let zero: i64 = Number::zero();
-    assert_eq!(rt; zero, 0);
-    assert_eq!(rt; Number::add(i64::MAX, 1), i64::MIN);
-    assert_eq!(rt; Number::add(-5i64, 3), -2);
-    assert_eq!(rt; Number::subtract(i64::MIN, 1), i64::MAX);
-    assert!(rt; Number::is_less(-1i64, 0));
-    assert!(rt; !Number::is_less(0i64, -1));
-    assert_eq!(rt; Number::bits(-1i64), u64::MAX);
-    assert_eq!(rt; Number::wide(-7i64), -7);
-    Number::told_by_bits(-1i64);
-    Number::told_by_wide(-1i64);
-    Number::told_by_wide(1u64);
 }

@@ -1,0 +1,8 @@
+//! Aggregators and the map of them.
+
+pub use crate::aggregator::{Aggregator, Increment, create_fold, reset_fold, update_fold};
+pub use crate::assign::Assign;
+pub use crate::bounds::Bounds;
+pub use crate::buckets::{Buckets, BucketsConfig, counted_once};
+pub use crate::number::Number;
+pub use crate::value_map::ValueMap;
