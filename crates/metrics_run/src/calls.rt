@@ -36,6 +36,7 @@ pub fn call_of(alloc: Global, words: &[&str]) -> Result<Call, Refusal> {
                 name: name.into(),
                 description,
                 unit,
+                boundaries: None,
                 now,
             })
         }

@@ -23,6 +23,7 @@
 //!         name: StringValue::new(alloc, "requests")?,
 //!         description: None,
 //!         unit: None,
+//!         boundaries: None,
 //!         now: 100,
 //!     },
 //!     Call::Record { instrument: 0, value: NumberValue::U64(3), attributes: Items::from(Vec::new(alloc)) },

@@ -26,6 +26,7 @@ pub fn build(
         name: StringValue::from(name),
         description: None,
         unit: None,
+        boundaries: None,
         now: 100,
     })
 }

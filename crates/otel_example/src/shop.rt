@@ -44,6 +44,7 @@ fn counter<P: Parts>(
         name: StringValue::new(alloc, name)?,
         description: None,
         unit: None,
+        boundaries: None,
         now,
     };
     match provider.step(&call) {

@@ -80,6 +80,7 @@ pub fn call_of(alloc: Global, step: &Step<'_>) -> Result<Call, Fail> {
             name: text(alloc, name)?,
             description: None,
             unit: None,
+            boundaries: None,
             now: 100,
         }),
         Step::Record(instrument, value, pairs) => Ok(Call::Record {

@@ -91,6 +91,7 @@ fn calls(alloc: Global) -> Result<Vec<Call>, Fail> {
             name: text(alloc, "hits")?,
             description: Some(text(alloc, "How often")?),
             unit: Some(text(alloc, "1")?),
+            boundaries: None,
             now: 110,
         },
         Call::Build {
@@ -99,6 +100,7 @@ fn calls(alloc: Global) -> Result<Vec<Call>, Fail> {
             name: long(alloc, "Name", 63)?,
             description: Some(long(alloc, "ö", 5000)?),
             unit: Some(long(alloc, "u", 63)?),
+            boundaries: None,
             now: 120,
         },
         Call::Build {
@@ -107,6 +109,7 @@ fn calls(alloc: Global) -> Result<Vec<Call>, Fail> {
             name: text(alloc, "bytes")?,
             description: None,
             unit: Some(text(alloc, "By")?),
+            boundaries: None,
             now: 130,
         },
         record(
