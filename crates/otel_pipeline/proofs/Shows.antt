@@ -1,8 +1,7 @@
--- Collections, one stream or one scope more.
-use Rattle.std.proofs.Common.{◌≡◌, ℕ, zero, suc, ◌+◌, ◌<◌, Bool, true, false, cond, ◌&&◌, List, [], ◌∷◌, ◌++◌, map, filter, length, get_or, drop, refl, sym, ◌∙◌, ap, arith, append_assoc, add-one}
+-- Collections, one stream more.
+use Rattle.std.proofs.Common.{◌≡◌, ℕ, zero, suc, ◌<◌, Bool, true, false, cond, ◌&&◌, List, [], ◌∷◌, ◌++◌, map, filter, length, get_or, drop, refl, sym, ◌∙◌, ap, arith}
 use Rattle.otel_common.specs.Scopes.{scope_eq}
 use Rattle.otel_common.specs.declared.scopes.InstrumentationScope.{InstrumentationScope}
-use Rattle.otel_data.specs.declared.collections.Metric.{Metric}
 use Rattle.otel_model.specs.Collections.{ScopedMetric, in_scope, has_points}
 use Rattle.otel_pipeline.specs.Collections.{scoped, all_scoped, shown_in, shown_one, if_shown}
 use Rattle.otel_pipeline.specs.Pipelines.{is_streamed}
@@ -22,13 +21,8 @@ shown-cons scope now k ks =
     ap (λ ms. (in_scope ms scope).metrics) (scoped_first now (is_streamed k) k (filter is_streamed ks))
     ∙ shown_first (is_streamed k) _ (scoped now k) (all_scoped now ks) (λ (m : ScopedMetric). scope_eq m.0 scope && has_points m.1) refl
 
-shown_suc : (scope : InstrumentationScope) (now : ℕ) (ks : List Held) (i : ℕ) (k : Held) → i < length ks → k ≡ get_or ks i k → shown_in scope now (drop i ks) ≡ shown_one scope now k ++ shown_in scope now (drop (suc i) ks)
-shown_suc scope now [] i k h at = absurd (omega arith)
-shown_suc scope now (m ∷ ks) zero k h at = shown-cons scope now m ks ∙ ap (λ x. shown_one scope now x ++ shown_in scope now ks) (sym at)
-shown_suc scope now (m ∷ ks) (suc i) k h at = shown_suc scope now ks i k (omega arith) at
-
--- one more stream's metric
-pub shown-more : (scope : InstrumentationScope) (now : ℕ) (done done' all : List Metric) (ks : List Held) (i : ℕ) (k : Held) → i < length ks → k ≡ get_or ks i k
-    → done' ≡ done ++ shown_one scope now k → done ++ shown_in scope now (drop i ks) ≡ all → done' ++ shown_in scope now (drop (i + 1) ks) ≡ all
-shown-more scope now done done' all ks i k h at e so_far =
-    rw (add-one, e, append_assoc) (ap (λ ms. done ++ ms) (sym (shown_suc scope now ks i k h at)) ∙ so_far)
+-- one stream less is left
+pub shown-suc : (scope : InstrumentationScope) (now : ℕ) (ks : List Held) (i : ℕ) (k : Held) → i < length ks → k ≡ get_or ks i k → shown_in scope now (drop i ks) ≡ shown_one scope now k ++ shown_in scope now (drop (suc i) ks)
+shown-suc scope now [] i k h at = absurd (omega arith)
+shown-suc scope now (m ∷ ks) zero k h at = shown-cons scope now m ks ∙ ap (λ x. shown_one scope now x ++ shown_in scope now ks) (sym at)
+shown-suc scope now (m ∷ ks) (suc i) k h at = shown-suc scope now ks i k (omega arith) at

@@ -1,5 +1,5 @@
 -- What a collection gives of one reader's streams, scope by scope.
-use Rattle.std.specs.Prelude.{◌≡◌, ℕ, Bool, true, false, ◌&&◌, List, [], ◌∷◌, map, filter}
+use Rattle.std.specs.Prelude.{◌≡◌, ℕ, Bool, true, false, ◌&&◌, List, [], ◌∷◌, ◌++◌, map, filter}
 use Rattle.otel_common.specs.Scopes.{scope_eq}
 use Rattle.otel_common.specs.declared.resource.Resource.{Resource}
 use Rattle.otel_common.specs.declared.scopes.InstrumentationScope.{InstrumentationScope}
@@ -38,6 +38,12 @@ scope_shown now streams scope = in_scope (all_scoped now streams) scope
 -- the scopes that have metrics
 abbrev pub scopes_shown : ℕ → List Held → List InstrumentationScope → List ScopeMetrics
 scopes_shown now streams meters = filter has_metrics (map (scope_shown now streams) meters)
+
+-- lists, each followed by the one at its place among the others
+abbrev pub joined : {A : Type 0} → List (List A) → List (List A) → List (List A)
+joined [] ys = []
+joined (x ∷ xs) [] = x ∷ xs
+joined (x ∷ xs) (y ∷ ys) = (x ++ y) ∷ joined xs ys
 
 -- what a collection of this reader gives, from the resource, by the scopes of these meters
 abbrev pub IsCollectedFrom : Resource → List InstrumentationScope → ℕ → ReaderPart → ResourceMetrics → Type 0

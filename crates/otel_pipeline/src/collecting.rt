@@ -1,7 +1,10 @@
 //! What a collection gives of one reader's streams.
 
-ghost use Rattle.std.specs.Prelude.{◌≡◌, ◌++◌, [], ◌∷◌, OnOk, IfOk, IsOkUnless};
-ghost use Rattle.otel_pipeline.specs.Collections.{shown_one, shown_in, scopes_shown};
+ghost use Rattle.std.specs.Prelude.{◌≡◌, ◌++◌, [], ◌∷◌, map, filter, length, replicate, OnOk, IfOk, IsOkUnless};
+ghost use Rattle.std.specs.List.{IsDistinct};
+ghost use Rattle.otel_common.specs.Scopes.{scope_eq};
+ghost use Rattle.otel_model.specs.Collections.{has_metrics};
+ghost use Rattle.otel_pipeline.specs.Collections.{joined, shown_one, shown_in, scopes_shown};
 
 use crate::aggregations::is_drop;
 use crate::stream::Stream;
@@ -13,56 +16,76 @@ use otel_common::scopes::InstrumentationScope;
 use otel_data::collections::{Metric, ScopeMetrics};
 use std::alloc::Global;
 
-/// Adds the metric of a stream, if the stream is of the scope and has points.
+/// This many lists of metrics, all empty.
+fn empty_lists(alloc: Global, many: usize) -> Result<Vec<Vec<Metric>>, Fault>
+    ensures lists { IfOk result (λ lists. map (λ v. v.items) lists.items ≡ replicate many []) }
+    ensures only_memory { IsOkUnless result Fault.OutOfMemory }
+{
+    let mut lists = Vec::new(alloc);
+    for _ in 0..many {
+        lists.push(Vec::new(alloc))?;
+    }
+    Ok(lists)
+}
+
+/// Adds the metric of a stream to the list of its scope's meter. A stream that drops, one without points, and one whose
+/// scope has no meter give nothing.
+///
+/// Looks the scope up once.
 fn push_metric(
     alloc: Global,
-    metrics: &mut Vec<Metric>,
+    lists: &mut Vec<Vec<Metric>>,
+    meters: &IndexSet<InstrumentationScope>,
     stream: &Stream,
-    scope: &InstrumentationScope,
     now: u64,
 ) -> Result<(), Fault>
-    ensures metrics { OnOk result (metrics.new.items ≡ metrics.old.items ++ shown_one scope.now now stream.now) }
+    requires long { length lists.old.items ≡ length meters.now.keys }
+    requires apart { IsDistinct scope_eq meters.now.keys }
+    ensures long { length lists.new.items ≡ length lists.old.items }
+    ensures metrics { OnOk result (map (λ v. v.items) lists.new.items ≡ joined (map (λ v. v.items) lists.old.items) (map (λ m. shown_one m now stream.now) meters.now.keys)) }
     ensures only_memory { IsOkUnless result Fault.OutOfMemory }
 {
     let demand = stream.demand();
-    if is_drop(&demand.aggregation) || demand.identity.scope != *scope {
+    if is_drop(&demand.aggregation) {
         return Ok(());
     }
+    let Some(place) = meters.get_index_of(&demand.identity.scope) else {
+        return Ok(());
+    };
     if let Some(metric) = stream.metric(alloc, now)? {
-        metrics.push(metric)?;
+        lists[place].push(metric)?;
     }
     Ok(())
 }
 
-/// The metrics of a scope that have points.
-pub(crate) fn metrics_of(
+/// The metrics that have points, in a list for each meter.
+///
+/// Goes once over the streams.
+fn metrics_by_meter(
     alloc: Global,
     streams: &[Stream],
-    scope: &InstrumentationScope,
+    meters: &IndexSet<InstrumentationScope>,
     now: u64,
-) -> Result<Vec<Metric>, Fault>
-    ensures metrics { IfOk result (λ metrics. metrics.items ≡ shown_in scope.now now streams.now) }
+) -> Result<Vec<Vec<Metric>>, Fault>
+    ensures metrics { IfOk result (λ lists. map (λ v. v.items) lists.items ≡ map (λ m. shown_in m now streams.now) meters.now.keys) }
     ensures only_memory { IsOkUnless result Fault.OutOfMemory }
 {
-    let mut metrics = Vec::new(alloc);
+    let mut lists = empty_lists(alloc, meters.len())?;
     for stream in streams {
-        push_metric(alloc, &mut metrics, stream, scope, now)?;
+        push_metric(alloc, &mut lists, meters, stream, now)?;
     }
-    Ok(metrics)
+    Ok(lists)
 }
 
 /// Adds the metrics of a scope, if it has some.
 fn push_scope(
-    alloc: Global,
     scopes: &mut Vec<ScopeMetrics>,
-    streams: &[Stream],
     scope: &InstrumentationScope,
-    now: u64,
+    metrics: Vec<Metric>,
 ) -> Result<(), Fault>
-    ensures scopes { OnOk result (scopes.new.items ≡ scopes.old.items ++ scopes_shown now streams.now (scope.now ∷ [])) }
+    ensures scopes { OnOk result (scopes.new.items ≡ scopes.old.items ++ filter has_metrics (record { scope = scope.now; metrics = metrics.items } ∷ [])) }
     ensures only_memory { IsOkUnless result Fault.OutOfMemory }
 {
-    let metrics = metrics_of(alloc, streams, scope, now)?;
     if metrics.is_empty() {
         return Ok(());
     }
@@ -72,6 +95,8 @@ fn push_scope(
 }
 
 /// The scopes that have metrics, in order of their meters.
+///
+/// Goes once over the streams and their points, and once over the meters; looks each stream's scope up once.
 pub(crate) fn scopes_of(
     alloc: Global,
     streams: &[Stream],
@@ -81,9 +106,10 @@ pub(crate) fn scopes_of(
     ensures scopes { IfOk result (λ scopes. scopes ≡ scopes_shown now streams.now meters.now.keys) }
     ensures only_memory { IsOkUnless result Fault.OutOfMemory }
 {
+    let lists = metrics_by_meter(alloc, streams, meters, now)?;
     let mut scopes = Vec::new(alloc);
-    for scope in meters.iter() {
-        push_scope(alloc, &mut scopes, streams, scope, now)?;
+    for (scope, metrics) in meters.iter().zip(lists) {
+        push_scope(&mut scopes, scope, metrics)?;
     }
     Ok(Items::from(scopes))
 }
