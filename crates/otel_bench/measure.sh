@@ -36,9 +36,12 @@ row known4 1000 11000 1
 row known10 1000 11000 1
 row known4_other_order 1000 11000 1
 row known4_two_readers 1000 11000 1
+row histogram4 1000 11000 1
+row gauge4 1000 11000 1
 row new4 0 2000 1
 row past_limit4 1000 6000 1
 row collect_cumulative 1 3 2000
 row collect_delta 1 3 2000
+row collect_histogram 1 3 2000
 row build 500 1500 1
 row collect_meters 0 1 10000
