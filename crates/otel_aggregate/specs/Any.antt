@@ -1,5 +1,6 @@
 -- A stream of any aggregate and either number type.
-use Rattle.std.specs.Prelude.{ℕ, ℤ, pos, Bool, true, false, Option}
+use Rattle.std.specs.Prelude.{ℕ, ℤ, pos, Bool, true, false, cond, ◌&&◌, is_some, Option}
+use Rattle.std.specs.Bool.{beq}
 use Rattle.std.specs.Int.{cast_unsigned, w64}
 use Rattle.otel_data.specs.declared.aggregated.AggregatedMetrics.{AggregatedMetrics}
 use Rattle.otel_data.specs.declared.aggregated.AggregatedMetrics.TheVariants as metrics
@@ -13,7 +14,7 @@ use Rattle.otel_model_stream.specs.Data.{natural, signed_of}
 use Rattle.otel_aggregate.specs.declared.settings.AnySettings.{AnySettings}
 use Rattle.otel_aggregate.specs.declared.settings.AnySettings.TheVariants as settings
 use Rattle.otel_aggregate.specs.Data.{sum_data, gauge_data, histogram_data}
-use Rattle.otel_aggregate.specs.Streams.{StreamState}
+use Rattle.otel_aggregate.specs.Streams.{StreamState, HeldStream, taken as taken_of}
 
 -- whether its numbers are signed, the stream, and the set of the record that is prepared
 pub record HeldAny : Type 0 where
@@ -43,6 +44,24 @@ abbrev pub amount_of : NumberValue → Amount
 amount_of (number.U64 n) = record { bits = n; wide = pos n }
 amount_of (number.I64 z) = record { bits = cast_unsigned w64 z; wide = z }
 
+-- ======== records ========
+-- a stream of one number type
+abbrev pub of_type : Bool → HeldStream → HeldAny
+of_type is_signed s = record { is_signed = is_signed; state = s.state; pending = s.pending }
+
+-- without its number type
+abbrev pub stream_in : HeldAny → HeldStream
+stream_in a = record { state = a.state; pending = a.pending }
+
+-- after the record that is prepared, if there is one, of a value that has the stream's number type
+abbrev pub taken : NumberValue → HeldAny → HeldAny
+taken value a = cond (beq (is_signed_value value) a.is_signed) (of_type a.is_signed (taken_of (amount_of value) (stream_in a))) a
+
+-- whether a record is made so
+abbrev pub is_taken : NumberValue → HeldAny → Bool
+is_taken value a = beq (is_signed_value value) a.is_signed && is_some a.pending
+
+-- ======== collections ========
 -- what a collection at a moment gives, by its aggregate
 module _ {T : Type 0} (of_bits : ℕ → T) (of_whole : ℤ → T) where
   abbrev pub data_of : Aggregate → ℕ → StreamState → MetricData T

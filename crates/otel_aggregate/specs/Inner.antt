@@ -1,13 +1,8 @@
 -- A stream of any aggregate, by its variants.
-use Rattle.std.specs.Prelude.{Bool, true, false}
+use Rattle.std.specs.Prelude.{true, false}
 use Rattle.otel_aggregate.specs.declared.any.Inner.{Inner}
 use Rattle.otel_aggregate.specs.declared.any.Inner.TheVariants as inner
-use Rattle.otel_aggregate.specs.Any.{HeldAny}
-use Rattle.otel_aggregate.specs.Streams.{HeldStream}
-
--- a stream of one number type
-abbrev pub of_type : Bool → HeldStream → HeldAny
-of_type is_signed s = record { is_signed = is_signed; state = s.state; pending = s.pending }
+use Rattle.otel_aggregate.specs.Any.{HeldAny, of_type}
 
 abbrev pub any_of : Inner → HeldAny
 any_of (inner.SumU64 s) = of_type false s

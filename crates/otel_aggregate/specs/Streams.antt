@@ -63,3 +63,12 @@ points_now a = points (not a.resets) a.map_state.table
 -- after a collection at a moment
 abbrev pub collected : ℕ → StreamState → StreamState
 collected now a = cond a.resets (record a { map_state = evicted_map a.map_state; start = now }) a
+
+-- after a record of this set, if there is one, which was prepared
+abbrev pub taken_from : Option AttributeSet → Amount → HeldStream → HeldStream
+taken_from None v s = s
+taken_from (Some set) v s = record { state = recorded_set set v s.state; pending = None }
+
+-- after the record that is prepared, if there is one
+abbrev pub taken : Amount → HeldStream → HeldStream
+taken v s = taken_from s.pending v s

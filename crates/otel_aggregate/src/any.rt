@@ -2,11 +2,11 @@
 
 ghost use Rattle.std.specs.Prelude.{◌≡◌, cond, is_some, None, Some, IsTrue, IsSome, OnOk, OnErr, IfOk, IsOk, IsOkUnless};
 ghost use Rattle.otel_common.specs.Temporalities.{resets};
-ghost use Rattle.otel_model_stream.specs.Sets.{AttributeSet, set_of};
+ghost use Rattle.otel_model_stream.specs.Sets.{set_of};
 ghost use Rattle.otel_model_stream.specs.Folds.{wrapped};
 ghost use Rattle.otel_model_stream.specs.Totals.{points_total};
-ghost use Rattle.otel_aggregate.specs.Any.{aggregate_of, is_monotonic_of, is_signed_value, amount_of, metrics_of};
-ghost use Rattle.otel_aggregate.specs.Streams.{new_stream, is_known, recorded_set, collected, points_now};
+ghost use Rattle.otel_aggregate.specs.Any.{aggregate_of, is_monotonic_of, taken, is_taken, metrics_of};
+ghost use Rattle.otel_aggregate.specs.Streams.{new_stream, is_known, collected, points_now};
 
 use crate::histogram::Histogram;
 use crate::last_value::LastValue;
@@ -174,22 +174,20 @@ impl AnyAggregate {
         }
     }
 
-    /// Takes in the record that was prepared, of a number of the stream's type. The second phase.
-    pub fn commit(&mut self, value: NumberValue)
-        requires prepared { IsSome self.old.pending }
-        requires number { is_signed_value value ≡ self.old.is_signed }
-        ensures measured { (s : AttributeSet) → self.old.pending ≡ Some s → self.new.state ≡ recorded_set s (amount_of value) self.old.state }
-        ensures number { self.new.is_signed ≡ self.old.is_signed }
-        ensures spent { self.new.pending ≡ None }
+    /// Takes in the record that was prepared, if there is one and the value has the stream's number type.
+    /// Answers whether it did. The second phase; it takes no memory, and looks nothing up.
+    pub fn commit(&mut self, value: NumberValue) -> bool
+        ensures taken { self.new ≡ taken value self.old }
+        ensures told { result ≡ is_taken value self.old }
     {
         match (&mut self.inner, value) {
-            (Inner::SumU64(stream), NumberValue::U64(value)) => stream.measure_ready(value),
-            (Inner::SumI64(stream), NumberValue::I64(value)) => stream.measure_ready(value),
-            (Inner::LastValueU64(stream), NumberValue::U64(value)) => stream.measure_ready(value),
-            (Inner::LastValueI64(stream), NumberValue::I64(value)) => stream.measure_ready(value),
-            (Inner::HistogramU64(stream), NumberValue::U64(value)) => stream.measure_ready(value),
-            (Inner::HistogramI64(stream), NumberValue::I64(value)) => stream.measure_ready(value),
-            _ => {}
+            (Inner::SumU64(stream), NumberValue::U64(value)) => stream.commit(value),
+            (Inner::SumI64(stream), NumberValue::I64(value)) => stream.commit(value),
+            (Inner::LastValueU64(stream), NumberValue::U64(value)) => stream.commit(value),
+            (Inner::LastValueI64(stream), NumberValue::I64(value)) => stream.commit(value),
+            (Inner::HistogramU64(stream), NumberValue::U64(value)) => stream.commit(value),
+            (Inner::HistogramI64(stream), NumberValue::I64(value)) => stream.commit(value),
+            _ => false,
         }
     }
 

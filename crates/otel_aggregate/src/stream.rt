@@ -7,7 +7,7 @@ ghost use Rattle.otel_model_stream.specs.Sets.{AttributeSet, set_of};
 ghost use Rattle.otel_model_stream.specs.Folds.{wrapped};
 ghost use Rattle.otel_model_stream.specs.Totals.{points_total};
 ghost use Rattle.otel_aggregate.specs.Data.{temporality_of};
-ghost use Rattle.otel_aggregate.specs.Streams.{new_stream, is_known, recorded_set, recorded_attributes, collected, points_now};
+ghost use Rattle.otel_aggregate.specs.Streams.{new_stream, is_known, recorded_set, recorded_attributes, taken, collected, points_now};
 
 use crate::shows::{Shows, into_points};
 use otel_common::attributes::KeyValue;
@@ -138,6 +138,18 @@ impl<A: Shows> Stream<A> {
     {
         let record = A::record(&self.settings, value);
         self.map.measure_ready(record);
+    }
+
+    /// Takes in the record that was prepared, if there is one, and answers whether there was.
+    pub fn commit(&mut self, value: A::Value) -> bool
+        ensures taken { self.new ≡ taken (record { bits = A.Value.bits value; wide = A.Value.wide value }) self.old }
+        ensures told { result ≡ is_some self.old.pending }
+    {
+        if !self.map.is_prepared() {
+            return false;
+        }
+        self.measure_ready(value);
+        true
     }
 
     /// Takes in a record of these attributes. It takes no memory where `prepare` takes none.

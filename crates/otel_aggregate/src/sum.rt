@@ -6,7 +6,7 @@ ghost use Rattle.otel_model_stream.specs.Sets.{AttributeSet, set_of};
 ghost use Rattle.otel_model_stream.specs.Folds.{Sum as SumAggregate, wrapped};
 ghost use Rattle.otel_model_stream.specs.Totals.{points_total};
 ghost use Rattle.otel_aggregate.specs.Data.{sum_data};
-ghost use Rattle.otel_aggregate.specs.Streams.{new_stream, is_known, recorded_set, recorded_attributes, collected, points_now};
+ghost use Rattle.otel_aggregate.specs.Streams.{new_stream, is_known, recorded_set, recorded_attributes, taken, collected, points_now};
 
 use crate::stream::Stream;
 use otel_common::attributes::KeyValue;
@@ -84,6 +84,14 @@ impl<T: Number + Drop> Sum<T> {
         ensures spent { self.new.pending ≡ None }
     {
         self.stream.measure_ready(value);
+    }
+
+    /// Takes in the record that was prepared, if there is one, and answers whether there was.
+    pub fn commit(&mut self, value: T) -> bool
+        ensures taken { self.new ≡ taken (record { bits = T.bits value; wide = T.wide value }) self.old }
+        ensures told { result ≡ is_some self.old.pending }
+    {
+        self.stream.commit(value)
     }
 
     /// Takes in a record of these attributes. It takes no memory where `prepare` takes none.

@@ -1,13 +1,17 @@
 -- What a demand asks for, by its aggregation.
-use Rattle.std.proofs.Common.{◌≡◌, false, refl, sym, ◌∙◌, ap}
-use Rattle.otel_model_stream.specs.Folds.{Amount}
+use Rattle.std.proofs.Common.{◌≡◌, ℕ, ◌+◌, Bool, true, false, cond, ◌&&◌, is_some, [], Option, Some, None, refl, sym, ◌∙◌, ap, subst, true≢false}
+use Rattle.std.specs.Bool.{beq}
+use Rattle.otel_data.specs.declared.numbers.NumberValue.{NumberValue}
+use Rattle.otel_model_stream.specs.Entries.{Table, place, recorded_at}
+use Rattle.otel_model_stream.specs.Folds.{Amount, sample_of, wrapped}
 use Rattle.otel_model_stream.specs.Sets.{AttributeSet}
+use Rattle.otel_model_stream.specs.Totals.{size}
 use Rattle.otel_model.specs.Demands.{Demand}
-use Rattle.otel_aggregate.specs.Any.{HeldAny}
-use Rattle.otel_aggregate.specs.Streams.{StreamState, recorded_set}
-use Rattle.otel_pipeline.specs.Streams.{IsAsked, asked}
+use Rattle.otel_aggregate.specs.Any.{HeldAny, is_signed_value, amount_of, of_type, stream_in, taken, is_taken}
+use Rattle.otel_aggregate.specs.Streams.{StreamState, recorded_set, taken_from}
+use Rattle.otel_pipeline.specs.Streams.{Held, IsAsked, asked, held_of, with_record, committed, committed_by}
 use Rattle.otel_model.specs.Calls.{InstrumentKind, Counter, UpDownCounter, Histogram, ObservableCounter, ObservableUpDownCounter, Gauge, ObservableGauge, is_observable}
-use Rattle.otel_model.specs.Streams.{observes_sums}
+use Rattle.otel_model.specs.Streams.{observes_sums, aggregate_of}
 
 -- asynchronous kinds alone observe sums
 pub unobserved : (kind : InstrumentKind) → is_observable kind ≡ false → observes_sums kind ≡ false
@@ -28,3 +32,59 @@ asked-recorded d old new s v is made same =
       signed = same ∙ is.signed;
       synchronous = is.synchronous;
     }
+
+-- ======== the record that is prepared ========
+asked-if : (d : Demand) (a : HeldAny) (b : Bool) (o : Option AttributeSet) (v : Amount) → IsAsked d a → IsAsked d (cond b (of_type a.is_signed (taken_from o v (stream_in a))) a)
+asked-if d a true None v is = is
+asked-if d a true (Some s) v is = asked-recorded d a (of_type a.is_signed (taken_from (Some s) v (stream_in a))) s v is refl refl
+asked-if d a false o v is = is
+
+pub asked-taken : (d : Demand) (a new : HeldAny) (value : NumberValue) → IsAsked d a → new ≡ taken value a → IsAsked d new
+asked-taken d a new value is e = subst (IsAsked d) (sym e) (asked-if d a (beq (is_signed_value value) a.is_signed) a.pending (amount_of value) is)
+
+module _ (d : Demand) (a : HeldAny) (value : NumberValue) (recorded exported : ℕ) (is : IsAsked d a) where
+  abbrev v : Amount
+  v = amount_of value
+
+  abbrev held : Held
+  held = held_of d a recorded exported
+
+  -- the same test, and the same set
+  committed-as : (b : Bool) (o : Option AttributeSet) → beq (is_signed_value value) a.is_signed ≡ b → a.pending ≡ o → committed value held ≡ cond b (committed_by o v held) held
+  committed-as b o f e =
+      ap (λ signed. cond (beq (is_signed_value value) signed) (committed_by a.pending v held) held) (sym is.signed)
+      ∙ (ap (λ c. cond c (committed_by a.pending v held) held) f ∙ ap (λ p. cond b (committed_by p v held) held) e)
+
+  taken-as : (b : Bool) (o : Option AttributeSet) → beq (is_signed_value value) a.is_signed ≡ b → a.pending ≡ o → taken value a ≡ cond b (of_type a.is_signed (taken_from o v (stream_in a))) a
+  taken-as b o f e =
+      ap (λ c. cond c (of_type a.is_signed (taken_from a.pending v (stream_in a))) a) f ∙ ap (λ p. cond b (of_type a.is_signed (taken_from p v (stream_in a))) a) e
+
+  -- with these entries and this total
+  abbrev with_table : Table → ℕ → Held
+  with_table t total = record {
+    stream = record { demand = d; machine = record { table = t; live = [] }; since = a.state.start; reported = []; recorded = total; exported = exported };
+    resets = a.state.resets;
+    pending = None;
+  }
+
+  record-as : (s : AttributeSet) → held_of d (of_type a.is_signed (taken_from (Some s) v (stream_in a))) (wrapped (recorded + size (aggregate_of d) v)) exported ≡ with_record s v held
+  record-as s = ap (λ (st : StreamState). with_table (recorded_at s (sample_of st.aggregate v) (place st.map_state.limit st.map_state.empty s a.state.map_state.table)) (wrapped (recorded + size (aggregate_of d) v))) is.state
+
+  then_by : (b : Bool) (o : Option AttributeSet) → beq (is_signed_value value) a.is_signed ≡ b → a.pending ≡ o → (b && is_some o) ≡ true
+      → held_of d (taken value a) (wrapped (recorded + size (aggregate_of d) v)) exported ≡ committed value held
+  then_by true (Some s) f e t =
+      ap (λ x. held_of d x (wrapped (recorded + size (aggregate_of d) v)) exported) (taken-as true (Some s) f e) ∙ (record-as s ∙ sym (committed-as true (Some s) f e))
+  then_by true None f e t = absurd (true≢false (sym t))
+  then_by false o f e t = absurd (true≢false (sym t))
+
+  else_by : (b : Bool) (o : Option AttributeSet) → beq (is_signed_value value) a.is_signed ≡ b → a.pending ≡ o → (b && is_some o) ≡ false
+      → held_of d (taken value a) recorded exported ≡ committed value held
+  else_by true (Some s) f e t = absurd (true≢false t)
+  else_by true None f e t = ap (λ x. held_of d x recorded exported) (taken-as true None f e) ∙ sym (committed-as true None f e)
+  else_by false o f e t = ap (λ x. held_of d x recorded exported) (taken-as false o f e) ∙ sym (committed-as false o f e)
+
+  pub commit-then : (new : HeldAny) → new ≡ taken value a → is_taken value a ≡ true → held_of d new (wrapped (recorded + size (aggregate_of d) v)) exported ≡ committed value held
+  commit-then new e t = ap (λ x. held_of d x (wrapped (recorded + size (aggregate_of d) v)) exported) e ∙ then_by (beq (is_signed_value value) a.is_signed) a.pending refl refl t
+
+  pub commit-else : (new : HeldAny) → new ≡ taken value a → is_taken value a ≡ false → held_of d new recorded exported ≡ committed value held
+  commit-else new e t = ap (λ x. held_of d x recorded exported) e ∙ else_by (beq (is_signed_value value) a.is_signed) a.pending refl refl t

@@ -7,7 +7,6 @@ ghost use Rattle.otel_model.specs.Sent.{set_for};
 ghost use Rattle.otel_pipeline.specs.Streams.{IsMakeable, new_held, settled, committed, finished, shown_metric, if_points};
 
 use crate::aggregations::{settings_of, size_of};
-use crate::numbers::is_signed;
 use otel_aggregate::any::AnyAggregate;
 use otel_common::attributes::KeyValue;
 use otel_common::faults::Fault;
@@ -109,12 +108,8 @@ impl Stream {
     pub(crate) fn commit(&mut self, value: NumberValue)
         ensures { self.new ≡ committed value self.old }
     {
-        if self.aggregate.is_signed() != is_signed(value) {
-            return;
-        }
-        if self.aggregate.is_prepared() {
+        if self.aggregate.commit(value) {
             self.recorded = self.recorded.wrapping_add(size_of(&self.demand, value));
-            self.aggregate.commit(value);
         }
     }
 

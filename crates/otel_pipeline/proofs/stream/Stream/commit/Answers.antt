@@ -1,15 +1,16 @@
-use Rattle.std.proofs.Common.{◌≡◌, ◌∙◌, sym, true≢false, refl, true, Some, None, is_some}
-use Rattle.otel_aggregate.specs.Any.{HeldAny}
-use Rattle.otel_pipeline.specs.Streams.{IsAsked}
-use Rattle.otel_pipeline.proofs.Asked.{asked-recorded}
+use Rattle.std.proofs.Common.{◌≡◌, ◌∙◌, ap, sym}
+use Rattle.otel_pipeline.proofs.Asked.{asked-taken, commit-then, commit-else}
 use Rattle.otel_pipeline.proofs.stream.Stream.commit.Goals as goal
 
 -- a record leaves the aggregate the one that was asked for
 pub invariant_of-self : goal.invariant_of-self
-invariant_of-self c =
-    let old : HeldAny = c.self.inside.aggregate in
-    let new : HeldAny = c.commit.new.self in
-    elim old.pending as (λ o. old.pending ≡ o → is_some o ≡ true → IsAsked c.self.inside.demand new) [
-      | None ↦ λ none some. absurd (true≢false (sym some))
-      | Some s ↦ λ is some. asked-recorded c.self.inside.demand old new s _ c.self.invariant (c.commit.ensures.measured s is) c.commit.ensures.number
-    ] refl (sym c.is_prepared.ensures ∙ c.if-is_prepared.true)
+invariant_of-self c = asked-taken c.self.inside.demand c.self.inside.aggregate c.commit.new.self c.args.value c.self.invariant c.commit.ensures.taken
+
+pub invariant_of-self-else-commit : goal.invariant_of-self-else-commit
+invariant_of-self-else-commit c = asked-taken c.self.inside.demand c.self.inside.aggregate c.commit.new.self c.args.value c.self.invariant c.commit.ensures.taken
+
+pub returns-then-commit : goal.returns-then-commit
+returns-then-commit c = rw (← c.self.view_is, c.size_of.ensures) (commit-then c.self.inside.demand c.self.inside.aggregate c.args.value c.self.inside.recorded c.self.inside.exported c.self.invariant c.commit.new.self c.commit.ensures.taken (sym c.commit.ensures.told ∙ c.if-commit.true))
+
+pub returns-else-commit : goal.returns-else-commit
+returns-else-commit c = rw (← c.self.view_is) (commit-else c.self.inside.demand c.self.inside.aggregate c.args.value c.self.inside.recorded c.self.inside.exported c.self.invariant c.commit.new.self c.commit.ensures.taken (sym c.commit.ensures.told ∙ c.if-commit.false))
