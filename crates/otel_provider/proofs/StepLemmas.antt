@@ -113,7 +113,7 @@ pub all_recorded : (next n : ℕ) (value : NumberValue) (l : List KeyValue) (ps 
 all_recorded next n value l [] all typed = refl
 all_recorded next n value l (p ∷ ps) all typed =
     λ i. (recorded-sent next n value l p (all 0 p (omega arith)) (λ x fed. typed.0 x fed ∙ ap (λ (v : model.Number). v.signed) (number-is value))
-      ∙ ap (λ v. machine.part_sent next (model.Call.Record n v l) (part_of p)) (sym (number-is value))) i
+    ∙ ap (λ v. machine.part_sent next (model.Call.Record n v l) (part_of p)) (sym (number-is value))) i
     ∷ all_recorded next n value l ps (λ j d h. all (suc j) d (omega arith)) typed.1 i
 
 -- ======== lent readers ========

@@ -89,10 +89,13 @@ length-accepted v (suc m) (j ∷ is) = ap suc (length-accepted v m is)
 
 pub typed-sent : (v : Amount) (m next : ℕ) (c : Call) (is : List InstrumentState) (ps : List ReaderPart) → AreTyped is ps → AreTyped (changed_at m (accepted v) is) (map (part_sent next c) ps)
 typed-sent v m next c is [] all = tt
-typed-sent v m next c is (p ∷ ps) all = (record {
-  as_many = all.0.as_many ∙ sym (length-accepted v m is);
-  types = λ n x i f g. let before = signed-accepted v m n is i g in all.0.types n x before.0 f before.1 ∙ before.2;
-}, typed-sent v m next c is ps all.1)
+typed-sent v m next c is (p ∷ ps) all = (
+  record {
+    as_many = all.0.as_many ∙ sym (length-accepted v m is);
+    types = λ n x i f g. let before = signed-accepted v m n is i g in all.0.types n x before.0 f before.1 ∙ before.2;
+  },
+  typed-sent v m next c is ps all.1,
+)
 
 -- what an instrument feeds, by its own number type
 pub typed-feeds : (n : ℕ) (v : Number) (is : List InstrumentState) (i : InstrumentState) (ps : List ReaderPart) → slice_get is n ≡ Some i → v.signed ≡ i.signed → AreTyped is ps → FeedType n v ps

@@ -14,8 +14,8 @@ use std::alloc::Global;
 use std::marker::Model;
 
 /// A core whose streams balance: what a stream recorded is what it exported and what is pending, and
-/// what the instruments that feed it accepted, modulo 2^64. That follows from what a call does, so it is
-/// proved here once for all calls.
+/// what the instruments that feed it accepted, modulo 2^64. A sum counts values there, a histogram records, a
+/// last value nothing. That follows from what a call does, so it is proved here once for all calls.
 #[derive(Drop)]
 pub struct BalancedCore {
     core: Core,

@@ -12,17 +12,18 @@ use otel_data::numbers::NumberValue;
 /// One call of a provider.
 #[derive(Clone, Debug, Drop)]
 pub enum Call {
-    /// Asks for the meter of a scope.
+    /// Asks for the meter of a scope. Equal scopes have one meter.
     Meter {
         scope: InstrumentationScope,
     },
     /// Builds an instrument of a meter. Without a meter, and with a name, a unit or bounds that
     /// `validate_instrument_name`, `validate_instrument_unit` or `validate_bucket_boundaries` refuses, it
     /// ignores its records. An absent description or unit is the empty text. `boundaries` are those of the
-    /// buckets of a histogram, and are looked at for a histogram alone. Instruments of one meter that agree
+    /// buckets of a histogram, in its unit, and are looked at for a histogram alone; without them it has 0, 5,
+    /// 10, 25, 50, 75, 100, 250, 500, 750, 1000, 2500, 5000, 7500 and 10000. Instruments of one meter that agree
     /// in sort, description, unit and, but for the case of ASCII letters, name share a stream at each
-    /// reader; the first of them decides the bounds. `now` is the moment of the build, in nanoseconds since
-    /// 1970.
+    /// reader; the first of them decides the bounds and how the name is spelt. `now` is the moment of the
+    /// build, in nanoseconds since 1970.
     Build {
         meter: Option<usize>,
         sort: InstrumentSort,
@@ -32,13 +33,14 @@ pub enum Call {
         boundaries: Option<Items<i64>>,
         now: u64,
     },
-    /// Records a value with attributes, in any order, at an instrument.
+    /// Records a value with attributes, in any order, at an instrument, in the instrument's unit. A `U64` at an
+    /// instrument of `i64`, or the other way round, is refused.
     Record {
         instrument: usize,
         value: NumberValue,
         attributes: Items<KeyValue>,
     },
-    /// Collects what a reader's streams have. `now` is the moment of the collection, in
+    /// Collects what a reader's streams have: sums, last values and histograms. `now` is the moment of the collection, in
     /// nanoseconds since 1970.
     Collect {
         reader: usize,
@@ -49,11 +51,12 @@ pub enum Call {
 /// What a call is answered.
 #[derive(Clone, Debug, Drop)]
 pub enum Reply {
-    /// The number of the meter. There always is one as long as a provider can't be shut down.
+    /// The number of the meter; meters are numbered from 0, each as it is first asked for. There always is one
+    /// as long as a provider can't be shut down.
     Meter(Option<usize>),
-    /// The number of the new instrument.
+    /// The number of the new instrument: how many were built before it.
     Instrument(usize),
-    /// The call was carried out.
+    /// The record was made.
     Done,
     /// What was collected.
     Collected(ResourceMetrics),

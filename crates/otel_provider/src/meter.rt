@@ -7,8 +7,8 @@ ghost use Rattle.otel_model.specs.Checks.{name_fault, name_fault_text, optional_
 ghost use Rattle.otel_model_stream.specs.Data.{rises};
 ghost use Rattle.otel_provider.specs.Correspondence.{IsAnswer};
 
-use otel_value_map::bounds::is_rising;
 use otel_common::metrics::MetricError;
+use otel_value_map::bounds::is_rising;
 
 const NAME_EMPTY: &str = "name must be non-empty";
 
@@ -62,7 +62,7 @@ fn has_other_than_ascii(bytes: &[u8]) -> bool
 /// Tells whether a name is good: 1 to 255 bytes, of which the first is an ASCII letter and the others
 /// ASCII letters, digits, `_`, `.`, `-` or `/` (Metrics API, "Instrument name syntax").
 ///
-/// The first check that fails gives the error. Takes no memory.
+/// The first check that fails gives the error. Goes over the name once, and takes no memory.
 pub fn validate_instrument_name(name: &str) -> Result<(), MetricError>
     ensures { IsAnswer (option_map name_fault_text (name_fault name.now)) result }
 {
@@ -85,7 +85,7 @@ pub fn validate_instrument_name(name: &str) -> Result<(), MetricError>
 /// Tells whether a unit is good: at most 63 bytes, all ASCII. No unit is a good one
 /// (Metrics API, "Instrument unit").
 ///
-/// The first check that fails gives the error. Takes no memory.
+/// The first check that fails gives the error. Goes over the unit once, and takes no memory.
 pub fn validate_instrument_unit(unit: Option<&str>) -> Result<(), MetricError>
     ensures { IsAnswer (option_map unit_fault_text (optional_unit_fault (option_map (λ u. u.now) unit.entry))) result }
 {
@@ -103,7 +103,7 @@ pub fn validate_instrument_unit(unit: Option<&str>) -> Result<(), MetricError>
 }
 
 /// Tells whether the bounds of a histogram's buckets are good: each is greater than the one before it. No bounds
-/// at all are good (Metrics API, "ExplicitBucketBoundaries"). Takes no memory.
+/// at all are good (Metrics API, "ExplicitBucketBoundaries"). Goes over them once, and takes no memory.
 pub fn validate_bucket_boundaries(boundaries: &[i64]) -> Result<(), MetricError>
     ensures { IsAnswer (cond (rises boundaries.now) None (Some bounds_fault_text)) result }
 {

@@ -108,17 +108,17 @@ impl<P: Parts> Provider<P> {
     /// One call, and its reply. A call that is refused changes nothing; `OutOfMemory` only comes where no
     /// other fault stands.
     ///
-    /// - `Meter` looks the scope up. A new one is copied; one that is known takes no memory.
-    /// - `Build` copies scope, texts and bounds at each reader, and looks up the identity there once. It is made
-    ///   at all readers or at none.
+    /// - `Meter` looks the scope up. A new one is copied and added; one that is known takes no memory.
+    /// - `Build` goes over name, unit and bounds once to check them, copies scope, texts and bounds at each reader,
+    ///   and looks up the identity there. It is made at all readers or at none.
     /// - `Record` looks the attributes up in each stream that the instrument feeds, once and without memory
     ///   where they are sorted by key, no key twice, and have a point there. Else it sorts a copy and looks
     ///   that up, and a new set takes memory besides. Without attributes there is no look-up, and the call
-    ///   is never refused for memory. It is made in all streams or in none.
-    /// - `Collect` goes once over the reader's streams, their points and the meters, and copies the resource, the
-    ///   scopes and each set that is shown.
-    ///   Then the streams whose reader wants `Delta` start again, which takes no memory; nothing else
-    ///   changes, and other readers' streams never.
+    ///   is never refused for memory. A histogram finds the value's bucket by halving its bounds. A record is made
+    ///   in all streams or in none.
+    /// - `Collect` goes over the reader's streams once for each meter. It copies the resource, and of what is shown
+    ///   scopes, texts and sets, and a histogram's bounds and counts. Then the streams whose reader wants
+    ///   `Delta` start again, which takes no memory; nothing else changes, and other readers' streams never.
     pub fn step(&mut self, call: &Call) -> Reply
         ensures step { Step [] (state_of self.old) (call_of call.now) (reply_of result) (state_of self.new) }
         ensures balances { Balances (state_of self.new) }

@@ -118,11 +118,7 @@ fn good_scope<'a>(
 ) -> Option<&'a InstrumentationScope>
     ensures { option_map (λ s. s.now) result ≡ cond (is_good about.now) (option_map (λ s. s.now) scope.entry) None }
 {
-    if is_good(about) {
-        scope
-    } else {
-        None
-    }
+    if is_good(about) { scope } else { None }
 }
 
 /// Whether there is an instrument of this number, and a value has its number type.

@@ -31,8 +31,8 @@ returns-clause-ok c =
     let lent = lent_back c.self.inside.pipelines.len c.make.new.pipelines _ (omega arith) in
     rw (← c.self.view_is)
     (IfOk-three c.make.result (λ n number made built.
-      build-made c.self.inside.resource c.self.inside.meters.keys c.self.inside.instruments.items c.make.new.instruments.items c.self.inside.pipelines.items _ c.args.meter _ _ c.args.about.now c.args.now n
-      c.in-Ok.ensures c.good_scope.ensures number made (ap (map part_of) lent ∙ (built ∙ ap (λ ps. map (built_by [] (option_map (λ s. s.now) c.good_scope.result) c.args.about.now c.args.now) (map part_of ps)) c.deref_mut.ensures.value)))
+    build-made c.self.inside.resource c.self.inside.meters.keys c.self.inside.instruments.items c.make.new.instruments.items c.self.inside.pipelines.items _ c.args.meter _ _ c.args.about.now c.args.now n
+    c.in-Ok.ensures c.good_scope.ensures number made (ap (map part_of) lent ∙ (built ∙ ap (λ ps. map (built_by [] (option_map (λ s. s.now) c.good_scope.result) c.args.about.now c.args.now) (map part_of ps)) c.deref_mut.ensures.value)))
     c.make.ensures.number c.make.ensures.instruments c.make.ensures.readers)
 
 pub returns-clause-err : goal.returns-clause-err
