@@ -4,7 +4,7 @@ pub mod provider;
 pub mod reader;
 
 pub use otel_aggregate::internal;
-pub use otel_common::metrics::{MetricError, Temporality};
+pub use otel_common::metrics::{Aggregation, MetricError, Temporality};
 pub use otel_data::data;
 pub use otel_provider::meter;
 pub use otel_provider::provider::{MeterProviderBuilder, SdkMeterProvider};

@@ -18,6 +18,8 @@ pub enum Step<'a> {
     Meter(&'a str, Option<&'a str>),
     /// A counter of this meter and name, made at 100.
     Build(Option<usize>, &'a str),
+    /// An instrument of meter 0, of this sort, name, unit and bounds, made at 100.
+    Make(InstrumentSort, &'a str, Option<&'a str>, Option<&'a [i64]>),
     /// A record at this instrument, with these attributes.
     Record(usize, NumberValue, &'a [(&'a str, i64)]),
     /// A collection of this reader at this moment.
@@ -68,6 +70,33 @@ pub fn scope(
     Ok(builder.build()?)
 }
 
+/// A build in meter 0 at 100, without a description.
+fn made(
+    alloc: Global,
+    sort: InstrumentSort,
+    name: &str,
+    unit: Option<&str>,
+    bounds: Option<&[i64]>,
+) -> Result<Call, Fail> {
+    let unit = match unit {
+        Some(unit) => Some(text(alloc, unit)?),
+        None => None,
+    };
+    let boundaries = match bounds {
+        Some(bounds) => Some(Items::from(bounds.to_vec(alloc)?)),
+        None => None,
+    };
+    Ok(Call::Build {
+        meter: Some(0),
+        sort,
+        name: text(alloc, name)?,
+        description: None,
+        unit,
+        boundaries,
+        now: 100,
+    })
+}
+
 /// The call that a step stands for.
 pub fn call_of(alloc: Global, step: &Step<'_>) -> Result<Call, Fail> {
     match step {
@@ -83,6 +112,7 @@ pub fn call_of(alloc: Global, step: &Step<'_>) -> Result<Call, Fail> {
             boundaries: None,
             now: 100,
         }),
+        Step::Make(sort, name, unit, bounds) => made(alloc, *sort, name, *unit, *bounds),
         Step::Record(instrument, value, pairs) => Ok(Call::Record {
             instrument: *instrument,
             value: *value,
@@ -181,8 +211,20 @@ pub fn text_of(alloc: Global, reply: &Reply) -> Result<String, Fail> {
     }
 }
 
+/// A new provider with these readers.
+pub fn provider_of(alloc: Global, readers: &[Temporality]) -> Result<SdkMeterProvider, Fail> {
+    let mut builder = SdkMeterProvider::builder(alloc);
+    for temporality in readers {
+        let reader = ManualReader::builder()
+            .with_temporality(*temporality)
+            .build();
+        builder = builder.with_reader(Box::new(alloc, reader)?)?;
+    }
+    Ok(builder.build()?)
+}
+
 /// The replies of a new provider with these readers.
-pub fn replies_of(
+fn replies_of(
     alloc: Global,
     readers: &[Temporality],
     steps: &[(Step<'_>, &str)],
@@ -191,15 +233,7 @@ pub fn replies_of(
     for (step, _) in steps {
         calls.push(call_of(alloc, step)?)?;
     }
-    let mut builder = SdkMeterProvider::builder(alloc);
-    for temporality in readers {
-        let reader = ManualReader::builder()
-            .with_temporality(*temporality)
-            .build();
-        builder = builder.with_reader(Box::new(alloc, reader)?)?;
-    }
-    let mut provider = builder.build()?;
-    Ok(provider.run(alloc, calls.as_slice())?)
+    Ok(provider_of(alloc, readers)?.run(alloc, calls.as_slice())?)
 }
 
 /// Runs the steps at a new provider with one cumulative reader, and asserts that each reply has its text.

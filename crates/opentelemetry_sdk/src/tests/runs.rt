@@ -53,19 +53,6 @@ fn row_14(rt: HostRuntime) -> Result<(), Fail> {
     assert_replies_at(&rt, rt.alloc(), &[Temporality::Delta], steps.as_slice())
 }
 
-/// A reader that wants little memory gets a counter's sums as differences.
-#[test]
-fn row_19(rt: HostRuntime) -> Result<(), Fail> {
-    let steps = [
-        (Meter("app", None), "meter 0"),
-        (Build(Some(0), "requests"), "instrument 0"),
-        (Record(0, U64(1), &[]), "done"),
-        (Collect(0, 200), "collected | app requests 100 200 - 1"),
-        (Collect(0, 300), "collected"),
-    ];
-    assert_replies_at(&rt, rt.alloc(), &[Temporality::LowMemory], steps.as_slice())
-}
-
 /// A record of a new set at two readers for which memory is refused: neither has it. Memory is refused by
 /// hand: `rt try --test --fail-alloc N`.
 #[test]

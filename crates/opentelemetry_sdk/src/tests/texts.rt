@@ -1,8 +1,10 @@
-//! The texts and numbers of faults, and which names and units are good.
+//! The texts and numbers of faults, and which names, units and bounds are good.
 
 use crate::common::Fault;
 use crate::metrics::MetricError;
-use crate::metrics::meter::{validate_instrument_name, validate_instrument_unit};
+use crate::metrics::meter::{
+    validate_bucket_boundaries, validate_instrument_name, validate_instrument_unit,
+};
 use std::alloc::Global;
 use std::test::Fail;
 
@@ -18,6 +20,8 @@ const CHARACTER: &str =
 const UNIT_LENGTH: &str = "unit must be less than 64 characters";
 
 const UNIT_CHARACTER: &str = "characters in unit must be ASCII";
+
+const BOUNDS: &str = "Bucket boundaries must be sorted and non-duplicate";
 
 /// What a check answers, as text: `Ok`, or the error's text.
 fn answer_of(alloc: Global, answer: Result<(), MetricError>) -> Result<String, Fail> {
@@ -113,6 +117,22 @@ fn units(rt: HostRuntime) -> Result<(), Fail> {
     ] {
         let answered = answer_of(rt.alloc(), validate_instrument_unit(unit))?;
         assert_eq!(rt; answered, wanted(rt.alloc(), answer)?, "of {unit:?}");
+    }
+    Ok(())
+}
+
+/// Bounds, each with the answer of its check.
+#[test]
+fn bounds(rt: HostRuntime) -> Result<(), Fail> {
+    let none: &[i64] = &[];
+    for (bounds, answer) in [
+        (none, "Ok"),
+        (&[1, 2], "Ok"),
+        (&[2, 1], BOUNDS),
+        (&[1, 1], BOUNDS),
+    ] {
+        let answered = answer_of(rt.alloc(), validate_bucket_boundaries(bounds))?;
+        assert_eq!(rt; answered, wanted(rt.alloc(), answer)?, "of {bounds:?}");
     }
     Ok(())
 }
