@@ -37,13 +37,6 @@ joined-twice f g h (x ∷ xs) [] e = refl
 joined-twice f g h (x ∷ xs) (b ∷ bs) e = λ i. (append_assoc x (f b) (g b) ∙ ap (λ y. x ++ y) (sym (e b))) i ∷ joined-twice f g h xs bs e i
 
 -- ======== one metric more ========
-some_is : (a b : ℕ) → Some a ≡ Some b → a ≡ b
-some_is a b e = cc
-
-if_shown-false : (b : Bool) (x : Metric) → if_shown (b && false) x ≡ []
-if_shown-false true x = refl
-if_shown-false false x = refl
-
 module _ (s : InstrumentationScope) (c : Bool) (x : Metric) where
   -- what the meter of a scope gets
   abbrev pub gets : InstrumentationScope → List Metric
