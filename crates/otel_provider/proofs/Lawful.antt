@@ -6,7 +6,7 @@ use Rattle.otel_model.specs.Calls as model
 use Rattle.otel_model.specs.Laws.{answers_in, KeepsReaders}
 use Rattle.otel_model.specs.State.{State}
 use Rattle.otel_model.specs.Steps.{Step, Run}
-use Rattle.otel_model.proofs.Kept.{kept_law, kept_at_once}
+use Rattle.otel_model.proofs.Kept.{kept_law}
 use Rattle.otel_model_laws.specs.Lawful.{IsLawful}
 use Rattle.otel_model_laws.proofs.Booked.{run_lawful}
 

@@ -1,5 +1,5 @@
 -- What an instrument feeds has its number type, whatever is called.
-use Rattle.std.proofs.Common.{◌≡◌, ◌⊎◌, inl, inr, ⊎_elim, ℕ, zero, suc, ◌+◌, Bool, true, false, cond, ◌||◌, List, [], ◌∷◌, ◌++◌, map, length, set, Option, Some, None, slice_get, refl, sym, ◌∙◌, ap, subst, arith}
+use Rattle.std.proofs.Common.{◌≡◌, ◌⊎◌, inl, inr, ⊎_elim, ℕ, zero, suc, Bool, true, false, cond, List, [], ◌∷◌, ◌++◌, map, length, set, Option, Some, None, slice_get, refl, sym, ◌∙◌, ap, subst, arith}
 use Rattle.std.specs.Prelude.{fold, Result, Ok, Err, OnOk, OnErr}
 use Rattle.std.proofs.lemmas.Bool.{false≢true}
 use Rattle.std.proofs.lemmas.List.{length-append}
@@ -7,12 +7,12 @@ use Rattle.otel_common.specs.declared.scopes.InstrumentationScope.{Instrumentati
 use Rattle.otel_model_stream.specs.Folds.{Amount}
 use Rattle.otel_model.specs.Calls.{About, Call, Collect, Number}
 use Rattle.otel_model.specs.Demands.{Identity, Demand, has_identity, is_known, is_dropped, is_good, fed, own_demand, identity_eq}
-use Rattle.otel_model.specs.Machine.{changed_at, accepted, new_instrument, demanded, build_demands, with_feeds, built, part_sent}
+use Rattle.otel_model.specs.Machine.{changed_at, accepted, new_instrument, demanded, build_demands, built, part_sent}
 use Rattle.otel_model.specs.Sent.{is_fed}
 use Rattle.otel_model.specs.State.{InstrumentState, ReaderPart}
 use Rattle.otel_model.proofs.Gather.{identity_eq_true}
 use Rattle.otel_model_laws.proofs.Feeding.{is_one, fed_demanded}
-use Rattle.otel_pipeline.specs.Pipelines.{Piped, part_of, FeedsType}
+use Rattle.otel_pipeline.specs.Pipelines.{Piped, part_of}
 use Rattle.otel_provider.specs.States.{IsTyped, AreTyped, FeedType}
 
 some_is : {X : Type 0} (a b : X) → Some a ≡ Some b → a ≡ b

@@ -1,5 +1,5 @@
 -- The state of a provider in the words of the model, and what a call does to it.
-use Rattle.std.specs.Prelude.{◌≡◌, ◌<◌, ℕ, true, false, List, [], ◌∷◌, ◌++◌, map, length, slice_get, Option, None, Some}
+use Rattle.std.specs.Prelude.{◌≡◌, ℕ, true, false, List, [], map, length, slice_get, Option, None, Some}
 use Rattle.std.specs.List.{AllByRecursion as EachOf}
 use Rattle.otel_common.specs.declared.faults.Fault.{Fault}
 use Rattle.otel_common.specs.declared.faults.Fault.TheVariants as fault
@@ -8,7 +8,6 @@ use Rattle.otel_model.specs.Calls as model
 use Rattle.otel_model.specs.Demands.{Identity, is_good}
 use Rattle.otel_model.specs.Resources.{Resource}
 use Rattle.otel_model.specs.State.{InstrumentState, Shared, ReaderPart, State}
-use Rattle.otel_model.specs.Machine as machine
 use Rattle.otel_model.specs.Refusals.{refusal, meter_refusal}
 use Rattle.otel_model.specs.Sent.{is_fed, scope_of}
 use Rattle.otel_model.specs.Steps.{reply_of, after}

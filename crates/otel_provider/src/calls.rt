@@ -40,8 +40,8 @@ pub enum Call {
         value: NumberValue,
         attributes: Items<KeyValue>,
     },
-    /// Collects what a reader's streams have: sums, last values and histograms. `now` is the moment of the collection, in
-    /// nanoseconds since 1970.
+    /// Collects what a reader's streams have: sums, last values and histograms. `now` is the moment of the
+    /// collection, in nanoseconds since 1970.
     Collect {
         reader: usize,
         now: u64,
@@ -56,7 +56,7 @@ pub enum Reply {
     Meter(Option<usize>),
     /// The number of the new instrument: how many were built before it.
     Instrument(usize),
-    /// The record was made.
+    /// The record was made, or ignored where the instrument ignores its records.
     Done,
     /// What was collected.
     Collected(ResourceMetrics),

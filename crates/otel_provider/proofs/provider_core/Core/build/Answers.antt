@@ -1,9 +1,8 @@
-use Rattle.std.proofs.Common.{◌≡◌, ◌∙◌, ap, sym, subst, List, [], map, refl, arith}
+use Rattle.std.proofs.Common.{◌∙◌, ap, sym, subst, [], map, refl, arith}
 use Rattle.std.specs.Option.{option_map}
 use Rattle.otel_model.specs.Machine.{built as built_by}
-use Rattle.std.proofs.lemmas.Result.{IfOk-weaker}
 use Rattle.otel_model.specs.Demands.{is_good}
-use Rattle.otel_pipeline.specs.Pipelines.{Piped, part_of}
+use Rattle.otel_pipeline.specs.Pipelines.{part_of}
 use Rattle.otel_provider.specs.States.{shared_of, AreTyped, IsGoodIn}
 use Rattle.otel_provider.proofs.Outcomes.{IfErr-memory, OnErr-both, IfOk-three}
 use Rattle.otel_provider.proofs.StepLemmas.{no_meter-fault, good-in, lent_back, build-made}

@@ -1,6 +1,6 @@
-use Rattle.std.proofs.Common.{◌≡◌, ◌∙◌, ap, sym, subst, List, [], ◌∷◌, ◌++◌, map}
+use Rattle.std.proofs.Common.{◌≡◌, ◌∙◌, ap, subst, [], map}
 use Rattle.std.proofs.lemmas.List.{map-append}
-use Rattle.otel_model.specs.State.{InstrumentState, State}
+use Rattle.otel_model.specs.State.{State}
 use Rattle.otel_pipeline.specs.Pipelines.{part_of, named}
 use Rattle.otel_provider.specs.States.{AreTyped}
 use Rattle.otel_provider.proofs.Typed.{typed-push}
