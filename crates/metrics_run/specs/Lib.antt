@@ -1,4 +1,5 @@
 pub mod Attributes
+pub mod Boundaries
 pub mod Calls
 pub mod Failures
 pub mod Numbers
