@@ -1,6 +1,7 @@
 //! What a `build` line may add about its instrument.
 
-ghost use Rattle.std.specs.Prelude.{◌≡◌, None, Some, OkIff, OnOk, IsOkUnless};
+ghost use Rattle.std.specs.Prelude.{◌≡◌, None, Some, map, OkIff, IfOk, OnOk, IsOkUnless};
+ghost use Rattle.metrics_run.specs.Options.{AddsWord, ReadsOptions};
 
 use crate::boundaries::boundaries_of;
 use crate::refusals::Refusal;
@@ -18,7 +19,9 @@ pub struct Options {
 }
 
 /// The options of a `build` line, each given at most once.
-pub fn options_of(alloc: Global, words: &[&str]) -> Result<Options, Refusal> {
+pub fn options_of(alloc: Global, words: &[&str]) -> Result<Options, Refusal>
+    ensures options { IfOk result (ReadsOptions (map (λ word. word.now) words.now)) }
+{
     let mut options = Options {
         description: None,
         unit: None,
@@ -32,7 +35,9 @@ pub fn options_of(alloc: Global, words: &[&str]) -> Result<Options, Refusal> {
 
 impl Options {
     /// Takes in one more word.
-    fn add_word(&mut self, alloc: Global, word: &str) -> Result<(), Refusal> {
+    fn add_word(&mut self, alloc: Global, word: &str) -> Result<(), Refusal>
+        ensures added { OnOk result (AddsWord word.now self.old self.new) }
+    {
         let Some((name, value)) = word.split_once('=') else {
             return Err(Refusal::BadCommand);
         };
