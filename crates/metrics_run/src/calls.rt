@@ -1,17 +1,18 @@
 //! The lines of a script that are calls.
 
-ghost use Rattle.std.specs.Prelude.{◌≡◌, None, [], codes, IfSome, IfOk, OnErr, OkIff, IsOkUnless};
+ghost use Rattle.std.specs.Prelude.{◌≡◌, None, [], IfSome, IfOk, OnErr, IsOkUnless};
 ghost use Rattle.std.specs.Option.{option_map};
 ghost use Rattle.std.specs.Str.{IsUtf8};
-ghost use Rattle.metrics_run.specs.Calls.{IsMeterWord};
+ghost use Rattle.metrics_run.specs.Calls.{IsMeterWord, IsSortWord};
 ghost use Rattle.metrics_run.specs.Refusals.{StandsForNothing};
 ghost use Rattle.metrics_run.specs.Texts.{text_of_word};
 
 use crate::attributes::attributes_of;
 use crate::numbers::{index, unsigned, value};
+use crate::options::{Options, options_of};
 use crate::refusals::Refusal;
 use crate::texts::text_of_word;
-use opentelemetry_sdk::common::{InstrumentationScope, StringValue};
+use opentelemetry_sdk::common::InstrumentationScope;
 use opentelemetry_sdk::metrics::provider::{Call, InstrumentSort};
 use std::alloc::Global;
 
@@ -29,14 +30,18 @@ pub fn call_of(alloc: Global, words: &[&str]) -> Result<Call, Refusal> {
             let sort = sort_of(sort)?;
             let name = text_of_word(alloc, name)?;
             let now = unsigned(now)?;
-            let Options { description, unit } = options_of(alloc, options)?;
+            let Options {
+                description,
+                unit,
+                boundaries,
+            } = options_of(alloc, options)?;
             Ok(Call::Build {
                 meter,
                 sort,
                 name: name.into(),
                 description,
                 unit,
-                boundaries: None,
+                boundaries,
                 now,
             })
         }
@@ -84,43 +89,16 @@ fn meter_of(word: &str) -> Result<Option<usize>, Refusal>
 
 /// The sort of an instrument, by the name of its builder.
 fn sort_of(word: &str) -> Result<InstrumentSort, Refusal>
-    ensures sort { OkIff result (word.now ≡ codes "u64_counter") InstrumentSort.U64Counter }
+    ensures sort { IfOk result (IsSortWord word.now) }
+    ensures meaningless { OnErr result (StandsForNothing IsSortWord word.now) }
     ensures refused { IsOkUnless result Refusal.BadCommand }
 {
     match word {
         "u64_counter" => Ok(InstrumentSort::U64Counter),
+        "i64_up_down_counter" => Ok(InstrumentSort::I64UpDownCounter),
+        "u64_gauge" => Ok(InstrumentSort::U64Gauge),
+        "i64_gauge" => Ok(InstrumentSort::I64Gauge),
+        "u64_histogram" => Ok(InstrumentSort::U64Histogram),
         _ => Err(Refusal::BadCommand),
     }
-}
-
-/// What a `build` line may add about its instrument.
-#[derive(Drop)]
-struct Options {
-    description: Option<StringValue>,
-    unit: Option<StringValue>,
-}
-
-/// The options of a `build` line, each given at most once.
-fn options_of(alloc: Global, words: &[&str]) -> Result<Options, Refusal> {
-    let mut options = Options {
-        description: None,
-        unit: None,
-    };
-    for word in words {
-        match word.split_once('=') {
-            Some(("description", text)) => set_once(alloc, &mut options.description, text)?,
-            Some(("unit", text)) => set_once(alloc, &mut options.unit, text)?,
-            _ => return Err(Refusal::BadCommand),
-        }
-    }
-    Ok(options)
-}
-
-/// Sets an option that wasn't given before.
-fn set_once(alloc: Global, option: &mut Option<StringValue>, word: &str) -> Result<(), Refusal> {
-    if option.is_some() {
-        return Err(Refusal::BadCommand);
-    }
-    *option = Some(text_of_word(alloc, word)?.into());
-    Ok(())
 }

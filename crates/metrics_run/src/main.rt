@@ -2,9 +2,11 @@
 #![tactic(auto)]
 
 mod attributes;
+mod boundaries;
 mod calls;
 mod failures;
 mod numbers;
+mod options;
 mod points;
 mod printing;
 mod refusals;

@@ -9,6 +9,7 @@ mod failing;
 mod lines;
 mod points;
 mod replies;
+mod sorts;
 mod words;
 
 /// What the program wrote, and the status that it answered.

@@ -43,8 +43,7 @@ fn commands(rt: HostRuntime) -> Result<(), Fail> {
         "meters a",
         "build 0 u64_counter a",
         "build 0 u64_counter a 1 2",
-        "build 0 i64_gauge a 1",
-        "build 0 u64_counter a 1 bounds=",
+        "build 0 u64_counter a 1 limit=1",
         "build 0 u64_counter a 1 unit",
         "build 0 u64_counter a 1 unit=s unit=s",
         "build 0 u64_counter a 1 description=%80",
@@ -59,6 +58,55 @@ fn commands(rt: HostRuntime) -> Result<(), Fail> {
     for line in lines {
         let script = format!(in rt.alloc(); "go\n#\n{line}\ngo\n")?;
         assert_is_bad(&rt, rt.alloc(), script.as_bytes(), 3)?;
+    }
+    Ok(())
+}
+
+/// Sorts of instruments that are none.
+#[test]
+fn sorts(rt: HostRuntime) -> Result<(), Fail> {
+    let words = [
+        "i64_counter",
+        "u64_up_down_counter",
+        "i64_histogram",
+        "f64_gauge",
+        "u64_counters",
+        "u64_gaug",
+        "U64_gauge",
+        "gauge",
+        "-",
+    ];
+    for word in words {
+        let script = format!(in rt.alloc(); "go\nbuild 0 {word} a 1\n")?;
+        assert_is_bad(&rt, rt.alloc(), script.as_bytes(), 2)?;
+    }
+    Ok(())
+}
+
+/// Bounds that are none, or that are given twice.
+#[test]
+fn bounds(rt: HostRuntime) -> Result<(), Fail> {
+    let options = [
+        "bounds",
+        "bounds:1",
+        "Bounds=1",
+        "bounds=-",
+        "bounds=,",
+        "bounds=1,",
+        "bounds=,1",
+        "bounds=1,,2",
+        "bounds=+1",
+        "bounds=1;2",
+        "bounds=1.5",
+        "bounds=i:1",
+        "bounds=9223372036854775808",
+        "bounds=-9223372036854775809",
+        "bounds=1 bounds=1",
+        "bounds= unit=s bounds=",
+    ];
+    for option in options {
+        let script = format!(in rt.alloc(); "go\nbuild 0 u64_histogram a 1 {option}\n")?;
+        assert_is_bad(&rt, rt.alloc(), script.as_bytes(), 2)?;
     }
     Ok(())
 }

@@ -1,20 +1,13 @@
-use Rattle.std.proofs.Common.{◌≡◌, ◌<◌, ℕ, zero, suc, List, [], ◌∷◌, length, get_or, lit<, ap, ◌∙◌, arith}
+use Rattle.std.proofs.Common.{lit<, ap, ◌∙◌}
 use Rattle.std.proofs.lemmas.Iterator.Consumers.{YieldsList-end, YieldsList-turn}
 use Rattle.std.proofs.lemmas.Iterator.Splits.{YieldsList-from_str_split}
 use Rattle.std.proofs.lemmas.List.{map-append}
 use Rattle.std.proofs.lemmas.Result.{err_from_is_err_and}
 use Rattle.std.proofs.lemmas.Slice.Zip.{all_zipped_more}
-use Rattle.std.specs.List.{AllZip}
 use Rattle.std.specs.Str.Iter.{split_text, split_has_more, split_pattern}
 use Rattle.metrics_run.specs.Attributes.{IsAttributeWord}
+use Rattle.metrics_run.proofs.Pairs.{unpaired}
 use Rattle.metrics_run.proofs.attributes.attributes_of.Goals as goal
-
--- an item that nothing goes with is in no list that is paired up
-unpaired : {A B : Type 0} (R : A → B → Type 0) (xs : List A) (ys : List B) (k : ℕ) (x : A) → k < length xs → x ≡ get_or xs k x → ((y : B) → ¬ R x y) → ¬ AllZip R xs ys
-unpaired R [] ys k x inside is none all = absurd (omega (arith, inside))
-unpaired R (z ∷ xs) [] k x inside is none all = all
-unpaired R (z ∷ xs) (y ∷ ys) zero x inside is none all = none y (rw is all.0)
-unpaired R (z ∷ xs) (y ∷ ys) (suc k) x inside is none all = unpaired R xs ys k x (omega (arith, inside)) is none all.1
 
 pub loop-pair-preserved : goal.loop-pair-preserved
 loop-pair-preserved c =
