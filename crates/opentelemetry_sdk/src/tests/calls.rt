@@ -5,6 +5,7 @@ use crate::common::{InstrumentationScope, Key, KeyValue, StringValue, canonical}
 use crate::metrics::internal::Sum;
 use crate::metrics::reader::MetricReader;
 use crate::metrics::{InstrumentKind, ManualReader, Temporality};
+use std::alloc::Global;
 use std::test::Fail;
 
 #[test]
@@ -31,14 +32,21 @@ fn equal_values(rt: HostRuntime) -> Result<(), Fail> {
     Ok(())
 }
 
+/// Adds 1 for each of the values, as the value of an attribute.
+fn measure_values(alloc: Global, sum: &mut Sum<u64>) -> Result<(), Fail> {
+    for value in values(alloc)? {
+        let set = KeyValue::new(Key::new(alloc, "key")?, value);
+        sum.measure(1, &[set])?;
+    }
+    Ok(())
+}
+
 /// Records whose attribute has equal values share a point, whatever the kind of the value.
 #[test]
 fn points_by_value(rt: HostRuntime) -> Result<(), Fail> {
     let mut sum = Sum::new(rt.alloc(), Temporality::Cumulative, None, 2000, 100, true)?;
-    for value in values(rt.alloc())?.into_iter().chain(values(rt.alloc())?) {
-        let set = vec![in rt.alloc(); KeyValue::new(Key::new(rt.alloc(), "key")?, value)]?;
-        sum.measure(1u64, set.as_slice())?;
-    }
+    measure_values(rt.alloc(), &mut sum)?;
+    measure_values(rt.alloc(), &mut sum)?;
     let collected = sum.collect(rt.alloc(), 200)?;
     assert_eq!(rt; collected.data_points().len(), 9);
     for point in collected.data_points() {
@@ -59,13 +67,19 @@ fn canonical_sets(rt: HostRuntime) -> Result<(), Fail> {
     Ok(())
 }
 
+/// A scope that has all four parts.
+fn full_scope(alloc: Global) -> Result<InstrumentationScope, Fail> {
+    let scope = InstrumentationScope::builder(alloc, String::from_str(alloc, "app")?)
+        .with_version(String::from_str(alloc, "1.0")?)
+        .with_schema_url(String::from_str(alloc, "https://example.org")?)
+        .with_attributes(attributes(alloc, &[("b", 1), ("a", 2), ("b", 3)])?)
+        .build()?;
+    Ok(scope)
+}
+
 #[test]
 fn scopes(rt: HostRuntime) -> Result<(), Fail> {
-    let scope = InstrumentationScope::builder(rt.alloc(), String::from_str(rt.alloc(), "app")?)
-        .with_version(String::from_str(rt.alloc(), "1.0")?)
-        .with_schema_url(String::from_str(rt.alloc(), "https://example.org")?)
-        .with_attributes(attributes(rt.alloc(), &[("b", 1), ("a", 2), ("b", 3)])?)
-        .build()?;
+    let scope = full_scope(rt.alloc())?;
     assert_eq!(rt; scope.name(), "app");
     assert_eq!(rt; scope.version(), Some("1.0"));
     assert_eq!(rt; scope.schema_url(), Some("https://example.org"));

@@ -5,7 +5,7 @@ use crate::metrics::data::{
     AggregatedMetrics, Metric, MetricData, ResourceMetrics, ScopeMetrics, Sum,
 };
 use crate::metrics::provider::{Call, InstrumentSort, NumberValue, Reply};
-use crate::metrics::{ManualReader, SdkMeterProvider, Temporality};
+use crate::metrics::{ManualReader, MeterProviderBuilder, SdkMeterProvider, Temporality};
 use std::alloc::Global;
 use std::process::Abort;
 use std::slice::Iter;
@@ -31,20 +31,30 @@ pub fn text(alloc: Global, text: &str) -> Result<StringValue, Fail> {
     Ok(StringValue::new(alloc, text)?)
 }
 
+/// Arrays of all kinds, of which no two are equal.
+fn arrays(alloc: Global) -> Result<[Array; 4], Fail> {
+    let texts = vec![in alloc; text(alloc, "1")?]?;
+    let truths = [true].to_vec(alloc)?;
+    let numbers = [1].to_vec(alloc)?;
+    Ok([
+        Array::Bool(Items::from(truths)),
+        Array::I64(Items::from(numbers)),
+        Array::String(Items::from(texts)),
+        Array::I64(Items::from(Vec::new(alloc))),
+    ])
+}
+
 /// Values of all kinds, of which no two are equal.
 pub fn values(alloc: Global) -> Result<Vec<Value>, Fail> {
-    let texts = vec![in alloc; text(alloc, "1")?]?;
-    let values = vec![in alloc;
-        Value::Bool(true),
-        Value::Bool(false),
-        Value::I64(1),
-        Value::I64(0),
-        Value::String(text(alloc, "1")?),
-        Value::Array(Array::Bool(Items::from([true].to_vec(alloc)?))),
-        Value::Array(Array::I64(Items::from([1].to_vec(alloc)?))),
-        Value::Array(Array::String(Items::from(texts))),
-        Value::Array(Array::I64(Items::from(Vec::new(alloc)))),
-    ]?;
+    let mut values = Vec::new(alloc);
+    values.push(Value::Bool(true))?;
+    values.push(Value::Bool(false))?;
+    values.push(Value::I64(1))?;
+    values.push(Value::I64(0))?;
+    values.push(Value::String(text(alloc, "1")?))?;
+    for array in arrays(alloc)? {
+        values.push(Value::Array(array))?;
+    }
     Ok(values)
 }
 
@@ -211,8 +221,8 @@ pub fn text_of(alloc: Global, reply: &Reply) -> Result<String, Fail> {
     }
 }
 
-/// A new provider with these readers.
-pub fn provider_of(alloc: Global, readers: &[Temporality]) -> Result<SdkMeterProvider, Fail> {
+/// The builder of a provider with these readers.
+pub fn builder_of(alloc: Global, readers: &[Temporality]) -> Result<MeterProviderBuilder, Fail> {
     let mut builder = SdkMeterProvider::builder(alloc);
     for temporality in readers {
         let reader = ManualReader::builder()
@@ -220,7 +230,12 @@ pub fn provider_of(alloc: Global, readers: &[Temporality]) -> Result<SdkMeterPro
             .build();
         builder = builder.with_reader(Box::new(alloc, reader)?)?;
     }
-    Ok(builder.build()?)
+    Ok(builder)
+}
+
+/// A new provider with these readers.
+pub fn provider_of(alloc: Global, readers: &[Temporality]) -> Result<SdkMeterProvider, Fail> {
+    Ok(builder_of(alloc, readers)?.build()?)
 }
 
 /// The replies of a new provider with these readers.

@@ -40,25 +40,14 @@ pub enum Data<'a> {
 #[derive(Clone, Copy)]
 pub struct Wanted<'a>(pub &'a str, pub &'a str, pub u64, pub u64, pub Data<'a>);
 
-/// A sum of one point.
-fn sum<T: Copy>(
-    alloc: Global,
-    start: u64,
-    time: u64,
-    temporality: Temporality,
-    is_monotonic: bool,
-    value: T,
-) -> Result<MetricData<T>, Fail> {
-    let point = SumDataPoint::new(empty(alloc), empty(alloc), value);
-    let points = Items::from(vec![in alloc; point]?);
-    Ok(MetricData::from(Sum::new(points, start, time, temporality, is_monotonic)))
+/// A sum point of this value.
+fn sum_point<T: Copy>(alloc: Global, value: T) -> SumDataPoint<T> {
+    SumDataPoint::new(empty(alloc), empty(alloc), value)
 }
 
-/// A gauge of one point.
-fn gauge<T: Copy>(alloc: Global, start: u64, time: u64, value: T) -> Result<MetricData<T>, Fail> {
-    let point = GaugeDataPoint::new(empty(alloc), empty(alloc), value);
-    let points = Items::from(vec![in alloc; point]?);
-    Ok(MetricData::from(Gauge::new(points, start, time)))
+/// A gauge point of this value.
+fn gauge_point<T: Copy>(alloc: Global, value: T) -> GaugeDataPoint<T> {
+    GaugeDataPoint::new(empty(alloc), empty(alloc), value)
 }
 
 /// A histogram of one point.
@@ -68,7 +57,7 @@ fn histogram(
     time: u64,
     temporality: Temporality,
     spread: &Spread<'_>,
-) -> Result<MetricData<u64>, Fail> {
+) -> Result<Histogram<u64>, Fail> {
     let bounds = Items::from(spread.bounds.to_vec(alloc)?);
     let buckets = Items::from(spread.buckets.to_vec(alloc)?);
     let point = HistogramDataPoint::new(
@@ -82,7 +71,7 @@ fn histogram(
         spread.sum,
     );
     let points = Items::from(vec![in alloc; point]?);
-    Ok(MetricData::from(Histogram::new(points, start, time, temporality)))
+    Ok(Histogram::new(points, start, time, temporality))
 }
 
 /// No items.
@@ -97,19 +86,32 @@ fn data_of(
     time: u64,
     data: &Data<'_>,
 ) -> Result<AggregatedMetrics, Fail> {
-    Ok(match data {
+    match data {
         Data::U64Sum(temporality, value) => {
-            AggregatedMetrics::from(sum(alloc, start, time, *temporality, true, *value)?)
+            let points = vec![in alloc; sum_point(alloc, *value)]?;
+            let sum = Sum::new(Items::from(points), start, time, *temporality, true);
+            Ok(AggregatedMetrics::U64(MetricData::Sum(sum)))
         }
         Data::I64Sum(temporality, value) => {
-            AggregatedMetrics::from(sum(alloc, start, time, *temporality, false, *value)?)
+            let points = vec![in alloc; sum_point(alloc, *value)]?;
+            let sum = Sum::new(Items::from(points), start, time, *temporality, false);
+            Ok(AggregatedMetrics::I64(MetricData::Sum(sum)))
         }
-        Data::U64Gauge(value) => AggregatedMetrics::from(gauge(alloc, start, time, *value)?),
-        Data::I64Gauge(value) => AggregatedMetrics::from(gauge(alloc, start, time, *value)?),
+        Data::U64Gauge(value) => {
+            let points = vec![in alloc; gauge_point(alloc, *value)]?;
+            let gauge = Gauge::new(Items::from(points), start, time);
+            Ok(AggregatedMetrics::U64(MetricData::Gauge(gauge)))
+        }
+        Data::I64Gauge(value) => {
+            let points = vec![in alloc; gauge_point(alloc, *value)]?;
+            let gauge = Gauge::new(Items::from(points), start, time);
+            Ok(AggregatedMetrics::I64(MetricData::Gauge(gauge)))
+        }
         Data::U64Histogram(temporality, spread) => {
-            AggregatedMetrics::from(histogram(alloc, start, time, *temporality, spread)?)
+            let histogram = histogram(alloc, start, time, *temporality, spread)?;
+            Ok(AggregatedMetrics::U64(MetricData::Histogram(histogram)))
         }
-    })
+    }
 }
 
 /// A metric without a description.

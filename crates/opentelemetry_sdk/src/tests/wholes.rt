@@ -3,14 +3,14 @@
 ghost use Rattle.std.specs.Prelude.{cond};
 ghost use Rattle.otel_stream.specs.declared.instrument.InstrumentKind.TheVariants.{Counter};
 
-use super::replies::{attributes, text};
+use super::replies::{attributes, builder_of, text};
 use crate::common::{InstrumentationScope, Items, Key, KeyValue, StringValue, Value};
 use crate::metrics::data::{
     AggregatedMetrics, Metric, MetricData, ResourceMetrics, ScopeMetrics, Sum, SumDataPoint,
 };
 use crate::metrics::provider::{Call, InstrumentSort, NumberValue, Reply};
 use crate::metrics::reader::MetricReader;
-use crate::metrics::{InstrumentKind, ManualReader, SdkMeterProvider, Temporality};
+use crate::metrics::{InstrumentKind, SdkMeterProvider, Temporality};
 use crate::resource::Resource;
 use std::alloc::Global;
 use std::process::Abort;
@@ -170,36 +170,54 @@ fn whole(alloc: Global, scopes: Vec<ScopeMetrics>) -> ResourceMetrics {
     ResourceMetrics::new(Resource::builder_empty(alloc).build(), Items::from(scopes))
 }
 
+/// The metric of the counter of long texts.
+fn long_metric(alloc: Global, time: u64, temporality: Temporality) -> Result<Metric, Fail> {
+    let data = sum_of(alloc, many_sorted(alloc, 300)?, 5, 120, time, temporality)?;
+    Ok(Metric::new(
+        long(alloc, "Name", 63)?,
+        long(alloc, "ö", 5000)?,
+        long(alloc, "u", 63)?,
+        data,
+    ))
+}
+
+/// The metric of the counter `bytes`.
+fn bytes_metric(alloc: Global, time: u64, temporality: Temporality) -> Result<Metric, Fail> {
+    let data = sum_of(alloc, Vec::new(alloc), 7, 130, time, temporality)?;
+    Ok(Metric::new(
+        text(alloc, "bytes")?,
+        text(alloc, "")?,
+        text(alloc, "By")?,
+        data,
+    ))
+}
+
+/// What the long scope has.
+fn long_metrics(alloc: Global, time: u64, temporality: Temporality) -> Result<ScopeMetrics, Fail> {
+    let mut metrics = Vec::new(alloc);
+    metrics.push(long_metric(alloc, time, temporality)?)?;
+    metrics.push(bytes_metric(alloc, time, temporality)?)?;
+    Ok(ScopeMetrics::new(long_scope(alloc)?, Items::from(metrics)))
+}
+
+/// What the short scope has, with one metric.
+fn short_metrics(alloc: Global, metric: Metric) -> Result<ScopeMetrics, Fail> {
+    let metrics = vec![in alloc; metric]?;
+    Ok(ScopeMetrics::new(short_scope(alloc)?, Items::from(metrics)))
+}
+
 /// The first collection of a reader at a moment: all that was recorded since the builds.
 fn first(alloc: Global, time: u64, temporality: Temporality) -> Result<ResourceMetrics, Fail> {
-    let long_data = sum_of(alloc, many_sorted(alloc, 300)?, 5, 120, time, temporality)?;
-    let bytes_data = sum_of(alloc, Vec::new(alloc), 7, 130, time, temporality)?;
-    let long_metrics = vec![in alloc;
-        Metric::new(
-            long(alloc, "Name", 63)?,
-            long(alloc, "ö", 5000)?,
-            long(alloc, "u", 63)?,
-            long_data
-        ),
-        Metric::new(
-            text(alloc, "bytes")?,
-            text(alloc, "")?,
-            text(alloc, "By")?,
-            bytes_data
-        ),
-    ]?;
-    let hits = vec![in alloc; hits(alloc, 2, 110, time, temporality)?]?;
-    let scopes = vec![in alloc;
-        ScopeMetrics::new(long_scope(alloc)?, Items::from(long_metrics)),
-        ScopeMetrics::new(short_scope(alloc)?, Items::from(hits)),
-    ]?;
+    let hits = hits(alloc, 2, 110, time, temporality)?;
+    let mut scopes = Vec::new(alloc);
+    scopes.push(long_metrics(alloc, time, temporality)?)?;
+    scopes.push(short_metrics(alloc, hits)?)?;
     Ok(whole(alloc, scopes))
 }
 
 /// One metric of the short scope.
 fn one(alloc: Global, metric: Metric) -> Result<ResourceMetrics, Fail> {
-    let metrics = vec![in alloc; metric]?;
-    let scopes = vec![in alloc; ScopeMetrics::new(short_scope(alloc)?, Items::from(metrics))]?;
+    let scopes = vec![in alloc; short_metrics(alloc, metric)?]?;
     Ok(whole(alloc, scopes))
 }
 
@@ -226,27 +244,22 @@ fn assert_collected(
 
 /// A provider with a reader of each kind, after the calls.
 fn provider(alloc: Global) -> Result<SdkMeterProvider, Fail> {
-    let delta = ManualReader::builder()
-        .with_temporality(Temporality::Delta)
-        .build();
-    let low_memory = ManualReader::builder()
-        .with_temporality(Temporality::LowMemory)
-        .build();
-    let only_counters = Choosy {
-        counters: Temporality::Delta,
-        others: Temporality::Cumulative,
-    };
-    let all_but_counters = Choosy {
-        counters: Temporality::LowMemory,
-        others: Temporality::Delta,
-    };
-    let mut provider = SdkMeterProvider::builder(alloc)
-        .with_reader(Box::new(alloc, ManualReader::default())?)?
-        .with_reader(Box::new(alloc, delta)?)?
-        .with_reader(Box::new(alloc, low_memory)?)?
-        .with_reader(Box::new(alloc, only_counters)?)?
-        .with_reader(Box::new(alloc, all_but_counters)?)?
-        .build()?;
+    let mut builder = builder_of(
+        alloc,
+        &[
+            Temporality::Cumulative,
+            Temporality::Delta,
+            Temporality::LowMemory,
+        ],
+    )?;
+    for (counters, others) in [
+        (Temporality::Delta, Temporality::Cumulative),
+        (Temporality::LowMemory, Temporality::Delta),
+    ] {
+        let reader = Box::new(alloc, Choosy { counters, others })?;
+        builder = builder.with_reader(reader)?;
+    }
+    let mut provider = builder.build()?;
     let _ = provider.run(alloc, calls(alloc)?.as_slice())?;
     Ok(provider)
 }
