@@ -116,8 +116,8 @@ impl<P: Parts> Provider<P> {
     ///   that up, and a new set takes memory besides. Without attributes there is no look-up, and the call
     ///   is never refused for memory. A histogram finds the value's bucket by halving its bounds. A record is made
     ///   in all streams or in none.
-    /// - `Collect` goes over the reader's streams once for each meter. It copies the resource, and of what is shown
-    ///   scopes, texts and sets, and a histogram's bounds and counts. Then the streams whose reader wants
+    /// - `Collect` goes once over the reader's streams, their points and the meters. It copies the resource, and of
+    ///   what is shown scopes, texts and sets, and a histogram's bounds and counts. Then the streams whose reader wants
     ///   `Delta` start again, which takes no memory; nothing else changes, and other readers' streams never.
     pub fn step(&mut self, call: &Call) -> Reply
         ensures step { Step [] (state_of self.old) (call_of call.now) (reply_of result) (state_of self.new) }
