@@ -1,10 +1,14 @@
 //! Runs of a provider.
 
 use super::replies::Step::{Build, Collect, Meter, Record};
-use super::replies::{assert_outcomes, assert_replies, assert_replies_at, call_of, points_of};
+use super::replies::{
+    assert_outcomes, assert_replies, assert_replies_at, call_of, points_of, provider_of,
+};
+use crate::metrics::Temporality;
 use crate::metrics::provider::NumberValue::{I64, U64};
-use crate::metrics::provider::Reply;
-use crate::metrics::{ManualReader, SdkMeterProvider, Temporality};
+use crate::metrics::provider::{Call, Reply};
+use std::alloc::Global;
+use std::process::Abort;
 use std::test::Fail;
 
 /// The order of attributes doesn't matter, and of a doubled key the first value stays.
@@ -165,27 +169,22 @@ fn meters(rt: HostRuntime) -> Result<(), Fail> {
     assert_replies(&rt, rt.alloc(), steps.as_slice())
 }
 
-/// The 2001st set and those after it go to the overflow point; a set that has a point keeps it.
-#[test]
-fn overflow(rt: HostRuntime) -> Result<(), Fail> {
-    let reader = Box::new(rt.alloc(), ManualReader::default())?;
-    let mut provider = SdkMeterProvider::builder(rt.alloc())
-        .with_reader(reader)?
-        .build()?;
-    for step in [Meter("app", None), Build(Some(0), "requests")] {
-        let _ = provider.step(&call_of(rt.alloc(), &step)?);
-    }
+/// A record of 1 for each of 2002 sets, then one of 4 for the first of them, and a collection.
+fn many_sets(alloc: Global) -> Result<Vec<Call>, Fail> {
+    let mut calls = Vec::new(alloc);
+    calls.push(call_of(alloc, &Meter("app", None))?)?;
+    calls.push(call_of(alloc, &Build(Some(0), "requests"))?)?;
     for number in 0..2002 {
-        let attributes = [("number", number)];
-        let call = call_of(rt.alloc(), &Record(0, U64(1), attributes.as_slice()))?;
-        let reply = provider.step(&call);
-        assert!(rt; matches!(reply, Reply::Done));
+        let set = [("number", number)];
+        calls.push(call_of(alloc, &Record(0, U64(1), set.as_slice()))?)?;
     }
-    let _ = provider.step(&call_of(rt.alloc(), &Record(0, U64(4), &[("number", 0)]))?);
-    let Reply::Collected(collected) = provider.step(&call_of(rt.alloc(), &Collect(0, 200))?) else {
-        return Err("no collection".into());
-    };
-    let points = points_of(rt.alloc(), &collected)?;
+    calls.push(call_of(alloc, &Record(0, U64(4), &[("number", 0)]))?)?;
+    calls.push(call_of(alloc, &Collect(0, 200))?)?;
+    Ok(calls)
+}
+
+/// Asserts that there are 2000 sets and the overflow point, with these values.
+fn assert_overflow(rt: &impl Abort, points: &[String]) {
     assert_eq!(rt; points.len(), 2001);
     assert_eq!(rt; points[0].as_str(), "app requests 100 200 number=0 5");
     assert_eq!(rt; points[1999].as_str(), "app requests 100 200 number=1999 1");
@@ -193,6 +192,21 @@ fn overflow(rt: HostRuntime) -> Result<(), Fail> {
         points[2000].as_str(),
         "app requests 100 200 otel.metric.overflow=true 2"
     );
+}
+
+/// The 2001st set and those after it go to the overflow point; a set that has a point keeps it.
+#[test]
+fn overflow(rt: HostRuntime) -> Result<(), Fail> {
+    let calls = many_sets(rt.alloc())?;
+    let mut provider = provider_of(rt.alloc(), &[Temporality::Cumulative])?;
+    let replies = provider.run(rt.alloc(), calls.as_slice())?;
+    for reply in &replies {
+        assert!(rt; !matches!(reply, Reply::Refused(_)));
+    }
+    let Some(Reply::Collected(collected)) = replies.last() else {
+        return Err("no collection".into());
+    };
+    assert_overflow(&rt, points_of(rt.alloc(), collected)?.as_slice());
     Ok(())
 }
 

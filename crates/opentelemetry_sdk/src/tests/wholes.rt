@@ -277,6 +277,41 @@ fn cumulative_wholes(rt: HostRuntime) -> Result<(), Fail> {
     Ok(())
 }
 
+/// Asserts that a delta reader's first collection has all that was recorded.
+fn assert_all(
+    rt: &impl Abort,
+    alloc: Global,
+    provider: &mut SdkMeterProvider,
+    reader: usize,
+) -> Result<(), Fail> {
+    let all = first(alloc, 200, Temporality::Delta)?;
+    assert_collected(rt, alloc, provider, reader, 200, &all)
+}
+
+/// Asserts that its second one has nothing.
+fn assert_nothing(
+    rt: &impl Abort,
+    alloc: Global,
+    provider: &mut SdkMeterProvider,
+    reader: usize,
+) -> Result<(), Fail> {
+    let nothing = whole(alloc, Vec::new(alloc));
+    assert_collected(rt, alloc, provider, reader, 300, &nothing)
+}
+
+/// Makes a record, and asserts that its third one has that record alone.
+fn assert_one(
+    rt: &impl Abort,
+    alloc: Global,
+    provider: &mut SdkMeterProvider,
+    reader: usize,
+) -> Result<(), Fail> {
+    let set = attributes(alloc, &[("b", 1), ("a", 2)])?;
+    let _ = provider.step(&record(0, 9, set));
+    let one = one(alloc, hits(alloc, 9, 300, 400, Temporality::Delta)?)?;
+    assert_collected(rt, alloc, provider, reader, 400, &one)
+}
+
 /// A delta collection has what was recorded since the reader's last one, which is the start. Without records it
 /// has nothing, and the start moves all the same.
 #[test]
@@ -284,14 +319,9 @@ fn delta_wholes(rt: HostRuntime) -> Result<(), Fail> {
     let alloc = rt.alloc();
     for reader in 1..4 {
         let mut provider = provider(alloc)?;
-        let all = first(alloc, 200, Temporality::Delta)?;
-        assert_collected(&rt, alloc, &mut provider, reader, 200, &all)?;
-        let nothing = whole(alloc, Vec::new(alloc));
-        assert_collected(&rt, alloc, &mut provider, reader, 300, &nothing)?;
-        let set = attributes(alloc, &[("b", 1), ("a", 2)])?;
-        let _ = provider.step(&record(0, 9, set));
-        let metric = hits(alloc, 9, 300, 400, Temporality::Delta)?;
-        assert_collected(&rt, alloc, &mut provider, reader, 400, &one(alloc, metric)?)?;
+        assert_all(&rt, alloc, &mut provider, reader)?;
+        assert_nothing(&rt, alloc, &mut provider, reader)?;
+        assert_one(&rt, alloc, &mut provider, reader)?;
     }
     Ok(())
 }
