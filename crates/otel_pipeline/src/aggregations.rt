@@ -9,13 +9,13 @@ ghost use Rattle.otel_model_stream.specs.Totals.{size};
 ghost use Rattle.otel_pipeline.specs.Streams.{IsMakeable, asks_monotonic};
 
 use crate::numbers::bits_of;
-use otel_value_map::bounds::Bounds;
 use otel_aggregate::settings::{AnySettings, HistogramSettings};
 use otel_common::faults::Fault;
 use otel_common::metrics::Aggregation;
 use otel_data::numbers::NumberValue;
 use otel_stream::demand::Demand;
 use otel_stream::instrument::InstrumentKind;
+use otel_value_map::bounds::Bounds;
 
 /// Whether a demand makes no stream.
 pub(crate) fn is_drop(aggregation: &Aggregation) -> bool
