@@ -2,15 +2,14 @@
 
 ghost use Rattle.std.specs.Prelude.{◌≡◌, ◌<◌, [], ◌∷◌, ◌++◌, false, ℕ, IfOk, OnOk, OnErr, IsOk, IsOkUnless, slice_get};
 ghost use Rattle.otel_model.specs.Calls as model;
-ghost use Rattle.otel_model.specs.Calls.{or_else, is_observable};
-ghost use Rattle.otel_model.specs.Demands as demands;
+ghost use Rattle.otel_model.specs.Calls.{or_else};
 ghost use Rattle.otel_model.specs.Demands.{answer_for, resets};
 ghost use Rattle.otel_model.specs.Machine.{part_sent};
 ghost use Rattle.std.specs.List.{list_any};
 ghost use Rattle.std.specs.Option.{option_map};
 ghost use Rattle.indexmap.specs.IndexSet.{spare};
 ghost use Rattle.otel_pipeline.specs.Collections.{IsCollectedFrom};
-ghost use Rattle.otel_pipeline.specs.Pipelines.{part_of, wanted, planned, fed_unless, built, recorded, IsBuildable, IsBuildableIn, IsPlanned, IsReadyFor, IsPreparedFor, stream_identities};
+ghost use Rattle.otel_pipeline.specs.Pipelines.{part_of, wanted, planned, fed_unless, built, recorded, IsBuildableIn, IsPlanned, IsReadyFor, IsPreparedFor, stream_identities};
 ghost use Rattle.otel_pipeline.specs.Plans.{planned_of};
 ghost use Rattle.otel_pipeline.specs.Streams as streams;
 

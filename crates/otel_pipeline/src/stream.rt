@@ -1,6 +1,6 @@
 //! One stream of one reader.
 
-ghost use Rattle.std.specs.Prelude.{◌≡◌, nat_lt, false, [], Some, IfOk, IsOk, OnOk, IsOkUnless};
+ghost use Rattle.std.specs.Prelude.{◌≡◌, nat_lt, [], Some, IfOk, IsOk, OnOk, IsOkUnless};
 ghost use Rattle.otel_common.specs.Temporalities.{resets};
 ghost use Rattle.otel_model.specs.Collections.{number_of_points};
 ghost use Rattle.otel_model.specs.Sent.{set_for};

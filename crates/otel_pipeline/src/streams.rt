@@ -1,6 +1,6 @@
 //! What is done to the streams of one reader, one after another.
 
-ghost use Rattle.std.specs.Prelude.{◌≡◌, ◌<◌, [], map, OnOk, IsOk, IsOkUnless};
+ghost use Rattle.std.specs.Prelude.{◌≡◌, ◌<◌, [], OnOk, IsOk, IsOkUnless};
 ghost use Rattle.otel_pipeline.specs.Pipelines.{AreNumbers, ArePrepared, all_settled, committed_each, finished_all};
 
 use crate::stream::Stream;

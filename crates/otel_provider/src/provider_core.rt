@@ -1,6 +1,6 @@
 //! The state of a provider: all of it that is no boxed object.
 
-ghost use Rattle.std.specs.Prelude.{◌≡◌, ◌∷◌, ◌++◌, [], ℕ, ℤ, List, Option, false, cond, length, map, slice_get, Some, None, true, OnOk, OnErr, IfOk, IfErr, IsOk, IsOkUnless, MatchResult};
+ghost use Rattle.std.specs.Prelude.{◌≡◌, ◌∷◌, ◌++◌, [], Option, cond, length, map, slice_get, Some, None, true, OnOk, OnErr, IfOk, IfErr, IsOk, IsOkUnless, MatchResult};
 ghost use Rattle.std.specs.Option.{option_map};
 ghost use Rattle.otel_model.specs.Calls as model;
 ghost use Rattle.otel_model.specs.Demands.{is_good, are_good_bounds};
