@@ -8,6 +8,7 @@ pub mod Outcomes
 pub mod OwnDemands
 pub mod PipelineLemmas
 pub mod PipelinesLemmas
+pub mod Plans
 pub mod Places
 pub mod Records
 pub mod Shows

@@ -1,10 +1,12 @@
 -- What holds of the demand that an instrument makes by itself.
-use Rattle.std.proofs.Common.{◌≡◌, ◌∙◌, ap, ℤ, Bool, true, false, cond, ◌&&◌, List, Option, Some, None, refl, rules}
+use Rattle.std.proofs.Common.{◌≡◌, ◌∙◌, ap, sym, ℤ, Bool, true, false, true≢false, cond, ◌&&◌, List, Option, Some, None, refl, rules}
+use Rattle.std.specs.Prelude.{is_none}
+use Rattle.otel_model.specs.Checks.{is_good_name, optional_unit_fault}
 use Rattle.otel_common.specs.declared.metrics.Aggregation.{Aggregation}
 use Rattle.otel_common.specs.declared.metrics.Aggregation.TheVariants.{Drop, Default, Sum, LastValue, ExplicitBucketHistogram}
 use Rattle.otel_common.specs.declared.scopes.InstrumentationScope.{InstrumentationScope}
 use Rattle.otel_model.specs.Calls.{About, InstrumentKind, Counter, UpDownCounter, Histogram, ObservableCounter, ObservableUpDownCounter, Gauge, ObservableGauge, is_observable, or_else}
-use Rattle.otel_model.specs.Demands.{Demand, Identity, ReaderAnswers, answer_for, default_limit, own_demand, are_good_bounds, is_valid, fits, kind_default, default_from, reader_default, with_bounds, with_own, resolved}
+use Rattle.otel_model.specs.Demands.{Demand, Identity, ReaderAnswers, answer_for, default_limit, own_demand, are_good_bounds, is_good, is_valid, fits, kind_default, default_from, reader_default, with_bounds, with_own, resolved}
 use Rattle.otel_model.specs.Streams.{is_sum, observes_sums}
 use Rattle.otel_pipeline.specs.OwnIdentities.{own_identity}
 
@@ -87,3 +89,12 @@ pub own-not_drained : (scope : InstrumentationScope) (about : About) (x : Identi
 own-not_drained scope about x a identity h =
     ap (λ (y : Identity). is_sum a && observes_sums y.kind) identity
     ∙ not_observed-not_drained a about.kind h
+
+-- ======== a good instrument ========
+and-second : (a b : Bool) → (a && b) ≡ true → b ≡ true
+and-second true b e = e
+and-second false b e = absurd (true≢false (sym e))
+
+-- a good instrument has good bounds
+pub good-bounds : (about : About) → is_good about ≡ true → are_good_bounds about.kind about.bounds ≡ true
+good-bounds about e = and-second (is_none (optional_unit_fault about.unit)) _ (and-second (is_good_name about.name) _ e)

@@ -5,53 +5,50 @@ use Rattle.std.proofs.lemmas.List.{length-map}
 use Rattle.otel_data.specs.declared.numbers.NumberValue.{NumberValue}
 use Rattle.otel_model.specs.Demands.{Identity, Demand, ReaderAnswers}
 use Rattle.otel_model.specs.Machine.{changed_at}
-use Rattle.otel_pipeline.specs.Pipelines.{AreNumbers, all_settled, committed_each, finished_all, stream_identities, identity_of, part_by, named, identity_at, is_streamed, streamed}
+use Rattle.otel_pipeline.specs.Pipelines.{AreNumbers, all_settled, committed_each, fates_of, finished_all, stream_identities, identity_of, part_by, named, identity_at, is_streamed, streamed}
 use Rattle.otel_pipeline.specs.Streams.{Held, committed, settled}
 use Rattle.otel_pipeline.proofs.Answered.{commits, finishes}
 
-abbrev pub demands_of : List Held → List Demand
-demands_of ks = map (λ (k : Held). k.stream.demand) ks
-
 -- ======== demands stay ========
-pub demands-settled : (ks : List Held) → demands_of (all_settled ks) ≡ demands_of ks
+pub demands-settled : (ks : List Held) → fates_of (all_settled ks) ≡ fates_of ks
 demands-settled [] = refl
 demands-settled (k ∷ ks) = ap (λ ds. k.stream.demand ∷ ds) (demands-settled ks)
 
-demands-changed : (value : NumberValue) (n : ℕ) (ks : List Held) → demands_of (changed_at n (committed value) ks) ≡ demands_of ks
+demands-changed : (value : NumberValue) (n : ℕ) (ks : List Held) → fates_of (changed_at n (committed value) ks) ≡ fates_of ks
 demands-changed value n [] = refl
-demands-changed value zero (k ∷ ks) = ap (λ d. d ∷ demands_of ks) (commits value k).1
+demands-changed value zero (k ∷ ks) = ap (λ d. d ∷ fates_of ks) (commits value k).1
 demands-changed value (suc n) (k ∷ ks) = ap (λ ds. k.stream.demand ∷ ds) (demands-changed value n ks)
 
-pub demands-committed : (value : NumberValue) (ns : List ℕ) (ks : List Held) → demands_of (committed_each value ns ks) ≡ demands_of ks
+pub demands-committed : (value : NumberValue) (ns : List ℕ) (ks : List Held) → fates_of (committed_each value ns ks) ≡ fates_of ks
 demands-committed value [] ks = refl
 demands-committed value (n ∷ ns) ks = demands-committed value ns (changed_at n (committed value) ks) ∙ demands-changed value n ks
 
-pub demands-finished : (now : ℕ) (ks : List Held) → demands_of (finished_all now ks) ≡ demands_of ks
+pub demands-finished : (now : ℕ) (ks : List Held) → fates_of (finished_all now ks) ≡ fates_of ks
 demands-finished now [] = refl
 demands-finished now (k ∷ ks) = λ i. (finishes now k.resets k).1 i ∷ demands-finished now ks i
 
 -- ======== what is read off the demands ========
-identities-demands : (ks : List Held) → stream_identities ks ≡ map (λ (d : Demand). d.identity) (demands_of ks)
+identities-demands : (ks : List Held) → stream_identities ks ≡ map (λ (d : Demand). d.identity) (fates_of ks)
 identities-demands [] = refl
 identities-demands (k ∷ ks) = ap (λ xs. identity_of k ∷ xs) (identities-demands ks)
 
-pub identities-same : (a b : List Held) → demands_of a ≡ demands_of b → stream_identities a ≡ stream_identities b
+pub identities-same : (a b : List Held) → fates_of a ≡ fates_of b → stream_identities a ≡ stream_identities b
 identities-same a b e = identities-demands a ∙ (ap (map (λ (d : Demand). d.identity)) e ∙ sym (identities-demands b))
 
 abbrev one_named : Option Demand → List Identity
 one_named None = []
 one_named (Some d) = d.identity ∷ []
 
-identity_at-demands : (ks : List Held) (n : ℕ) → identity_at ks n ≡ one_named (slice_get (demands_of ks) n)
+identity_at-demands : (ks : List Held) (n : ℕ) → identity_at ks n ≡ one_named (slice_get (fates_of ks) n)
 identity_at-demands [] n = refl
 identity_at-demands (k ∷ ks) zero = refl
 identity_at-demands (k ∷ ks) (suc n) = identity_at-demands ks n
 
-named-same : (a b : List Held) → demands_of a ≡ demands_of b → (ns : List ℕ) → named a ns ≡ named b ns
+named-same : (a b : List Held) → fates_of a ≡ fates_of b → (ns : List ℕ) → named a ns ≡ named b ns
 named-same a b e [] = refl
 named-same a b e (n ∷ ns) = λ i. (identity_at-demands a n ∙ (ap (λ ds. one_named (slice_get ds n)) e ∙ sym (identity_at-demands b n))) i ++ named-same a b e ns i
 
-pub feeds-same : (a b : List Held) → demands_of a ≡ demands_of b → (feeds : List (List ℕ)) → map (named a) feeds ≡ map (named b) feeds
+pub feeds-same : (a b : List Held) → fates_of a ≡ fates_of b → (feeds : List (List ℕ)) → map (named a) feeds ≡ map (named b) feeds
 feeds-same a b e [] = refl
 feeds-same a b e (ns ∷ feeds) = λ i. named-same a b e ns i ∷ feeds-same a b e feeds i
 

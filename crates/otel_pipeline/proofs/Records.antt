@@ -19,12 +19,12 @@ use Rattle.otel_model.specs.Machine.{stream_after, part_sent}
 use Rattle.otel_model.specs.Sent.{is_fed, set_for}
 use Rattle.otel_model.specs.State.{Stream}
 use Rattle.otel_model.proofs.Gather.{identity_eq_self}
-use Rattle.otel_pipeline.specs.Pipelines.{named, identity_at, identity_of, is_streamed, streamed, part_of, Piped, AreNumbers, ArePrepared, IsPrepared, IsPreparedFor, fed_by, recorded, committed_each, FeedsType}
+use Rattle.otel_pipeline.specs.Pipelines.{fates_of, named, identity_at, identity_of, is_streamed, streamed, part_of, Piped, AreNumbers, ArePrepared, IsPrepared, IsPreparedFor, fed_by, recorded, committed_each, FeedsType}
 use Rattle.otel_pipeline.specs.Streams.{Held, with_record, committed, committed_by}
 use Rattle.otel_pipeline.proofs.Answered.{commits}
 use Rattle.otel_pipeline.proofs.Commits.{mapped_from, fold-changed}
 use Rattle.otel_pipeline.proofs.Identities.{AreApart, are_apart}
-use Rattle.otel_pipeline.proofs.PipelineLemmas.{demands_of, demands-committed, feeds-same}
+use Rattle.otel_pipeline.proofs.PipelineLemmas.{demands-committed, feeds-same}
 
 -- ======== a record is made once ========
 committed-settled : (v : Amount) (o : Option AttributeSet) (k : Held) → k.pending ≡ o → committed_by (committed_by o v k).pending v (committed_by o v k) ≡ committed_by o v k
@@ -63,7 +63,7 @@ pub identity_at-is : (ks : List Held) (n : ℕ) (k : Held) → slice_get ks n �
 identity_at-is ks n k e = rw e refl
 
 -- an instrument feeds a stream by identity exactly if it feeds it by number
-named-has : (ks : List Held) → AreApart ks → (ns : List ℕ) → HaveStreams ns ks → (i : ℕ) (k : Held) → slice_get ks i ≡ Some k
+pub named-has : (ks : List Held) → AreApart ks → (ns : List ℕ) → HaveStreams ns ks → (i : ℕ) (k : Held) → slice_get ks i ≡ Some k
     → model.has_identity (named ks ns) (identity_of k) ≡ has_number i ns
 named-has ks apart [] all i k e = refl
 named-has ks apart (n ∷ ns) all i k e =
@@ -163,7 +163,7 @@ prepared-at l ks (n ∷ ns) all i k e h = by (n == i) refl h (λ q. prepared-at 
 pub recorded-sent : (next n : ℕ) (value : NumberValue) (l : List KeyValue) (p : Piped) → IsPreparedFor n l p → FeedsType n (is_signed_value value) (part_of p)
     → recorded n value p ≡ part_sent next (RecordCall n (number value) l) (part_of p)
 recorded-sent next n value l p prepared typed =
-    let same : demands_of (committed_each value (fed_by n p) p.streams) ≡ demands_of p.streams = demands-committed value (fed_by n p) p.streams in
+    let same : fates_of (committed_each value (fed_by n p) p.streams) ≡ fates_of p.streams = demands-committed value (fed_by n p) p.streams in
     λ i. record {
       answers = p.answers;
       fates = same i;

@@ -2,5 +2,4 @@ pub mod Collections
 pub mod Defaults
 pub mod OwnIdentities
 pub mod Pipelines
-pub mod Plans
 pub mod Streams

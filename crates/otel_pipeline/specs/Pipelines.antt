@@ -1,32 +1,37 @@
 -- One reader's streams, as the model's part of a reader, and what is no part of it.
-use Rattle.std.specs.Prelude.{◌≡◌, ◌<◌, ℕ, Bool, not, cond, true, false, List, [], ◌∷◌, ◌++◌, map, filter, fold, length, All, IsTrue, Option, None, Some, slice_get, position}
+use Rattle.std.specs.Prelude.{◌≡◌, ◌<◌, ◌+◌, ℕ, Bool, not, cond, ◌||◌, true, false, List, [], ◌∷◌, ◌++◌, map, filter, fold, length, All, IsTrue, Option, None, Some, slice_get, position}
+use Rattle.std.specs.Option.{option_map}
 use Rattle.std.specs.List.{IsDistinct, AllByRecursion}
 use Rattle.otel_common.specs.declared.attributes.KeyValue.{KeyValue}
 use Rattle.otel_common.specs.declared.scopes.InstrumentationScope.{InstrumentationScope}
 use Rattle.otel_data.specs.declared.numbers.NumberValue.{NumberValue}
 use Rattle.otel_model.specs.Calls.{About, is_observable, or_else}
-use Rattle.otel_model.specs.Demands.{Identity, Demand, ReaderAnswers, identity_eq, is_drop, are_good_bounds, own_demand}
+use Rattle.otel_model.specs.Demands.{Identity, Demand, ReaderAnswers, Views, identity_eq, is_drop, is_dropped, is_good, fed}
 use Rattle.otel_model.specs.State.{Stream, ReaderPart}
-use Rattle.otel_model.specs.Machine.{changed_at}
+use Rattle.otel_model.specs.Machine.{changed_at, demanded, build_demands}
 use Rattle.otel_model.specs.Sent.{is_fed, set_for}
 use Rattle.otel_model.specs.Streams.{is_delta}
-use Rattle.otel_pipeline.specs.Streams.{Held, new_held, committed, settled, finished}
+use Rattle.otel_model_stream.specs.Totals.{has_number}
+use Rattle.otel_pipeline.specs.Streams.{Held, committed, settled, finished}
 
--- what a build is going to do: the numbers of the streams that the instrument will feed, and the new stream
--- with its identity
+-- what a build is going to do: the numbers of the streams that the instrument will feed, and the new streams
 pub record Planned : Type 0 where
   pub feeds : List ℕ
-  pub added : Option (Identity × Held)
+  pub added : List Held
 
 -- a reader's answers, its streams in order of making, for each instrument the numbers of those that it feeds, what is
--- planned, and whether there is room for a stream and an instrument more. A demand that drops has a place among the
--- streams, so that it is known
+-- planned, and whether there is room for that. A demand that drops has a place among the streams, so that it is known
 pub record Piped : Type 0 where
   pub answers : ReaderAnswers
   pub streams : List Held
   pub feeds : List (List ℕ)
   pub plan : Option Planned
   pub room : Bool
+
+-- how many streams are planned
+abbrev pub many_added : Option Planned → ℕ
+many_added None = 0
+many_added (Some plan) = length plan.added
 
 -- ======== the model's part ========
 abbrev pub identity_of : Held → Identity
@@ -56,11 +61,15 @@ is_streamed h = not (is_drop h.stream.demand.aggregation)
 abbrev pub streamed : List Held → List Stream
 streamed streams = map (λ (h : Held). h.stream) (filter is_streamed streams)
 
+-- what the streams demand
+abbrev pub fates_of : List Held → List Demand
+fates_of streams = map (λ (h : Held). h.stream.demand) streams
+
 -- the part of a reader with these answers and streams, which the instruments feed by these numbers
 abbrev pub part_by : ReaderAnswers → List Held → List (List ℕ) → ReaderPart
 part_by answers streams feeds = record {
   answers = answers;
-  fates = map (λ (h : Held). h.stream.demand) streams;
+  fates = fates_of streams;
   streams = streamed streams;
   feeds = map (named streams) feeds;
 }
@@ -88,20 +97,15 @@ pub record IsLawful (p : Piped) : Type 0 where
   pub synchronous : AreSynchronous p.streams
 
 -- ======== builds ========
--- what a build can be made of: a synchronous instrument with bounds that rise
+-- what a build can be made of: a synchronous instrument with a good name, unit and bounds
 pub record IsBuildable (about : About) : Type 0 where
   pub synchronous : is_observable about.kind ≡ false
-  pub bounds : are_good_bounds about.kind about.bounds ≡ true
+  pub good : is_good about ≡ true
 
 -- a build without a scope demands nothing
 abbrev pub IsBuildableIn : Option InstrumentationScope → About → Type 0
 IsBuildableIn None about = Unit {0}
 IsBuildableIn (Some scope) about = IsBuildable about
-
--- what an instrument demands of a reader: nothing without a scope
-abbrev pub wanted : ReaderAnswers → Option InstrumentationScope → About → Option Demand
-wanted answers None about = None
-wanted answers (Some scope) about = Some (own_demand answers scope about)
 
 -- the number of the stream of an identity
 abbrev pub stream_number : Identity → List Identity → Option ℕ
@@ -115,46 +119,51 @@ drops_at streams n = by (slice_get streams n)
     by None = false
     by (Some h) = is_drop h.stream.demand.aggregation
 
--- nothing feeds what drops
-abbrev pub fed_unless : Bool → ℕ → List ℕ
-fed_unless drops n = cond drops [] (n ∷ [])
+-- a number, and whether its stream drops
+abbrev pub with_drop : List Held → ℕ → ℕ × Bool
+with_drop streams n = (n, drops_at streams n)
 
-abbrev pub plan_by : ReaderAnswers → Option ℕ → Demand → ℕ → List Held → Planned
-plan_by answers (Some n) d now streams = record { feeds = fed_unless (drops_at streams n) n; added = None }
-plan_by answers None d now streams = record { feeds = fed_unless (is_drop d.aggregation) (length streams); added = Some (d.identity, new_held (is_delta answers d) d now) }
+-- the number of the stream of an identity, and whether it drops
+abbrev pub found_at : Identity → List Held → Option (ℕ × Bool)
+found_at x streams = option_map (with_drop streams) (stream_number x (stream_identities streams))
 
--- what a build that demands this, or nothing, plans
-abbrev pub planned : ReaderAnswers → Option Demand → ℕ → List Held → Planned
-planned answers None now streams = record { feeds = []; added = None }
-planned answers (Some d) now streams = plan_by answers (stream_number d.identity (stream_identities streams)) d now streams
+-- the same where the first stream has this number
+abbrev pub counted_from : ℕ → ℕ × Bool → ℕ × Bool
+counted_from first p = (first + p.0, p.1)
 
--- the demand, if there is one, is of a synchronous instrument
-abbrev pub IsSynchronous : Option Demand → Type 0
-IsSynchronous None = Unit {0}
-IsSynchronous (Some d) = is_observable d.identity.kind ≡ false
+-- these numbers with one more, if it isn't there. Nothing feeds what drops
+abbrev pub fed_once : Bool → ℕ → List ℕ → List ℕ
+fed_once drops n ns = cond (drops || has_number n ns) ns (ns ++ n ∷ [])
+
+-- the plan has these demands made, of a reader with these answers and streams
+pub record IsPlanOf (answers : ReaderAnswers) (made : List Held) (now : ℕ) (demands : List Demand) (plan : Planned) : Type 0 where
+  pub apart : IsDistinct identity_eq (stream_identities (made ++ plan.added))
+  pub numbers : AreNumbers (made ++ plan.added) plan.feeds
+  pub answered : AreAnswered answers plan.added
+  pub synchronous : AreSynchronous plan.added
+  pub streams : part_by answers (made ++ plan.added) [] ≡ fold (demanded now) (part_by answers made []) demands
+  pub feeds : named (made ++ plan.added) plan.feeds ≡ fed (is_dropped (fates_of (made ++ plan.added))) demands
 
 -- there is a plan, and room to carry it out
 pub record IsPlanned (p : Piped) : Type 0 where
-  pub demand : Option Demand
+  pub planned : Planned
+  pub demands : List Demand
   pub now : ℕ
-  pub synchronous : IsSynchronous demand
-  pub plan : p.plan ≡ Some (planned p.answers demand now p.streams)
+  pub plan : p.plan ≡ Some planned
+  pub meets : IsPlanOf p.answers p.streams now demands planned
   pub room : IsTrue p.room
 
 -- ready for a build of this instrument
-pub record IsReadyFor (scope : Option InstrumentationScope) (about : About) (now : ℕ) (p : Piped) : Type 0 where
+pub record IsReadyFor (views : Views) (scope : Option InstrumentationScope) (about : About) (now : ℕ) (p : Piped) : Type 0 where
   pub lawful : IsLawful p
-  pub synchronous : IsSynchronous (wanted p.answers scope about)
-  pub plan : p.plan ≡ Some (planned p.answers (wanted p.answers scope about) now p.streams)
+  pub planned : Planned
+  pub plan : p.plan ≡ Some planned
+  pub meets : IsPlanOf p.answers p.streams now (build_demands views (part_of p) scope about) planned
   pub room : IsTrue p.room
-
-abbrev pub with_added : Option (Identity × Held) → List Held → List Held
-with_added None streams = streams
-with_added (Some added) streams = streams ++ added.1 ∷ []
 
 abbrev pub built_by : Option Planned → Piped → Piped
 built_by None p = p
-built_by (Some plan) p = record { answers = p.answers; streams = with_added plan.added p.streams; feeds = p.feeds ++ plan.feeds ∷ []; plan = None; room = p.room }
+built_by (Some plan) p = record { answers = p.answers; streams = p.streams ++ plan.added; feeds = p.feeds ++ plan.feeds ∷ []; plan = None; room = p.room }
 
 -- what was planned, carried out
 abbrev pub built : Piped → Piped

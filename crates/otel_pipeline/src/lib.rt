@@ -8,6 +8,7 @@ pub mod defaults;
 pub mod demands;
 pub mod numbers;
 pub mod pipeline;
+mod plan;
 mod stream;
 mod streams;
 #[cfg(test)]

@@ -1,22 +1,18 @@
 //! What one reader has: its answers, its streams, and what feeds them.
 
-ghost use Rattle.std.specs.Prelude.{◌≡◌, ◌<◌, [], ◌∷◌, ◌++◌, false, ℕ, IfOk, OnOk, OnErr, IsOk, IsOkUnless, slice_get};
+ghost use Rattle.std.specs.Prelude.{◌≡◌, [], fold, ℕ, IfOk, OnOk, OnErr, IsOk, IsOkUnless, slice_get};
 ghost use Rattle.otel_model.specs.Calls as model;
 ghost use Rattle.otel_model.specs.Calls.{or_else};
-ghost use Rattle.otel_model.specs.Demands.{answer_for, resets};
-ghost use Rattle.otel_model.specs.Machine.{part_sent};
-ghost use Rattle.std.specs.List.{list_any};
+ghost use Rattle.otel_model.specs.Demands.{demands_on, is_dropped};
+ghost use Rattle.otel_model.specs.Machine.{enter, part_sent};
 ghost use Rattle.std.specs.Option.{option_map};
-ghost use Rattle.indexmap.specs.IndexSet.{spare};
 ghost use Rattle.otel_pipeline.specs.Collections.{IsCollectedFrom};
-ghost use Rattle.otel_pipeline.specs.Pipelines.{part_of, wanted, planned, fed_unless, built, recorded, IsBuildableIn, IsPlanned, IsReadyFor, IsPreparedFor, stream_identities};
-ghost use Rattle.otel_pipeline.specs.Plans.{planned_of};
-ghost use Rattle.otel_pipeline.specs.Streams as streams;
+ghost use Rattle.otel_pipeline.specs.Pipelines.{part_of, fates_of, built, recorded, IsBuildableIn, IsPlanOf, IsPlanned, IsReadyFor, IsPreparedFor, stream_identities};
 
 use crate::about::About;
-use crate::aggregations::is_drop;
 use crate::collecting::scopes_of;
 use crate::demands::own_demand;
+use crate::plan::Plan;
 use crate::stream::Stream;
 use crate::streams::{commit_each, finish_each, prepare_each};
 use indexmap::IndexSet;
@@ -29,18 +25,10 @@ use otel_common::scopes::InstrumentationScope;
 use otel_data::collections::ResourceMetrics;
 use otel_data::numbers::NumberValue;
 use otel_stream::answers::Answers;
-use otel_stream::demand::{Demand, Identity};
+use otel_stream::demand::Identity;
 use otel_stream::laws::kind_laws;
 use std::alloc::Global;
 use std::marker::Model;
-
-/// What a build is going to do: the numbers of the streams that the instrument will feed, and the
-/// stream that is new, with its identity.
-#[derive(Drop)]
-pub(crate) struct Plan {
-    feeds: Items<usize>,
-    added: Option<(Identity, Stream)>,
-}
 
 /// What one reader answered, its streams in order of making, and for each instrument those that it feeds.
 #[derive(Drop)]
@@ -55,72 +43,6 @@ pub struct Pipeline {
     plan: Option<Plan>,
 }
 
-/// Adds a key that isn't there yet, for which there is room.
-fn add_key(identities: &mut IndexSet<Identity>, identity: Identity)
-    requires room { 0 < spare identities.old }
-    requires absent { list_any (⟦<Identity as PartialEq>⟧.eq identity) identities.old.keys ≡ false }
-    ensures { identities.new.keys ≡ identities.old.keys ++ identity ∷ [] }
-{
-    let _ = identities.insert(identity).unwrap();
-}
-
-/// A list of one number, or of none where that is of a demand that drops.
-fn feed_unless(alloc: Global, drops: bool, number: usize) -> Result<Items<usize>, Fault>
-    ensures number { IfOk result (λ feeds. feeds ≡ fed_unless drops number) }
-    ensures only_memory { IsOkUnless result Fault.OutOfMemory }
-{
-    if drops {
-        return Ok(Items::from(Vec::new(alloc)));
-    }
-    Ok(Items::from(vec![in alloc; number]?))
-}
-
-/// A new stream of this demand, with its identity.
-fn new_stream(
-    alloc: Global,
-    answers: &Answers,
-    demand: Demand,
-    now: u64,
-) -> Result<(Identity, Stream), Fault>
-    requires { streams.IsMakeable demand }
-    ensures stream { IfOk result (λ made. made ≡ (demand.identity, streams.new_held (resets (answer_for answers.now demand.identity.kind).temporality) demand now)) }
-    ensures only_memory { IsOkUnless result Fault.OutOfMemory }
-{
-    let temporality = answers.temporality(demand.identity.kind);
-    let identity = demand.identity.clone()?;
-    Ok((identity, Stream::new(alloc, temporality, demand, now)?))
-}
-
-/// What a build that demands this stream plans.
-fn plan_stream(
-    alloc: Global,
-    answers: &Answers,
-    identities: &IndexSet<Identity>,
-    made: &[Stream],
-    demand: Demand,
-    now: u64,
-) -> Result<Plan, Fault>
-    requires makeable { streams.IsMakeable demand }
-    requires keys { identities.now.keys ≡ stream_identities made.now }
-    ensures plan { IfOk result (λ plan. planned_of plan ≡ planned answers.now (Some demand) now made.now) }
-    ensures only_memory { IsOkUnless result Fault.OutOfMemory }
-{
-    kind_laws();
-    match identities.get_index_of(&demand.identity) {
-        Some(number) => {
-            let drops = is_drop(&made[number].demand().aggregation);
-            Ok(Plan {
-                feeds: feed_unless(alloc, drops, number)?,
-                added: None,
-            })
-        }
-        None => Ok(Plan {
-            feeds: feed_unless(alloc, is_drop(&demand.aggregation), made.len())?,
-            added: Some(new_stream(alloc, answers, demand, now)?),
-        }),
-    }
-}
-
 /// What a build of this instrument plans: nothing without a scope.
 fn make_plan(
     alloc: Global,
@@ -133,19 +55,18 @@ fn make_plan(
 ) -> Result<Plan, Fault>
     requires buildable { IsBuildableIn (option_map (λ s. s.now) scope) about.now }
     requires keys { identities.now.keys ≡ stream_identities made.now }
-    ensures plan { IfOk result (λ plan. planned_of plan ≡ planned answers.now (wanted answers.now (option_map (λ s. s.now) scope.entry) about.now) now made.now) }
+    ensures plan { IfOk result (IsPlanOf answers.now made.now now (demands_on (λ ds. is_dropped (fold enter (fates_of made.now) ds)) [] answers.now (option_map (λ s. s.now) scope.entry) about.now)) }
     ensures only_memory { IsOkUnless result Fault.OutOfMemory }
 {
-    match scope {
-        Some(scope) => {
-            let demand = own_demand(alloc, answers, scope, about)?;
-            plan_stream(alloc, answers, identities, made, demand, now)
-        }
-        None => Ok(Plan {
-            feeds: Items::from(Vec::new(alloc)),
-            added: None,
-        }),
-    }
+    kind_laws();
+    let _ = identities.len();
+    let mut plan = Plan::new(alloc);
+    let Some(scope) = scope else {
+        return Ok(plan);
+    };
+    let demand = own_demand(alloc, answers, scope, about)?;
+    plan.demand(alloc, answers, identities, made, demand, now)?;
+    Ok(plan)
 }
 
 /// The numbers of the streams that an instrument feeds.
@@ -159,11 +80,9 @@ fn streams_fed(feeds: &[Items<usize>], instrument: usize) -> &[usize]
 }
 
 impl Model for Pipeline {
-    ghost use Rattle.std.specs.Prelude.{◌≡◌, ◌&&◌, nat_lt, All, vec_len, vec_capacity};
-    ghost use Rattle.std.specs.Option.{option_map};
+    ghost use Rattle.std.specs.Prelude.{◌≡◌, ◌+◌, ◌&&◌, nat_lt, nat_le, All, vec_len, vec_capacity};
     ghost use Rattle.indexmap.specs.IndexSet.{spare};
-    ghost use Rattle.otel_pipeline.specs.Pipelines.{Piped, AreNumbers, AreAnswered, AreSynchronous, stream_identities};
-    ghost use Rattle.otel_pipeline.specs.Plans.{planned_of};
+    ghost use Rattle.otel_pipeline.specs.Pipelines.{Piped, AreNumbers, AreAnswered, AreSynchronous, many_added, stream_identities};
 
     ghost Value = { Piped };
 
@@ -171,8 +90,8 @@ impl Model for Pipeline {
       answers = p.answers;
       streams = p.streams.items;
       feeds = p.feeds.items;
-      plan = option_map planned_of p.plan;
-      room = nat_lt 0 (spare p.identities) && (nat_lt (vec_len p.streams) (vec_capacity p.streams) && nat_lt (vec_len p.feeds) (vec_capacity p.feeds));
+      plan = p.plan;
+      room = nat_le (many_added p.plan) (spare p.identities) && (nat_le (vec_len p.streams + many_added p.plan) (vec_capacity p.streams) && nat_lt (vec_len p.feeds) (vec_capacity p.feeds));
     } };
 
     ghost invariant = { λ p. (p.identities.keys ≡ stream_identities p.streams.items) × All (AreNumbers p.streams.items) p.feeds.items × AreAnswered p.answers p.streams.items × AreSynchronous p.streams.items };
@@ -206,7 +125,7 @@ impl Pipeline {
     ) -> Result<(), Fault>
         requires { IsBuildableIn (option_map (λ s. s.now) scope) about.now }
         ensures same { part_of self.new ≡ part_of self.old }
-        ensures ready { OnOk result (IsReadyFor (option_map (λ s. s.now) scope.entry) about.now now self.new) }
+        ensures ready { OnOk result (IsReadyFor [] (option_map (λ s. s.now) scope.entry) about.now now self.new) }
         ensures only_memory { IsOkUnless result Fault.OutOfMemory }
     {
         let plan = make_plan(
@@ -219,9 +138,10 @@ impl Pipeline {
             now,
         )?;
         kind_laws();
+        let many = plan.added.len();
         self.plan = Some(plan);
-        self.identities.reserve(1)?;
-        self.streams.reserve(1)?;
+        self.identities.reserve(many)?;
+        self.streams.reserve(many)?;
         self.feeds.reserve(1)?;
         Ok(())
     }
@@ -235,13 +155,14 @@ impl Pipeline {
         let Some(plan) = self.plan.take() else {
             return;
         };
-        let Plan { feeds, added } = plan;
-        self.feeds.push_reserved(feeds);
-        let Some((identity, stream)) = added else {
-            return;
-        };
-        add_key(&mut self.identities, identity);
-        self.streams.push_reserved(stream);
+        let Plan {
+            feeds,
+            mut identities,
+            mut added,
+        } = plan;
+        self.identities.append(&mut identities).unwrap();
+        self.streams.append(&mut added).unwrap();
+        self.feeds.push_reserved(Items::from(feeds));
     }
 
     /// Prepares a record of these attributes in the streams that the instrument feeds. What the reader has

@@ -25,7 +25,7 @@ fn plan_all(
 ) -> Result<(), Fault>
     requires { IsBuildableIn (option_map (λ s. s.now) scope) about.now }
     ensures same { map part_of pipelines.new ≡ map part_of pipelines.old }
-    ensures ready { OnOk result (All (IsReadyFor (option_map (λ s. s.now) scope.entry) about.now now) pipelines.new) }
+    ensures ready { OnOk result (All (IsReadyFor [] (option_map (λ s. s.now) scope.entry) about.now now) pipelines.new) }
     ensures only_memory { IsOkUnless result Fault.OutOfMemory }
 {
     for i in 0..pipelines.len() {

@@ -1,17 +1,17 @@
 use Rattle.std.proofs.Common.{◌∙◌, ap, map, []}
 use Rattle.otel_model.specs.Machine.{built as model_built}
-use Rattle.otel_pipeline.proofs.Builds.{all_built}
-use Rattle.otel_provider.proofs.StepLemmas.{good-or-none, buildable-in}
+use Rattle.otel_pipeline.proofs.Plans.{all_built, ready-planned}
+use Rattle.otel_provider.proofs.StepLemmas.{buildable-in}
 use Rattle.otel_provider.proofs.pipelines.build_or_none.Goals as goal
 
 pub plan_all-requires : goal.plan_all-requires
 plan_all-requires c = buildable-in _ c.args.about.now c.requires.good c.requires.synchronous
 
 pub build_all-requires : goal.build_all-requires
-build_all-requires c = λ k d h. let r = c.in_ok-plan_all.ensures.ready k d h in record { demand = _; now = c.args.now; synchronous = r.synchronous; plan = r.plan; room = r.room }
+build_all-requires c = λ k d h. ready-planned [] _ c.args.about.now c.args.now _ (c.in_ok-plan_all.ensures.ready k d h)
 
 pub returns-clause-ok : goal.returns-clause-ok
 returns-clause-ok c =
     c.build_all.ensures
-    ∙ (all_built _ c.args.about.now c.args.now c.plan_all.new.pipelines (good-or-none _ c.args.about.now c.requires.good) c.in_ok-plan_all.ensures.ready
+    ∙ (all_built [] _ c.args.about.now c.args.now c.plan_all.new.pipelines c.in_ok-plan_all.ensures.ready
     ∙ ap (map (model_built [] _ c.args.about.now c.args.now)) c.plan_all.ensures.same)

@@ -1,44 +1,61 @@
-use Rattle.std.proofs.Common.{◌≡◌, ◌∙◌, sym, Some, List, [], ◌∷◌, ◌++◌, false}
-use Rattle.std.specs.Option.{option_map}
+use Rattle.std.proofs.Common.{◌≡◌, ◌<◌, ◌≤◌, ◌+◌, ◌∙◌, ap, sym, subst, arith, length, Some, List, [], ◌∷◌, ◌++◌, false}
+use Rattle.std.specs.Prelude.{vec_len, vec_capacity}
+use Rattle.std.proofs.Math.Dec.{leb, ltb}
+use Rattle.std.proofs.lemmas.Bool.{leb-true, ltb-true}
+use Rattle.std.proofs.lemmas.List.{length-map}
+use Rattle.indexmap.specs.IndexSet.{spare}
 use Rattle.otel_model.specs.Calls.{is_observable}
 use Rattle.otel_model.specs.Streams.{is_delta}
-use Rattle.otel_pipeline.specs.Pipelines.{planned}
+use Rattle.otel_pipeline.specs.Pipelines.{Planned, IsPlanOf, identity_of, many_added, stream_identities}
 use Rattle.otel_pipeline.specs.Streams.{Held}
-use Rattle.otel_pipeline.specs.Plans.{planned_of}
-use Rattle.otel_pipeline.proofs.Answered.{answered-push}
-use Rattle.otel_pipeline.proofs.Builds.{built-from, taken-is, planned-added, numbers-push, numbers-more, identities-push, IsAdded}
-use Rattle.otel_pipeline.proofs.Identities.{absent-same}
 use Rattle.otel_pipeline.proofs.PipelineLemmas.{part-same}
+use Rattle.otel_pipeline.proofs.Plans.{appended-keys, numbers-built, each-append, room-parts, built-is, some_plan}
 use Rattle.otel_pipeline.proofs.pipeline.Pipeline.build.Goals as goal
 
--- a new stream has the key that is added, and the instrument feeds it
+-- there is room for what is planned
+pub unwrap-requires : goal.unwrap-requires
+unwrap-requires c =
+    let held : c.self.inside.plan ≡ Some c.in-Some.plan = sym c.in-Some.ensures.value in
+    let room = room-parts (leb (many_added c.self.inside.plan) (spare c.self.inside.identities)) (leb (vec_len c.self.inside.streams + many_added c.self.inside.plan) (vec_capacity c.self.inside.streams)) (ltb (vec_len c.self.inside.feeds) (vec_capacity c.self.inside.feeds)) (rw (← c.self.view_is) at c.requires.room) in
+    let fits : many_added c.self.inside.plan ≤ spare c.self.inside.identities = leb-true _ _ room.0 in
+    let many : length c.plan.inside.identities.keys ≡ many_added c.self.inside.plan = ap length c.plan.invariant ∙ (length-map c.plan.inside.added.items identity_of ∙ (ap (λ (p : Planned). length p.added) c.plan.view_is ∙ ap many_added (sym held))) in
+    c.append.ensures.succeeds (omega (arith, many, fits))
+
+pub push_reserved-requires : goal.push_reserved-requires
+push_reserved-requires c = ltb-true _ _ (room-parts (leb (many_added c.self.inside.plan) (spare c.self.inside.identities)) (leb (vec_len c.self.inside.streams + many_added c.self.inside.plan) (vec_capacity c.self.inside.streams)) (ltb (vec_len c.self.inside.feeds) (vec_capacity c.self.inside.feeds)) (rw (← c.self.view_is) at c.requires.room)).2
+
+pub unwrap-requires-2 : goal.unwrap-requires-2
+unwrap-requires-2 c =
+    let held : c.self.inside.plan ≡ Some c.in-Some.plan = sym c.in-Some.ensures.value in
+    let room = room-parts (leb (many_added c.self.inside.plan) (spare c.self.inside.identities)) (leb (vec_len c.self.inside.streams + many_added c.self.inside.plan) (vec_capacity c.self.inside.streams)) (ltb (vec_len c.self.inside.feeds) (vec_capacity c.self.inside.feeds)) (rw (← c.self.view_is) at c.requires.room) in
+    let fits : vec_len c.self.inside.streams + many_added c.self.inside.plan ≤ vec_capacity c.self.inside.streams = leb-true _ _ room.1 in
+    let many : length c.plan.inside.added.items ≡ many_added c.self.inside.plan = ap (λ (p : Planned). length p.added) c.plan.view_is ∙ ap many_added (sym held) in
+    c.append-2.ensures.succeeds (omega (arith, many, fits))
+
+-- the new streams have the keys that are added, and the instrument feeds them
 pub invariant_of-self-2 : goal.invariant_of-self-2
 invariant_of-self-2 c =
     let answers = c.self.inside.answers in
     let ks : List Held = c.self.inside.streams.items in
-    let stream : Held = c.in-Some-added.stream in
-    let feeds = c.self.inside.feeds.items in
-    let held : option_map planned_of c.self.inside.plan ≡ Some (planned answers c.requires.demand c.requires.now ks) = rw (← c.self.view_is) at c.requires.plan in
-    let new : IsAdded answers c.in-Some-added.identity stream c.in-Some.plan.feeds ks =
-    planned-added answers c.requires.demand c.requires.now ks _ _ _ c.requires.synchronous (taken-is c.self.inside.plan c.in-Some.plan _ _ held c.in-Some.ensures.value c.in-Some-added.is) in
-    rw (c.add_key.ensures, c.push_reserved.ensures.items, c.push_reserved-2.ensures.items) (
-      (λ i. c.self.invariant.0 i ++ new.key i ∷ []) ∙ sym (identities-push ks stream),
-      numbers-push (ks ++ stream ∷ []) feeds c.in-Some.plan.feeds (numbers-more ks stream feeds c.self.invariant.1) new.feeds,
-      answered-push (λ resets d. resets ≡ is_delta answers d) ks stream c.self.invariant.2 new.resets,
-      answered-push (λ resets d. is_observable d.identity.kind ≡ false) ks stream c.self.invariant.3 new.synchronous,
+    let ms : List Held = c.plan.inside.added.items in
+    let is : c.requires.planned ≡ c.in-Some.plan = some_plan c.requires.planned c.in-Some.plan (sym (rw (← c.self.view_is) at c.requires.plan) ∙ sym c.in-Some.ensures.value) in
+    let seen : c.requires.planned ≡ record { feeds = c.plan.inside.feeds.items; added = ms } = is ∙ sym c.plan.view_is in
+    let meets : IsPlanOf answers ks c.requires.now c.requires.demands (record { feeds = c.plan.inside.feeds.items; added = ms }) = subst (IsPlanOf answers ks c.requires.now c.requires.demands) seen (rw (← c.self.view_is) at c.requires.meets) in
+    let streams : c.append-2.new.self.items ≡ ks ++ ms = rw c.unwrap-2.ensures at c.append-2.ensures.items in
+    let keys : c.append.new.self.keys ≡ stream_identities (ks ++ ms) =
+    (rw c.unwrap.ensures at c.append.ensures.keys) ∙ appended-keys _ c.kind_laws.ensures.equal ks ms c.self.inside.identities.keys c.plan.inside.identities.keys c.self.invariant.0 c.plan.invariant meets.apart in
+    rw (streams, c.push_reserved.ensures.items, c.from.ensures) (
+      keys,
+      numbers-built ks ms c.self.inside.feeds.items c.plan.inside.feeds.items c.self.invariant.1 meets.numbers,
+      each-append (λ resets d. resets ≡ is_delta answers d) ks ms c.self.invariant.2 meets.answered,
+      each-append (λ resets d. is_observable d.identity.kind ≡ false) ks ms c.self.invariant.3 meets.synchronous,
     )
-
-pub add_key-requires-clause-absent : goal.add_key-requires-clause-absent
-add_key-requires-clause-absent c =
-    let ks : List Held = c.self.inside.streams.items in
-    let held : option_map planned_of c.self.inside.plan ≡ Some (planned c.self.inside.answers c.requires.demand c.requires.now ks) = rw (← c.self.view_is) at c.requires.plan in
-    let new : IsAdded c.self.inside.answers c.in-Some-added.identity c.in-Some-added.stream c.in-Some.plan.feeds ks =
-    planned-added c.self.inside.answers c.requires.demand c.requires.now ks _ _ _ c.requires.synchronous (taken-is c.self.inside.plan c.in-Some.plan _ _ held c.in-Some.ensures.value c.in-Some-added.is) in
-    absent-same _ c.kind_laws.ensures.equal c.in-Some-added.identity c.self.inside.identities.keys (rw c.self.invariant.0 new.absent)
 
 -- what is carried out is what was planned
 pub returns : goal.returns
 returns c =
+    let streams : c.append-2.new.self.items ≡ c.self.inside.streams.items ++ c.plan.inside.added.items = rw c.unwrap-2.ensures at c.append-2.ensures.items in
+    let seen : record { feeds = c.plan.inside.feeds.items; added = c.plan.inside.added.items } ≡ c.in-Some.plan = c.plan.view_is in
     rw (← c.self.view_is)
-    (part-same _ _ _ _ _ c.push_reserved-2.ensures.items c.push_reserved.ensures.items
-    ∙ built-from c.self.inside.answers c.self.inside.streams.items c.self.inside.feeds.items c.self.inside.plan _ c.in-Some.plan (Some (c.in-Some-added.identity, c.in-Some-added.stream)) c.in-Some.ensures.value c.in-Some-added.is)
+    (part-same _ _ _ _ _ (streams ∙ ap (λ (p : Planned). c.self.inside.streams.items ++ p.added) seen) (c.push_reserved.ensures.items ∙ (ap (λ ns. c.self.inside.feeds.items ++ ns ∷ []) c.from.ensures ∙ ap (λ (p : Planned). c.self.inside.feeds.items ++ p.feeds ∷ []) seen))
+    ∙ built-is c.self.inside.answers c.self.inside.streams.items c.self.inside.feeds.items c.self.inside.plan _ c.in-Some.plan c.in-Some.ensures.value)

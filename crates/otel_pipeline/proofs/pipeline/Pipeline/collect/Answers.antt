@@ -5,7 +5,7 @@ use Rattle.otel_pipeline.specs.Collections.{scopes_shown, IsCollectedFrom}
 use Rattle.otel_pipeline.specs.Pipelines.{Piped, part_of, stream_identities, finished_all}
 use Rattle.otel_pipeline.proofs.Answered.{answered-settled, answered-finished}
 use Rattle.otel_pipeline.proofs.Collects.{collected-is, part-finished}
-use Rattle.otel_pipeline.proofs.PipelineLemmas.{demands_of, demands-settled, demands-finished, identities-same, length-from, numbers-kept}
+use Rattle.otel_pipeline.proofs.PipelineLemmas.{fates_of, demands-settled, demands-finished, identities-same, length-from, numbers-kept}
 use Rattle.otel_pipeline.proofs.pipeline.Pipeline.collect.Goals as goal
 
 -- a collection keeps the demands of the streams
@@ -16,7 +16,7 @@ invariant_of-self c =
     let new = c.finish_each.new.streams.items in
     let finished = finished_all c.args.now old in
     let same : stream_identities old ≡ stream_identities new =
-    identities-same old new (sym (demands-finished c.args.now old) ∙ sym (demands-settled finished) ∙ ap demands_of (sym c.finish_each.ensures) ∙ demands-settled new) in (
+    identities-same old new (sym (demands-finished c.args.now old) ∙ sym (demands-settled finished) ∙ ap fates_of (sym c.finish_each.ensures) ∙ demands-settled new) in (
       c.self.invariant.0 ∙ same,
       numbers-kept old new c.self.inside.feeds.items (length-from old new same) c.self.invariant.1,
       answered-settled (λ resets d. resets ≡ is_delta answers d) new finished c.finish_each.ensures (answered-finished (λ resets d. resets ≡ is_delta answers d) c.args.now old c.self.invariant.2),

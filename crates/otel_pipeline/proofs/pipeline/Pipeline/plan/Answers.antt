@@ -1,13 +1,14 @@
-use Rattle.std.proofs.Common.{◌≡◌, ◌<◌, ◌∙◌, ap, sym, subst, Some, List, length, refl, arith}
-use Rattle.std.proofs.lemmas.Bool.{lt-ltb}
+use Rattle.std.proofs.Common.{◌≡◌, ◌<◌, ◌≤◌, ◌+◌, ◌∙◌, ap, sym, subst, Some, List, [], length, refl, arith}
+use Rattle.std.proofs.lemmas.Bool.{lt-ltb, le-leb}
 use Rattle.std.specs.List.{IsDistinct}
+use Rattle.std.specs.Option.{option_map}
 use Rattle.std.specs.Prelude.{vec_len, vec_capacity}
 use Rattle.indexmap.specs.IndexSet.{spare}
-use Rattle.otel_model.specs.Demands.{Identity, identity_eq}
-use Rattle.otel_pipeline.specs.Pipelines.{stream_identities, planned, wanted, AreSynchronous}
-use Rattle.otel_pipeline.proofs.Builds.{wanted-synchronous}
+use Rattle.otel_model.specs.Demands.{Identity, identity_eq, demands_on}
+use Rattle.otel_pipeline.specs.Pipelines.{Planned, IsPlanOf, stream_identities, AreSynchronous}
 use Rattle.otel_pipeline.proofs.Identities.{distinct-same}
 use Rattle.otel_pipeline.proofs.PipelineLemmas.{part-same, all_true, numbers-kept}
+use Rattle.otel_pipeline.proofs.Plans.{dropped_with}
 use Rattle.otel_pipeline.proofs.pipeline.Pipeline.plan.Goals as goal
 
 -- room is made, and what is planned is read off the streams
@@ -18,8 +19,10 @@ returns-clause-ready c =
     let are : keys ≡ stream_identities c.reserve-2.new.self.items = c.self.invariant.0 ∙ ap stream_identities (sym same) in
     let kept : c.reserve.new.self.keys ≡ keys = c.in_ok-reserve.ensures.keys in
     let unique : IsDistinct identity_eq c.reserve.new.self.keys = distinct-same _ c.kind_laws.ensures.equal c.reserve.new.self.keys c.in_ok-reserve.ensures.unique in
-    let key_fits : 0 < spare c.reserve.new.self = omega (arith, c.in_ok-reserve.ensures.ok) in
-    let stream_fits : vec_len c.reserve-2.new.self < vec_capacity c.reserve-2.new.self = omega (arith, c.in_ok-reserve-2.ensures.ok) in
+    let there : c.len-many.result ≡ length c.plan.inside.added.items = omega (arith, c.len-many.ensures) in
+    let added : c.len-many.result ≡ length c.in_ok-plan.plan.added = there ∙ ap (λ (p : Planned). length p.added) c.plan.view_is in
+    let key_fits : length c.in_ok-plan.plan.added ≤ spare c.reserve.new.self = omega (arith, added, c.in_ok-reserve.ensures.ok) in
+    let stream_fits : vec_len c.reserve-2.new.self + length c.in_ok-plan.plan.added ≤ vec_capacity c.reserve-2.new.self = omega (arith, added, c.in_ok-reserve-2.ensures.ok) in
     let feeds_fit : vec_len c.reserve-3.new.self < vec_capacity c.reserve-3.new.self = omega (arith, c.in_ok-reserve-3.ensures.ok) in
     record {
       lawful = record {
@@ -27,9 +30,10 @@ returns-clause-ready c =
         numbers = rw c.in_ok-reserve-3.ensures.items (numbers-kept c.self.inside.streams.items c.reserve-2.new.self.items c.self.inside.feeds.items (ap length (sym same)) c.self.invariant.1);
         synchronous = subst AreSynchronous (sym same) c.self.invariant.3;
       };
-      synchronous = wanted-synchronous c.self.inside.answers _ c.args.about.now c.requires;
-      plan = ap Some (c.in_ok-plan.ensures.plan ∙ ap (planned c.self.inside.answers (wanted c.self.inside.answers _ c.args.about.now) c.args.now) (c.deref.ensures.value ∙ sym same));
-      room = all_true _ _ _ (lt-ltb _ _ key_fits) (lt-ltb _ _ stream_fits) (lt-ltb _ _ feeds_fit);
+      planned = c.in_ok-plan.plan;
+      plan = refl;
+      meets = subst (λ ks. IsPlanOf c.self.inside.answers ks c.args.now (demands_on (dropped_with ks) [] c.self.inside.answers (option_map (λ s. s.now) c.args.scope) c.args.about.now) c.in_ok-plan.plan) (c.deref.ensures.value ∙ sym same) c.in_ok-plan.ensures.plan;
+      room = all_true _ _ _ (le-leb _ _ key_fits) (le-leb _ _ stream_fits) (lt-ltb _ _ feeds_fit);
     }
 
 pub returns-in_err-reserve-3-clause-same : goal.returns-in_err-reserve-3-clause-same

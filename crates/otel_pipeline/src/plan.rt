@@ -1,0 +1,172 @@
+//! What a build is going to do to the streams of one reader.
+
+ghost use Rattle.std.specs.Prelude.{◌≡◌, ◌<◌, ◌^◌, [], ◌∷◌, ◌++◌, List, false, IfOk, OnOk, IsOkUnless};
+ghost use Rattle.std.specs.Option.{option_map};
+ghost use Rattle.indexmap.specs.IndexSet.{spare};
+ghost use Rattle.std.specs.List.{list_any};
+ghost use Rattle.otel_model.specs.Demands as demands;
+ghost use Rattle.otel_model.specs.Demands.{answer_for, identity_eq, resets};
+ghost use Rattle.otel_pipeline.specs.Pipelines.{IsPlanOf, stream_identities, counted_from, fed_once, found_at};
+ghost use Rattle.otel_pipeline.specs.Streams.{IsMakeable, new_held};
+
+use crate::aggregations::is_drop;
+use crate::stream::Stream;
+use indexmap::IndexSet;
+use otel_common::faults::Fault;
+use otel_stream::answers::Answers;
+use otel_stream::demand::{Demand, Identity};
+use otel_stream::laws::kind_laws;
+use std::alloc::Global;
+use std::marker::Model;
+
+/// The numbers of the streams that the new instrument will feed, and the streams that are new, with their identities.
+#[derive(Drop)]
+pub(crate) struct Plan {
+    pub(crate) feeds: Vec<usize>,
+    pub(crate) identities: IndexSet<Identity>,
+    pub(crate) added: Vec<Stream>,
+}
+
+impl Model for Plan {
+    ghost use Rattle.std.specs.Prelude.{◌≡◌};
+    ghost use Rattle.otel_pipeline.specs.Pipelines.{Planned, stream_identities};
+
+    ghost Value = { Planned };
+
+    ghost view = { λ p. record { feeds = p.feeds.items; added = p.added.items } };
+
+    ghost invariant = { λ p. p.identities.keys ≡ stream_identities p.added.items };
+}
+
+/// Adds a key that isn't there yet, for which there is room.
+fn add_key(identities: &mut IndexSet<Identity>, identity: Identity)
+    requires room { 0 < spare identities.old }
+    requires absent { list_any (⟦<Identity as PartialEq>⟧.eq identity) identities.old.keys ≡ false }
+    ensures { identities.new.keys ≡ identities.old.keys ++ identity ∷ [] }
+{
+    let _ = identities.insert(identity).unwrap();
+}
+
+/// A new stream of this demand, with its identity.
+fn new_stream(
+    alloc: Global,
+    answers: &Answers,
+    demand: Demand,
+    now: u64,
+) -> Result<(Identity, Stream), Fault>
+    requires { IsMakeable demand }
+    ensures stream { IfOk result (λ made. made ≡ (demand.identity, new_held (resets (answer_for answers.now demand.identity.kind).temporality) demand now)) }
+    ensures only_memory { IsOkUnless result Fault.OutOfMemory }
+{
+    let temporality = answers.temporality(demand.identity.kind);
+    let identity = demand.identity.clone()?;
+    Ok((identity, Stream::new(alloc, temporality, demand, now)?))
+}
+
+impl Plan {
+    /// Nothing.
+    pub(crate) fn new(alloc: Global) -> Plan
+        ensures { result ≡ record { feeds = []; added = [] } }
+    {
+        Plan {
+            feeds: Vec::new(alloc),
+            identities: IndexSet::new(alloc),
+            added: Vec::new(alloc),
+        }
+    }
+
+    /// The number that the stream of an identity will have, and whether it drops, if it is new. The new streams
+    /// have the numbers from the first one on.
+    fn find_added(&self, first: usize, identity: &Identity) -> Option<(usize, bool)>
+        requires { first < 2 ^ 63 }
+        ensures { result ≡ option_map (counted_from first) (found_at identity.now self.now.added) }
+    {
+        kind_laws();
+        match self.identities.get_index_of(identity) {
+            Some(place) => {
+                Some((
+                    first + place,
+                    is_drop(&self.added[place].demand().aggregation),
+                ))
+            }
+            None => None,
+        }
+    }
+
+    /// The number that the stream of an identity has or will have, and whether it drops.
+    fn find(
+        &self,
+        identities: &IndexSet<Identity>,
+        made: &[Stream],
+        identity: &Identity,
+    ) -> Option<(usize, bool)>
+        requires { identities.now.keys ≡ stream_identities made.now }
+        ensures { result ≡ found_at identity.now (made.now ++ self.now.added) }
+    {
+        kind_laws();
+        match identities.get_index_of(identity) {
+            Some(number) => Some((number, is_drop(&made[number].demand().aggregation))),
+            None => self.find_added(identities.len(), identity),
+        }
+    }
+
+    /// Feeds the stream of a number, once, unless it drops.
+    fn feed(&mut self, number: usize, drops: bool) -> Result<(), Fault>
+        ensures fed { OnOk result (self.new ≡ record { feeds = fed_once drops number self.old.feeds; added = self.old.added }) }
+        ensures only_memory { IsOkUnless result Fault.OutOfMemory }
+    {
+        if drops || self.feeds.contains(&number) {
+            return Ok(());
+        }
+        self.feeds.push(number)?;
+        Ok(())
+    }
+
+    /// Adds a new stream of this demand, whose identity has none.
+    fn add(
+        &mut self,
+        alloc: Global,
+        answers: &Answers,
+        demand: Demand,
+        now: u64,
+    ) -> Result<(), Fault>
+        requires makeable { IsMakeable demand }
+        requires absent { list_any (identity_eq demand.identity) (stream_identities self.old.added) ≡ false }
+        ensures added { OnOk result (self.new ≡ record { feeds = self.old.feeds; added = self.old.added ++ new_held (resets (answer_for answers.now demand.identity.kind).temporality) demand now ∷ [] }) }
+        ensures only_memory { IsOkUnless result Fault.OutOfMemory }
+    {
+        kind_laws();
+        self.identities.reserve(1)?;
+        self.added.reserve(1)?;
+        let (identity, stream) = new_stream(alloc, answers, demand, now)?;
+        add_key(&mut self.identities, identity);
+        self.added.push_reserved(stream);
+        Ok(())
+    }
+
+    /// Makes one demand more, at a reader that has these streams.
+    ///
+    /// Looks the identity up once among the reader's streams, and once among the new ones.
+    pub(crate) fn demand(
+        &mut self,
+        alloc: Global,
+        answers: &Answers,
+        identities: &IndexSet<Identity>,
+        made: &[Stream],
+        demand: Demand,
+        now: u64,
+    ) -> Result<(), Fault>
+        requires makeable { IsMakeable demand }
+        requires keys { identities.now.keys ≡ stream_identities made.now }
+        ensures meets { OnOk result ((ds : List demands.Demand) → IsPlanOf answers.now made.now now ds self.old → IsPlanOf answers.now made.now now (ds ++ demand ∷ []) self.new) }
+        ensures only_memory { IsOkUnless result Fault.OutOfMemory }
+    {
+        if let Some((number, drops)) = self.find(identities, made, &demand.identity) {
+            return self.feed(number, drops);
+        }
+        let drops = is_drop(&demand.aggregation);
+        let number = made.len() + self.added.len();
+        self.add(alloc, answers, demand, now)?;
+        self.feed(number, drops)
+    }
+}
