@@ -1,4 +1,4 @@
-//! Kinds of instruments, and readers.
+//! Kinds of instruments, readers, and the settings of streams.
 #![tactic(auto)]
 
 pub mod answers;
@@ -8,5 +8,6 @@ pub mod instrument;
 pub mod laws;
 pub mod manual_reader;
 pub mod reader;
+pub mod stream_fault;
 #[cfg(test)]
 mod tests;
