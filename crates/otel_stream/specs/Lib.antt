@@ -1,2 +1,5 @@
 pub mod Answers
+pub mod ByKind
+pub mod Limits
 pub mod Preferences
+pub mod Wants

@@ -1,10 +1,15 @@
-//! Laws: two kinds of instruments are equal exactly if they are the same, and a box of a reader wants
-//! what the reader in it wants.
+//! Laws: two kinds of instruments are equal exactly if they are the same, a box of a reader wants
+//! what the reader in it wants, and what a reader answers that wants no limits and no aggregations.
 //!
-//! `kind_laws` and `boxed_reader` do nothing. A function whose contract needs the law calls it first.
+//! `kind_laws`, `boxed_reader` and `plain_answers` do nothing. A function whose contract needs the law calls it first.
 
-ghost use Rattle.std.specs.Prelude.{◌≡◌, IfOk};
+ghost use Rattle.std.specs.Prelude.{◌≡◌, ℕ, Option, None, IfOk};
 ghost use Rattle.std.specs.Bool.{Decides};
+ghost use Rattle.otel_common.specs.declared.metrics.Aggregation.{Aggregation};
+ghost use Rattle.otel_common.specs.declared.metrics.Temporality.{Temporality};
+ghost use Rattle.otel_stream.specs.Answers.{ReaderAnswers, IsAnsweredBy, answers_by, preferring};
+ghost use Rattle.otel_stream.specs.Preferences.{temporality_preference};
+ghost use Rattle.otel_stream.specs.Wants.{temporality_alone, limit_of, aggregation_of};
 ghost use Rattle.otel_stream.specs.declared.instrument.InstrumentKind.{InstrumentKind};
 
 use crate::instrument::InstrumentKind;
@@ -21,7 +26,9 @@ pub fn kind_laws()
 
 /// A box wants for each kind of instrument what the reader in it wants, whatever its type is.
 pub fn boxed_reader(reader: &Box<dyn MetricReader>)
-    ensures { ⟦<Box<dyn MetricReader> as MetricReader>⟧.preference reader.now ≡ (⟦<dyn MetricReader as MetricReader>⟧ reader.now.vtable).preference reader.now.value }
+    ensures temporality { ⟦<Box<dyn MetricReader> as MetricReader>⟧.preference reader.now ≡ (⟦<dyn MetricReader as MetricReader>⟧ reader.now.vtable).preference reader.now.value }
+    ensures limit { ⟦<Box<dyn MetricReader> as MetricReader>⟧.limit reader.now ≡ (⟦<dyn MetricReader as MetricReader>⟧ reader.now.vtable).limit reader.now.value }
+    ensures aggregation { ⟦<Box<dyn MetricReader> as MetricReader>⟧.aggregation reader.now ≡ (⟦<dyn MetricReader as MetricReader>⟧ reader.now.vtable).aggregation reader.now.value }
 {}
 
 /// What a box of a manual reader wants for a kind of instrument: what the reader wants. Takes a box.
@@ -41,3 +48,10 @@ fn wanted<R: MetricReader>(reader: &R, kind: InstrumentKind) -> Temporality
 {
     reader.temporality(kind)
 }
+
+/// The answers of a reader that wants no limits and no aggregations are those of its temporalities alone; so are
+/// those of a manual reader of which the temporality alone was said.
+pub fn plain_answers()
+    ensures plain { (temporality : InstrumentKind → Temporality) (limit : InstrumentKind → Option ℕ) (aggregation : InstrumentKind → Option Aggregation) (answers : ReaderAnswers) → IsAnsweredBy temporality limit aggregation answers → ((kind : InstrumentKind) → limit kind ≡ None) → ((kind : InstrumentKind) → aggregation kind ≡ None) → answers ≡ answers_by temporality }
+    ensures manual { (temporality : Temporality) (answers : ReaderAnswers) → IsAnsweredBy (λ kind. temporality_preference kind temporality) (limit_of (temporality_alone temporality)) (aggregation_of (temporality_alone temporality)) answers → answers ≡ preferring temporality }
+{}
