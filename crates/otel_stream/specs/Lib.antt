@@ -1,2 +1,5 @@
 pub mod Answers
+pub mod Compatible
 pub mod Preferences
+pub mod Settings
+pub mod Units

@@ -1,7 +1,10 @@
-//! A boxed reader is a reader.
+//! A boxed reader is a reader, and a boxed view a view.
 
-use crate::instrument::InstrumentKind;
+use crate::instrument::{Instrument, InstrumentKind};
 use crate::reader::MetricReader;
+use crate::stream::Stream;
+use crate::view::View;
+use otel_common::faults::Fault;
 use otel_common::metrics::Temporality;
 
 impl MetricReader for Box<dyn MetricReader> {
@@ -9,5 +12,13 @@ impl MetricReader for Box<dyn MetricReader> {
 
     fn temporality(&self, kind: InstrumentKind) -> Temporality {
         self.as_ref().temporality(kind)
+    }
+}
+
+impl View for Box<dyn View> {
+    ghost answer = { λ b. (View-box b).answer b.value };
+
+    fn match_inst(&self, inst: &Instrument) -> Result<Option<Stream>, Fault> {
+        self.as_ref().match_inst(inst)
     }
 }

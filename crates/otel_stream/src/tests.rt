@@ -1,5 +1,8 @@
 //! What no contract says: texts; and each preference once.
 
+mod instruments;
+mod streams;
+
 use crate::instrument::InstrumentKind;
 use crate::laws::{boxed_manual_reader, boxed_reader, kind_laws};
 use crate::manual_reader::{ManualReader, ManualReaderBuilder};
