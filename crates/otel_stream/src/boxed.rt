@@ -1,8 +1,11 @@
-//! A boxed reader is a reader.
+//! A boxed reader is a reader, and a boxed view a view.
 
-use crate::instrument::InstrumentKind;
+use crate::instrument::{Instrument, InstrumentKind};
 use crate::limit::CardinalityLimit;
 use crate::reader::MetricReader;
+use crate::stream::Stream;
+use crate::view::View;
+use otel_common::faults::Fault;
 use otel_common::metrics::{Aggregation, Temporality};
 
 impl MetricReader for Box<dyn MetricReader> {
@@ -22,5 +25,13 @@ impl MetricReader for Box<dyn MetricReader> {
 
     fn default_aggregation(&self, kind: InstrumentKind) -> Option<&Aggregation> {
         self.as_ref().default_aggregation(kind)
+    }
+}
+
+impl View for Box<dyn View> {
+    ghost answer = { λ b. (View-box b).answer b.value };
+
+    fn match_inst(&self, inst: &Instrument) -> Result<Option<Stream>, Fault> {
+        self.as_ref().match_inst(inst)
     }
 }

@@ -1,7 +1,7 @@
 //! How many sets of attributes of a stream have points of their own.
 
 ghost use Rattle.std.specs.Prelude.{◌≡◌, None, Some, IfOk, IfErr};
-ghost use Rattle.otel_stream.specs.Limits.{limit_fault};
+ghost use Rattle.otel_stream.specs.Settings.{limit_fault};
 
 use crate::stream_fault::StreamFault;
 use std::marker::Model;
@@ -15,7 +15,7 @@ pub struct CardinalityLimit {
 
 impl Model for CardinalityLimit {
     ghost use Rattle.std.specs.Prelude.{◌≡◌, ℕ, None};
-    ghost use Rattle.otel_stream.specs.Limits.{limit_fault};
+    ghost use Rattle.otel_stream.specs.Settings.{limit_fault};
 
     ghost Value = { ℕ };
 
@@ -27,7 +27,7 @@ impl Model for CardinalityLimit {
 }
 
 impl CardinalityLimit {
-    /// The limit of this number. Refuses 0 and `usize::MAX`. Takes no memory.
+    /// The limit of this number. Refuses 0 with `LimitZero` and `usize::MAX` with `LimitMax`. Takes no memory.
     pub fn new(limit: usize) -> Result<CardinalityLimit, StreamFault>
         ensures refused { IfErr result (λ fault. limit_fault limit ≡ Some fault) }
         ensures kept { IfOk result (λ made. (made ≡ limit) × (limit_fault limit ≡ None)) }

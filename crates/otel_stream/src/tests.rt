@@ -1,5 +1,7 @@
 //! What no contract says: texts; and each preference once.
 
+mod instruments;
+mod streams;
 mod wants;
 
 use crate::instrument::InstrumentKind;
