@@ -2,6 +2,7 @@
 
 ghost use Rattle.std.specs.Prelude.{◌≡◌, Ok, Err, MatchResult};
 ghost use Rattle.otel_common.specs.Temporalities.{temporality_named};
+ghost use Rattle.otel_stream.specs.Wants.{temporality_alone};
 
 use crate::calls::call_of;
 use crate::failures::Failure;
@@ -68,9 +69,9 @@ fn words_of(alloc: Global, line: &str) -> Result<Vec<&str>, AllocError> {
         .collect(alloc)
 }
 
-/// The reader of this temporality.
+/// The reader of this temporality, without limits and aggregations.
 fn reader_of(word: &str) -> Result<ManualReader, Refusal>
-    ensures reader { MatchResult result (λ reader. temporality_named word.now ≡ Ok reader) (λ refusal. (refusal ≡ Refusal.BadCommand) × (temporality_named word.now ≡ Err tt)) }
+    ensures reader { MatchResult result (λ reader. (temporality_named word.now ≡ Ok reader.temporality) × (reader ≡ temporality_alone reader.temporality)) (λ refusal. (refusal ≡ Refusal.BadCommand) × (temporality_named word.now ≡ Err tt)) }
 {
     match Temporality::from_str(word) {
         Ok(temporality) => Ok(

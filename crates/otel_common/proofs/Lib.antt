@@ -1,3 +1,4 @@
 pub mod CanonLaws
 pub mod Permuting
+pub mod Rising
 pub mod Sorting

@@ -1,5 +1,7 @@
+pub mod Aggregations
 pub mod Canonical
 pub mod Equality
+pub mod Errors
 pub mod Faults
 pub mod Hashes
 pub mod Resources

@@ -66,3 +66,9 @@ pub fn temporality_laws()
 pub fn copied_aggregation()
     ensures { (x y : Aggregation) → ⟦<Aggregation as Clone>⟧.is_clone x y → y ≡ x }
 {}
+
+/// Two aggregations are equal exactly if they are the same, with the same bounds and the same choice of minimum
+/// and maximum.
+pub fn equal_aggregations()
+    ensures { (x y : Aggregation) → Decides (⟦<Aggregation as PartialEq>⟧.eq x y) (x ≡ y) }
+{}

@@ -5,6 +5,7 @@
 #![tactic(auto)]
 
 pub mod attributes;
+pub mod bounds;
 pub mod canonical;
 pub mod common;
 pub mod faults;

@@ -1,9 +1,13 @@
 //! What all metrics share: temporality, and errors of configuration.
 
-ghost use Rattle.std.specs.Prelude.{◌≡◌};
+ghost use Rattle.std.specs.Prelude.{◌≡◌, IfErr, is_ok};
+ghost use Rattle.otel_common.specs.Aggregations.{is_valid, rises, aggregation_bounds_fault_text};
+ghost use Rattle.otel_common.specs.Errors.{IsConfig};
 ghost use Rattle.otel_common.specs.Temporalities.{temporality_named};
 
+use crate::bounds::is_rising;
 use crate::lists::Items;
+use std::fmt::{self, Display, Formatter, Write};
 use std::str::FromStr;
 use thiserror::Error;
 
@@ -40,7 +44,7 @@ impl FromStr for Temporality {
 }
 
 /// What a stream keeps of its records (Metrics SDK, "Aggregation").
-#[derive(Clone, Debug, Drop)]
+#[derive(Clone, Debug, Drop, PartialEq)]
 pub enum Aggregation {
     /// Nothing: there is no stream.
     Drop,
@@ -57,6 +61,53 @@ pub enum Aggregation {
         /// Whether the least and the greatest value are kept.
         record_min_max: bool,
     },
+}
+
+const BOUNDS: &str = "aggregation: explicit bucket histogram: non-monotonic boundaries";
+
+impl Aggregation {
+    /// Tells whether the settings are good: the bounds of a histogram rise, each greater than the one before it.
+    /// No bounds at all are good (Metrics SDK, "Explicit Bucket Histogram Aggregation").
+    ///
+    /// The error is `MetricError::Config`. Goes over the bounds once, and takes no memory.
+    pub fn validate(&self) -> Result<(), MetricError>
+        ensures valid { is_ok result ≡ is_valid self.now }
+        ensures fault { IfErr result (λ e. IsConfig e aggregation_bounds_fault_text) }
+    {
+        match self {
+            Aggregation::ExplicitBucketHistogram { boundaries, .. } => {
+                rising_or_fault(boundaries.as_slice())
+            }
+            Aggregation::Drop => Ok(()),
+            Aggregation::Default => Ok(()),
+            Aggregation::Sum => Ok(()),
+            Aggregation::LastValue => Ok(()),
+        }
+    }
+}
+
+/// Tells whether bounds rise.
+fn rising_or_fault(bounds: &[i64]) -> Result<(), MetricError>
+    ensures rising { is_ok result ≡ rises bounds.now }
+    ensures fault { IfErr result (λ e. IsConfig e aggregation_bounds_fault_text) }
+{
+    if is_rising(bounds) {
+        return Ok(());
+    }
+    Err(MetricError::Config(BOUNDS))
+}
+
+/// Prints the name of the variant.
+impl Display for Aggregation {
+    fn fmt<W: Write>(&self, f: &mut Formatter<W>) -> fmt::Result {
+        f.write_str(match self {
+            Aggregation::Drop => "Drop",
+            Aggregation::Default => "Default",
+            Aggregation::Sum => "Sum",
+            Aggregation::LastValue => "LastValue",
+            Aggregation::ExplicitBucketHistogram { .. } => "ExplicitBucketHistogram",
+        })
+    }
 }
 
 /// Why a configuration is refused.

@@ -1,9 +1,13 @@
 -- Which names, units and bounds of an instrument are good, and which settings of a stream (Metrics API, "Instrument
 -- name syntax" and "Instrument unit"; Metrics SDK, "Explicit Bucket Histogram Aggregation").
-use Rattle.std.specs.Prelude.{ℕ, ◌-◌, ◌^◌, nat_lt, nat_le, nat_eq, ℤ, Bool, false, cond, ◌&&◌, ◌||◌, not, List, [], ◌∷◌, length, Option, Some, None, codes, is_none}
+use Rattle.std.specs.Prelude.{ℕ, nat_lt, nat_le, nat_eq, Bool, false, cond, ◌&&◌, ◌||◌, not, List, [], ◌∷◌, length, Option, Some, None, codes, is_none}
 use Rattle.std.specs.List.{list_any}
-pub use Rattle.otel_model_stream.specs.Data.{rises}
-use Rattle.std.specs.Option.{option_or}
+pub use Rattle.otel_common.specs.Aggregations.{rises, aggregation_bounds_fault_text}
+pub use Rattle.otel_stream.specs.Compatible.{incompatible_text}
+pub use Rattle.otel_stream.specs.Settings.{fault_by_unit, limit_fault, optional_limit_fault, optional_bounds_fault, stream_fault}
+pub use Rattle.otel_stream.specs.Units.{UnitFault, NotAscii, is_ascii, unit_fault, optional_unit_fault, is_good_unit}
+pub use Rattle.otel_stream.specs.declared.stream_fault.StreamFault.{StreamFault}
+pub use Rattle.otel_stream.specs.declared.stream_fault.StreamFault.TheVariants.{UnitLength, UnitInvalidChar, LimitZero, LimitMax, Boundaries}
 
 -- ======== names ========
 -- why a name is bad, in the order in which it is looked at
@@ -55,34 +59,10 @@ abbrev pub is_good_name : List ℕ → Bool
 is_good_name name = is_none (name_fault name)
 
 -- ======== units ========
--- why a unit is bad, in the order in which it is looked at
-pub data UnitFault : Type 0 where
-  Long : UnitFault
-  NotAscii : UnitFault
-
--- no byte beyond ASCII
-abbrev pub is_ascii : List ℕ → Bool
-is_ascii bytes = not (list_any (λ b. nat_lt 127 b) bytes)
-
--- it has more than 63 bytes, or a character outside ASCII
-abbrev pub unit_fault : List ℕ → Option UnitFault
-unit_fault unit =
-    cond (nat_lt 63 (length unit)) (Some UnitFault.Long)
-    (cond (is_ascii unit) None (Some NotAscii))
-
 -- the text of each
 abbrev pub unit_fault_text : UnitFault → List ℕ
 unit_fault_text UnitFault.Long = codes "unit must be less than 64 characters"
 unit_fault_text NotAscii = codes "characters in unit must be ASCII"
-
--- no unit is a good one
-abbrev pub optional_unit_fault : Option (List ℕ) → Option UnitFault
-optional_unit_fault None = None
-optional_unit_fault (Some unit) = unit_fault unit
-
--- a unit without fault
-abbrev pub is_good_unit : List ℕ → Bool
-is_good_unit unit = is_none (unit_fault unit)
 
 -- ======== bounds ========
 -- what is answered where bounds do not rise: those of an instrument
@@ -93,49 +73,7 @@ bounds_fault_text = codes "Bucket boundaries must be sorted and non-duplicate"
 abbrev pub stream_bounds_fault_text : List ℕ
 stream_bounds_fault_text = codes "Bucket boundaries must be sorted and not contain any duplicates"
 
--- those of an aggregation
-abbrev pub aggregation_bounds_fault_text : List ℕ
-aggregation_bounds_fault_text = codes "aggregation: explicit bucket histogram: non-monotonic boundaries"
-
--- what is answered where an aggregation does not fit the kind of instrument
-abbrev pub incompatible_text : List ℕ
-incompatible_text = codes "incompatible aggregation"
-
 -- ======== streams ========
--- why the settings of a stream are bad, in the order in which they are looked at
-pub data StreamFault : Type 0 where
-  UnitLength : StreamFault
-  UnitInvalidChar : StreamFault
-  LimitZero : StreamFault
-  LimitMax : StreamFault
-  Boundaries : StreamFault
-
--- that of a unit
-abbrev pub fault_by_unit : Option UnitFault → Option StreamFault
-fault_by_unit None = None
-fault_by_unit (Some UnitFault.Long) = Some UnitLength
-fault_by_unit (Some NotAscii) = Some UnitInvalidChar
-
--- a limit of 0, and the greatest number of 64 bits
-abbrev pub limit_fault : ℕ → Option StreamFault
-limit_fault limit = cond (nat_eq limit 0) (Some LimitZero) (cond (nat_eq limit (2 ^ 64 - 1)) (Some LimitMax) None)
-
--- no limit is a good one
-abbrev pub optional_limit_fault : Option ℕ → Option StreamFault
-optional_limit_fault None = None
-optional_limit_fault (Some limit) = limit_fault limit
-
--- so are no bounds
-abbrev pub optional_bounds_fault : Option (List ℤ) → Option StreamFault
-optional_bounds_fault None = None
-optional_bounds_fault (Some bounds) = cond (rises bounds) None (Some Boundaries)
-
--- the first of these that stands: the unit's, the limit's, that of the bounds. The name is not looked at
-abbrev pub stream_fault : Option (List ℕ) → Option ℕ → Option (List ℤ) → Option StreamFault
-stream_fault unit limit bounds =
-    option_or (fault_by_unit (optional_unit_fault unit))
-    (option_or (optional_limit_fault limit) (optional_bounds_fault bounds))
-
 -- the text of each
 abbrev pub stream_fault_text : StreamFault → List ℕ
 stream_fault_text UnitLength = unit_fault_text UnitFault.Long

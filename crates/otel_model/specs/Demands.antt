@@ -10,12 +10,16 @@ pub use Rattle.otel_common.specs.declared.metrics.Temporality.TheVariants.{Cumul
 use Rattle.otel_common.specs.declared.scopes.InstrumentationScope.{InstrumentationScope}
 pub use Rattle.otel_common.specs.declared.metrics.Aggregation.{Aggregation}
 pub use Rattle.otel_common.specs.declared.metrics.Aggregation.TheVariants.{Drop, Default, Sum, LastValue, ExplicitBucketHistogram}
+pub use Rattle.otel_common.specs.Aggregations.{is_valid}
 pub use Rattle.otel_stream.specs.Answers.{kinds, ReaderAnswers, answers_by, preferring, no_answer, answer_for}
+pub use Rattle.otel_stream.specs.Compatible.{fits}
 pub use Rattle.otel_stream.specs.Preferences.{temporality_preference}
+pub use Rattle.otel_stream.specs.Settings.{nothing_said}
 pub use Rattle.otel_stream.specs.declared.answers.Answer.{Answer}
 pub use Rattle.otel_stream.specs.declared.demand.Demand.{Demand}
 pub use Rattle.otel_stream.specs.declared.demand.Identity.{Identity}
-use Rattle.otel_model_stream.specs.Sets.{AllowList}
+pub use Rattle.otel_stream.specs.declared.instrument.Instrument.{Instrument}
+pub use Rattle.otel_stream.specs.declared.stream_spec.StreamSpec.{StreamSpec}
 use Rattle.otel_model.specs.Checks.{is_good_name, optional_unit_fault, rises}
 use Rattle.otel_model.specs.Calls.{Text, lowered, or_else, InstrumentKind, Counter, UpDownCounter, Histogram, ObservableCounter, ObservableUpDownCounter, Gauge, ObservableGauge, kind_eq, About}
 
@@ -33,26 +37,6 @@ is_drop Sum = false
 is_drop LastValue = false
 is_drop (ExplicitBucketHistogram bounds m) = false
 
--- whether the aggregation can be used with the kind
-abbrev pub fits : InstrumentKind → Aggregation → Bool
-fits kind Drop = true
-fits kind Default = true
-fits kind (ExplicitBucketHistogram bounds m) = true
-fits Gauge Sum = false
-fits ObservableGauge Sum = false
-fits kind Sum = true
-fits Gauge LastValue = true
-fits ObservableGauge LastValue = true
-fits kind LastValue = false
-
--- bounds that rise, if there are some
-abbrev pub is_valid : Aggregation → Bool
-is_valid Drop = true
-is_valid Default = true
-is_valid Sum = true
-is_valid LastValue = true
-is_valid (ExplicitBucketHistogram bounds m) = rises bounds
-
 -- the bounds of the default histogram
 abbrev pub default_bounds : List ℤ
 default_bounds = pos 0 ∷ pos 5 ∷ pos 10 ∷ pos 25 ∷ pos 50 ∷ pos 75 ∷ pos 100 ∷ pos 250 ∷ pos 500 ∷ pos 750 ∷ pos 1000 ∷ pos 2500 ∷ pos 5000 ∷ pos 7500 ∷ pos 10000 ∷ []
@@ -68,23 +52,6 @@ kind_default Gauge = LastValue
 kind_default ObservableGauge = LastValue
 
 -- ======== views and readers ========
--- an instrument as views see it
-pub record Instrument : Type 0 where
-  pub name : Text
-  pub description : Text
-  pub kind : InstrumentKind
-  pub unit : Text
-  pub scope : InstrumentationScope
-
--- what a view answers; what it lacks is the instrument's
-pub record StreamSpec : Type 0 where
-  pub name : Option Text
-  pub description : Option Text
-  pub unit : Option Text
-  pub aggregation : Option Aggregation
-  pub allow : AllowList
-  pub limit : Option ℕ
-
 -- a view: a function of the instrument
 abbrev pub View : Type 0
 View = Instrument → Option StreamSpec
@@ -153,10 +120,6 @@ demand_of answers scope about s = record {
   allow = s.allow;
   limit = or_else s.limit (or_else (answer_for answers about.kind).limit default_limit);
 }
-
--- a view's answer that leaves everything to the instrument
-abbrev pub nothing_said : StreamSpec
-nothing_said = record { name = None; description = None; unit = None; aggregation = None; allow = None; limit = None }
 
 -- the instrument's own default demand
 abbrev pub own_demand : ReaderAnswers → InstrumentationScope → About → Demand

@@ -1,5 +1,5 @@
 -- What a collection shows of one stream, as data (Metrics data model, "Metric points").
-use Rattle.std.specs.Prelude.{ℕ, ℤ, pos, negsuc, int_lt, Bool, true, false, ◌&&◌, List, [], ◌∷◌, map}
+use Rattle.std.specs.Prelude.{ℕ, ℤ, pos, negsuc, Bool, false, List, [], map}
 use Rattle.std.specs.Int.{cast_signed, w64}
 use Rattle.std.specs.Option.{option_map}
 use Rattle.otel_common.specs.declared.metrics.Temporality.{Temporality}
@@ -13,6 +13,7 @@ use Rattle.otel_data.specs.declared.sums.Sum.{Sum}
 use Rattle.otel_model_stream.specs.Folds.{Fold, Total, Last, Spreads, Spread, no_spread}
 use Rattle.otel_model_stream.specs.Events.{Point}
 pub use Rattle.otel_model_stream.specs.Totals.{value_of}
+pub use Rattle.otel_common.specs.Aggregations.{rises}
 
 -- ======== folds ========
 -- the totals of a histogram
@@ -30,14 +31,6 @@ natural (negsuc n) = 0
 -- the number of type `i64` with these 64 bits
 abbrev pub signed_of : ℕ → ℤ
 signed_of n = cast_signed w64 n
-
--- ======== bounds ========
--- each bound is greater than the one before it (Metrics SDK, "Explicit Bucket Histogram Aggregation");
--- an empty list rises
-abbrev pub rises : List ℤ → Bool
-rises [] = true
-rises (a ∷ []) = true
-rises (a ∷ b ∷ bounds) = int_lt a b && rises (b ∷ bounds)
 
 -- ======== points ========
 -- the points of a metric, each a set with the fold of its records. No exemplars are kept

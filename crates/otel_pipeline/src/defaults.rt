@@ -5,13 +5,13 @@ ghost use Rattle.otel_model.specs.Demands.{is_valid, fits, default_bounds, kind_
 ghost use Rattle.otel_pipeline.specs.Defaults.{is_default};
 
 use crate::about::About;
+use otel_common::bounds::is_rising;
 use otel_common::faults::Fault;
 use otel_common::laws::copied_aggregation;
 use otel_common::lists::Items;
 use otel_common::metrics::Aggregation;
 use otel_stream::answers::Answers;
 use otel_stream::instrument::InstrumentKind;
-use otel_value_map::bounds::is_rising;
 use std::alloc::Global;
 
 /// Whether the bounds rise, if there are some.

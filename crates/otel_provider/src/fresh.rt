@@ -1,9 +1,10 @@
 //! The state of a provider before its first call.
 
 ghost use Rattle.std.specs.Prelude.{◌≡◌, ◌++◌, ◌∷◌, [], IfOk, IsOkUnless};
-ghost use Rattle.otel_model.specs.Demands.{answers_by};
+ghost use Rattle.otel_model.specs.Demands.{ReaderAnswers};
 ghost use Rattle.otel_model.specs.Machine.{new_state};
 ghost use Rattle.otel_model.specs.Resources.{empty_resource};
+ghost use Rattle.otel_stream.specs.Answers.{IsAnsweredBy};
 
 use crate::provider_core::Core;
 use otel_common::faults::Fault;
@@ -40,9 +41,9 @@ impl FreshCore {
         }
     }
 
-    /// With a reader more, which is asked what it wants.
+    /// With a reader more, which is asked what it wants. Its answers are kept.
     pub(crate) fn with_reader<R: MetricReader>(self, reader: &R) -> Result<FreshCore, Fault>
-        ensures reader { IfOk result (λ f. f ≡ record { resource = self.resource; readers = self.readers ++ answers_by (R.preference reader.now) ∷ [] }) }
+        ensures reader { IfOk result (λ f. (answers : ReaderAnswers) × IsAnsweredBy (R.preference reader.now) (R.limit reader.now) (R.aggregation reader.now) answers × (f ≡ record { resource = self.resource; readers = self.readers ++ answers ∷ [] })) }
         ensures only_memory { IsOkUnless result Fault.OutOfMemory }
     {
         let FreshCore { core } = self;

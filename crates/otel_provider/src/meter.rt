@@ -7,8 +7,8 @@ ghost use Rattle.otel_model.specs.Checks.{name_fault, name_fault_text, optional_
 ghost use Rattle.otel_model_stream.specs.Data.{rises};
 ghost use Rattle.otel_provider.specs.Correspondence.{IsAnswer};
 
+use otel_common::bounds::is_rising;
 use otel_common::metrics::MetricError;
-use otel_value_map::bounds::is_rising;
 
 const NAME_EMPTY: &str = "name must be non-empty";
 

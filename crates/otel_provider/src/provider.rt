@@ -2,7 +2,7 @@
 
 ghost use Rattle.std.specs.Prelude.{◌≡◌, ◌++◌, ◌∷◌, [], map, IfOk, OnErr, IsOkAnd, IsOkUnless};
 ghost use Rattle.otel_model.specs.Answered.{OfEachMetric, ShowsWindow, ShowsAll, HasFewPoints};
-ghost use Rattle.otel_model.specs.Demands.{answers_by};
+ghost use Rattle.otel_model.specs.Demands.{ReaderAnswers};
 ghost use Rattle.otel_model.specs.Laws.{HasStreamsOfBuilds, HasFeedsOfBuilds, HasPlacesOfHistories, HasCountedOfHistories, IsGivenCollections, IsAnsweredAsOnly, HasRecordedTotal, HasExportedTotal, HasPendingPoints, Conserves, HasAccepted, KeepsReaders};
 ghost use Rattle.otel_model.specs.Machine.{new_state};
 ghost use Rattle.otel_model.specs.Resources.{empty_resource};
@@ -11,6 +11,7 @@ ghost use Rattle.otel_model_laws.specs.Lawful.{Balances};
 ghost use Rattle.otel_provider.specs.Headline.{OfReaders, OfStreams, OfAnswers, InAnyOrder};
 ghost use Rattle.otel_provider.specs.Providers.{state_of, resource_of, answers_of_readers, builder_readers, provider_readers};
 ghost use Rattle.otel_provider.specs.Correspondence.{call_of, reply_of};
+ghost use Rattle.otel_stream.specs.Answers.{IsAnsweredBy};
 
 use crate::balanced::BalancedCore;
 use crate::calls::{Call, Reply};
@@ -51,12 +52,13 @@ impl<P: Parts> ProviderBuilder<P> {
         Provider::builder(alloc)
     }
 
-    /// Adds the reader, and asks it for the temporality that it wants for each kind of instrument. Readers
-    /// are numbered from 0, in order of adding.
+    /// Adds the reader, and asks it once for the temporality, the limit and the aggregation that it wants for each kind
+    /// of instrument. What it answers is kept. Readers are numbered from 0, in order of adding.
     ///
-    /// Refused only for want of memory; then the builder is given up. Takes memory three times at most.
+    /// Refused only for want of memory; then the builder is given up. Takes memory three times at most, and once for
+    /// each histogram that the reader wants.
     pub fn with_reader(self, reader: P::Reader) -> Result<Self, Fault>
-        ensures answers { IfOk result (λ b. answers_of_readers b ≡ answers_of_readers self ++ answers_by (P.Reader.preference reader) ∷ []) }
+        ensures answers { IfOk result (λ b. (answers : ReaderAnswers) × IsAnsweredBy (P.Reader.preference reader) (P.Reader.limit reader) (P.Reader.aggregation reader) answers × (answers_of_readers b ≡ answers_of_readers self ++ answers ∷ [])) }
         ensures resource { IfOk result (λ b. resource_of b ≡ resource_of self) }
         ensures kept { IfOk result (λ b. builder_readers b ≡ builder_readers self ++ reader ∷ []) }
         ensures only_memory { IsOkUnless result Fault.OutOfMemory }

@@ -1,5 +1,7 @@
 -- What a reader answers for each kind of instrument (Metrics SDK, "MetricReader").
-use Rattle.std.specs.Prelude.{ℕ, nat_eq, Bool, List, [], ◌∷◌, map, Option, Some, None, slice_get}
+use Rattle.std.specs.Prelude.{◌≡◌, ℕ, nat_eq, Bool, List, [], ◌∷◌, map, Option, Some, None, IfSome, slice_get}
+use Rattle.std.specs.List.{AllZip}
+use Rattle.otel_common.specs.declared.metrics.Aggregation.{Aggregation}
 use Rattle.otel_common.specs.declared.metrics.Temporality.{Temporality}
 use Rattle.otel_common.specs.declared.metrics.Temporality.TheVariants.{Cumulative}
 use Rattle.otel_stream.specs.Preferences.{temporality_preference}
@@ -28,6 +30,18 @@ kinds = Counter ∷ UpDownCounter ∷ Histogram ∷ ObservableCounter ∷ Observ
 -- a reader's answers for the seven kinds, in the order of `kinds`
 abbrev pub ReaderAnswers : Type 0
 ReaderAnswers = List Answer
+
+-- an answer of a reader that wants these for the kind: that temporality; no limit, or that one; no aggregation, or
+-- that one
+abbrev pub IsAnswer : Temporality → Option ℕ → Option Aggregation → Answer → Type 0
+IsAnswer temporality limit aggregation answer =
+    (answer.temporality ≡ temporality)
+    × IfSome answer.limit (λ n. limit ≡ Some n)
+    × IfSome answer.aggregation (λ a. aggregation ≡ Some a)
+
+-- the answers of a reader that wants these: one for each kind, in the order of `kinds`
+abbrev pub IsAnsweredBy : (InstrumentKind → Temporality) → (InstrumentKind → Option ℕ) → (InstrumentKind → Option Aggregation) → ReaderAnswers → Type 0
+IsAnsweredBy temporality limit aggregation answers = AllZip (λ kind. IsAnswer (temporality kind) (limit kind) (aggregation kind)) kinds answers
 
 -- the answers of a reader that says for each kind this temporality, and no limit and no aggregation
 abbrev pub answers_by : (InstrumentKind → Temporality) → ReaderAnswers

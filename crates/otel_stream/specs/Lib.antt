@@ -1,2 +1,7 @@
 pub mod Answers
+pub mod ByKind
+pub mod Compatible
 pub mod Preferences
+pub mod Settings
+pub mod Units
+pub mod Wants

@@ -1,11 +1,13 @@
 //! What a reader answers for each kind of instrument.
 
 ghost use Rattle.std.specs.Prelude.{◌≡◌, IfOk, IsOkUnless, option_copied};
-ghost use Rattle.otel_stream.specs.Answers.{kind_number, answers_by, answer_for};
+ghost use Rattle.otel_stream.specs.Answers.{kind_number, IsAnswer, IsAnsweredBy, answer_for};
 
 use crate::instrument::InstrumentKind;
+use crate::limit::CardinalityLimit;
 use crate::reader::MetricReader;
 use otel_common::faults::Fault;
+use otel_common::laws::copied_aggregation;
 use otel_common::lists::Items;
 use otel_common::metrics::{Aggregation, Temporality};
 use std::alloc::Global;
@@ -48,31 +50,58 @@ fn place_of(kind: InstrumentKind) -> usize
     }
 }
 
-/// A reader's answer for one kind.
-fn ask<R: MetricReader>(reader: &R, kind: InstrumentKind) -> Answer
-    ensures { result ≡ record { temporality = R.preference reader.now kind; limit = None; aggregation = None } }
+/// The number of a limit, if there is one.
+fn number_of(limit: Option<CardinalityLimit>) -> Option<usize>
+    ensures { result ≡ limit }
 {
-    Answer {
-        temporality: reader.temporality(kind),
-        limit: None,
-        aggregation: None,
+    match limit {
+        Some(limit) => Some(limit.get()),
+        None => None,
     }
 }
 
+/// A copy of an aggregation, if there is one. Takes memory for the bounds of a histogram.
+fn copy_of(aggregation: Option<&Aggregation>) -> Result<Option<Aggregation>, Fault>
+    ensures copy { IfOk result (λ copy. copy ≡ option_copied aggregation.entry) }
+    ensures only_memory { IsOkUnless result Fault.OutOfMemory }
+{
+    copied_aggregation();
+    match aggregation {
+        Some(aggregation) => Ok(Some(aggregation.clone()?)),
+        None => Ok(None),
+    }
+}
+
+/// A reader's answer for one kind. Takes memory for the bounds of a histogram.
+fn ask<R: MetricReader>(reader: &R, kind: InstrumentKind) -> Result<Answer, Fault>
+    ensures answer { IfOk result (λ a. IsAnswer (R.preference reader.now kind) (R.limit reader.now kind) (R.aggregation reader.now kind) a) }
+    ensures only_memory { IsOkUnless result Fault.OutOfMemory }
+{
+    let temporality = reader.temporality(kind);
+    let limit = number_of(reader.cardinality_limit(kind));
+    let aggregation = copy_of(reader.default_aggregation(kind))?;
+    Ok(Answer {
+        temporality,
+        limit,
+        aggregation,
+    })
+}
+
 impl Answers {
-    /// Asks a reader once for each kind. Takes memory for the list.
+    /// Asks a reader once for each kind for the temporality, the limit and the aggregation that it wants. Takes memory
+    /// for the list and for the bounds of the histograms that it wants.
     pub fn of<R: MetricReader>(alloc: Global, reader: &R) -> Result<Answers, Fault>
-        ensures answers { IfOk result (λ a. a ≡ answers_by (R.preference reader.now)) }
+        ensures answers { IfOk result (λ a. IsAnsweredBy (R.preference reader.now) (R.limit reader.now) (R.aggregation reader.now) a) }
         ensures only_memory { IsOkUnless result Fault.OutOfMemory }
     {
         let answers = vec![in alloc;
-            ask(reader, InstrumentKind::Counter),
-            ask(reader, InstrumentKind::UpDownCounter),
-            ask(reader, InstrumentKind::Histogram),
-            ask(reader, InstrumentKind::ObservableCounter),
-            ask(reader, InstrumentKind::ObservableUpDownCounter),
-            ask(reader, InstrumentKind::Gauge),
-            ask(reader, InstrumentKind::ObservableGauge),
+            ask(reader, InstrumentKind::Counter)?,
+            ask(reader, InstrumentKind::UpDownCounter)?,
+            ask(reader, InstrumentKind::Histogram)?,
+            ask(reader, InstrumentKind::ObservableCounter)?,
+            ask(reader, InstrumentKind::ObservableUpDownCounter)?,
+            ask(reader, InstrumentKind::Gauge)?,
+            ask(reader, InstrumentKind::ObservableGauge)?,
         ]?;
         Ok(Answers {
             items: Items::from(answers),

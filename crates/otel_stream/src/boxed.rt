@@ -1,13 +1,37 @@
-//! A boxed reader is a reader.
+//! A boxed reader is a reader, and a boxed view a view.
 
-use crate::instrument::InstrumentKind;
+use crate::instrument::{Instrument, InstrumentKind};
+use crate::limit::CardinalityLimit;
 use crate::reader::MetricReader;
-use otel_common::metrics::Temporality;
+use crate::stream::Stream;
+use crate::view::View;
+use otel_common::faults::Fault;
+use otel_common::metrics::{Aggregation, Temporality};
 
 impl MetricReader for Box<dyn MetricReader> {
     ghost preference = { λ b. (MetricReader-box b).preference b.value };
 
+    ghost limit = { λ b. (MetricReader-box b).limit b.value };
+
+    ghost aggregation = { λ b. (MetricReader-box b).aggregation b.value };
+
     fn temporality(&self, kind: InstrumentKind) -> Temporality {
         self.as_ref().temporality(kind)
+    }
+
+    fn cardinality_limit(&self, kind: InstrumentKind) -> Option<CardinalityLimit> {
+        self.as_ref().cardinality_limit(kind)
+    }
+
+    fn default_aggregation(&self, kind: InstrumentKind) -> Option<&Aggregation> {
+        self.as_ref().default_aggregation(kind)
+    }
+}
+
+impl View for Box<dyn View> {
+    ghost answer = { λ b. (View-box b).answer b.value };
+
+    fn match_inst(&self, inst: &Instrument) -> Result<Option<Stream>, Fault> {
+        self.as_ref().match_inst(inst)
     }
 }

@@ -1,9 +1,13 @@
-//! Instruments, as readers see them.
+//! Instruments, as readers and views see them.
 
 ghost use Rattle.std.specs.Prelude.{◌≡◌};
 ghost use Rattle.otel_stream.specs.Preferences.{temporality_preference};
 
+use otel_common::laws::copied_scope;
 use otel_common::metrics::Temporality;
+use otel_common::scopes::InstrumentationScope;
+use otel_common::strings::StringValue;
+use std::alloc::AllocError;
 
 /// What an instrument is (Metrics SDK, "Instrument").
 #[derive(Clone, Copy, Debug, PartialEq, Eq, Hash)]
@@ -64,5 +68,64 @@ impl InstrumentKind {
             InstrumentKind::Gauge => Temporality::Cumulative,
             InstrumentKind::ObservableGauge => Temporality::Cumulative,
         }
+    }
+}
+
+/// An instrument, as views see it (Metrics SDK, "Instrument selection criteria").
+#[derive(Debug, Drop, PartialEq)]
+pub struct Instrument {
+    /// The name, as it was given.
+    pub name: StringValue,
+    /// What the instrument is for; empty where nothing was said.
+    pub description: StringValue,
+    pub kind: InstrumentKind,
+    /// The unit of its values; empty where nothing was said.
+    pub unit: StringValue,
+    /// What its meter belongs to.
+    pub scope: InstrumentationScope,
+}
+
+impl Instrument {
+    /// The name.
+    pub fn name(&self) -> &str
+        ensures { result.now ≡ self.now.name }
+    {
+        self.name.as_str()
+    }
+
+    /// The kind.
+    pub fn kind(&self) -> InstrumentKind
+        ensures { result ≡ self.now.kind }
+    {
+        self.kind
+    }
+
+    /// The unit of its values; empty where nothing was said.
+    pub fn unit(&self) -> &str
+        ensures { result.now ≡ self.now.unit }
+    {
+        self.unit.as_str()
+    }
+
+    /// What its meter belongs to.
+    pub fn scope(&self) -> &InstrumentationScope
+        ensures { result.now ≡ self.now.scope }
+    {
+        &self.scope
+    }
+}
+
+impl Clone for Instrument {
+    ghost is_clone = { λ s t. t ≡ s };
+
+    fn clone(&self) -> Result<Instrument, AllocError> {
+        copied_scope();
+        Ok(Instrument {
+            name: self.name.clone()?,
+            description: self.description.clone()?,
+            kind: self.kind,
+            unit: self.unit.clone()?,
+            scope: self.scope.clone()?,
+        })
     }
 }

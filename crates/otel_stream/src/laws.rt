@@ -1,15 +1,25 @@
-//! Laws: two kinds of instruments are equal exactly if they are the same, and a box of a reader wants
-//! what the reader in it wants.
+//! Laws: two kinds of instruments are equal exactly if they are the same, two instruments exactly if their parts
+//! are; a box of a reader wants what the reader in it wants, and one of a view answers what the view in it does;
+//! what a reader answers that wants no limits and no aggregations.
 //!
-//! `kind_laws` and `boxed_reader` do nothing. A function whose contract needs the law calls it first.
+//! `kind_laws`, `equal_instruments`, `boxed_reader`, `boxed_view` and `plain_answers` do nothing. A function whose
+//! contract needs the law calls it first.
 
-ghost use Rattle.std.specs.Prelude.{◌≡◌, IfOk};
+ghost use Rattle.std.specs.Prelude.{◌≡◌, ℕ, Option, None, IfOk};
 ghost use Rattle.std.specs.Bool.{Decides};
+ghost use Rattle.otel_common.specs.declared.metrics.Aggregation.{Aggregation};
+ghost use Rattle.otel_common.specs.declared.metrics.Temporality.{Temporality};
+ghost use Rattle.otel_stream.specs.Answers.{ReaderAnswers, IsAnsweredBy, answers_by, preferring};
+ghost use Rattle.otel_stream.specs.Preferences.{temporality_preference};
+ghost use Rattle.otel_stream.specs.Wants.{temporality_alone, limit_of, aggregation_of};
+ghost use Rattle.otel_stream.specs.declared.instrument.Instrument.{Instrument};
 ghost use Rattle.otel_stream.specs.declared.instrument.InstrumentKind.{InstrumentKind};
 
-use crate::instrument::InstrumentKind;
+use crate::instrument::{Instrument, InstrumentKind};
 use crate::manual_reader::ManualReader;
 use crate::reader::MetricReader;
+use crate::view::View;
+use otel_common::laws::equal_scopes;
 use otel_common::metrics::Temporality;
 use std::alloc::{AllocError, Global};
 
@@ -19,9 +29,24 @@ pub fn kind_laws()
     ensures copy { (x y : InstrumentKind) → ⟦<InstrumentKind as Clone>⟧.is_clone x y → y ≡ x }
 {}
 
+/// Two instruments are equal exactly if their five parts are.
+pub fn equal_instruments()
+    ensures { (x y : Instrument) → Decides (⟦<Instrument as PartialEq>⟧.eq x y) (x ≡ y) }
+{
+    equal_scopes();
+    kind_laws();
+}
+
 /// A box wants for each kind of instrument what the reader in it wants, whatever its type is.
 pub fn boxed_reader(reader: &Box<dyn MetricReader>)
-    ensures { ⟦<Box<dyn MetricReader> as MetricReader>⟧.preference reader.now ≡ (⟦<dyn MetricReader as MetricReader>⟧ reader.now.vtable).preference reader.now.value }
+    ensures temporality { ⟦<Box<dyn MetricReader> as MetricReader>⟧.preference reader.now ≡ (⟦<dyn MetricReader as MetricReader>⟧ reader.now.vtable).preference reader.now.value }
+    ensures limit { ⟦<Box<dyn MetricReader> as MetricReader>⟧.limit reader.now ≡ (⟦<dyn MetricReader as MetricReader>⟧ reader.now.vtable).limit reader.now.value }
+    ensures aggregation { ⟦<Box<dyn MetricReader> as MetricReader>⟧.aggregation reader.now ≡ (⟦<dyn MetricReader as MetricReader>⟧ reader.now.vtable).aggregation reader.now.value }
+{}
+
+/// A box answers for each instrument what the view in it answers, whatever its type is.
+pub fn boxed_view(view: &Box<dyn View>)
+    ensures { ⟦<Box<dyn View> as View>⟧.answer view.now ≡ (⟦<dyn View as View>⟧ view.now.vtable).answer view.now.value }
 {}
 
 /// What a box of a manual reader wants for a kind of instrument: what the reader wants. Takes a box.
@@ -41,3 +66,10 @@ fn wanted<R: MetricReader>(reader: &R, kind: InstrumentKind) -> Temporality
 {
     reader.temporality(kind)
 }
+
+/// The answers of a reader that wants no limits and no aggregations are those of its temporalities alone; so are
+/// those of a manual reader of which the temporality alone was said.
+pub fn plain_answers()
+    ensures plain { (temporality : InstrumentKind → Temporality) (limit : InstrumentKind → Option ℕ) (aggregation : InstrumentKind → Option Aggregation) (answers : ReaderAnswers) → IsAnsweredBy temporality limit aggregation answers → ((kind : InstrumentKind) → limit kind ≡ None) → ((kind : InstrumentKind) → aggregation kind ≡ None) → answers ≡ answers_by temporality }
+    ensures manual { (temporality : Temporality) (answers : ReaderAnswers) → IsAnsweredBy (λ kind. temporality_preference kind temporality) (limit_of (temporality_alone temporality)) (aggregation_of (temporality_alone temporality)) answers → answers ≡ preferring temporality }
+{}

@@ -1,12 +1,20 @@
-//! Kinds of instruments, and readers.
+//! Kinds of instruments, readers, views, and the settings of streams.
 #![tactic(auto)]
 
 pub mod answers;
 pub mod boxed;
+mod by_kind;
+pub mod compatible;
 pub mod demand;
 pub mod instrument;
 pub mod laws;
+pub mod limit;
 pub mod manual_reader;
 pub mod reader;
+pub mod stream;
+pub mod stream_fault;
+pub mod stream_spec;
 #[cfg(test)]
 mod tests;
+pub mod view;
+mod wants;

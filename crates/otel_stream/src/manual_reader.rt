@@ -1,60 +1,66 @@
 //! The reader that collects when it is asked to.
 
-ghost use Rattle.std.specs.Prelude.{◌≡◌};
+ghost use Rattle.std.specs.Prelude.{◌≡◌, Some, false, IfSome, option_copied};
 ghost use Rattle.otel_common.specs.declared.metrics.Temporality.TheVariants.{Cumulative};
+ghost use Rattle.otel_stream.specs.Answers.{kind_eq};
 ghost use Rattle.otel_stream.specs.Preferences.{temporality_preference};
+ghost use Rattle.otel_stream.specs.Wants.{temporality_alone, limit_of, aggregation_of};
+ghost use Rattle.otel_stream.specs.declared.instrument.InstrumentKind.{InstrumentKind};
 
 use crate::instrument::InstrumentKind;
+use crate::limit::CardinalityLimit;
 use crate::reader::MetricReader;
-use otel_common::metrics::Temporality;
+use crate::wants::Wants;
+use otel_common::metrics::{Aggregation, Temporality};
 use std::fmt::{self, Debug, Formatter, Write};
 use std::marker::Model;
 
 /// A reader whose collections its owner asks for (Metrics SDK, "MetricReader"). It has one temporality,
-/// and wants for each kind of instrument what `InstrumentKind::temporality_preference` says of it.
+/// and wants for each kind of instrument what `InstrumentKind::temporality_preference` says of it. For each
+/// kind it may want a limit and an aggregation besides. Contracts see what it wants.
 #[derive(Drop)]
 pub struct ManualReader {
-    temporality: Temporality,
+    wants: Wants,
 }
 
-/// Makes a `ManualReader`.
+/// Makes a `ManualReader`. Contracts see what the reader will want.
 #[derive(Drop)]
 pub struct ManualReaderBuilder {
-    temporality: Temporality,
+    wants: Wants,
 }
 
 impl Model for ManualReader {
-    ghost use Rattle.otel_common.specs.declared.metrics.Temporality.{Temporality};
+    ghost use Rattle.otel_stream.specs.declared.wants.Wants.{Wants};
 
-    ghost Value = { Temporality };
+    ghost Value = { Wants };
 
-    ghost view = { λ r. r.temporality };
+    ghost view = { λ r. r.wants };
 }
 
 impl Model for ManualReaderBuilder {
-    ghost use Rattle.otel_common.specs.declared.metrics.Temporality.{Temporality};
+    ghost use Rattle.otel_stream.specs.declared.wants.Wants.{Wants};
 
-    ghost Value = { Temporality };
+    ghost Value = { Wants };
 
-    ghost view = { λ b. b.temporality };
+    ghost view = { λ b. b.wants };
 }
 
 impl ManualReader {
-    /// A builder of a cumulative reader.
+    /// A builder of a cumulative reader, without limits and aggregations. Takes no memory.
     pub fn builder() -> ManualReaderBuilder
-        ensures { result ≡ Cumulative }
+        ensures { result ≡ temporality_alone Cumulative }
     {
         ManualReaderBuilder::new()
     }
 }
 
-/// Cumulative.
+/// Cumulative, without limits and aggregations.
 impl Default for ManualReader {
-    ghost is_default = { λ r. r ≡ Cumulative };
+    ghost is_default = { λ r. r ≡ temporality_alone Cumulative };
 
     fn default() -> ManualReader {
         ManualReader {
-            temporality: Temporality::Cumulative,
+            wants: Wants::new(Temporality::Cumulative),
         }
     }
 }
@@ -66,44 +72,95 @@ impl Debug for ManualReader {
 }
 
 impl MetricReader for ManualReader {
-    ghost preference = { λ r kind. temporality_preference kind r };
+    ghost preference = { λ r kind. temporality_preference kind r.temporality };
+
+    ghost limit = { limit_of };
+
+    ghost aggregation = { aggregation_of };
 
     fn temporality(&self, kind: InstrumentKind) -> Temporality {
-        kind.temporality_preference(self.temporality)
+        kind.temporality_preference(self.wants.temporality)
+    }
+
+    fn cardinality_limit(&self, kind: InstrumentKind) -> Option<CardinalityLimit>
+        ensures { result ≡ limit_of self.now kind }
+    {
+        *self.wants.limits.get(kind)
+    }
+
+    fn default_aggregation(&self, kind: InstrumentKind) -> Option<&Aggregation>
+        ensures { option_copied result ≡ aggregation_of self.now kind }
+    {
+        self.wants.aggregations.get(kind).as_ref()
     }
 }
 
 impl ManualReaderBuilder {
-    /// Of a cumulative reader.
+    /// Of a cumulative reader, without limits and aggregations. Takes no memory.
     pub fn new() -> ManualReaderBuilder
-        ensures { result ≡ Cumulative }
+        ensures { result ≡ temporality_alone Cumulative }
     {
         ManualReaderBuilder {
-            temporality: Temporality::Cumulative,
+            wants: Wants::new(Temporality::Cumulative),
         }
     }
 
-    /// With this temporality.
+    /// With this temporality. Limits and aggregations stay.
     pub fn with_temporality(self, temporality: Temporality) -> ManualReaderBuilder
-        ensures { result ≡ temporality }
+        ensures temporality { result.temporality ≡ temporality }
+        ensures limits { result.limits ≡ self.limits }
+        ensures aggregations { result.aggregations ≡ self.aggregations }
     {
-        let _ = self;
-        ManualReaderBuilder { temporality }
+        let mut builder = self;
+        builder.wants.temporality = temporality;
+        builder
+    }
+
+    /// With this limit for a kind of instrument (Metrics SDK, "Cardinality limits"). The last one given for a kind
+    /// stands. Takes no memory.
+    pub fn with_cardinality_limit(
+        self,
+        kind: InstrumentKind,
+        limit: CardinalityLimit,
+    ) -> ManualReaderBuilder
+        ensures given { limit_of result kind ≡ Some limit }
+        ensures others { (other : InstrumentKind) → kind_eq other kind ≡ false → limit_of result other ≡ limit_of self other }
+        ensures temporality { result.temporality ≡ self.temporality }
+        ensures aggregations { result.aggregations ≡ self.aggregations }
+    {
+        let mut builder = self;
+        builder.wants.limits.set(kind, Some(limit));
+        builder
+    }
+
+    /// With this aggregation for a kind of instrument (Metrics SDK, "MetricReader"). The last one given for a
+    /// kind stands. Takes no memory.
+    pub fn with_default_aggregation(
+        self,
+        kind: InstrumentKind,
+        aggregation: Aggregation,
+    ) -> ManualReaderBuilder
+        ensures given { aggregation_of result kind ≡ Some aggregation }
+        ensures others { (other : InstrumentKind) → kind_eq other kind ≡ false → aggregation_of result other ≡ aggregation_of self other }
+        ensures temporality { result.temporality ≡ self.temporality }
+        ensures limits { result.limits ≡ self.limits }
+    {
+        let mut builder = self;
+        builder.wants.aggregations.set(kind, Some(aggregation));
+        builder
     }
 
     /// The reader.
     pub fn build(self) -> ManualReader
         ensures { result ≡ self }
     {
-        ManualReader {
-            temporality: self.temporality,
-        }
+        ManualReader { wants: self.wants }
     }
 }
 
-/// Of a cumulative reader.
+/// Of a cumulative reader, without limits and aggregations.
 impl Default for ManualReaderBuilder {
-    ghost is_default = { λ b. b ≡ Cumulative };
+    ghost is_default = { λ b. b ≡ temporality_alone Cumulative };
 
     fn default() -> ManualReaderBuilder {
         ManualReaderBuilder::new()

@@ -1,5 +1,9 @@
 //! What no contract says: texts; and each preference once.
 
+mod instruments;
+mod streams;
+mod wants;
+
 use crate::instrument::InstrumentKind;
 use crate::laws::{boxed_manual_reader, boxed_reader, kind_laws};
 use crate::manual_reader::{ManualReader, ManualReaderBuilder};
@@ -8,19 +12,21 @@ use otel_common::metrics::Temporality;
 use std::alloc::Global;
 use std::test::Fail;
 
+/// The seven kinds.
+const KINDS: [InstrumentKind; 7] = [
+    InstrumentKind::Counter,
+    InstrumentKind::UpDownCounter,
+    InstrumentKind::Histogram,
+    InstrumentKind::ObservableCounter,
+    InstrumentKind::ObservableUpDownCounter,
+    InstrumentKind::Gauge,
+    InstrumentKind::ObservableGauge,
+];
+
 // What a reader wants for the seven kinds, a letter each: C cumulative, D delta, L low memory.
 fn wanted<R: MetricReader>(alloc: Global, reader: &R) -> Result<String, Fail> {
-    let kinds = [
-        InstrumentKind::Counter,
-        InstrumentKind::UpDownCounter,
-        InstrumentKind::Histogram,
-        InstrumentKind::ObservableCounter,
-        InstrumentKind::ObservableUpDownCounter,
-        InstrumentKind::Gauge,
-        InstrumentKind::ObservableGauge,
-    ];
     let mut text = String::new(alloc);
-    for kind in kinds {
+    for kind in KINDS {
         text.push_str(match reader.temporality(kind) {
             Temporality::Cumulative => "C",
             Temporality::Delta => "D",

@@ -4,21 +4,11 @@ ghost use Rattle.std.specs.Prelude.{◌≡◌, cond, Some, None, int_lt, IfOk, I
 ghost use Rattle.otel_model_stream.specs.Folds.{bounds_below, buckets_of};
 ghost use Rattle.otel_model_stream.specs.Data.{rises};
 
+use otel_common::bounds::is_rising;
 use otel_common::faults::Fault;
 use otel_common::lists::Items;
 use std::alloc::Global;
 use std::marker::Model;
-
-/// Whether each bound is greater than the one before it.
-pub fn is_rising(bounds: &[i64]) -> bool
-    ensures { result ≡ rises bounds.now }
-{
-    bounds.is_sorted_by(
-        |lower: &i64, upper: &i64| -> bool
-            ensures { result ≡ int_lt lower.now upper.now }
-        { lower < upper },
-    )
-}
 
 /// The bounds of a histogram's buckets, each greater than the one before it (Metrics SDK, "Explicit
 /// Bucket Histogram Aggregation").

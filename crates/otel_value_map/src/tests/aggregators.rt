@@ -2,9 +2,10 @@
 
 use crate::aggregator::{Aggregator, Increment, create_fold, reset_fold, update_fold};
 use crate::assign::Assign;
-use crate::bounds::{Bounds, is_rising};
+use crate::bounds::Bounds;
 use crate::buckets::{Buckets, BucketsConfig, counted_once};
 use crate::number::Number;
+use otel_common::bounds::is_rising;
 use otel_common::faults::Fault;
 use otel_common::lists::Items;
 use std::alloc::Global;

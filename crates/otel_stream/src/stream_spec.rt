@@ -1,0 +1,133 @@
+//! What may be said of a stream, and what is wrong with it.
+
+ghost use Rattle.std.specs.Prelude.{◌≡◌, nat_lt};
+ghost use Rattle.std.specs.List.{list_any};
+ghost use Rattle.otel_stream.specs.Settings.{nothing_said, fault_by_unit, optional_limit_fault, optional_bounds_fault, bounds_of, settings_fault};
+ghost use Rattle.otel_stream.specs.Units.{unit_fault, optional_unit_fault};
+
+use crate::stream_fault::StreamFault;
+use otel_common::bounds::is_rising;
+use otel_common::keys::Key;
+use otel_common::laws::{copied_aggregation, copied_attributes};
+use otel_common::lists::Items;
+use otel_common::metrics::Aggregation;
+use otel_common::strings::StringValue;
+use std::alloc::AllocError;
+
+/// The greatest length of a unit, in bytes.
+const UNIT_MAX: usize = 63;
+
+/// What is said of a stream (Metrics SDK, "Stream configuration"). What it lacks is the instrument's or the
+/// reader's.
+#[derive(Debug, Drop)]
+pub struct StreamSpec {
+    pub name: Option<StringValue>,
+    pub description: Option<StringValue>,
+    pub unit: Option<StringValue>,
+    pub aggregation: Option<Aggregation>,
+    /// The keys that are kept of attributes; all of them where there is no list.
+    pub allow: Option<Items<Key>>,
+    /// How many sets of attributes have points of their own.
+    pub limit: Option<usize>,
+}
+
+impl StreamSpec {
+    /// The first of these that stands: the unit has more than 63 bytes, it has a character outside ASCII, the limit
+    /// is 0, it is `usize::MAX`, the bounds of a histogram don't rise. The name is not looked at.
+    ///
+    /// Goes over the unit and the bounds once, and takes no memory.
+    pub fn fault(&self) -> Option<StreamFault>
+        ensures { result ≡ settings_fault self.now }
+    {
+        if let Some(fault) = fault_of_unit(&self.unit) {
+            return Some(fault);
+        }
+        if let Some(fault) = fault_of_limit(self.limit) {
+            return Some(fault);
+        }
+        fault_of_bounds(&self.aggregation)
+    }
+}
+
+fn fault_of_unit(unit: &Option<StringValue>) -> Option<StreamFault>
+    ensures { result ≡ fault_by_unit (optional_unit_fault unit.now) }
+{
+    match unit {
+        Some(unit) => fault_of_text(unit.as_str()),
+        None => None,
+    }
+}
+
+fn fault_of_text(unit: &str) -> Option<StreamFault>
+    ensures { result ≡ fault_by_unit (unit_fault unit.now) }
+{
+    let bytes = unit.as_bytes();
+    if bytes.len() > UNIT_MAX {
+        return Some(StreamFault::UnitLength);
+    }
+    if has_other_than_ascii(bytes) {
+        return Some(StreamFault::UnitInvalidChar);
+    }
+    None
+}
+
+fn has_other_than_ascii(bytes: &[u8]) -> bool
+    ensures { result ≡ list_any (λ b. nat_lt 127 b) bytes.now }
+{
+    bytes.iter().any(|byte| *byte > 127)
+}
+
+fn fault_of_limit(limit: Option<usize>) -> Option<StreamFault>
+    ensures { result ≡ optional_limit_fault limit }
+{
+    match limit {
+        Some(0) => Some(StreamFault::LimitZero),
+        Some(usize::MAX) => Some(StreamFault::LimitMax),
+        _ => None,
+    }
+}
+
+fn fault_of_bounds(aggregation: &Option<Aggregation>) -> Option<StreamFault>
+    ensures { result ≡ optional_bounds_fault (bounds_of aggregation.now) }
+{
+    let Some(Aggregation::ExplicitBucketHistogram { boundaries, .. }) = aggregation else {
+        return None;
+    };
+    if is_rising(boundaries.as_slice()) {
+        return None;
+    }
+    Some(StreamFault::Boundaries)
+}
+
+/// Nothing is said.
+impl Default for StreamSpec {
+    ghost is_default = { λ s. s ≡ nothing_said };
+
+    fn default() -> StreamSpec {
+        StreamSpec {
+            name: None,
+            description: None,
+            unit: None,
+            aggregation: None,
+            allow: None,
+            limit: None,
+        }
+    }
+}
+
+impl Clone for StreamSpec {
+    ghost is_clone = { λ s t. t ≡ s };
+
+    fn clone(&self) -> Result<StreamSpec, AllocError> {
+        copied_aggregation();
+        copied_attributes();
+        Ok(StreamSpec {
+            name: self.name.clone()?,
+            description: self.description.clone()?,
+            unit: self.unit.clone()?,
+            aggregation: self.aggregation.clone()?,
+            allow: self.allow.clone()?,
+            limit: self.limit,
+        })
+    }
+}
