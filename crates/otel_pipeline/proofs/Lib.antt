@@ -5,11 +5,12 @@ pub mod Collects
 pub mod Commits
 pub mod Identities
 pub mod Outcomes
-pub mod OwnDemands
+pub mod DemandLemmas
 pub mod PipelineLemmas
 pub mod PipelinesLemmas
 pub mod Plans
 pub mod Places
 pub mod Records
 pub mod Shows
+pub mod ViewLemmas
 pub mod Writes

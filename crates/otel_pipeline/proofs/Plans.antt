@@ -150,6 +150,56 @@ kept-same p q seen (y ∷ xs) same =
 fed-same : (p q : Identity → Bool) (ds : List Demand) → ((y : Identity) → has (ids ds) y ≡ true → p y ≡ q y) → model.fed p ds ≡ model.fed q ds
 fed-same p q ds same = kept-same p q [] (ids ds) same
 
+-- whether there is no identity
+abbrev pub no_identity : List Identity → Bool
+no_identity [] = true
+no_identity (x ∷ xs) = false
+
+-- nothing is fed exactly if all that is demanded drops
+kept-empty : (q : Identity → Bool) (seen xs : List Identity) → (no_identity (kept_once q seen xs) && not (list_any (λ x. not (q x)) seen)) ≡ (not (list_any (λ x. not (q x)) xs) && not (list_any (λ x. not (q x)) seen))
+kept-empty q seen [] = refl
+kept-empty q seen (y ∷ xs) = by (has seen y) (q y) refl refl (λ s. kept-empty q s xs)
+  where
+    seen-undropped : (zs : List Identity) → has zs y ≡ true → q y ≡ false → list_any (λ x. not (q x)) zs ≡ true
+    seen-undropped [] t f = absurd (true≢false (sym t))
+    seen-undropped (z ∷ zs) t f = go (identity_eq z y) refl t (λ r. seen-undropped zs r f)
+      where
+        go : (e : Bool) → identity_eq z y ≡ e → (e || has zs y) ≡ true → (has zs y ≡ true → list_any (λ x. not (q x)) zs ≡ true) → (not (q z) || list_any (λ x. not (q x)) zs) ≡ true
+        go true s r rest = ap (λ b. not b || list_any (λ x. not (q x)) zs) (ap q (identity_eq_true z y s) ∙ f)
+        go false s r rest = or_true (not (q z)) (list_any (λ x. not (q x)) zs) (rest r)
+
+    last-false : (a b s : Bool) → s ≡ true → (a && not s) ≡ (b && not s)
+    last-false true true s e = refl
+    last-false false false s e = refl
+    last-false true false s e = ap not e
+    last-false false true s e = sym (ap not e)
+
+    by : (b c : Bool) → has seen y ≡ b → q y ≡ c
+        → ((s : List Identity) → (no_identity (kept_once q s xs) && not (list_any (λ x. not (q x)) s)) ≡ (not (list_any (λ x. not (q x)) xs) && not (list_any (λ x. not (q x)) s)))
+        → (no_identity (filter (λ y. not (q y)) (cond b (model.each_once seen xs) (y ∷ model.each_once (y ∷ seen) xs))) && not (list_any (λ x. not (q x)) seen))
+        ≡ (not (not (q y) || list_any (λ x. not (q x)) xs) && not (list_any (λ x. not (q x)) seen))
+    by true true t f rest = rest seen ∙ ap (λ b. not (not b || list_any (λ x. not (q x)) xs) && not (list_any (λ x. not (q x)) seen)) (sym f)
+    by true false t f rest = last-false _ _ (list_any (λ x. not (q x)) seen) (seen-undropped seen t f)
+    by false true t f rest =
+        ap (λ b. no_identity (cond (not b) (y ∷ kept_once q (y ∷ seen) xs) (kept_once q (y ∷ seen) xs)) && not (list_any (λ x. not (q x)) seen)) f
+        ∙ ((ap (λ b. no_identity (kept_once q (y ∷ seen) xs) && not (not b || list_any (λ x. not (q x)) seen)) (sym f)
+        ∙ (rest (y ∷ seen) ∙ ap (λ b. not (list_any (λ x. not (q x)) xs) && not (not b || list_any (λ x. not (q x)) seen)) f))
+        ∙ ap (λ b. not (not b || list_any (λ x. not (q x)) xs) && not (list_any (λ x. not (q x)) seen)) (sym f))
+    by false false t f rest =
+        ap (λ b. no_identity (cond (not b) (y ∷ kept_once q (y ∷ seen) xs) (kept_once q (y ∷ seen) xs)) && not (list_any (λ x. not (q x)) seen)) f
+        ∙ ap (λ b. not (not b || list_any (λ x. not (q x)) xs) && not (list_any (λ x. not (q x)) seen)) (sym f)
+
+pub fed-empty : (q : Identity → Bool) (ds : List Demand) → no_identity (model.fed q ds) ≡ not (list_any (λ (d : Demand). not (q d.identity)) ds)
+fed-empty q ds = sym (and_true (no_identity (model.fed q ds))) ∙ (kept-empty q [] (ids ds) ∙ (and_true (not (list_any (λ x. not (q x)) (ids ds))) ∙ ap not (among ds)))
+  where
+    and_true : (b : Bool) → (b && true) ≡ b
+    and_true true = refl
+    and_true false = refl
+
+    among : (ds : List Demand) → list_any (λ x. not (q x)) (ids ds) ≡ list_any (λ (d : Demand). not (q d.identity)) ds
+    among [] = refl
+    among (d ∷ ds) = ap (λ b. not (q d.identity) || b) (among ds)
+
 -- ======== the table of fates ========
 -- what is known once these demands are entered
 enter-known : (fs : List Demand) (d : Demand) (y : Identity) → model.is_known (machine.enter fs d) y ≡ (model.is_known fs y || identity_eq d.identity y)
@@ -186,7 +236,7 @@ fate-known (d ∷ fs) ms y e = by (identity_eq d.identity y) e (λ k. fate-known
 
 -- ======== parts ========
 -- the fates of a part after demands
-demanded-fates : (now : ℕ) (p : ReaderPart) (ds : List Demand) → (fold (machine.demanded now) p ds).fates ≡ fold machine.enter p.fates ds
+pub demanded-fates : (now : ℕ) (p : ReaderPart) (ds : List Demand) → (fold (machine.demanded now) p ds).fates ≡ fold machine.enter p.fates ds
 demanded-fates now p [] = refl
 demanded-fates now p (d ∷ ds) = demanded-fates now (machine.demanded now p d) ds
 
@@ -541,15 +591,6 @@ plan-none answers made now apart = record {
 -- the table of fates, with these demands entered
 abbrev pub dropped_with : List Held → List Demand → Identity → Bool
 dropped_with made ds = model.is_dropped (fold machine.enter (fates_of made) ds)
-
-pub demands-none : (made : List Held) (answers : ReaderAnswers) (scope : Option InstrumentationScope) (about : About) → scope ≡ None → model.demands_on (dropped_with made) [] answers scope about ≡ []
-demands-none made answers scope about e = ap (λ s. model.demands_on (dropped_with made) [] answers s about) e
-
-pub demands-own : (made : List Held) (answers : ReaderAnswers) (scope : Option InstrumentationScope) (s : InstrumentationScope) (about : About) → scope ≡ Some s → model.is_good about ≡ true
-    → model.demands_on (dropped_with made) [] answers scope about ≡ model.own_demand answers s about ∷ []
-demands-own made answers scope s about e good =
-    ap (λ s. model.demands_on (dropped_with made) [] answers s about) e
-    ∙ ap (λ b. cond b (model.demands_with (dropped_with made) [] answers s about) []) good
 
 -- ======== a plan that is carried out ========
 -- what was planned, carried out, is what the machine makes of these demands

@@ -1,5 +1,6 @@
 pub mod Collections
 pub mod Defaults
-pub mod OwnIdentities
+pub mod Identities
 pub mod Pipelines
 pub mod Streams
+pub mod Views

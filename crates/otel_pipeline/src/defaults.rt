@@ -11,6 +11,7 @@ use otel_common::laws::copied_aggregation;
 use otel_common::lists::Items;
 use otel_common::metrics::Aggregation;
 use otel_stream::answers::Answers;
+use otel_stream::compatible::is_aggregator_compatible;
 use otel_stream::instrument::InstrumentKind;
 use std::alloc::Global;
 
@@ -28,31 +29,10 @@ pub fn is_valid(aggregation: &Aggregation) -> bool
 }
 
 /// Whether the aggregation can be used with the kind.
-pub fn fits(kind: InstrumentKind, aggregation: &Aggregation) -> bool
+pub(crate) fn fits(kind: InstrumentKind, aggregation: &Aggregation) -> bool
     ensures { result ≡ fits kind aggregation.now }
 {
-    match aggregation {
-        Aggregation::Drop => true,
-        Aggregation::Default => true,
-        Aggregation::ExplicitBucketHistogram { .. } => true,
-        Aggregation::Sum => !is_gauge(kind),
-        Aggregation::LastValue => is_gauge(kind),
-    }
-}
-
-/// Whether the instrument keeps a last value by itself.
-fn is_gauge(kind: InstrumentKind) -> bool
-    ensures { result ≡ fits kind Aggregation.LastValue }
-{
-    match kind {
-        InstrumentKind::Gauge => true,
-        InstrumentKind::ObservableGauge => true,
-        InstrumentKind::Counter => false,
-        InstrumentKind::UpDownCounter => false,
-        InstrumentKind::Histogram => false,
-        InstrumentKind::ObservableCounter => false,
-        InstrumentKind::ObservableUpDownCounter => false,
-    }
+    is_aggregator_compatible(kind, aggregation).is_ok()
 }
 
 /// The aggregation of a kind, where nobody says another. Takes memory for a histogram.

@@ -1,20 +1,23 @@
-//! What an instrument demands of a reader by itself (Metrics SDK, "MetricReader").
+//! What an instrument demands of a reader, by what a view answers and by itself (Metrics SDK, "View" and
+//! "MetricReader").
 
-ghost use Rattle.std.specs.Prelude.{◌≡◌, [], IfOk, IsOkUnless, true, false};
-ghost use Rattle.otel_model.specs.Calls.{lowered, or_else, is_observable};
-ghost use Rattle.otel_model.specs.Demands.{answer_for, own_demand, are_good_bounds, is_valid, default_limit};
-ghost use Rattle.otel_model.specs.Streams.{is_drained};
-ghost use Rattle.otel_pipeline.specs.OwnIdentities.{own_identity};
+ghost use Rattle.std.specs.Prelude.{◌≡◌, [], IfOk, IsOkUnless, true};
+ghost use Rattle.otel_model.specs.Calls.{lowered, or_else};
+ghost use Rattle.otel_model.specs.Demands.{answer_for, demand_of, own_demand, are_good_bounds, is_valid, default_limit, resolved};
+ghost use Rattle.otel_pipeline.specs.Identities.{identity_with};
 
 use crate::about::About;
-use crate::defaults::resolved_own;
+use crate::defaults::{reader_default, resolved_own};
 use otel_common::faults::Fault;
-use otel_common::laws::copied_scope;
+use otel_common::laws::{copied_aggregation, copied_attributes, copied_scope};
+use otel_common::metrics::Aggregation;
 use otel_common::scopes::InstrumentationScope;
 use otel_common::strings::StringValue;
 use otel_stream::answers::Answers;
 use otel_stream::demand::{Demand, Identity};
 use otel_stream::instrument::InstrumentKind;
+use otel_stream::stream::Stream;
+use otel_stream::stream_spec::StreamSpec;
 use std::alloc::Global;
 
 /// How many sets of attributes have points of their own, where nobody says it.
@@ -51,28 +54,114 @@ fn own_limit(answers: &Answers, kind: InstrumentKind) -> usize
     }
 }
 
-/// What makes the stream that an instrument demands by itself the same as another.
-fn own_identity(
+/// The first text, or else the second, or else the empty one.
+fn text_or(
+    alloc: Global,
+    first: &Option<StringValue>,
+    second: &Option<StringValue>,
+) -> Result<StringValue, Fault>
+    ensures text { IfOk result (λ t. t ≡ or_else first.now (or_else second.now [])) }
+    ensures only_memory { IsOkUnless result Fault.OutOfMemory }
+{
+    match first {
+        Some(text) => Ok(text.clone()?),
+        None => text_or_empty(alloc, second),
+    }
+}
+
+/// The name that a stream is to have: the one that is set, or else the instrument's.
+fn spelling_of<'a>(set: &'a Option<StringValue>, own: &'a StringValue) -> &'a StringValue
+    ensures { result.now ≡ or_else set.entry.now own.entry.now }
+{
+    match set {
+        Some(name) => name,
+        None => own,
+    }
+}
+
+/// What makes the stream that an instrument demands with these settings the same as another.
+fn identity_of(
     alloc: Global,
     scope: &InstrumentationScope,
     about: &About<'_>,
+    settings: &StreamSpec,
 ) -> Result<Identity, Fault>
-    ensures identity { IfOk result (λ x. x ≡ own_identity scope.now about.now) }
+    ensures identity { IfOk result (λ x. x ≡ identity_with scope.now about.now settings.now) }
     ensures only_memory { IsOkUnless result Fault.OutOfMemory }
 {
     copied_scope();
+    let spelling = spelling_of(&settings.name, about.name);
     Ok(Identity {
         scope: scope.clone()?,
         kind: about.kind,
         signed: about.signed,
-        description: text_or_empty(alloc, about.description)?,
-        unit: text_or_empty(alloc, about.unit)?,
-        name: lowered_text(alloc, about.name)?,
+        description: text_or(alloc, &settings.description, about.description)?,
+        unit: text_or(alloc, &settings.unit, about.unit)?,
+        name: lowered_text(alloc, spelling)?,
+    })
+}
+
+/// How many sets of attributes have points of their own: as many as are set, or else as the reader wants for the kind.
+fn limit_of(answers: &Answers, kind: InstrumentKind, settings: &StreamSpec) -> usize
+    ensures { result ≡ or_else settings.now.limit (or_else (answer_for answers.now kind).limit default_limit) }
+{
+    match settings.limit {
+        Some(limit) => limit,
+        None => own_limit(answers, kind),
+    }
+}
+
+/// What a stream keeps with these settings: what is set, or else what the reader wants for the kind; where nothing is
+/// set, a histogram keeps the bounds that its instrument has.
+fn aggregation_of(
+    alloc: Global,
+    answers: &Answers,
+    about: &About<'_>,
+    set: &Option<Aggregation>,
+) -> Result<Aggregation, Fault>
+    ensures aggregation { IfOk result (λ made. made ≡ resolved answers.now about.now set.now) }
+    ensures only_memory { IsOkUnless result Fault.OutOfMemory }
+{
+    copied_aggregation();
+    match set {
+        None => resolved_own(alloc, answers, about),
+        Some(Aggregation::Default) => reader_default(alloc, answers, about.kind),
+        Some(aggregation) => Ok(aggregation.clone()?),
+    }
+}
+
+/// What an instrument demands of a reader where a view answers these settings: a stream with what the settings say, and
+/// for the rest with the instrument's texts, all attributes, and the aggregation and the limit that the reader wants for
+/// its kind.
+///
+/// Copies texts, keys and bounds.
+pub fn demand_of(
+    alloc: Global,
+    answers: &Answers,
+    scope: &InstrumentationScope,
+    about: &About<'_>,
+    stream: &Stream,
+) -> Result<Demand, Fault>
+    ensures demand { IfOk result (λ d. d ≡ demand_of answers.now scope.now about.now stream.now) }
+    ensures valid { are_good_bounds about.now.kind about.now.bounds ≡ true → IfOk result (λ d. is_valid d.aggregation ≡ true) }
+    ensures only_memory { IsOkUnless result Fault.OutOfMemory }
+{
+    copied_attributes();
+    stream.lawful();
+    let settings = stream.spec();
+    Ok(Demand {
+        identity: identity_of(alloc, scope, about, settings)?,
+        spelling: spelling_of(&settings.name, about.name).clone()?,
+        aggregation: aggregation_of(alloc, answers, about, &settings.aggregation)?,
+        allow: settings.allow.clone()?,
+        limit: limit_of(answers, about.kind, settings),
     })
 }
 
 /// What an instrument demands of a reader by itself: a stream of its name, its description and its unit, with all
 /// attributes, and with the aggregation and the limit that the reader wants for its kind.
+///
+/// Copies texts and bounds.
 pub fn own_demand(
     alloc: Global,
     answers: &Answers,
@@ -81,14 +170,7 @@ pub fn own_demand(
 ) -> Result<Demand, Fault>
     ensures demand { IfOk result (λ d. d ≡ own_demand answers.now scope.now about.now) }
     ensures valid { are_good_bounds about.now.kind about.now.bounds ≡ true → IfOk result (λ d. is_valid d.aggregation ≡ true) }
-    ensures synchronous { is_observable about.now.kind ≡ false → IfOk result (λ d. is_drained d ≡ false) }
     ensures only_memory { IsOkUnless result Fault.OutOfMemory }
 {
-    Ok(Demand {
-        identity: own_identity(alloc, scope, about)?,
-        spelling: about.name.clone()?,
-        aggregation: resolved_own(alloc, answers, about)?,
-        allow: None,
-        limit: own_limit(answers, about.kind),
-    })
+    demand_of(alloc, answers, scope, about, &Stream::default())
 }

@@ -9,6 +9,7 @@ pub mod demands;
 pub mod numbers;
 pub mod pipeline;
 mod plan;
+mod planning;
 mod stream;
 mod streams;
 #[cfg(test)]

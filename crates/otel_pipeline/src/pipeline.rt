@@ -1,17 +1,16 @@
 //! What one reader has: its answers, its streams, and what feeds them.
 
-ghost use Rattle.std.specs.Prelude.{◌≡◌, [], fold, ℕ, IfOk, OnOk, OnErr, IsOk, IsOkUnless, slice_get};
+ghost use Rattle.std.specs.Prelude.{◌≡◌, [], ℕ, IfOk, OnOk, OnErr, IsOk, IsOkUnless, slice_get};
 ghost use Rattle.otel_model.specs.Calls as model;
 ghost use Rattle.otel_model.specs.Calls.{or_else};
-ghost use Rattle.otel_model.specs.Demands.{demands_on, is_dropped};
-ghost use Rattle.otel_model.specs.Machine.{enter, part_sent};
+ghost use Rattle.otel_model.specs.Machine.{part_sent};
 ghost use Rattle.std.specs.Option.{option_map};
 ghost use Rattle.otel_pipeline.specs.Collections.{IsCollectedFrom};
-ghost use Rattle.otel_pipeline.specs.Pipelines.{part_of, fates_of, built, recorded, IsBuildableIn, IsPlanOf, IsPlanned, IsReadyFor, IsPreparedFor, stream_identities};
+ghost use Rattle.otel_pipeline.specs.Pipelines.{part_of, built, recorded, IsBuildableIn, IsPlanned, IsReadyFor, IsPreparedFor};
+ghost use Rattle.otel_pipeline.specs.Views.{answering};
 
 use crate::about::About;
 use crate::collecting::scopes_of;
-use crate::demands::own_demand;
 use crate::plan::Plan;
 use crate::stream::Stream;
 use crate::streams::{commit_each, finish_each, prepare_each};
@@ -27,46 +26,21 @@ use otel_data::numbers::NumberValue;
 use otel_stream::answers::Answers;
 use otel_stream::demand::Identity;
 use otel_stream::laws::kind_laws;
+use otel_stream::stream as settings;
 use std::alloc::Global;
 use std::marker::Model;
 
 /// What one reader answered, its streams in order of making, and for each instrument those that it feeds.
 #[derive(Drop)]
 pub struct Pipeline {
-    alloc: Global,
-    answers: Answers,
-    identities: IndexSet<Identity>,
+    pub(crate) alloc: Global,
+    pub(crate) answers: Answers,
+    pub(crate) identities: IndexSet<Identity>,
     /// A demand that drops has a place here too, so that it is known; nothing feeds it, and no collection
     /// looks at it.
-    streams: Vec<Stream>,
+    pub(crate) streams: Vec<Stream>,
     feeds: Vec<Items<usize>>,
     plan: Option<Plan>,
-}
-
-/// What a build of this instrument plans: nothing without a scope.
-fn make_plan(
-    alloc: Global,
-    answers: &Answers,
-    identities: &IndexSet<Identity>,
-    made: &[Stream],
-    scope: Option<&InstrumentationScope>,
-    about: &About<'_>,
-    now: u64,
-) -> Result<Plan, Fault>
-    requires buildable { IsBuildableIn (option_map (λ s. s.now) scope) about.now }
-    requires keys { identities.now.keys ≡ stream_identities made.now }
-    ensures plan { IfOk result (IsPlanOf answers.now made.now now (demands_on (λ ds. is_dropped (fold enter (fates_of made.now) ds)) [] answers.now (option_map (λ s. s.now) scope.entry) about.now)) }
-    ensures only_memory { IsOkUnless result Fault.OutOfMemory }
-{
-    kind_laws();
-    let _ = identities.len();
-    let mut plan = Plan::new(alloc);
-    let Some(scope) = scope else {
-        return Ok(plan);
-    };
-    let demand = own_demand(alloc, answers, scope, about)?;
-    plan.demand(alloc, answers, identities, made, demand, now)?;
-    Ok(plan)
 }
 
 /// The numbers of the streams that an instrument feeds.
@@ -114,29 +88,24 @@ impl Pipeline {
         }
     }
 
-    /// Plans a build of this instrument, which demands nothing without a scope. What the reader has stays as it was.
+    /// Plans a build of this instrument, of which each view answered this. Without a scope it demands nothing. What the
+    /// reader has stays as it was.
     ///
-    /// Looks the identity up once. Copies the texts of the instrument, and takes memory for the stream.
+    /// For each answer, and for the instrument's own stream if it is demanded: copies texts, keys and bounds, looks the
+    /// identity up, and takes memory for a new stream.
     pub fn plan(
         &mut self,
         scope: Option<&InstrumentationScope>,
         about: &About<'_>,
+        answered: &[Option<settings::Stream>],
         now: u64,
     ) -> Result<(), Fault>
         requires { IsBuildableIn (option_map (λ s. s.now) scope) about.now }
         ensures same { part_of self.new ≡ part_of self.old }
-        ensures ready { OnOk result (IsReadyFor [] (option_map (λ s. s.now) scope.entry) about.now now self.new) }
+        ensures ready { OnOk result (IsReadyFor (answering answered.now) (option_map (λ s. s.now) scope.entry) about.now now self.new) }
         ensures only_memory { IsOkUnless result Fault.OutOfMemory }
     {
-        let plan = make_plan(
-            self.alloc,
-            &self.answers,
-            &self.identities,
-            &self.streams,
-            scope,
-            about,
-            now,
-        )?;
+        let plan = self.plan_in(scope, about, answered, now)?;
         kind_laws();
         let many = plan.added.len();
         self.plan = Some(plan);

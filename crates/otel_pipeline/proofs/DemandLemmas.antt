@@ -1,18 +1,18 @@
--- What holds of the demand that an instrument makes by itself.
-use Rattle.std.proofs.Common.{◌≡◌, ◌∙◌, ap, sym, ℤ, Bool, true, false, true≢false, cond, ◌&&◌, List, Option, Some, None, refl, rules}
-use Rattle.std.specs.Prelude.{is_none}
+-- What holds of the demands of an instrument.
+use Rattle.std.proofs.Common.{◌≡◌, ◌∙◌, ap, sym, ℤ, Bool, true, false, true≢false, cond, ◌&&◌, List, Option, Some, None, refl}
+use Rattle.std.specs.Prelude.{is_none, IfSome}
 use Rattle.otel_model.specs.Checks.{is_good_name, optional_unit_fault}
 use Rattle.otel_common.specs.declared.metrics.Aggregation.{Aggregation}
 use Rattle.otel_common.specs.declared.metrics.Aggregation.TheVariants.{Drop, Default, Sum, LastValue, ExplicitBucketHistogram}
 use Rattle.otel_common.specs.declared.scopes.InstrumentationScope.{InstrumentationScope}
-use Rattle.otel_model.specs.Calls.{About, InstrumentKind, Counter, UpDownCounter, Histogram, ObservableCounter, ObservableUpDownCounter, Gauge, ObservableGauge, is_observable, or_else}
-use Rattle.otel_model.specs.Demands.{Demand, Identity, ReaderAnswers, answer_for, default_limit, own_demand, are_good_bounds, is_good, is_valid, fits, kind_default, default_from, reader_default, with_bounds, with_own, resolved}
-use Rattle.otel_model.specs.Streams.{is_sum, observes_sums}
-use Rattle.otel_pipeline.specs.OwnIdentities.{own_identity}
+use Rattle.otel_model.specs.Calls.{About, InstrumentKind, Counter, UpDownCounter, Histogram, ObservableCounter, ObservableUpDownCounter, Gauge, ObservableGauge, or_else}
+use Rattle.otel_model.specs.Demands.{Demand, ReaderAnswers, StreamSpec, answer_for, default_limit, demand_of, are_good_bounds, is_good, is_valid, fits, kind_default, default_from, reader_default, with_bounds, with_own, resolved}
+use Rattle.otel_pipeline.specs.Identities.{identity_with}
 
--- a demand of these five parts is the own one
-pub own_made : (answers : ReaderAnswers) (scope : InstrumentationScope) (about : About) (d : Demand) → d.identity ≡ own_identity scope about → d.spelling ≡ about.name → d.aggregation ≡ resolved answers about None → d.allow ≡ None → d.limit ≡ or_else (answer_for answers about.kind).limit default_limit → d ≡ own_demand answers scope about
-own_made answers scope about d identity spelling aggregation allow limit = λ i. record {
+-- a demand of these five parts
+pub demand_made : (answers : ReaderAnswers) (scope : InstrumentationScope) (about : About) (s : StreamSpec) (d : Demand) → d.identity ≡ identity_with scope about s → d.spelling ≡ or_else s.name about.name → d.aggregation ≡ resolved answers about s.aggregation → d.allow ≡ s.allow
+    → d.limit ≡ or_else s.limit (or_else (answer_for answers about.kind).limit default_limit) → d ≡ demand_of answers scope about s
+demand_made answers scope about s d identity spelling aggregation allow limit = λ i. record {
   identity = identity i;
   spelling = spelling i;
   aggregation = aggregation i;
@@ -63,32 +63,14 @@ with_own-valid ObservableUpDownCounter own a good held = held
 with_own-valid Gauge own a good held = held
 with_own-valid ObservableGauge own a good held = held
 
--- bounds that rise, if there are some, make no invalid demand
-pub own_valid : (answers : ReaderAnswers) (scope : InstrumentationScope) (about : About) → are_good_bounds about.kind about.bounds ≡ true → is_valid (own_demand answers scope about).aggregation ≡ true
-own_valid answers scope about good =
-    with_own-valid about.kind about.bounds (reader_default answers about.kind) good
-    (default_from-valid about.kind (answer_for answers about.kind).aggregation)
-
--- ======== its stream is not drained ========
-and-false : (b : Bool) → (b && false) ≡ false
-and-false true = refl
-and-false false = refl
-
--- only what is observed may be a sum that was summed before
-not_observed-not_drained : (a : Aggregation) (kind : InstrumentKind) → is_observable kind ≡ false → (is_sum a && observes_sums kind) ≡ false
-not_observed-not_drained a Counter h = and-false (is_sum a)
-not_observed-not_drained a UpDownCounter h = and-false (is_sum a)
-not_observed-not_drained a Histogram h = and-false (is_sum a)
-not_observed-not_drained a Gauge h = and-false (is_sum a)
-not_observed-not_drained a ObservableGauge h = and-false (is_sum a)
-not_observed-not_drained a ObservableCounter h = search rules
-not_observed-not_drained a ObservableUpDownCounter h = search rules
-
--- whatever is kept under the own identity of an instrument that is not observed
-pub own-not_drained : (scope : InstrumentationScope) (about : About) (x : Identity) (a : Aggregation) → x ≡ own_identity scope about → is_observable about.kind ≡ false → (is_sum a && observes_sums x.kind) ≡ false
-own-not_drained scope about x a identity h =
-    ap (λ (y : Identity). is_sum a && observes_sums y.kind) identity
-    ∙ not_observed-not_drained a about.kind h
+-- good bounds of the instrument and of the settings make no invalid demand
+pub resolved_valid : (answers : ReaderAnswers) (about : About) (set : Option Aggregation) → IfSome set (λ a. is_valid a ≡ true) → are_good_bounds about.kind about.bounds ≡ true → is_valid (resolved answers about set) ≡ true
+resolved_valid answers about None held good = with_own-valid about.kind about.bounds (reader_default answers about.kind) good (default_from-valid about.kind (answer_for answers about.kind).aggregation)
+resolved_valid answers about (Some Default) held good = default_from-valid about.kind (answer_for answers about.kind).aggregation
+resolved_valid answers about (Some Drop) held good = refl
+resolved_valid answers about (Some Sum) held good = refl
+resolved_valid answers about (Some LastValue) held good = refl
+resolved_valid answers about (Some (ExplicitBucketHistogram bounds m)) held good = held
 
 -- ======== a good instrument ========
 and-second : (a b : Bool) → (a && b) ≡ true → b ≡ true

@@ -1,0 +1,34 @@
+-- What views answered of an instrument (Metrics SDK, "View").
+use Rattle.std.specs.Prelude.{Bool, true, false, not, ◌&&◌, ◌||◌, ℕ, List, [], ◌∷◌, map, filter, is_some, Option, None, Some}
+use Rattle.std.specs.List.{list_any}
+use Rattle.otel_common.specs.declared.metrics.Aggregation.{Aggregation}
+use Rattle.otel_common.specs.declared.scopes.InstrumentationScope.{InstrumentationScope}
+use Rattle.otel_model.specs.Calls.{About, InstrumentKind}
+use Rattle.otel_model.specs.Demands.{Demand, ReaderAnswers, StreamSpec, Views, fits, is_compatible, view_demands}
+
+-- views that answer this of every instrument
+abbrev pub answering : List (Option StreamSpec) → Views
+answering answers = map (λ answer instrument. answer) answers
+
+-- what of their demands can be used
+abbrev pub usable_demands : ReaderAnswers → InstrumentationScope → About → List (Option StreamSpec) → List Demand
+usable_demands answers scope about answered = filter is_compatible (view_demands (answering answered) answers scope about)
+
+-- whether the aggregation can be used with the kind; one that is left to the reader or the instrument can
+abbrev pub can_keep : InstrumentKind → Option Aggregation → Bool
+can_keep kind None = true
+can_keep kind (Some aggregation) = fits kind aggregation
+
+-- whether a view answered an aggregation that can't
+abbrev pub is_unfit : InstrumentKind → Option StreamSpec → Bool
+is_unfit kind None = false
+is_unfit kind (Some s) = not (can_keep kind s.aggregation)
+
+-- whether the list has no numbers
+abbrev pub has_none : List ℕ → Bool
+has_none [] = true
+has_none (n ∷ ns) = false
+
+-- whether the instrument demands its own stream: no view answered, or one answered what can't be used and nothing is fed
+abbrev pub demands_own : InstrumentKind → List (Option StreamSpec) → List ℕ → Bool
+demands_own kind answered feeds = not (list_any is_some answered) || (list_any (is_unfit kind) answered && has_none feeds)

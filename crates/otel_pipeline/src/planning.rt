@@ -1,0 +1,148 @@
+//! What a build demands of one reader, planned.
+
+ghost use Rattle.std.specs.Prelude.{◌≡◌, ◌∷◌, ◌++◌, [], ℕ, List, filter, fold, IfOk, OnOk, IsOkUnless};
+ghost use Rattle.std.specs.Option.{option_map};
+ghost use Rattle.otel_model.specs.Demands as demands;
+ghost use Rattle.otel_model.specs.Demands.{demand_of, demands_on, is_compatible, is_dropped};
+ghost use Rattle.otel_model.specs.Machine.{enter};
+ghost use Rattle.otel_pipeline.specs.Pipelines.{fates_of, IsBuildable, IsBuildableIn, IsPlanOf};
+ghost use Rattle.otel_pipeline.specs.Streams.{IsMakeable};
+ghost use Rattle.otel_pipeline.specs.Views as views;
+ghost use Rattle.otel_pipeline.specs.Views.{answering, usable_demands};
+
+use crate::about::About;
+use crate::defaults::fits;
+use crate::demands::{demand_of, own_demand};
+use crate::pipeline::Pipeline;
+use crate::plan::Plan;
+use otel_common::faults::Fault;
+use otel_common::scopes::InstrumentationScope;
+use otel_stream::demand::Demand;
+use otel_stream::instrument::InstrumentKind;
+use otel_stream::laws::kind_laws;
+use otel_stream::stream::Stream;
+
+/// Whether what a view answered can be used with the kind.
+fn can_keep(kind: InstrumentKind, stream: &Stream) -> bool
+    ensures { result ≡ views.can_keep kind stream.now.aggregation }
+{
+    match stream.aggregation() {
+        Some(aggregation) => fits(kind, aggregation),
+        None => true,
+    }
+}
+
+/// Whether a view answered what can't.
+fn is_unfit(kind: InstrumentKind, answer: &Option<Stream>) -> bool
+    ensures { result ≡ views.is_unfit kind answer.now }
+{
+    match answer {
+        Some(stream) => !can_keep(kind, stream),
+        None => false,
+    }
+}
+
+impl Plan {
+    /// Whether the instrument demands its own stream, once what its views answered is planned: if no view answered, or
+    /// one answered what can't be used and nothing is fed.
+    fn demands_own(&self, kind: InstrumentKind, answered: &[Option<Stream>]) -> bool
+        ensures { result ≡ views.demands_own kind answered.now self.now.feeds }
+    {
+        if !answered.iter().any(|answer| answer.is_some()) {
+            return true;
+        }
+        self.feeds.is_empty() && answered.iter().any(|answer| is_unfit(kind, answer))
+    }
+}
+
+impl Pipeline {
+    /// A plan without demands.
+    fn plan_nothing(&self) -> Plan
+        ensures { (now : ℕ) → IsPlanOf self.now.answers self.now.streams now [] result }
+    {
+        // These two tell the prover that no identity stands twice.
+        kind_laws();
+        let _ = self.identities.len();
+        Plan::new(self.alloc)
+    }
+
+    /// Plans one demand more.
+    fn plan_demand(&self, plan: &mut Plan, demand: Demand, now: u64) -> Result<(), Fault>
+        requires { IsMakeable demand }
+        ensures meets { OnOk result ((ds : List demands.Demand) → IsPlanOf self.now.answers self.now.streams now ds plan.old → IsPlanOf self.now.answers self.now.streams now (ds ++ demand ∷ []) plan.new) }
+        ensures only_memory { IsOkUnless result Fault.OutOfMemory }
+    {
+        plan.demand(
+            self.alloc,
+            &self.answers,
+            &self.identities,
+            &self.streams,
+            demand,
+            now,
+        )
+    }
+
+    /// Plans what a view answered, if it can be used.
+    fn plan_view(
+        &self,
+        plan: &mut Plan,
+        scope: &InstrumentationScope,
+        about: &About<'_>,
+        stream: &Stream,
+        now: u64,
+    ) -> Result<(), Fault>
+        requires { IsBuildable about.now }
+        ensures meets { OnOk result ((ds : List demands.Demand) → IsPlanOf self.now.answers self.now.streams now ds plan.old → IsPlanOf self.now.answers self.now.streams now (ds ++ filter is_compatible (demand_of self.now.answers scope.now about.now stream.now ∷ [])) plan.new) }
+        ensures only_memory { IsOkUnless result Fault.OutOfMemory }
+    {
+        if !can_keep(about.kind, stream) {
+            return Ok(());
+        }
+        let demand = demand_of(self.alloc, &self.answers, scope, about, stream)?;
+        self.plan_demand(plan, demand, now)
+    }
+
+    /// Plans what the views answered, as far as it can be used.
+    fn plan_views(
+        &self,
+        scope: &InstrumentationScope,
+        about: &About<'_>,
+        answered: &[Option<Stream>],
+        now: u64,
+    ) -> Result<Plan, Fault>
+        requires { IsBuildable about.now }
+        ensures plan { IfOk result (IsPlanOf self.now.answers self.now.streams now (usable_demands self.now.answers scope.now about.now answered.now)) }
+        ensures only_memory { IsOkUnless result Fault.OutOfMemory }
+    {
+        let mut plan = self.plan_nothing();
+        for answer in answered {
+            if let Some(stream) = answer {
+                self.plan_view(&mut plan, scope, about, stream, now)?;
+            }
+        }
+        Ok(plan)
+    }
+
+    /// What a build of this instrument plans, of which each view answered this: nothing without a scope.
+    pub(crate) fn plan_in(
+        &self,
+        scope: Option<&InstrumentationScope>,
+        about: &About<'_>,
+        answered: &[Option<Stream>],
+        now: u64,
+    ) -> Result<Plan, Fault>
+        requires { IsBuildableIn (option_map (λ s. s.now) scope) about.now }
+        ensures plan { IfOk result (IsPlanOf self.now.answers self.now.streams now (demands_on (λ ds. is_dropped (fold enter (fates_of self.now.streams) ds)) (answering answered.now) self.now.answers (option_map (λ s. s.now) scope.entry) about.now)) }
+        ensures only_memory { IsOkUnless result Fault.OutOfMemory }
+    {
+        let Some(scope) = scope else {
+            return Ok(self.plan_nothing());
+        };
+        let mut plan = self.plan_views(scope, about, answered, now)?;
+        if plan.demands_own(about.kind, answered) {
+            let demand = own_demand(self.alloc, &self.answers, scope, about)?;
+            self.plan_demand(&mut plan, demand, now)?;
+        }
+        Ok(plan)
+    }
+}
