@@ -1,5 +1,7 @@
 //! Limits and aggregations that readers want for a kind of instrument.
 
+ghost use Rattle.otel_common.specs.declared.metrics.Temporality.TheVariants.{Delta};
+
 use super::{KINDS, wanted};
 use crate::answers::Answers;
 use crate::instrument::InstrumentKind;
@@ -18,7 +20,7 @@ use std::test::Fail;
 struct Old;
 
 impl MetricReader for Old {
-    ghost preference = { λ r kind. Temporality.Delta };
+    ghost preference = { λ r kind. Delta };
 
     fn temporality(&self, kind: InstrumentKind) -> Temporality {
         let _ = kind;
