@@ -113,6 +113,20 @@ fn with_keys(alloc: Global, builder: StreamBuilder) -> Result<StreamBuilder, Fai
     Ok(builder.with_allowed_attribute_keys(keys))
 }
 
+fn has_texts(stream: &Stream) -> bool {
+    stream.name() == Some("valid_name")
+        && stream.description() == Some("A valid stream")
+        && stream.unit() == Some("ms")
+}
+
+fn has_rest(stream: &Stream) -> bool {
+    stream.aggregation() == Some(&Aggregation::Sum)
+        && stream
+            .allowed_attribute_keys()
+            .is_some_and(|keys| keys.len() == 1)
+        && stream.cardinality_limit() == Some(100)
+}
+
 /// Each setting once, with its getter.
 #[test]
 fn stream_valid_build(rt: HostRuntime) -> Result<(), Fail> {
@@ -121,16 +135,8 @@ fn stream_valid_build(rt: HostRuntime) -> Result<(), Fail> {
         .with_aggregation(Aggregation::Sum)
         .with_cardinality_limit(100);
     let stream = builder.build()?;
-    assert!(rt; stream.name() == Some("valid_name"));
-    assert!(rt; stream.description() == Some("A valid stream"));
-    assert!(rt; stream.unit() == Some("ms"));
-    assert!(rt; stream.aggregation() == Some(&Aggregation::Sum));
-    assert!(rt;
-        stream
-            .allowed_attribute_keys()
-            .is_some_and(|keys| keys.len() == 1)
-    );
-    assert!(rt; stream.cardinality_limit() == Some(100));
+    assert!(rt; has_texts(&stream));
+    assert!(rt; has_rest(&stream));
     Ok(())
 }
 
