@@ -1,7 +1,6 @@
 //! Which settings of streams are refused, and by which text.
 
 use crate::stream::{Stream, StreamBuilder};
-use crate::stream_fault::StreamFault;
 use otel_common::keys::Key;
 use otel_common::lists::Items;
 use otel_common::metrics::Aggregation;
@@ -100,40 +99,53 @@ fn stream_histogram_bucket_validation(rt: HostRuntime) -> Result<(), Fail> {
     Ok(())
 }
 
-/// Each setting once, with its getter, and a copy.
-#[test]
-fn stream_valid_build(rt: HostRuntime) -> Result<(), Fail> {
-    let alloc = rt.alloc();
+fn with_texts(alloc: Global, builder: StreamBuilder) -> Result<StreamBuilder, Fail> {
+    Ok(
+        builder
+            .with_name(String::from_str(alloc, "valid_name")?)
+            .with_description(String::from_str(alloc, "A valid stream")?)
+            .with_unit(String::from_str(alloc, "ms")?),
+    )
+}
+
+fn with_keys(alloc: Global, builder: StreamBuilder) -> Result<StreamBuilder, Fail> {
     let keys = vec![in alloc; Key::new(alloc, "a")?]?;
-    let builder = StreamBuilder::default()
-        .with_name(String::from_str(alloc, "valid_name")?)
-        .with_description(String::from_str(alloc, "A valid stream")?)
-        .with_unit(String::from_str(alloc, "ms")?)
-        .with_aggregation(Aggregation::Sum)
-        .with_allowed_attribute_keys(keys)
-        .with_cardinality_limit(100);
-    let stream = builder.clone()?.build()?.clone()?;
-    assert!(rt; stream.name() == Some("valid_name"));
-    assert!(rt; stream.description() == Some("A valid stream"));
-    assert!(rt; stream.unit() == Some("ms"));
-    assert!(rt; stream.aggregation() == Some(&Aggregation::Sum));
-    assert!(rt;
-        stream
+    Ok(builder.with_allowed_attribute_keys(keys))
+}
+
+fn has_texts(stream: &Stream) -> bool {
+    stream.name() == Some("valid_name")
+        && stream.description() == Some("A valid stream")
+        && stream.unit() == Some("ms")
+}
+
+fn has_rest(stream: &Stream) -> bool {
+    stream.aggregation() == Some(&Aggregation::Sum)
+        && stream
             .allowed_attribute_keys()
             .is_some_and(|keys| keys.len() == 1)
-    );
-    assert!(rt; stream.cardinality_limit() == Some(100));
-    assert!(rt; stream.spec().limit == Some(100));
+        && stream.cardinality_limit() == Some(100)
+}
+
+/// Each setting once, with its getter.
+#[test]
+fn stream_valid_build(rt: HostRuntime) -> Result<(), Fail> {
+    let builder = with_texts(rt.alloc(), StreamBuilder::default())?;
+    let builder = with_keys(rt.alloc(), builder)?
+        .with_aggregation(Aggregation::Sum)
+        .with_cardinality_limit(100);
+    let stream = builder.build()?;
+    assert!(rt; has_texts(&stream));
+    assert!(rt; has_rest(&stream));
     Ok(())
 }
 
 #[test]
-fn defaults_say_nothing(rt: HostRuntime) -> Result<(), Fail> {
-    let stream = Stream::default();
+fn copies_and_defaults(rt: HostRuntime) -> Result<(), Fail> {
+    let builder = Stream::builder().with_cardinality_limit(100);
+    let stream = builder.clone()?.build()?.clone()?;
     stream.lawful();
-    assert!(rt; stream.name().is_none());
-    assert!(rt; stream.cardinality_limit().is_none());
-    let fault = StreamFault::LimitZero;
-    assert!(rt; fault == fault.clone()?);
+    assert!(rt; stream.spec().limit == Some(100));
+    assert!(rt; Stream::default().cardinality_limit().is_none());
     Ok(())
 }
