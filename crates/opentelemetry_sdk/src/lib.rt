@@ -5,7 +5,7 @@
 //!
 //! - [`common`]: attributes and their canonical sets, instrumentation scopes, faults;
 //! - [`resource`]: what all the metrics of a provider come from;
-//! - [`metrics`]: the provider and its calls, checks of instruments, readers, the data of a collection,
+//! - [`metrics`]: the provider and its calls, checks of instruments, settings of streams, readers, the data of a collection,
 //!   aggregation.
 //!
 //! A provider is made by its builder, from readers in boxes. Then it is asked by calls, each of which

@@ -1,5 +1,6 @@
 //! The provider of meters and what belongs to it.
 
+pub mod instrument;
 pub mod provider;
 pub mod reader;
 
@@ -8,6 +9,7 @@ pub use otel_common::metrics::{Aggregation, MetricError, Temporality};
 pub use otel_data::data;
 pub use otel_provider::meter;
 pub use otel_provider::provider::{MeterProviderBuilder, SdkMeterProvider};
-pub use otel_stream::instrument;
-pub use otel_stream::instrument::InstrumentKind;
+pub use otel_stream::instrument::{Instrument, InstrumentKind};
 pub use otel_stream::manual_reader::{ManualReader, ManualReaderBuilder};
+pub use otel_stream::stream::{Stream, StreamBuilder};
+pub use otel_stream::view;

@@ -1,5 +1,5 @@
 -- What the answers of views demand.
-use Rattle.std.proofs.Common.{◌≡◌, ℕ, zero, suc, ◌+◌, ◌<◌, ℤ, Bool, true, false, cond, not, ◌&&◌, ◌||◌, List, [], ◌∷◌, ◌++◌, filter, fold, take, get_or, length, Option, Some, None, is_some, refl, sym, ◌∙◌, ap, append_assoc, add-one}
+use Rattle.std.proofs.Common.{◌≡◌, ℕ, zero, suc, ◌+◌, ◌<◌, ℤ, Bool, true, false, cond, not, ◌&&◌, ◌||◌, List, [], ◌∷◌, ◌++◌, filter, fold, take, get_or, length, Option, Some, None, is_some, refl, sym, ◌∙◌, ap, subst, append_assoc, add-one}
 use Rattle.std.specs.List.{list_any}
 use Rattle.std.proofs.Math.Seq.{take-suc}
 use Rattle.std.proofs.lemmas.List.{append-nil}
@@ -8,11 +8,11 @@ use Rattle.otel_common.specs.declared.metrics.Aggregation.TheVariants.{Drop, Def
 use Rattle.otel_common.specs.declared.scopes.InstrumentationScope.{InstrumentationScope}
 use Rattle.otel_model.specs.Calls.{About, InstrumentKind, Counter, UpDownCounter, Histogram, ObservableCounter, ObservableUpDownCounter, Gauge, ObservableGauge}
 use Rattle.otel_model.specs.Demands as model
-use Rattle.otel_model.specs.Demands.{Identity, Demand, ReaderAnswers, StreamSpec, answer_for, fits, is_valid, kind_default, default_from, reader_default, with_bounds, with_own, resolved, demand_of, own_demand, add_answer, view_demands, is_compatible}
+use Rattle.otel_model.specs.Demands.{Identity, Demand, ReaderAnswers, StreamSpec, answer_for, fits, is_valid, kind_default, default_from, reader_default, with_bounds, with_own, resolved, demand_of, own_demand, view_demands, is_compatible}
 use Rattle.otel_model.specs.Machine as machine
 use Rattle.otel_pipeline.specs.Pipelines.{Planned, part_by, named, fates_of, IsPlanOf}
 use Rattle.otel_pipeline.specs.Streams.{Held}
-use Rattle.otel_pipeline.specs.Views.{answering, usable_demands, can_keep, is_unfit, has_none, demands_own}
+use Rattle.otel_pipeline.specs.Views.{answering, usable_answer, usable_demands, can_keep, is_unfit, has_none, demands_own}
 use Rattle.otel_pipeline.proofs.Plans.{dropped_with, demanded-fates, no_identity, fed-empty}
 use Rattle.otel_pipeline.proofs.Records.{HaveStreams, identity_at-is, numbers-named}
 
@@ -78,9 +78,8 @@ module _ (answers : ReaderAnswers) (scope : InstrumentationScope) (about : About
   abbrev usable : List (Option StreamSpec) → List Demand
   usable l = usable_demands answers scope about l
 
-  -- what one answer demands that can be used
-  abbrev pub usable-one : Option StreamSpec → List Demand
-  usable-one o = filter is_compatible (add_answer answers scope about o [])
+  abbrev usable-one : Option StreamSpec → List Demand
+  usable-one o = usable_answer answers scope about o
 
   usable-cons : (o : Option StreamSpec) (l : List (Option StreamSpec)) → usable (o ∷ l) ≡ usable-one o ++ usable l
   usable-cons None l = refl
@@ -146,3 +145,15 @@ module _ (answers : ReaderAnswers) (scope : InstrumentationScope) (about : About
 -- without a scope nothing is demanded
 pub demands-none : (made : List Held) (answers : ReaderAnswers) (o : Option InstrumentationScope) (about : About) (l : List (Option StreamSpec)) → o ≡ None → model.demands_on (dropped_with made) (answering l) answers o about ≡ []
 demands-none made answers o about l e = ap (λ s. model.demands_on (dropped_with made) (answering l) answers s about) e
+
+-- an aggregation that can't be used is not demanded
+pub unfit-demands : (answers : ReaderAnswers) (scope : InstrumentationScope) (about : About) (s : StreamSpec) → can_keep about.kind s.aggregation ≡ false → usable_answer answers scope about (Some s) ≡ []
+unfit-demands answers scope about s e = ap (λ b. cond b (demand_of answers scope about s ∷ []) []) (compatible-is answers scope about s ∙ e)
+
+-- one that can is
+pub fit-demands : (answers : ReaderAnswers) (scope : InstrumentationScope) (about : About) (s : StreamSpec) → can_keep about.kind s.aggregation ≡ true → usable_answer answers scope about (Some s) ≡ demand_of answers scope about s ∷ []
+fit-demands answers scope about s e = ap (λ b. cond b (demand_of answers scope about s ∷ []) []) (compatible-is answers scope about s ∙ e)
+
+-- nothing more
+pub plan-same : (answers : ReaderAnswers) (made : List Held) (now : ℕ) (plan : Planned) (more : List Demand) → more ≡ [] → (ds : List Demand) → IsPlanOf answers made now ds plan → IsPlanOf answers made now (ds ++ more) plan
+plan-same answers made now plan more e ds is = subst (λ (l : List Demand). IsPlanOf answers made now l plan) (sym (append-nil ds) ∙ ap (λ m. ds ++ m) (sym e)) is

@@ -4,7 +4,7 @@ use Rattle.std.specs.List.{list_any}
 use Rattle.otel_common.specs.declared.metrics.Aggregation.{Aggregation}
 use Rattle.otel_common.specs.declared.scopes.InstrumentationScope.{InstrumentationScope}
 use Rattle.otel_model.specs.Calls.{About, InstrumentKind}
-use Rattle.otel_model.specs.Demands.{Demand, ReaderAnswers, StreamSpec, Views, fits, is_compatible, view_demands}
+use Rattle.otel_model.specs.Demands.{Demand, ReaderAnswers, StreamSpec, Views, add_answer, fits, is_compatible, view_demands}
 
 -- views that answer this of every instrument
 abbrev pub answering : List (Option StreamSpec) → Views
@@ -13,6 +13,10 @@ answering answers = map (λ answer instrument. answer) answers
 -- what of their demands can be used
 abbrev pub usable_demands : ReaderAnswers → InstrumentationScope → About → List (Option StreamSpec) → List Demand
 usable_demands answers scope about answered = filter is_compatible (view_demands (answering answered) answers scope about)
+
+-- and of what one view answered
+abbrev pub usable_answer : ReaderAnswers → InstrumentationScope → About → Option StreamSpec → List Demand
+usable_answer answers scope about answer = filter is_compatible (add_answer answers scope about answer [])
 
 -- whether the aggregation can be used with the kind; one that is left to the reader or the instrument can
 abbrev pub can_keep : InstrumentKind → Option Aggregation → Bool

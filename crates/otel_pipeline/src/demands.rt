@@ -49,7 +49,7 @@ fn own_limit(answers: &Answers, kind: InstrumentKind) -> usize
     ensures { result ≡ or_else (answer_for answers.now kind).limit default_limit }
 {
     match answers.limit(kind) {
-        Some(limit) => limit,
+        Some(wanted) => wanted,
         None => DEFAULT_LIMIT,
     }
 }
@@ -106,7 +106,7 @@ fn limit_of(answers: &Answers, kind: InstrumentKind, settings: &StreamSpec) -> u
     ensures { result ≡ or_else settings.now.limit (or_else (answer_for answers.now kind).limit default_limit) }
 {
     match settings.limit {
-        Some(limit) => limit,
+        Some(set) => set,
         None => own_limit(answers, kind),
     }
 }

@@ -1,14 +1,15 @@
 //! What a build demands of one reader, planned.
 
-ghost use Rattle.std.specs.Prelude.{◌≡◌, ◌∷◌, ◌++◌, [], ℕ, List, filter, fold, IfOk, OnOk, IsOkUnless};
+ghost use Rattle.std.specs.Prelude.{◌≡◌, ◌∷◌, ◌++◌, [], ℕ, List, Some, fold, is_some, IfOk, OnOk, IsOkUnless};
+ghost use Rattle.std.specs.List.{list_any};
 ghost use Rattle.std.specs.Option.{option_map};
 ghost use Rattle.otel_model.specs.Demands as demands;
-ghost use Rattle.otel_model.specs.Demands.{demand_of, demands_on, is_compatible, is_dropped};
+ghost use Rattle.otel_model.specs.Demands.{demands_on, is_dropped};
 ghost use Rattle.otel_model.specs.Machine.{enter};
 ghost use Rattle.otel_pipeline.specs.Pipelines.{fates_of, IsBuildable, IsBuildableIn, IsPlanOf};
 ghost use Rattle.otel_pipeline.specs.Streams.{IsMakeable};
 ghost use Rattle.otel_pipeline.specs.Views as views;
-ghost use Rattle.otel_pipeline.specs.Views.{answering, usable_demands};
+ghost use Rattle.otel_pipeline.specs.Views.{answering, usable_answer, usable_demands};
 
 use crate::about::About;
 use crate::defaults::fits;
@@ -42,16 +43,25 @@ fn is_unfit(kind: InstrumentKind, answer: &Option<Stream>) -> bool
     }
 }
 
+fn any_answer(answered: &[Option<Stream>]) -> bool
+    ensures { result ≡ list_any is_some answered.now }
+{
+    answered.iter().any(|answer| answer.is_some())
+}
+
+fn any_unfit(kind: InstrumentKind, answered: &[Option<Stream>]) -> bool
+    ensures { result ≡ list_any (views.is_unfit kind) answered.now }
+{
+    answered.iter().any(|answer| is_unfit(kind, answer))
+}
+
 impl Plan {
     /// Whether the instrument demands its own stream, once what its views answered is planned: if no view answered, or
     /// one answered what can't be used and nothing is fed.
     fn demands_own(&self, kind: InstrumentKind, answered: &[Option<Stream>]) -> bool
         ensures { result ≡ views.demands_own kind answered.now self.now.feeds }
     {
-        if !answered.iter().any(|answer| answer.is_some()) {
-            return true;
-        }
-        self.feeds.is_empty() && answered.iter().any(|answer| is_unfit(kind, answer))
+        !any_answer(answered) || (any_unfit(kind, answered) && self.feeds.is_empty())
     }
 }
 
@@ -92,7 +102,7 @@ impl Pipeline {
         now: u64,
     ) -> Result<(), Fault>
         requires { IsBuildable about.now }
-        ensures meets { OnOk result ((ds : List demands.Demand) → IsPlanOf self.now.answers self.now.streams now ds plan.old → IsPlanOf self.now.answers self.now.streams now (ds ++ filter is_compatible (demand_of self.now.answers scope.now about.now stream.now ∷ [])) plan.new) }
+        ensures meets { OnOk result ((ds : List demands.Demand) → IsPlanOf self.now.answers self.now.streams now ds plan.old → IsPlanOf self.now.answers self.now.streams now (ds ++ usable_answer self.now.answers scope.now about.now (Some stream.now)) plan.new) }
         ensures only_memory { IsOkUnless result Fault.OutOfMemory }
     {
         if !can_keep(about.kind, stream) {
@@ -100,6 +110,25 @@ impl Pipeline {
         }
         let demand = demand_of(self.alloc, &self.answers, scope, about, stream)?;
         self.plan_demand(plan, demand, now)
+    }
+
+    /// Plans what a view answered, if it answered and that can be used.
+    fn plan_answer(
+        &self,
+        plan: &mut Plan,
+        scope: &InstrumentationScope,
+        about: &About<'_>,
+        answer: &Option<Stream>,
+        now: u64,
+    ) -> Result<(), Fault>
+        requires { IsBuildable about.now }
+        ensures meets { OnOk result ((ds : List demands.Demand) → IsPlanOf self.now.answers self.now.streams now ds plan.old → IsPlanOf self.now.answers self.now.streams now (ds ++ usable_answer self.now.answers scope.now about.now answer.now) plan.new) }
+        ensures only_memory { IsOkUnless result Fault.OutOfMemory }
+    {
+        match answer {
+            Some(stream) => self.plan_view(plan, scope, about, stream, now),
+            None => Ok(()),
+        }
     }
 
     /// Plans what the views answered, as far as it can be used.
@@ -116,9 +145,7 @@ impl Pipeline {
     {
         let mut plan = self.plan_nothing();
         for answer in answered {
-            if let Some(stream) = answer {
-                self.plan_view(&mut plan, scope, about, stream, now)?;
-            }
+            self.plan_answer(&mut plan, scope, about, answer, now)?;
         }
         Ok(plan)
     }
@@ -139,10 +166,11 @@ impl Pipeline {
             return Ok(self.plan_nothing());
         };
         let mut plan = self.plan_views(scope, about, answered, now)?;
-        if plan.demands_own(about.kind, answered) {
-            let demand = own_demand(self.alloc, &self.answers, scope, about)?;
-            self.plan_demand(&mut plan, demand, now)?;
+        if !plan.demands_own(about.kind, answered) {
+            return Ok(plan);
         }
+        let demand = own_demand(self.alloc, &self.answers, scope, about)?;
+        self.plan_demand(&mut plan, demand, now)?;
         Ok(plan)
     }
 }

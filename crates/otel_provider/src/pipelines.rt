@@ -29,7 +29,7 @@ fn plan_all(
     ensures only_memory { IsOkUnless result Fault.OutOfMemory }
 {
     for i in 0..pipelines.len() {
-        pipelines[i].plan(scope, about, now)?;
+        pipelines[i].plan(scope, about, &[], now)?;
     }
     Ok(())
 }

@@ -2,10 +2,10 @@ use Rattle.std.proofs.Common.{◌≡◌, ◌∙◌, ap, sym, subst, false, rules
 use Rattle.otel_model.specs.Calls.{is_observable}
 use Rattle.otel_model.specs.Streams.{is_delta}
 use Rattle.otel_pipeline.specs.Collections.{scopes_shown, IsCollectedFrom}
-use Rattle.otel_pipeline.specs.Pipelines.{Piped, part_of, stream_identities, finished_all}
+use Rattle.otel_pipeline.specs.Pipelines.{Piped, part_of, fates_of, stream_identities, finished_all}
 use Rattle.otel_pipeline.proofs.Answered.{answered-settled, answered-finished}
 use Rattle.otel_pipeline.proofs.Collects.{collected-is, part-finished}
-use Rattle.otel_pipeline.proofs.PipelineLemmas.{fates_of, demands-settled, demands-finished, identities-same, length-from, numbers-kept}
+use Rattle.otel_pipeline.proofs.PipelineLemmas.{demands-settled, demands-finished, identities-same, length-from, numbers-kept}
 use Rattle.otel_pipeline.proofs.pipeline.Pipeline.collect.Goals as goal
 
 -- a collection keeps the demands of the streams

@@ -4,7 +4,7 @@ use Rattle.otel_model.specs.Demands.{identity_eq}
 use Rattle.otel_pipeline.specs.Pipelines.{IsPlanOf, stream_identities}
 use Rattle.otel_pipeline.proofs.Identities.{distinct-same}
 use Rattle.otel_pipeline.proofs.Plans.{plan-none}
-use Rattle.otel_pipeline.proofs.planning.Pipeline.plan_nothing.Goals as goal
+use Rattle.otel_pipeline.proofs.pipeline.Pipeline.plan_nothing.Goals as goal
 
 pub returns : goal.returns
 returns c = λ now.

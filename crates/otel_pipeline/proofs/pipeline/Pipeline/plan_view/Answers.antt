@@ -1,0 +1,34 @@
+use Rattle.std.proofs.Common.{◌≡◌, ◌∙◌, ap, sym, subst, true, ◌∷◌, [], ◌++◌, List}
+use Rattle.otel_model.specs.Calls.{About, is_observable}
+use Rattle.otel_model.specs.Demands.{Demand, demand_of}
+use Rattle.otel_pipeline.specs.Pipelines.{IsPlanOf, Piped}
+use Rattle.otel_pipeline.specs.Views.{can_keep}
+use Rattle.otel_pipeline.proofs.DemandLemmas.{good-bounds}
+use Rattle.otel_pipeline.proofs.Outcomes.{OnOk-weaker}
+use Rattle.otel_pipeline.proofs.ViewLemmas.{fit-demands, unfit-demands, plan-same}
+use Rattle.otel_pipeline.proofs.pipeline.Pipeline.plan_view.Goals as goal
+
+pub plan_demand-requires : goal.plan_demand-requires
+plan_demand-requires c = record {
+  synchronous = ap (λ (d : Demand). is_observable d.identity.kind) c.in_ok-demand.ensures.demand ∙ c.requires.synchronous;
+  valid = c.in_ok-demand.ensures.valid (good-bounds c.args.about.now c.requires.good);
+}
+
+-- what can't be used is not planned
+pub returns-then-not-can_keep-clause-meets : goal.returns-then-not-can_keep-clause-meets
+returns-then-not-can_keep-clause-meets c =
+    let same = ap (λ (a : About). can_keep a.kind c.args.stream.now.aggregation) c.about.view_is in
+    plan-same c.args.self.now.answers c.args.self.now.streams c.args.now c.args.plan.now _
+    (unfit-demands c.args.self.now.answers c.args.scope.now c.args.about.now c.args.stream.now (sym same ∙ (sym c.can_keep.ensures ∙ c.if-not-can_keep.true)))
+
+-- what can be used is planned
+pub returns-clause-meets : goal.returns-clause-meets
+returns-clause-meets c =
+    let same : c.in_ok-demand.demand ≡ demand_of c.args.self.now.answers c.args.scope.now c.args.about.now c.args.stream.now =
+    c.in_ok-demand.ensures.demand ∙ ap (λ (p : Piped). demand_of p.answers c.args.scope.now c.args.about.now c.args.stream.now) c.self.view_is in
+    let kept = ap (λ (a : About). can_keep a.kind c.args.stream.now.aggregation) c.about.view_is in
+    let usable = fit-demands c.args.self.now.answers c.args.scope.now c.args.about.now c.args.stream.now (sym kept ∙ (sym c.can_keep.ensures ∙ c.if-not-can_keep.false)) in
+    OnOk-weaker c.plan_demand.result
+    (λ meets ds before. subst (λ (more : List Demand). IsPlanOf c.args.self.now.answers c.args.self.now.streams c.args.now (ds ++ more) c.plan_demand.new.plan)
+    (ap (λ (x : Demand). x ∷ []) same ∙ sym usable) (meets ds before))
+    c.plan_demand.ensures.meets
