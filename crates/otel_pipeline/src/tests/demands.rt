@@ -2,7 +2,7 @@
 
 use crate::about::About;
 use crate::defaults::{fits, is_valid, kind_default, reader_default, resolved_own};
-use crate::demands::{demand_of, own_demand};
+use crate::demands::own_demand;
 use otel_common::lists::Items;
 use otel_common::metrics::Aggregation;
 use otel_common::scopes::InstrumentationScope;
@@ -10,7 +10,6 @@ use otel_common::strings::StringValue;
 use otel_stream::answers::Answers;
 use otel_stream::instrument::InstrumentKind;
 use otel_stream::manual_reader::ManualReader;
-use otel_stream::stream::Stream;
 use std::alloc::Global;
 use std::test::Fail;
 
@@ -38,6 +37,11 @@ fn shown(alloc: Global, aggregation: &Aggregation) -> Result<String, Fail> {
     })
 }
 
+/// What a cumulative reader answers.
+fn cumulative(alloc: Global) -> Result<Answers, Fail> {
+    Ok(Answers::of(alloc, &ManualReader::default())?)
+}
+
 fn wanted_of_kind(kind: InstrumentKind) -> &'static str {
     match kind {
         InstrumentKind::Histogram => {
@@ -52,7 +56,7 @@ fn wanted_of_kind(kind: InstrumentKind) -> &'static str {
 #[test]
 fn kinds_have_their_defaults(rt: HostRuntime) -> Result<(), Fail> {
     let alloc = rt.alloc();
-    let answers = Answers::of(alloc, &ManualReader::default())?;
+    let answers = cumulative(alloc)?;
     for kind in KINDS {
         let own = kind_default(alloc, kind)?;
         assert_eq!(rt; shown(alloc, &own)?.as_str(), wanted_of_kind(kind));
@@ -67,7 +71,7 @@ fn kinds_have_their_defaults(rt: HostRuntime) -> Result<(), Fail> {
 #[test]
 fn histograms_demand_their_own_bounds(rt: HostRuntime) -> Result<(), Fail> {
     let alloc = rt.alloc();
-    let answers = Answers::of(alloc, &ManualReader::default())?;
+    let answers = cumulative(alloc)?;
     let scope = InstrumentationScope::default(alloc);
     let about = About {
         kind: InstrumentKind::Histogram,
@@ -88,31 +92,5 @@ fn histograms_demand_their_own_bounds(rt: HostRuntime) -> Result<(), Fail> {
     assert!(rt; !demand.identity.signed);
     assert!(rt; demand.allow.is_none());
     assert_eq!(rt; demand.limit, 2000);
-    Ok(())
-}
-
-#[test]
-fn views_say_what_is_demanded(rt: HostRuntime) -> Result<(), Fail> {
-    let alloc = rt.alloc();
-    let answers = Answers::of(alloc, &ManualReader::default())?;
-    let scope = InstrumentationScope::default(alloc);
-    let about = About {
-        kind: InstrumentKind::Counter,
-        signed: false,
-        name: &StringValue::new(alloc, "hits")?,
-        description: &None,
-        unit: &Some(StringValue::new(alloc, "ms")?),
-        bounds: &None,
-    };
-    let stream = Stream::builder()
-        .with_name(String::from_str(alloc, "Visits")?)
-        .with_cardinality_limit(3)
-        .build()?;
-    let demand = demand_of(alloc, &answers, &scope, &about, &stream)?;
-    assert_eq!(rt; demand.spelling.as_str(), "Visits");
-    assert_eq!(rt; demand.identity.name.as_str(), "visits");
-    assert_eq!(rt; demand.identity.unit.as_str(), "ms");
-    assert_eq!(rt; shown(alloc, &demand.aggregation)?.as_str(), "sum");
-    assert_eq!(rt; demand.limit, 3);
     Ok(())
 }
