@@ -1,5 +1,5 @@
 -- What holds of the demands of an instrument.
-use Rattle.std.proofs.Common.{◌≡◌, ◌∙◌, ap, sym, ℤ, Bool, true, false, true≢false, cond, ◌&&◌, List, Option, Some, None, refl}
+use Rattle.std.proofs.Common.{◌≡◌, sym, ℤ, Bool, true, false, true≢false, cond, ◌&&◌, List, Option, Some, None, refl}
 use Rattle.std.specs.Prelude.{is_none, IfSome}
 use Rattle.otel_model.specs.Checks.{is_good_name, optional_unit_fault}
 use Rattle.otel_common.specs.declared.metrics.Aggregation.{Aggregation}

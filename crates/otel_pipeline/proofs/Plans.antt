@@ -1,5 +1,5 @@
 -- A plan with one demand more is the plan of one demand more.
-use Rattle.std.proofs.Common.{◌≡◌, ℕ, zero, suc, ◌+◌, ◌<◌, ◌≤◌, ◌==◌, Bool, true, false, cond, not, ◌||◌, List, [], ◌∷◌, ◌++◌, map, filter, fold, length, Option, Some, None, slice_get, refl, sym, ◌∙◌, ap, subst, arith, append_assoc, true≢false, ne_eqb, get_or}
+use Rattle.std.proofs.Common.{◌≡◌, ℕ, zero, suc, ◌+◌, ◌<◌, ◌≤◌, Bool, true, false, cond, not, ◌||◌, List, [], ◌∷◌, ◌++◌, map, filter, fold, length, Option, Some, None, slice_get, refl, sym, ◌∙◌, ap, subst, arith, append_assoc, true≢false, ne_eqb, get_or}
 use Rattle.std.specs.Prelude.{is_some, position, All, IsTrue, ◌&&◌}
 use Rattle.std.specs.Bool.{Decides}
 use Rattle.std.specs.List.{list_any, IsDistinct, AllByRecursion}
@@ -18,7 +18,7 @@ use Rattle.otel_model.specs.Streams.{is_delta}
 use Rattle.otel_model.proofs.Gather.{identity_eq_true, identity_eq_self, known-append}
 use Rattle.otel_common.specs.declared.scopes.InstrumentationScope.{InstrumentationScope}
 use Rattle.indexmap.specs.IndexSet.{insert_key, insert_all}
-use Rattle.otel_pipeline.specs.Pipelines.{Piped, Planned, part_of, part_by, built, built_by, IsPlanned, IsReadyFor, identity_at, named, identity_of, fates_of, is_streamed, streamed, stream_identities, stream_number, drops_at, with_drop, found_at, counted_from, fed_once, IsPlanOf, AreNumbers, AreAnswered, AreSynchronous}
+use Rattle.otel_pipeline.specs.Pipelines.{Piped, Planned, part_of, part_by, built, built_by, IsPlanned, IsReadyFor, identity_at, named, identity_of, fates_of, is_streamed, streamed, stream_identities, stream_number, drops_at, with_drop, found_at, counted_from, fed_once, IsPlanOf, AreNumbers}
 use Rattle.otel_pipeline.specs.Streams.{Held, new_held}
 use Rattle.otel_pipeline.proofs.Answered.{OfAnswer, answered-push}
 use Rattle.otel_pipeline.proofs.Builds.{IsStreamOf, found, known, fate-new, any-position, position-cons, position-within, get-item, drops-is}

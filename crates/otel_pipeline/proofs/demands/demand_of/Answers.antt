@@ -1,5 +1,4 @@
-use Rattle.std.proofs.Common.{◌≡◌, ◌∙◌, rules, ap, subst, true}
-use Rattle.std.specs.Prelude.{IfSome}
+use Rattle.std.proofs.Common.{◌≡◌, ◌∙◌, rules, ap}
 use Rattle.otel_model.specs.Demands.{is_valid, resolved}
 use Rattle.otel_pipeline.specs.Identities.{identity_with}
 use Rattle.otel_pipeline.proofs.DemandLemmas.{demand_made, resolved_valid}

@@ -1,4 +1,4 @@
-use Rattle.std.proofs.Common.{◌≡◌, ◌∙◌, ap, sym, subst, true, ◌∷◌, [], ◌++◌, List}
+use Rattle.std.proofs.Common.{◌≡◌, ◌∙◌, ap, sym, subst, ◌∷◌, [], ◌++◌, List}
 use Rattle.otel_model.specs.Calls.{About, is_observable}
 use Rattle.otel_model.specs.Demands.{Demand, demand_of}
 use Rattle.otel_pipeline.specs.Pipelines.{IsPlanOf, Piped}

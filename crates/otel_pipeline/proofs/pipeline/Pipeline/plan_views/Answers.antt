@@ -1,4 +1,4 @@
-use Rattle.std.proofs.Common.{◌≡◌, ◌∙◌, ap, sym, subst, [], take, Some, None, arith}
+use Rattle.std.proofs.Common.{sym, subst, arith}
 use Rattle.std.proofs.lemmas.List.{take_all}
 use Rattle.otel_pipeline.specs.Pipelines.{IsPlanOf}
 use Rattle.otel_pipeline.specs.Views.{usable_demands}

@@ -1,10 +1,9 @@
-use Rattle.std.proofs.Common.{◌≡◌, ◌∙◌, ap, sym, List, [], ◌∷◌, ◌++◌, false}
+use Rattle.std.proofs.Common.{◌≡◌, ◌∙◌, ap, [], ◌∷◌, ◌++◌, false}
 use Rattle.std.specs.List.{list_any}
 use Rattle.otel_model.specs.Demands.{Identity, identity_eq}
-use Rattle.otel_pipeline.specs.Pipelines.{Planned, stream_identities, identity_of}
+use Rattle.otel_pipeline.specs.Pipelines.{stream_identities}
 use Rattle.otel_pipeline.specs.Streams.{Held}
 use Rattle.otel_pipeline.proofs.Identities.{absent-same}
-use Rattle.otel_pipeline.proofs.Plans.{identities-append}
 use Rattle.otel_pipeline.proofs.plan.Plan.add.Goals as goal
 
 pub add_key-requires-clause-absent : goal.add_key-requires-clause-absent

@@ -1,4 +1,4 @@
-use Rattle.std.proofs.Common.{◌≡◌, ◌∙◌, ap, sym, length, Some, None, ℕ}
+use Rattle.std.proofs.Common.{◌≡◌, ◌∙◌, ap, sym, length, Some, None}
 use Rattle.std.proofs.lemmas.List.{length-map}
 use Rattle.otel_model.specs.Demands.{Identity, is_drop}
 use Rattle.otel_pipeline.specs.Pipelines.{stream_identities, stream_number, identity_of}

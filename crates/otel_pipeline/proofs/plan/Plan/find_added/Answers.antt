@@ -1,4 +1,4 @@
-use Rattle.std.proofs.Common.{◌≡◌, ◌∙◌, ap, sym, Some, None, ℕ}
+use Rattle.std.proofs.Common.{◌≡◌, ◌∙◌, ap, sym, Some, None}
 use Rattle.std.specs.Option.{option_map}
 use Rattle.otel_model.specs.Demands.{Identity, is_drop}
 use Rattle.otel_pipeline.specs.Pipelines.{stream_identities, stream_number, with_drop, counted_from}

@@ -1,4 +1,4 @@
-use Rattle.std.proofs.Common.{◌≡◌, ◌∙◌, ap, sym}
+use Rattle.std.proofs.Common.{◌∙◌, sym}
 use Rattle.otel_pipeline.proofs.Asked.{asked-taken, commit-then, commit-else}
 use Rattle.otel_pipeline.proofs.stream.Stream.commit.Goals as goal
 
