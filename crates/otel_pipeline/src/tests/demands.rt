@@ -1,12 +1,7 @@
-//! The demand of a histogram with its own bounds, and what each kind keeps by itself.
+//! What each kind keeps by itself.
 
-use crate::about::About;
-use crate::defaults::{fits, is_valid, kind_default, reader_default, resolved_own};
-use crate::demands::own_demand;
-use otel_common::lists::Items;
+use crate::defaults::{fits, is_valid, kind_default, reader_default};
 use otel_common::metrics::Aggregation;
-use otel_common::scopes::InstrumentationScope;
-use otel_common::strings::StringValue;
 use otel_stream::answers::Answers;
 use otel_stream::instrument::InstrumentKind;
 use otel_stream::manual_reader::ManualReader;
@@ -65,32 +60,5 @@ fn kinds_have_their_defaults(rt: HostRuntime) -> Result<(), Fail> {
         let at_reader = reader_default(alloc, &answers, kind)?;
         assert_eq!(rt; shown(alloc, &at_reader)?.as_str(), wanted_of_kind(kind));
     }
-    Ok(())
-}
-
-#[test]
-fn histograms_demand_their_own_bounds(rt: HostRuntime) -> Result<(), Fail> {
-    let alloc = rt.alloc();
-    let answers = cumulative(alloc)?;
-    let scope = InstrumentationScope::default(alloc);
-    let about = About {
-        kind: InstrumentKind::Histogram,
-        signed: false,
-        name: &StringValue::new(alloc, "Latency")?,
-        description: &None,
-        unit: &Some(StringValue::new(alloc, "ms")?),
-        bounds: &Some(Items::from(vec![in alloc; 1i64, 2]?)),
-    };
-    let own = resolved_own(alloc, &answers, &about)?;
-    assert_eq!(rt; shown(alloc, &own)?.as_str(), "[1, 2] true");
-    let demand = own_demand(alloc, &answers, &scope, &about)?;
-    assert_eq!(rt; shown(alloc, &demand.aggregation)?.as_str(), "[1, 2] true");
-    assert_eq!(rt; demand.spelling.as_str(), "Latency");
-    assert_eq!(rt; demand.identity.name.as_str(), "latency");
-    assert_eq!(rt; demand.identity.description.as_str(), "");
-    assert_eq!(rt; demand.identity.unit.as_str(), "ms");
-    assert!(rt; !demand.identity.signed);
-    assert!(rt; demand.allow.is_none());
-    assert_eq!(rt; demand.limit, 2000);
     Ok(())
 }
