@@ -1,12 +1,11 @@
 -- What holds of the demands of an instrument.
-use Rattle.std.proofs.Common.{◌≡◌, sym, ℤ, Bool, true, false, true≢false, cond, ◌&&◌, List, Option, Some, None, refl}
-use Rattle.std.specs.Prelude.{is_none, IfSome}
-use Rattle.otel_model.specs.Checks.{is_good_name, optional_unit_fault}
+use Rattle.std.proofs.Common.{◌≡◌, sym, ℤ, Bool, true, false, cond, ◌&&◌, List, Option, Some, None, refl}
+use Rattle.std.specs.Prelude.{IfSome}
 use Rattle.otel_common.specs.declared.metrics.Aggregation.{Aggregation}
 use Rattle.otel_common.specs.declared.metrics.Aggregation.TheVariants.{Drop, Default, Sum, LastValue, ExplicitBucketHistogram}
 use Rattle.otel_common.specs.declared.scopes.InstrumentationScope.{InstrumentationScope}
 use Rattle.otel_model.specs.Calls.{About, InstrumentKind, Counter, UpDownCounter, Histogram, ObservableCounter, ObservableUpDownCounter, Gauge, ObservableGauge, or_else}
-use Rattle.otel_model.specs.Demands.{Demand, ReaderAnswers, StreamSpec, answer_for, default_limit, demand_of, are_good_bounds, is_good, is_valid, fits, kind_default, default_from, reader_default, with_bounds, with_own, resolved}
+use Rattle.otel_model.specs.Demands.{Demand, ReaderAnswers, StreamSpec, answer_for, default_limit, demand_of, are_good_bounds, is_valid, fits, kind_default, default_from, reader_default, with_bounds, with_own, resolved}
 use Rattle.otel_pipeline.specs.Identities.{identity_with}
 
 -- a demand of these five parts
@@ -71,12 +70,3 @@ resolved_valid answers about (Some Drop) held good = refl
 resolved_valid answers about (Some Sum) held good = refl
 resolved_valid answers about (Some LastValue) held good = refl
 resolved_valid answers about (Some (ExplicitBucketHistogram bounds m)) held good = held
-
--- ======== a good instrument ========
-and-second : (a b : Bool) → (a && b) ≡ true → b ≡ true
-and-second true b e = e
-and-second false b e = absurd (true≢false (sym e))
-
--- a good instrument has good bounds
-pub good-bounds : (about : About) → is_good about ≡ true → are_good_bounds about.kind about.bounds ≡ true
-good-bounds about e = and-second (is_none (optional_unit_fault about.unit)) _ (and-second (is_good_name about.name) _ e)

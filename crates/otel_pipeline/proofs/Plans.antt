@@ -1,5 +1,5 @@
 -- A plan with one demand more is the plan of one demand more.
-use Rattle.std.proofs.Common.{◌≡◌, ℕ, zero, suc, ◌+◌, ◌<◌, ◌≤◌, Bool, true, false, cond, not, ◌||◌, List, [], ◌∷◌, ◌++◌, map, filter, fold, length, Option, Some, None, slice_get, refl, sym, ◌∙◌, ap, subst, arith, append_assoc, true≢false, ne_eqb, get_or}
+use Rattle.std.proofs.Common.{◌≡◌, ◌⊎◌, inl, inr, ℕ, zero, suc, ◌+◌, ◌<◌, ◌≤◌, Bool, true, false, cond, not, ◌||◌, List, [], ◌∷◌, ◌++◌, map, filter, fold, length, Option, Some, None, slice_get, refl, sym, ◌∙◌, ap, subst, arith, append_assoc, true≢false, ne_eqb, get_or}
 use Rattle.std.specs.Prelude.{is_some, position, All, IsTrue, ◌&&◌}
 use Rattle.std.specs.Bool.{Decides}
 use Rattle.std.specs.List.{list_any, IsDistinct, AllByRecursion}
@@ -18,7 +18,7 @@ use Rattle.otel_model.specs.Streams.{is_delta}
 use Rattle.otel_model.proofs.Gather.{identity_eq_true, identity_eq_self, known-append}
 use Rattle.otel_common.specs.declared.scopes.InstrumentationScope.{InstrumentationScope}
 use Rattle.indexmap.specs.IndexSet.{insert_key, insert_all}
-use Rattle.otel_pipeline.specs.Pipelines.{Piped, Planned, part_of, part_by, built, built_by, IsPlanned, IsReadyFor, identity_at, named, identity_of, fates_of, is_streamed, streamed, stream_identities, stream_number, drops_at, with_drop, found_at, counted_from, fed_once, IsPlanOf, AreNumbers}
+use Rattle.otel_pipeline.specs.Pipelines.{Piped, Planned, demands_in, dropped_with, part_of, part_by, built, built_by, IsPlanned, IsReadyFor, identity_at, named, identity_of, fates_of, is_streamed, streamed, stream_identities, stream_number, drops_at, with_drop, found_at, counted_from, fed_once, IsPlanOf, AreNumbers}
 use Rattle.otel_pipeline.specs.Streams.{Held, new_held}
 use Rattle.otel_pipeline.proofs.Answered.{OfAnswer, answered-push}
 use Rattle.otel_pipeline.proofs.Builds.{IsStreamOf, found, known, fate-new, any-position, position-cons, position-within, get-item, drops-is}
@@ -587,11 +587,6 @@ plan-none answers made now apart = record {
   feeds = refl;
 }
 
--- ======== what a build demands ========
--- the table of fates, with these demands entered
-abbrev pub dropped_with : List Held → List Demand → Identity → Bool
-dropped_with made ds = model.is_dropped (fold machine.enter (fates_of made) ds)
-
 -- ======== a plan that is carried out ========
 -- what was planned, carried out, is what the machine makes of these demands
 pub plan-built : (now : ℕ) (ds : List Demand) (p : Piped) (plan : Planned) → All (AreNumbers p.streams) p.feeds → p.plan ≡ Some plan → IsPlanOf p.answers p.streams now ds plan
@@ -604,14 +599,22 @@ plan-built now ds p plan numbers e is =
     ks : List Held
     ks = p.streams ++ plan.added
 
+-- the demands of the model's build, of an instrument that is good where there is a scope
+demands-are : (views : Views) (scope : Option InstrumentationScope) (about : About) (p : Piped) → (scope ≡ None ⊎ model.is_good about ≡ true)
+    → machine.build_demands views (part_of p) scope about ≡ demands_in (dropped_with p.streams) views p.answers scope about
+demands-are views None about p good = refl
+demands-are views (Some scope) about p (inl e) = absurd (cc)
+demands-are views (Some scope) about p (inr e) = ap (λ b. cond b (model.demands_with (dropped_with p.streams) views p.answers scope about) []) e
+
 -- at all readers
-pub all_built : (views : Views) (scope : Option InstrumentationScope) (about : About) (now : ℕ) (ps : List Piped) → All (IsReadyFor views scope about now) ps
+pub all_built : (views : Views) (scope : Option InstrumentationScope) (about : About) (now : ℕ) (ps : List Piped) → (scope ≡ None ⊎ model.is_good about ≡ true) → All (IsReadyFor views scope about now) ps
     → map (λ (p : Piped). part_of (built p)) ps ≡ map (machine.built views scope about now) (map part_of ps)
-all_built views scope about now [] all = refl
-all_built views scope about now (p ∷ ps) all =
+all_built views scope about now [] good all = refl
+all_built views scope about now (p ∷ ps) good all =
     let ready = all 0 p (omega arith) in
-    λ i. plan-built now (machine.build_demands views (part_of p) scope about) p ready.planned ready.lawful.numbers ready.plan ready.meets i
-    ∷ all_built views scope about now ps (λ j d h. all (suc j) d (omega arith)) i
+    λ i. (plan-built now (demands_in (dropped_with p.streams) views p.answers scope about) p ready.planned ready.lawful.numbers ready.plan ready.meets
+    ∙ sym (ap (λ ds. machine.with_feeds ds (fold (machine.demanded now) (part_of p) ds)) (demands-are views scope about p good))) i
+    ∷ all_built views scope about now ps good (λ j d h. all (suc j) d (omega arith)) i
 
 -- what is ready for a build is planned
 pub ready-planned : (views : Views) (scope : Option InstrumentationScope) (about : About) (now : ℕ) (p : Piped) → IsReadyFor views scope about now p → IsPlanned p

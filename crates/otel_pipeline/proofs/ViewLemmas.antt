@@ -10,10 +10,10 @@ use Rattle.otel_model.specs.Calls.{About, InstrumentKind, Counter, UpDownCounter
 use Rattle.otel_model.specs.Demands as model
 use Rattle.otel_model.specs.Demands.{Identity, Demand, ReaderAnswers, StreamSpec, answer_for, fits, is_valid, kind_default, default_from, reader_default, with_bounds, with_own, resolved, demand_of, own_demand, view_demands, is_compatible}
 use Rattle.otel_model.specs.Machine as machine
-use Rattle.otel_pipeline.specs.Pipelines.{Planned, part_by, named, fates_of, IsPlanOf}
+use Rattle.otel_pipeline.specs.Pipelines.{Planned, part_by, named, fates_of, demands_in, dropped_with, IsPlanOf}
 use Rattle.otel_pipeline.specs.Streams.{Held}
 use Rattle.otel_pipeline.specs.Views.{answering, usable_answer, usable_demands, can_keep, is_unfit, has_none, demands_own}
-use Rattle.otel_pipeline.proofs.Plans.{dropped_with, demanded-fates, no_identity, fed-empty}
+use Rattle.otel_pipeline.proofs.Plans.{demanded-fates, no_identity, fed-empty}
 use Rattle.otel_pipeline.proofs.Records.{HaveStreams, identity_at-is, numbers-named}
 
 -- ======== which aggregations can be used ========
@@ -134,17 +134,16 @@ module _ (answers : ReaderAnswers) (scope : InstrumentationScope) (about : About
       → demands_own about.kind l plan.feeds ≡ model.needs_own (dropped_with made (usable l)) (demands l)
   demands_own-is made now plan l is = λ i. sym (is_empty-is l) i || (sym (unfit-is l) i && fed-none made now plan (usable l) is i)
 
-  -- all that a good instrument demands
-  pub demands-with : (made : List Held) (o : Option InstrumentationScope) (l : List (Option StreamSpec)) (b : Bool) → o ≡ Some scope → model.is_good about ≡ true → model.needs_own (dropped_with made (usable l)) (demands l) ≡ b
-      → model.demands_on (dropped_with made) (answering l) answers o about ≡ usable l ++ cond b (own_demand answers scope about ∷ []) []
-  demands-with made o l b e good needs =
-      ap (λ s. model.demands_on (dropped_with made) (answering l) answers s about) e
-      ∙ (ap (λ g. cond g (model.demands_with (dropped_with made) (answering l) answers scope about) []) good
-      ∙ ap (λ n. usable l ++ cond n (own_demand answers scope about ∷ []) []) needs)
+  -- all that an instrument demands
+  pub demands-with : (made : List Held) (o : Option InstrumentationScope) (l : List (Option StreamSpec)) (b : Bool) → o ≡ Some scope → model.needs_own (dropped_with made (usable l)) (demands l) ≡ b
+      → demands_in (dropped_with made) (answering l) answers o about ≡ usable l ++ cond b (own_demand answers scope about ∷ []) []
+  demands-with made o l b e needs =
+      ap (λ s. demands_in (dropped_with made) (answering l) answers s about) e
+      ∙ ap (λ n. usable l ++ cond n (own_demand answers scope about ∷ []) []) needs
 
 -- without a scope nothing is demanded
-pub demands-none : (made : List Held) (answers : ReaderAnswers) (o : Option InstrumentationScope) (about : About) (l : List (Option StreamSpec)) → o ≡ None → model.demands_on (dropped_with made) (answering l) answers o about ≡ []
-demands-none made answers o about l e = ap (λ s. model.demands_on (dropped_with made) (answering l) answers s about) e
+pub demands-none : (made : List Held) (answers : ReaderAnswers) (o : Option InstrumentationScope) (about : About) (l : List (Option StreamSpec)) → o ≡ None → demands_in (dropped_with made) (answering l) answers o about ≡ []
+demands-none made answers o about l e = ap (λ s. demands_in (dropped_with made) (answering l) answers s about) e
 
 -- an aggregation that can't be used is not demanded
 pub unfit-demands : (answers : ReaderAnswers) (scope : InstrumentationScope) (about : About) (s : StreamSpec) → can_keep about.kind s.aggregation ≡ false → usable_answer answers scope about (Some s) ≡ []

@@ -6,9 +6,9 @@ use Rattle.otel_common.specs.declared.attributes.KeyValue.{KeyValue}
 use Rattle.otel_common.specs.declared.scopes.InstrumentationScope.{InstrumentationScope}
 use Rattle.otel_data.specs.declared.numbers.NumberValue.{NumberValue}
 use Rattle.otel_model.specs.Calls.{About, is_observable, or_else}
-use Rattle.otel_model.specs.Demands.{Identity, Demand, ReaderAnswers, Views, identity_eq, is_drop, is_dropped, is_good, fed}
+use Rattle.otel_model.specs.Demands.{Identity, Demand, ReaderAnswers, Views, identity_eq, is_drop, is_dropped, are_good_bounds, demands_with, fed}
 use Rattle.otel_model.specs.State.{Stream, ReaderPart}
-use Rattle.otel_model.specs.Machine.{changed_at, demanded, build_demands}
+use Rattle.otel_model.specs.Machine.{changed_at, demanded, enter}
 use Rattle.otel_model.specs.Sent.{is_fed, set_for}
 use Rattle.otel_model.specs.Streams.{is_delta}
 use Rattle.otel_model_stream.specs.Totals.{has_number}
@@ -97,15 +97,25 @@ pub record IsLawful (p : Piped) : Type 0 where
   pub synchronous : AreSynchronous p.streams
 
 -- ======== builds ========
--- what a build can be made of: a synchronous instrument with a good name, unit and bounds
+-- what a build can be made of: a synchronous instrument with bounds that rise
 pub record IsBuildable (about : About) : Type 0 where
   pub synchronous : is_observable about.kind ≡ false
-  pub good : is_good about ≡ true
+  pub bounds : are_good_bounds about.kind about.bounds ≡ true
 
 -- a build without a scope demands nothing
 abbrev pub IsBuildableIn : Option InstrumentationScope → About → Type 0
 IsBuildableIn None about = Unit {0}
 IsBuildableIn (Some scope) about = IsBuildable about
+
+-- what an instrument demands whose name and unit are good too: nothing without a scope. `dropped` tells which
+-- identities drop once the demands given are made
+abbrev pub demands_in : (List Demand → Identity → Bool) → Views → ReaderAnswers → Option InstrumentationScope → About → List Demand
+demands_in dropped views answers None about = []
+demands_in dropped views answers (Some scope) about = demands_with dropped views answers scope about
+
+-- which identities of a reader with these streams drop, once these demands are made
+abbrev pub dropped_with : List Held → List Demand → Identity → Bool
+dropped_with made demands = is_dropped (fold enter (fates_of made) demands)
 
 -- the number of the stream of an identity
 abbrev pub stream_number : Identity → List Identity → Option ℕ
@@ -158,7 +168,7 @@ pub record IsReadyFor (views : Views) (scope : Option InstrumentationScope) (abo
   pub lawful : IsLawful p
   pub planned : Planned
   pub plan : p.plan ≡ Some planned
-  pub meets : IsPlanOf p.answers p.streams now (build_demands views (part_of p) scope about) planned
+  pub meets : IsPlanOf p.answers p.streams now (demands_in (dropped_with p.streams) views p.answers scope about) planned
   pub room : IsTrue p.room
 
 abbrev pub built_by : Option Planned → Piped → Piped

@@ -1,12 +1,10 @@
 //! What a build demands of one reader, planned.
 
-ghost use Rattle.std.specs.Prelude.{◌≡◌, ◌∷◌, ◌++◌, [], ℕ, List, Some, fold, is_some, IfOk, OnOk, IsOkUnless};
+ghost use Rattle.std.specs.Prelude.{◌≡◌, ◌∷◌, ◌++◌, [], ℕ, List, Some, is_some, IfOk, OnOk, IsOkUnless};
 ghost use Rattle.std.specs.List.{list_any};
 ghost use Rattle.std.specs.Option.{option_map};
 ghost use Rattle.otel_model.specs.Demands as demands;
-ghost use Rattle.otel_model.specs.Demands.{demands_on, is_dropped};
-ghost use Rattle.otel_model.specs.Machine.{enter};
-ghost use Rattle.otel_pipeline.specs.Pipelines.{fates_of, IsBuildable, IsBuildableIn, IsPlanOf};
+ghost use Rattle.otel_pipeline.specs.Pipelines.{demands_in, dropped_with, IsBuildable, IsBuildableIn, IsPlanOf};
 ghost use Rattle.otel_pipeline.specs.Streams.{IsMakeable};
 ghost use Rattle.otel_pipeline.specs.Views as views;
 ghost use Rattle.otel_pipeline.specs.Views.{answering, usable_answer, usable_demands};
@@ -159,7 +157,7 @@ impl Pipeline {
         now: u64,
     ) -> Result<Plan, Fault>
         requires { IsBuildableIn (option_map (λ s. s.now) scope) about.now }
-        ensures plan { IfOk result (IsPlanOf self.now.answers self.now.streams now (demands_on (λ ds. is_dropped (fold enter (fates_of self.now.streams) ds)) (answering answered.now) self.now.answers (option_map (λ s. s.now) scope.entry) about.now)) }
+        ensures plan { IfOk result (IsPlanOf self.now.answers self.now.streams now (demands_in (dropped_with self.now.streams) (answering answered.now) self.now.answers (option_map (λ s. s.now) scope.entry) about.now)) }
         ensures only_memory { IsOkUnless result Fault.OutOfMemory }
     {
         let Some(scope) = scope else {

@@ -75,9 +75,16 @@ meter_number scope ms n e = ap (λ m. Some m) (e ∙ omega arith) ∙ sym (by (l
     by false h = rw (has_scope-flip scope ms, h) (number_last scope 0 ms)
 
 -- ======== builds ========
+pub good-or-none : (scope : Option InstrumentationScope) (about : model.About) → IsGoodIn scope about → (scope ≡ None ⊎ is_good about ≡ true)
+good-or-none None about good = inl refl
+good-or-none (Some scope) about good = inr good
+
 pub buildable-in : (scope : Option InstrumentationScope) (about : model.About) → IsGoodIn scope about → model.is_observable about.kind ≡ false → IsBuildableIn scope about
 buildable-in None about good sync = tt
-buildable-in (Some scope) about good sync = record { synchronous = sync; good = good }
+buildable-in (Some scope) about good sync = record {
+  synchronous = sync;
+  bounds = (and_parts (is_none (optional_unit_fault about.unit)) (are_good_bounds about.kind about.bounds) (and_parts (is_good_name about.name) _ good).1).1;
+}
 
 -- an instrument whose name, unit or bounds are bad has no scope
 pub good-in : (scope : Option InstrumentationScope) (about : model.About) (b : Bool) → is_good about ≡ b → IsGoodIn (cond b scope None) about

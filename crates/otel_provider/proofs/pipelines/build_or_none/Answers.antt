@@ -1,7 +1,7 @@
 use Rattle.std.proofs.Common.{◌∙◌, ap, map, []}
 use Rattle.otel_model.specs.Machine.{built as model_built}
 use Rattle.otel_pipeline.proofs.Plans.{all_built, ready-planned}
-use Rattle.otel_provider.proofs.StepLemmas.{buildable-in}
+use Rattle.otel_provider.proofs.StepLemmas.{buildable-in, good-or-none}
 use Rattle.otel_provider.proofs.pipelines.build_or_none.Goals as goal
 
 pub plan_all-requires : goal.plan_all-requires
@@ -13,5 +13,5 @@ build_all-requires c = λ k d h. ready-planned [] _ c.args.about.now c.args.now 
 pub returns-clause-ok : goal.returns-clause-ok
 returns-clause-ok c =
     c.build_all.ensures
-    ∙ (all_built [] _ c.args.about.now c.args.now c.plan_all.new.pipelines c.in_ok-plan_all.ensures.ready
+    ∙ (all_built [] _ c.args.about.now c.args.now c.plan_all.new.pipelines (good-or-none _ c.args.about.now c.requires.good) c.in_ok-plan_all.ensures.ready
     ∙ ap (map (model_built [] _ c.args.about.now c.args.now)) c.plan_all.ensures.same)

@@ -7,7 +7,6 @@ use Rattle.otel_model.specs.Calls.{About, is_observable}
 use Rattle.otel_model.specs.Demands.{Demand, own_demand}
 use Rattle.otel_pipeline.specs.Pipelines.{IsPlanOf, IsBuildable, IsBuildableIn, Piped}
 use Rattle.otel_pipeline.specs.Views.{demands_own, usable_demands}
-use Rattle.otel_pipeline.proofs.DemandLemmas.{good-bounds}
 use Rattle.otel_pipeline.proofs.ViewLemmas.{demands-with, demands-none, demands_own-is}
 use Rattle.otel_pipeline.proofs.pipeline.Pipeline.plan_in.Goals as goal
 
@@ -22,7 +21,7 @@ plan_demand-requires c =
     let is : IsBuildable c.args.about.now = subst (λ o. IsBuildableIn (scope_in o) c.args.about.now) c.in-Some.is c.requires in
     record {
       synchronous = ap (λ (d : Demand). is_observable d.identity.kind) c.in_ok-demand.ensures.demand ∙ is.synchronous;
-      valid = c.in_ok-demand.ensures.valid (good-bounds c.args.about.now is.good);
+      valid = c.in_ok-demand.ensures.valid is.bounds;
     }
 
 -- without a scope nothing is demanded
@@ -35,18 +34,16 @@ returns-in_default-clause-plan c =
 -- the own stream is not demanded
 pub returns-then-not-demands_own-clause-plan : goal.returns-then-not-demands_own-clause-plan
 returns-then-not-demands_own-clause-plan c =
-    let is : IsBuildable c.args.about.now = subst (λ o. IsBuildableIn (scope_in o) c.args.about.now) c.in-Some.is c.requires in
     let kind = ap (λ (a : About). demands_own a.kind c.args.answered.now c.in_ok-plan.plan.feeds) c.about.view_is in
     let told = demands_own-is c.args.self.now.answers c.in-Some.scope.now c.args.about.now c.args.self.now.streams c.args.now c.in_ok-plan.plan c.args.answered.now c.in_ok-plan.ensures.plan in
-    let demands = demands-with c.args.self.now.answers c.in-Some.scope.now c.args.about.now c.args.self.now.streams _ c.args.answered.now false (ap scope_in c.in-Some.is) is.good (sym told ∙ (sym kind ∙ (sym c.demands_own.ensures ∙ c.if-not-demands_own.true))) in
+    let demands = demands-with c.args.self.now.answers c.in-Some.scope.now c.args.about.now c.args.self.now.streams _ c.args.answered.now false (ap scope_in c.in-Some.is) (sym told ∙ (sym kind ∙ (sym c.demands_own.ensures ∙ c.if-not-demands_own.true))) in
     subst (λ ds. IsPlanOf c.args.self.now.answers c.args.self.now.streams c.args.now ds c.in_ok-plan.plan) (sym (demands ∙ append-nil _)) c.in_ok-plan.ensures.plan
 
 -- or it is
 pub returns-clause-plan : goal.returns-clause-plan
 returns-clause-plan c =
-    let is : IsBuildable c.args.about.now = subst (λ o. IsBuildableIn (scope_in o) c.args.about.now) c.in-Some.is c.requires in
     let kind = ap (λ (a : About). demands_own a.kind c.args.answered.now c.in_ok-plan.plan.feeds) c.about.view_is in
     let told = demands_own-is c.args.self.now.answers c.in-Some.scope.now c.args.about.now c.args.self.now.streams c.args.now c.in_ok-plan.plan c.args.answered.now c.in_ok-plan.ensures.plan in
-    let demands = demands-with c.args.self.now.answers c.in-Some.scope.now c.args.about.now c.args.self.now.streams _ c.args.answered.now true (ap scope_in c.in-Some.is) is.good (sym told ∙ (sym kind ∙ (sym c.demands_own.ensures ∙ c.if-not-demands_own.false))) in
+    let demands = demands-with c.args.self.now.answers c.in-Some.scope.now c.args.about.now c.args.self.now.streams _ c.args.answered.now true (ap scope_in c.in-Some.is) (sym told ∙ (sym kind ∙ (sym c.demands_own.ensures ∙ c.if-not-demands_own.false))) in
     let own : c.in_ok-demand.demand ≡ own_demand c.args.self.now.answers c.in-Some.scope.now c.args.about.now = c.in_ok-demand.ensures.demand ∙ ap (λ (p : Piped). own_demand p.answers c.in-Some.scope.now c.args.about.now) c.self.view_is in
     subst (λ ds. IsPlanOf c.args.self.now.answers c.args.self.now.streams c.args.now ds c.plan_demand.new.plan) (sym (demands ∙ ap (λ (d : Demand). usable_demands c.args.self.now.answers c.in-Some.scope.now c.args.about.now c.args.answered.now ++ d ∷ []) (sym own))) (c.in_ok-plan_demand.ensures.meets _ c.in_ok-plan.ensures.plan)

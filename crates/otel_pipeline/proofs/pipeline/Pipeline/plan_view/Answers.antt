@@ -3,7 +3,6 @@ use Rattle.otel_model.specs.Calls.{About, is_observable}
 use Rattle.otel_model.specs.Demands.{Demand, demand_of}
 use Rattle.otel_pipeline.specs.Pipelines.{IsPlanOf, Piped}
 use Rattle.otel_pipeline.specs.Views.{can_keep}
-use Rattle.otel_pipeline.proofs.DemandLemmas.{good-bounds}
 use Rattle.otel_pipeline.proofs.Outcomes.{OnOk-weaker}
 use Rattle.otel_pipeline.proofs.ViewLemmas.{fit-demands, unfit-demands, plan-same}
 use Rattle.otel_pipeline.proofs.pipeline.Pipeline.plan_view.Goals as goal
@@ -11,7 +10,7 @@ use Rattle.otel_pipeline.proofs.pipeline.Pipeline.plan_view.Goals as goal
 pub plan_demand-requires : goal.plan_demand-requires
 plan_demand-requires c = record {
   synchronous = ap (λ (d : Demand). is_observable d.identity.kind) c.in_ok-demand.ensures.demand ∙ c.requires.synchronous;
-  valid = c.in_ok-demand.ensures.valid (good-bounds c.args.about.now c.requires.good);
+  valid = c.in_ok-demand.ensures.valid c.requires.bounds;
 }
 
 -- what can't be used is not planned
