@@ -30,6 +30,7 @@ pub struct Plain;
 
 impl Parts for Plain {
     type View = OfAll;
+
     type Reader = ManualReader;
 }
 

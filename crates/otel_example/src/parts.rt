@@ -1,9 +1,9 @@
 //! The views and readers that the program uses.
 
 use opentelemetry_sdk::common::Fault;
-use opentelemetry_sdk::metrics::{ManualReader, View};
 use opentelemetry_sdk::metrics::provider::{Parts, SdkMeterProvider};
 use opentelemetry_sdk::metrics::reader::MetricReader;
+use opentelemetry_sdk::metrics::{ManualReader, View};
 use std::alloc::Global;
 
 /// Views in boxes, and readers that are all a `ManualReader`.
@@ -11,6 +11,7 @@ pub struct OnlyManual;
 
 impl Parts for OnlyManual {
     type View = Box<dyn View>;
+
     type Reader = ManualReader;
 }
 

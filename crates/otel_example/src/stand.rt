@@ -29,12 +29,13 @@ fn order(alloc: Global, country: &str, paid: &str, cart: &str) -> Result<Vec<Key
         text(alloc, "paid", paid)?,
         text(alloc, "cart", cart)?,
         text(alloc, "browser", "lynx")?,
-        text(alloc, "page", "7")?
+        text(alloc, "page", "7")?,
     ]?;
     Ok(attributes)
 }
 
 /// The instruments of the stand.
+#[derive(Clone, Copy)]
 struct Instruments {
     requests: usize,
     debug: usize,
@@ -44,7 +45,7 @@ struct Instruments {
 }
 
 /// Makes the instruments of the stand, at the moment 100.
-fn instruments(alloc: Global, provider: &mut SdkMeterProvider) -> Result<Instruments, Fault> {
+fn make_instruments(alloc: Global, provider: &mut SdkMeterProvider) -> Result<Instruments, Fault> {
     let meter = meter(alloc, provider, "stand")?;
     let counter = InstrumentSort::U64Counter;
     let histogram = InstrumentSort::U64Histogram;
@@ -75,7 +76,7 @@ fn greet(alloc: Global, provider: &mut SdkMeterProvider, users: usize) -> Result
 /// What the stand's reader collects of a day.
 pub fn a_day(alloc: Global) -> Result<ResourceMetrics, Error> {
     let mut provider = provider_with_views(alloc)?;
-    let of = instruments(alloc, &mut provider)?;
+    let of = make_instruments(alloc, &mut provider)?;
     record(&mut provider, of.requests, 3, Vec::new(alloc))?;
     record(&mut provider, of.debug, 1, Vec::new(alloc))?;
     take_orders(alloc, &mut provider, of.orders)?;
