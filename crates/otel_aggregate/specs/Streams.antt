@@ -1,8 +1,7 @@
 -- One stream of one reader: its map of sets, and what a collection does to it (Metrics SDK, "MetricReader").
 use Rattle.std.specs.Prelude.{ℕ, Bool, false, not, cond, List, Option, None, Some}
-use Rattle.otel_common.specs.Equality.{set_eq}
 use Rattle.otel_common.specs.declared.attributes.KeyValue.{KeyValue}
-use Rattle.otel_model_stream.specs.Sets.{AttributeSet, AllowList, none_set, set_of}
+use Rattle.otel_model_stream.specs.Sets.{AttributeSet, AllowList, kept, set_of}
 use Rattle.otel_model_stream.specs.Folds.{Aggregate, Sum, LastValue, Histogram, Amount, empty_of, sample_of}
 use Rattle.otel_model_stream.specs.Entries.{Point, points}
 use Rattle.otel_model_stream.specs.Maps.{MapState, new_map, measured, evicted_map, without_lists, knows}
@@ -43,10 +42,9 @@ pub record HeldStream : Type 0 where
   pub state : StreamState
   pub pending : Option AttributeSet
 
--- these attributes are none or, where there is no allow-list, the set of an entry as they stand
+-- what is kept of these attributes is nothing or, in its order, the set of an entry
 abbrev pub is_known : AllowList → List KeyValue → MapState → Bool
-is_known None l m = knows l (without_lists m)
-is_known (Some allow) l m = set_eq l none_set
+is_known allow l m = knows (kept allow l) (without_lists m)
 
 -- after a record of an amount under a set
 abbrev pub recorded_set : AttributeSet → Amount → StreamState → StreamState

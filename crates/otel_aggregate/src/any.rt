@@ -140,8 +140,9 @@ impl AnyAggregate {
     /// stream shows stays as it was.
     ///
     /// The first of two phases: a record of many streams is prepared in all of them, and then taken
-    /// in by all. It takes no memory without attributes, and, where there is no allow-list, with
-    /// attributes that are the set of an entry as they stand: sorted by key, no key twice.
+    /// in by all. It looks what is kept of the attributes up where they stand, and takes no memory
+    /// where that is nothing, or, in their order, the set of an entry: sorted by key, no key twice.
+    /// Else it copies and sorts it.
     pub fn prepare(&mut self, attributes: &[KeyValue]) -> Result<(), Fault>
         ensures same { self.new.state ≡ self.old.state }
         ensures number { self.new.is_signed ≡ self.old.is_signed }

@@ -15,7 +15,6 @@ use otel_common::faults::Fault;
 use otel_common::keys::Key;
 use otel_common::lists::Items;
 use otel_common::metrics::Temporality;
-use otel_value_map::sets::allowed_attributes;
 use otel_value_map::value_map::ValueMap;
 use std::alloc::Global;
 use std::marker::Model;
@@ -45,7 +44,6 @@ fn shown_temporality(resets: bool) -> Temporality
 /// A stream's records by set (Metrics SDK, "MetricReader").
 #[derive(Drop)]
 pub struct Stream<A: Shows> {
-    alloc: Global,
     settings: A::Settings,
     map: ValueMap<A>,
     allow: Option<Items<Key>>,
@@ -88,7 +86,6 @@ impl<A: Shows> Stream<A> {
     {
         let map = ValueMap::new(alloc, A::config(&settings), limit)?;
         Ok(Stream {
-            alloc,
             settings,
             map,
             allow,
@@ -101,8 +98,9 @@ impl<A: Shows> Stream<A> {
     /// stream shows stays as it was.
     ///
     /// The first of two phases: a record of many streams is prepared in all of them, and then taken
-    /// in by all. It takes no memory without attributes, and, where there is no allow-list, with
-    /// attributes that are the set of an entry as they stand: sorted by key, no key twice.
+    /// in by all. It looks what is kept of the attributes up where they stand, and takes no memory
+    /// where that is nothing, or, in their order, the set of an entry: sorted by key, no key twice.
+    /// Else it copies and sorts it.
     pub fn prepare(&mut self, attributes: &[KeyValue]) -> Result<(), Fault>
         ensures same { self.new.state ≡ self.old.state }
         ensures ready { OnOk result (self.new.pending ≡ Some (set_of self.old.state.allow attributes.now)) }
@@ -110,16 +108,9 @@ impl<A: Shows> Stream<A> {
         ensures known { IsTrue (is_known self.old.state.allow attributes.now self.old.state.map_state) → IsOk result }
         ensures only_memory { IsOkUnless result Fault.OutOfMemory }
     {
-        if attributes.is_empty() {
-            return self.map.prepare(attributes);
-        }
         match &self.allow {
             None => self.map.prepare(attributes),
-            Some(allow) => {
-                self.map.give_up();
-                let allowed = allowed_attributes(self.alloc, allow.as_slice(), attributes)?;
-                self.map.prepare(&allowed)
-            }
+            Some(allow) => self.map.prepare_allowed(allow.as_slice(), attributes),
         }
     }
 

@@ -163,11 +163,11 @@ impl<P: Parts> Provider<P> {
     /// - `Meter` looks the scope up. A new one is copied and added; one that is known takes no memory.
     /// - `Build` goes over name, unit and bounds once to check them, copies scope, texts and bounds at each reader,
     ///   and looks up the identity there. It is made at all readers or at none.
-    /// - `Record` looks the attributes up in each stream that the instrument feeds, once and without memory
-    ///   where they are sorted by key, no key twice, and have a point there. Else it sorts a copy and looks
-    ///   that up, and a new set takes memory besides. Without attributes there is no look-up, and the call
-    ///   is never refused for memory. A histogram finds the value's bucket by halving its bounds. A record is made
-    ///   in all streams or in none.
+    /// - `Record` looks what a stream keeps of the attributes up in each stream that the instrument feeds, once
+    ///   and without memory where that is sorted by key, no key twice, and has a point there. Else it sorts a
+    ///   copy and looks that up, and a new set takes memory besides. Without attributes there is no look-up, and
+    ///   the call is never refused for memory. A histogram finds the value's bucket by halving its bounds. A
+    ///   record is made in all streams or in none.
     /// - `Collect` goes once over the reader's streams, their points and the meters. It copies the resource, and of
     ///   what is shown scopes, texts and sets, and a histogram's bounds and counts. Then the streams whose reader wants
     ///   `Delta` start again, which takes no memory; nothing else changes, and other readers' streams never.

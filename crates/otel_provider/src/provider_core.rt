@@ -195,7 +195,8 @@ impl Core {
         ensures only_memory { IsOkUnless result Fault.OutOfMemory }
     {
         let mut core = self;
-        core.pipelines.push(Pipeline::new(core.alloc, answers))?;
+        let pipeline = Pipeline::new(core.alloc, answers);
+        core.pipelines.push(pipeline)?;
         Ok(core)
     }
 

@@ -5,3 +5,4 @@ pub mod TallyLemmas
 pub mod PlaceLemmas
 pub mod PendingLemmas
 pub mod WeightLemmas
+pub mod KeptLemmas

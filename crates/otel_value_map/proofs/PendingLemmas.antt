@@ -1,6 +1,5 @@
 -- Where a set stands, and a record that is prepared.
 use Rattle.std.proofs.Common.{ℕ, zero, suc, ◌≡◌, List, [], ◌∷◌, ◌++◌, length, map, filter, Bool, true, false, cond, ◌||◌, ◌&&◌, ◌==◌, Option, Some, None, is_some, option_map, slice_get, refl, ap, subst, sym, ◌∙◌, true≢false}
-use Rattle.std.specs.Global.{Vec}
 use Rattle.otel_common.specs.Canonical.{canon}
 use Rattle.otel_common.specs.declared.attributes.KeyValue.{KeyValue}
 use Rattle.otel_common.specs.Equality.{set_eq, set_eq-Decides}
@@ -110,5 +109,5 @@ placed-known limit empty entries room p i s away sound is e =
     let stands : index_of s entries ≡ Some i = subst (λ x. index_of x entries ≡ Some i) same found.1 in
     place_found limit empty s entries (other-at s entries i away stands) i stands
 
-pub pending-new : (entries : List Entry) (p : Pending) (set : Vec KeyValue) (s : List KeyValue) → New set ≡ p → pending_set entries p ≡ Some s → set.items ≡ s
-pending-new entries p set s is e = let both : Some set.items ≡ Some s = ap (pending_set entries) is ∙ e in cc
+pub pending-new : (entries : List Entry) (p : Pending) (set : List KeyValue) (s : List KeyValue) → New set ≡ p → pending_set entries p ≡ Some s → set ≡ s
+pending-new entries p set s is e = let both : Some set ≡ Some s = ap (pending_set entries) is ∙ e in cc

@@ -1,8 +1,6 @@
 -- The tallies of a map, as the model's entries.
 use Rattle.std.specs.Prelude.{ℕ, suc, Bool, true, false, ◌≡◌, List, [], ◌∷◌, map, cond, Option, Some, None, IsTrue, slice_get}
 use Rattle.std.specs.Option.{option_map}
-use Rattle.std.specs.Global.{Vec}
-use Rattle.otel_common.specs.declared.attributes.KeyValue.{KeyValue}
 use Rattle.otel_common.specs.Canonical.{canon}
 use Rattle.otel_common.specs.Equality.{set_eq}
 use Rattle.otel_model_stream.specs.Sets.{AttributeSet, none_set}
@@ -24,10 +22,10 @@ module _ {A : Type 0} (meaning : A → Fold) where
   abbrev pub tally_entry : AttributeSet → Tally A → Entry
   tally_entry s t = record { set = s; counted = t.counted; updated = t.updated; fold = meaning t.aggregator; handles = 0 }
 
-  abbrev pub entry_of : Vec KeyValue × Tally A → Entry
-  entry_of e = tally_entry e.0.items e.1
+  abbrev pub entry_of : AttributeSet × Tally A → Entry
+  entry_of e = tally_entry e.0 e.1
 
-  abbrev pub entries_of : List (Vec KeyValue × Tally A) → List Entry
+  abbrev pub entries_of : List (AttributeSet × Tally A) → List Entry
   entries_of es = map entry_of es
 
   -- the points that copies of aggregators stand for
@@ -35,7 +33,7 @@ module _ {A : Type 0} (meaning : A → Fold) where
   copies ps = map (λ p. (p.0, meaning p.1)) ps
 
   -- the state of a map of this limit, whose aggregators begin as `empty`
-  abbrev pub state_of : ℕ → Fold → Tally A → List (Vec KeyValue × Tally A) → MapState
+  abbrev pub state_of : ℕ → Fold → Tally A → List (AttributeSet × Tally A) → MapState
   state_of limit empty none es = record { limit = limit; empty = empty; table = record { none = tally_entry none_set none; entries = entries_of es } }
 
 -- where the entry of a set stands among the entries
@@ -56,7 +54,7 @@ abbrev pub pending_set : List Entry → Pending → Option AttributeSet
 pending_set entries Nothing = None
 pending_set entries Empty = Some none_set
 pending_set entries (Known i) = option_map (λ entry. entry.set) (slice_get entries i)
-pending_set entries (New set) = Some set.items
+pending_set entries (New set) = Some set
 
 -- a set that has no entry, where `room` says whether one can be made without memory
 pub record IsNew (entries : List Entry) (room : Bool) (s : AttributeSet) : Type 0 where
@@ -70,4 +68,4 @@ abbrev pub IsSound : List Entry → Bool → Pending → Type 0
 IsSound entries room Nothing = Unit {0}
 IsSound entries room Empty = Unit {0}
 IsSound entries room (Known i) = (s : AttributeSet) × (index_of s entries ≡ Some i)
-IsSound entries room (New set) = IsNew entries room set.items
+IsSound entries room (New set) = IsNew entries room set

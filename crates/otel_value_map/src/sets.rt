@@ -8,7 +8,6 @@ ghost use Rattle.otel_model_stream.specs.Sets.{over_set, kept};
 use otel_common::attributes::{KeyValue, Value};
 use otel_common::faults::Fault;
 use otel_common::keys::Key;
-use otel_common::lists::Items;
 use std::alloc::Global;
 
 /// The set of the overflow entry.
@@ -20,16 +19,8 @@ pub fn overflow_set(alloc: Global) -> Result<Vec<KeyValue>, Fault>
     Ok(vec![in alloc; KeyValue::new(key, Value::Bool(true))]?)
 }
 
-/// A copy of a set.
-pub fn copy_set(alloc: Global, set: &[KeyValue]) -> Result<Items<KeyValue>, Fault>
-    ensures copy { IfOk result (λ c. c ≡ set.now) }
-    ensures only_memory { IsOkUnless result Fault.OutOfMemory }
-{
-    Ok(Items::from(Vec::from_clones(alloc, set)?))
-}
-
 /// Whether a key is in an allow-list.
-fn is_allowed(allow: &[Key], key: &Key) -> bool
+pub fn is_allowed(allow: &[Key], key: &Key) -> bool
     ensures { result ≡ list_any (bytes_eq key.now) allow.now }
 {
     allow.iter().any(|allowed| key == allowed)

@@ -12,7 +12,8 @@ ghost use Rattle.otel_model_stream.specs.Lists.{changed_at};
 ghost use Rattle.otel_value_map.specs.Tallies.{entries_of, entry_of, tally_entry, copies, index_of, sets};
 
 use crate::aggregator::Aggregator;
-use crate::sets::{copy_set, overflow_set};
+use crate::set_key::SetKey;
+use crate::sets::overflow_set;
 use indexmap::IndexMap;
 use otel_common::attributes::KeyValue;
 use otel_common::faults::Fault;
@@ -38,12 +39,12 @@ pub enum Pending {
     /// One of the set whose tally stands at this index.
     Known(usize),
     /// One of this set, which has no tally.
-    New(Vec<KeyValue>),
+    New(SetKey<'static>),
 }
 
 /// Takes a record into the tally at an index.
 pub fn touch<A: Aggregator>(
-    tallies: &mut IndexMap<Vec<KeyValue>, Tally<A>>,
+    tallies: &mut IndexMap<SetKey<'static>, Tally<A>>,
     at: usize,
     value: A::PreComputedValue,
 )
@@ -61,14 +62,14 @@ pub fn touch<A: Aggregator>(
 
 /// Adds the tally of a set that has none.
 pub fn add<A: Aggregator>(
-    tallies: &mut IndexMap<Vec<KeyValue>, Tally<A>>,
-    set: Vec<KeyValue>,
+    tallies: &mut IndexMap<SetKey<'static>, Tally<A>>,
+    set: SetKey<'static>,
     counted: bool,
     aggregator: A,
 )
-    requires absent { has set.items (entries_of A.meaning tallies.old.entries) ≡ false }
+    requires absent { has set (entries_of A.meaning tallies.old.entries) ≡ false }
     requires room { 0 < spare tallies.old }
-    ensures entries { entries_of A.meaning tallies.new.entries ≡ entries_of A.meaning tallies.old.entries ++ fresh (A.meaning aggregator) set.items counted ∷ [] }
+    ensures entries { entries_of A.meaning tallies.new.entries ≡ entries_of A.meaning tallies.old.entries ++ fresh (A.meaning aggregator) set.entry counted ∷ [] }
 {
     let tally = Tally {
         aggregator,
@@ -78,10 +79,10 @@ pub fn add<A: Aggregator>(
     tallies.insert(set, tally).unwrap();
 }
 
-/// Where the tally of a set stands.
-pub fn find<A: Aggregator>(
-    tallies: &IndexMap<Vec<KeyValue>, Tally<A>>,
-    set: &[KeyValue],
+/// Where the tally of a set stands. It copies nothing.
+pub fn find<'s, A: Aggregator>(
+    tallies: &'s IndexMap<SetKey<'s>, Tally<A>>,
+    set: &'s SetKey<'s>,
 ) -> Option<usize>
     ensures { result ≡ index_of set.now (entries_of A.meaning tallies.now.entries) }
 {
@@ -108,9 +109,9 @@ pub fn make_unused<A: Aggregator>(
 }
 
 /// Makes the set of the overflow entry in advance, where there is none.
-pub fn make_key(key: &mut Option<Vec<KeyValue>>, alloc: Global) -> Result<(), Fault>
-    requires { IfSome key.old (λ made. made.items ≡ over_set) }
-    ensures over { IfSome key.new (λ made. made.items ≡ over_set) }
+pub fn make_key(key: &mut Option<SetKey<'static>>, alloc: Global) -> Result<(), Fault>
+    requires { IfSome key.old (λ made. made ≡ over_set) }
+    ensures over { IfSome key.new (λ made. made ≡ over_set) }
     ensures made { OnOk result (is_some key.new ≡ true) }
     ensures succeeds { is_some key.old ≡ true → IsOk result }
     ensures only_memory { IsOkUnless result Fault.OutOfMemory }
@@ -118,7 +119,7 @@ pub fn make_key(key: &mut Option<Vec<KeyValue>>, alloc: Global) -> Result<(), Fa
     if key.is_some() {
         return Ok(());
     }
-    *key = Some(overflow_set(alloc)?);
+    *key = Some(SetKey::owned(overflow_set(alloc)?));
     Ok(())
 }
 
@@ -142,7 +143,7 @@ pub fn first_points<A: Aggregator>(
 /// Adds the points of the tallies, in order: of every one, or of those that were updated.
 pub fn copy_out<A: Aggregator>(
     alloc: Global,
-    tallies: &IndexMap<Vec<KeyValue>, Tally<A>>,
+    tallies: &IndexMap<SetKey<'static>, Tally<A>>,
     every: bool,
     points: &mut Vec<(Items<KeyValue>, A)>,
 ) -> Result<(), Fault>
@@ -155,7 +156,7 @@ pub fn copy_out<A: Aggregator>(
     for (set, tally) in tallies.iter() {
         let is_shown = every || tally.updated;
         if is_shown {
-            points.push((copy_set(alloc, set)?, tally.aggregator.copy(alloc)?))?;
+            points.push((set.copy(alloc)?, tally.aggregator.copy(alloc)?))?;
         }
     }
     Ok(())
@@ -173,7 +174,7 @@ fn weight_shown<A: Aggregator>(tally: &Tally<A>, every: bool) -> u64
 }
 
 /// What the records add up to that the points of the tallies show, modulo 2^64.
-pub fn total_of<A: Aggregator>(tallies: &IndexMap<Vec<KeyValue>, Tally<A>>, every: bool) -> u64
+pub fn total_of<A: Aggregator>(tallies: &IndexMap<SetKey<'static>, Tally<A>>, every: bool) -> u64
     ensures { result ≡ wrapped (points_total (map shown (filter (λ entry. every || entry.updated) (entries_of A.meaning tallies.now.entries)))) }
 {
     let mut total: u64 = 0;
@@ -184,15 +185,18 @@ pub fn total_of<A: Aggregator>(tallies: &IndexMap<Vec<KeyValue>, Tally<A>>, ever
 }
 
 /// Forgets all records, and the tallies that had none since the last time, but that of the overflow set.
-pub fn evict<A: Aggregator>(tallies: &mut IndexMap<Vec<KeyValue>, Tally<A>>, overflow: &[KeyValue])
+pub fn evict<A: Aggregator>(
+    tallies: &mut IndexMap<SetKey<'static>, Tally<A>>,
+    overflow: &SetKey<'static>,
+)
     requires { overflow.now ≡ over_set }
     ensures { entries_of A.meaning tallies.new.entries ≡ map reset (filter stays (entries_of A.meaning tallies.old.entries)) }
 {
     tallies.retain(
-        |set: &Vec<KeyValue>, tally: &mut Tally<A>| -> bool
-            ensures { (result ≡ (tally.old.updated || set_eq set.now.items overflow.entry.now)) × (entry_of A.meaning (set.now, tally.new) ≡ reset (entry_of A.meaning (set.now, tally.old))) }
+        |set: &SetKey, tally: &mut Tally<A>| -> bool
+            ensures { (result ≡ (tally.old.updated || set_eq set.now overflow.entry.now)) × (entry_of A.meaning (set.now, tally.new) ≡ reset (entry_of A.meaning (set.now, tally.old))) }
         {
-            let stays = tally.updated || set.as_slice() == overflow;
+            let stays = tally.updated || set == overflow;
             tally.updated = false;
             tally.aggregator.reset();
             stays
@@ -201,14 +205,14 @@ pub fn evict<A: Aggregator>(tallies: &mut IndexMap<Vec<KeyValue>, Tally<A>>, ove
 }
 
 /// How many of the tallies are counted.
-fn count_tallies<A>(tallies: &IndexMap<Vec<KeyValue>, Tally<A>>) -> usize
+fn count_tallies<A>(tallies: &IndexMap<SetKey<'static>, Tally<A>>) -> usize
     ensures { result ≡ count_by (λ tally. tally.counted) (values tallies.now) }
 {
     tallies.values().filter(|tally| tally.counted).count()
 }
 
 /// How many tallies the limit counts.
-pub fn count_counted<A: Aggregator>(tallies: &IndexMap<Vec<KeyValue>, Tally<A>>) -> usize
+pub fn count_counted<A: Aggregator>(tallies: &IndexMap<SetKey<'static>, Tally<A>>) -> usize
     ensures { result ≡ number_counted (entries_of A.meaning tallies.now.entries) }
 {
     count_tallies(tallies)

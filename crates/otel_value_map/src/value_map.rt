@@ -5,11 +5,12 @@ ghost use Rattle.otel_common.specs.Canonical.{canon};
 ghost use Rattle.otel_model_stream.specs.Entries.{entry_for, points};
 ghost use Rattle.otel_model_stream.specs.Maps.{new_map, with_place, measured, evicted_map, readonly_points, resetting_points, without_lists, SucceedsIfKnown};
 ghost use Rattle.otel_model_stream.specs.Folds.{wrapped};
-ghost use Rattle.otel_model_stream.specs.Sets.{AttributeSet};
+ghost use Rattle.otel_model_stream.specs.Sets.{AttributeSet, kept, set_of};
 ghost use Rattle.otel_model_stream.specs.Totals.{points_total};
 ghost use Rattle.otel_value_map.specs.Tallies.{IsPlace, copies};
 
 use crate::aggregator::Aggregator;
+use crate::set_key::SetKey;
 use crate::sets::overflow_set;
 use crate::table::{
     Pending, Tally, add, copy_out, count_counted, evict, find, first_points, make_key, make_unused,
@@ -17,8 +18,8 @@ use crate::table::{
 };
 use indexmap::IndexMap;
 use otel_common::attributes::KeyValue;
-use otel_common::canonical::canonical;
 use otel_common::faults::Fault;
+use otel_common::keys::Key;
 use otel_common::lists::Items;
 use std::alloc::Global;
 use std::marker::Model;
@@ -43,11 +44,11 @@ pub struct ValueMap<A: Aggregator> {
     /// An aggregator that was made in advance for the next new tally.
     unused: Option<A>,
     /// The set of the overflow entry, to look it up.
-    overflow: Vec<KeyValue>,
+    overflow: SetKey<'static>,
     /// The same set, made in advance to be the key of the overflow entry.
-    spare_key: Option<Vec<KeyValue>>,
+    spare_key: Option<SetKey<'static>>,
     /// By canonical sets, so that attributes that are one as they stand are found without a copy.
-    tallies: IndexMap<Vec<KeyValue>, Tally<A>>,
+    tallies: IndexMap<SetKey<'static>, Tally<A>>,
     pending: Pending,
 }
 
@@ -67,8 +68,8 @@ impl<A: Aggregator> Model for ValueMap<A> {
 
     ghost invariant = { λ m. (m.count ≡ number_counted (entries_of A.meaning m.tallies.entries))
         × IfSome m.unused (λ made. A.meaning made ≡ A.empty m.config)
-        × (m.overflow.items ≡ over_set)
-        × IfSome m.spare_key (λ key. key.items ≡ over_set)
+        × (m.overflow ≡ over_set)
+        × IfSome m.spare_key (λ key. key ≡ over_set)
         × (has none_set (entries_of A.meaning m.tallies.entries) ≡ false)
         × AreCanonical (entries_of A.meaning m.tallies.entries)
         × IsSound (entries_of A.meaning m.tallies.entries) (is_some m.unused && (is_some m.spare_key && nat_lt 0 (spare m.tallies))) m.pending };
@@ -87,7 +88,7 @@ impl<A: Aggregator> ValueMap<A> {
             counted: false,
             updated: false,
         };
-        let overflow = overflow_set(alloc)?;
+        let overflow = SetKey::owned(overflow_set(alloc)?);
         Ok(ValueMap {
             alloc,
             config,
@@ -100,6 +101,35 @@ impl<A: Aggregator> ValueMap<A> {
             tallies: IndexMap::new(alloc),
             pending: Pending::Nothing,
         })
+    }
+
+    /// Prepares a record of a set, under its canonical form, in the place of one that was prepared before.
+    fn prepare_set(&mut self, given: &SetKey) -> Result<(), Fault>
+        ensures same { self.new.state ≡ self.old.state }
+        ensures ready { OnOk result (self.new.pending ≡ Some (canon given.now)) }
+        ensures refused { OnErr result (self.new.pending ≡ None) }
+        ensures known { SucceedsIfKnown given.now (without_lists self.old.state) result }
+        ensures only_memory { IsOkUnless result Fault.OutOfMemory }
+    {
+        self.pending = Pending::Nothing;
+        if given.is_empty() {
+            self.pending = Pending::Empty;
+            return Ok(());
+        }
+        if let Some(at) = find(&self.tallies, &*given) {
+            self.pending = Pending::Known(at);
+            return Ok(());
+        }
+        let set = given.canonical(self.alloc)?;
+        if let Some(at) = find(&self.tallies, &set) {
+            self.pending = Pending::Known(at);
+            return Ok(());
+        }
+        self.tallies.reserve(1)?;
+        make_unused(&mut self.unused, self.alloc, &self.config)?;
+        make_key(&mut self.spare_key, self.alloc)?;
+        self.pending = Pending::New(set);
+        Ok(())
     }
 
     /// Prepares a record of the attributes, under their canonical form, in the place of one that was
@@ -115,25 +145,23 @@ impl<A: Aggregator> ValueMap<A> {
         ensures known { SucceedsIfKnown attributes.now (without_lists self.old.state) result }
         ensures only_memory { IsOkUnless result Fault.OutOfMemory }
     {
-        self.pending = Pending::Nothing;
-        if attributes.is_empty() {
-            self.pending = Pending::Empty;
-            return Ok(());
-        }
-        if let Some(at) = find(&self.tallies, attributes) {
-            self.pending = Pending::Known(at);
-            return Ok(());
-        }
-        let set = canonical(self.alloc, attributes)?;
-        if let Some(at) = find(&self.tallies, &set) {
-            self.pending = Pending::Known(at);
-            return Ok(());
-        }
-        self.tallies.reserve(1)?;
-        make_unused(&mut self.unused, self.alloc, &self.config)?;
-        make_key(&mut self.spare_key, self.alloc)?;
-        self.pending = Pending::New(set);
-        Ok(())
+        self.prepare_set(&SetKey::given(attributes))
+    }
+
+    /// Prepares a record of those of the attributes whose key is in the allow-list, as `prepare` does of
+    /// all (Metrics SDK, "View").
+    ///
+    /// It looks what is kept up where it stands, without a copy of it, and takes no memory where that,
+    /// in its order, is the set of an entry, or where nothing is kept. Else it copies what is kept, sorts
+    /// a copy of that and looks it up.
+    pub fn prepare_allowed(&mut self, allow: &[Key], attributes: &[KeyValue]) -> Result<(), Fault>
+        ensures same { self.new.state ≡ self.old.state }
+        ensures ready { OnOk result (self.new.pending ≡ Some (set_of (Some allow.now) attributes.now)) }
+        ensures refused { OnErr result (self.new.pending ≡ None) }
+        ensures known { SucceedsIfKnown (kept (Some allow.now) attributes.now) (without_lists self.old.state) result }
+        ensures only_memory { IsOkUnless result Fault.OutOfMemory }
+    {
+        self.prepare_set(&SetKey::allowed(allow, attributes))
     }
 
     /// Gives up the record that is prepared, if there is one.

@@ -8,7 +8,7 @@ pub returns-clause-entries : goal.returns-clause-entries
 returns-clause-entries g c =
     let e = c.pair_mut-tally.result in
     entries-set g.A.Aggregator.meaning c.args.tallies.now.entries c.args.at (e.0.now, e.1.now) _ (write (g.A.Aggregator.sample c.args.value)) c.pair_mut-tally.ensures.value
-    (ap (λ (m : Fold). record { set = e.0.now.items; counted = e.1.now.counted; updated = true; fold = m; handles = 0 }) c.update.ensures)
+    (ap (λ (m : Fold). record { set = e.0.now; counted = e.1.now.counted; updated = true; fold = m; handles = 0 }) c.update.ensures)
 
 pub returns-clause-unique : goal.returns-clause-unique
 returns-clause-unique g c = distinct-sets g.A.Aggregator.meaning c.args.tallies.now.entries c.len.ensures.unique

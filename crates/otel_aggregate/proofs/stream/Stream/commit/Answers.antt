@@ -1,4 +1,4 @@
-use Rattle.std.proofs.Common.{◌≡◌, ◌∙◌, ap, sym, refl, is_some}
+use Rattle.std.proofs.Common.{◌∙◌, ap, sym, refl, is_some}
 use Rattle.otel_aggregate.specs.Streams.{HeldStream}
 use Rattle.otel_aggregate.proofs.Taken.{taken-some, taken-none}
 use Rattle.otel_aggregate.proofs.stream.Stream.commit.Goals as goal

@@ -11,4 +11,4 @@ pub invariant_of-core : goal.invariant_of-core
 invariant_of-core c =
     let none : c.core.inside.instruments.items ≡ [] = ap (λ (st : State). st.shared.instruments) c.core.view_is ∙ c.requires in
     rw (none, c.in_ok-push.ensures.items, map-append)
-    (typed-push (map part_of c.core.inside.pipelines.items) (part_of c.new.result) (subst (λ is. AreTyped is (map part_of c.core.inside.pipelines.items)) none c.core.invariant) (ap (map (named c.new.result.streams)) c.new.ensures.feeds))
+    (typed-push (map part_of c.core.inside.pipelines.items) (part_of c.new-pipeline.result) (subst (λ is. AreTyped is (map part_of c.core.inside.pipelines.items)) none c.core.invariant) (ap (map (named c.new-pipeline.result.streams)) c.new-pipeline.ensures.feeds))
