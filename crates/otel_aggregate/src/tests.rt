@@ -5,43 +5,62 @@ use otel_common::faults::Fault;
 use otel_common::keys::Key;
 use std::alloc::Global;
 
-/// A set of attributes, by a name.
-type Set = &'static str;
+/// A set of attributes, by keys in the order in which they are given.
+#[derive(Clone, Copy)]
+enum Set {
+    Nothing,
+    X,
+    Y,
+    Z,
+    A,
+    OneB,
+    TwoB,
+    YThenX,
+    AThenB,
+    BThenA,
+    /// A key with two values.
+    TwiceAThenB,
+    CThenB,
+    Overflow,
+}
 
-const NONE: Set = "";
+const NONE: Set = Set::Nothing;
 
-/// The set of the overflow entry, whose value is `true`.
-const OVERFLOW: Set = "otel.metric.overflow";
+/// The key of the overflow entry, whose value is `true`.
+const OVERFLOW_KEY: &str = "otel.metric.overflow";
 
-const X: Set = "x=1";
+/// The set of the overflow entry.
+const OVERFLOW: Set = Set::Overflow;
 
-const Y: Set = "y=1";
+const X: Set = Set::X;
 
-const Z: Set = "z=1";
+const Y: Set = Set::Y;
 
-const B: Set = "b=2";
+const Z: Set = Set::Z;
 
-/// The keys and values of a set of this name.
+const B: Set = Set::TwoB;
+
+/// The keys and values of a set.
 fn pairs(set: Set) -> &'static [(&'static str, i64)] {
     match set {
-        "" => &[],
-        "x=1" => &[("x", 1)],
-        "y=1" => &[("y", 1)],
-        "z=1" => &[("z", 1)],
-        "a=1" => &[("a", 1)],
-        "b=1" => &[("b", 1)],
-        "b=2" => &[("b", 2)],
-        "y=1 x=1" => &[("y", 1), ("x", 1)],
-        "b=1 a=2" => &[("b", 1), ("a", 2)],
-        "a=2 b=1" => &[("a", 2), ("b", 1)],
-        "c=2 b=1" => &[("c", 2), ("b", 1)],
-        "a=2 a=9 b=1" => &[("a", 2), ("a", 9), ("b", 1)],
-        _ => &[(OVERFLOW, 1)],
+        Set::Nothing => &[],
+        Set::X => &[("x", 1)],
+        Set::Y => &[("y", 1)],
+        Set::Z => &[("z", 1)],
+        Set::A => &[("a", 1)],
+        Set::OneB => &[("b", 1)],
+        Set::TwoB => &[("b", 2)],
+        Set::YThenX => &[("y", 1), ("x", 1)],
+        Set::AThenB => &[("a", 2), ("b", 1)],
+        Set::BThenA => &[("b", 1), ("a", 2)],
+        Set::TwiceAThenB => &[("a", 2), ("a", 9), ("b", 1)],
+        Set::CThenB => &[("c", 2), ("b", 1)],
+        Set::Overflow => &[(OVERFLOW_KEY, 1)],
     }
 }
 
 fn attribute(alloc: Global, key: &str, value: i64) -> Result<KeyValue, Fault> {
-    let value = if key == OVERFLOW {
+    let value = if key == OVERFLOW_KEY {
         Value::Bool(true)
     } else {
         Value::I64(value)

@@ -6,14 +6,14 @@ use crate::gauges::Gauge;
 use crate::histograms::Histogram;
 use crate::sums::Sum;
 
-/// The points of one metric (Metrics data model, "Metric points").
+/// The points of one metric, by the aggregation of its stream (Metrics data model, "Metric points").
 #[derive(Clone, Debug, Drop)]
 pub enum MetricData<T> {
-    /// Of a gauge.
+    /// Of a stream that keeps the last value.
     Gauge(Gauge<T>),
-    /// Of a sum.
+    /// Of one that adds up.
     Sum(Sum<T>),
-    /// Of a histogram.
+    /// Of one that tells how values spread.
     Histogram(Histogram<T>),
 }
 

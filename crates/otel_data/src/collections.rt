@@ -21,7 +21,7 @@ pub struct Metric {
 }
 
 impl Metric {
-    /// A metric of these parts.
+    /// A metric of these parts: the description and the unit are empty where nothing was said.
     pub fn new(
         name: StringValue,
         description: StringValue,
@@ -38,28 +38,28 @@ impl Metric {
         }
     }
 
-    /// The name.
+    /// The name of the stream, as it was first spelled.
     pub fn name(&self) -> &str
         ensures { result.now ≡ self.now.name }
     {
         self.name.as_str()
     }
 
-    /// The description.
+    /// What the stream is for; empty where nothing was said.
     pub fn description(&self) -> &str
         ensures { result.now ≡ self.now.description }
     {
         self.description.as_str()
     }
 
-    /// The unit.
+    /// The unit of the values; empty where nothing was said.
     pub fn unit(&self) -> &str
         ensures { result.now ≡ self.now.unit }
     {
         self.unit.as_str()
     }
 
-    /// The points.
+    /// The points, of the number type and the aggregation of the stream.
     pub fn data(&self) -> &AggregatedMetrics
         ensures { result.now ≡ self.now.content }
     {
@@ -75,7 +75,7 @@ pub struct ScopeMetrics {
 }
 
 impl ScopeMetrics {
-    /// The metrics of a scope.
+    /// These metrics, of a scope.
     pub fn new(scope: InstrumentationScope, metrics: Items<Metric>) -> ScopeMetrics
         ensures { result ≡ record { scope = scope; metrics = metrics } }
     {
@@ -92,14 +92,14 @@ impl ScopeMetrics {
         }
     }
 
-    /// The scope.
+    /// What the metrics belong to.
     pub fn scope(&self) -> &InstrumentationScope
         ensures { result.now ≡ self.now.scope }
     {
         &self.scope
     }
 
-    /// The metrics.
+    /// The metrics, one for each stream that has some.
     pub fn metrics(&self) -> Iter<'_, Metric>
         ensures { iter_rest result ≡ self.now.metrics }
     {

@@ -27,14 +27,15 @@ impl<T> Gauge<T> {
         }
     }
 
-    /// The points.
+    /// The points, one for each set of attributes.
     pub fn data_points(&self) -> Iter<'_, GaugeDataPoint<T>>
         ensures { iter_rest result ≡ self.now.data_points }
     {
         self.data_points.as_slice().iter()
     }
 
-    /// The moment from which on records are in the points, in nanoseconds since 1970. There always is one.
+    /// The moment from which on records are in the points, in nanoseconds since 1970. There always is one, though the
+    /// data model leaves it open.
     pub fn start_time(&self) -> Option<u64>
         ensures { result ≡ Some self.now.start_time }
     {

@@ -35,7 +35,7 @@ impl<T> Histogram<T> {
         }
     }
 
-    /// The points.
+    /// The points, one for each set of attributes.
     pub fn data_points(&self) -> Iter<'_, HistogramDataPoint<T>>
         ensures { iter_rest result ≡ self.now.data_points }
     {
@@ -56,7 +56,8 @@ impl<T> Histogram<T> {
         self.time
     }
 
-    /// How the points relate to those of the collection before.
+    /// Whether the points are of the records since the collection before (`Delta`), or of all since the stream was made
+    /// (Metrics data model, "Temporality").
     pub fn temporality(&self) -> Temporality
         ensures { result ≡ self.now.temporality }
     {

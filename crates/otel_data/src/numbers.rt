@@ -1,6 +1,6 @@
 //! A value of either number type.
 
-/// A value of either number type.
+/// A value of either number type (Metrics API, "Instrument").
 #[derive(Clone, Copy, Debug, PartialEq, Eq)]
 pub enum NumberValue {
     /// An unsigned number of 64 bits.

@@ -35,7 +35,7 @@ impl<T> SumDataPoint<T> {
         }
     }
 
-    /// The attributes, in byte order of their keys.
+    /// The attributes, each key once, in byte order of the keys.
     pub fn attributes(&self) -> Iter<'_, KeyValue>
         ensures { iter_rest result ≡ self.now.attributes }
     {
@@ -49,7 +49,7 @@ impl<T> SumDataPoint<T> {
         self.exemplars.as_slice().iter()
     }
 
-    /// The value.
+    /// What the values add up to, modulo 2^64; a signed sum wraps around into the range of `i64`.
     pub fn value(&self) -> T
     where
         T: Copy,
@@ -79,7 +79,7 @@ impl<T> GaugeDataPoint<T> {
         }
     }
 
-    /// The attributes, in byte order of their keys.
+    /// The attributes, each key once, in byte order of the keys.
     pub fn attributes(&self) -> Iter<'_, KeyValue>
         ensures { iter_rest result ≡ self.now.attributes }
     {
@@ -93,7 +93,7 @@ impl<T> GaugeDataPoint<T> {
         self.exemplars.as_slice().iter()
     }
 
-    /// The value.
+    /// The last value.
     pub fn value(&self) -> T
     where
         T: Copy,
@@ -143,7 +143,7 @@ impl<T> HistogramDataPoint<T> {
         }
     }
 
-    /// The attributes, in byte order of their keys.
+    /// The attributes, each key once, in byte order of the keys.
     pub fn attributes(&self) -> Iter<'_, KeyValue>
         ensures { iter_rest result ≡ self.now.attributes }
     {
@@ -165,7 +165,7 @@ impl<T> HistogramDataPoint<T> {
         self.bounds.as_slice().iter()
     }
 
-    /// How many values fell into each bucket: one more than there are bounds, or none without bounds.
+    /// How many values fell into each bucket, modulo 2^64: one more number than there are bounds, or none without bounds.
     pub fn bucket_counts(&self) -> Iter<'_, u64>
         ensures { iter_rest result ≡ self.now.bucket_counts }
     {
@@ -179,7 +179,7 @@ impl<T> HistogramDataPoint<T> {
         self.count
     }
 
-    /// The least value. There is none without values, and where the histogram keeps none.
+    /// The least value. There is none without values, and where the aggregation keeps none.
     pub fn min(&self) -> Option<T>
     where
         T: Copy,
@@ -188,7 +188,7 @@ impl<T> HistogramDataPoint<T> {
         self.min
     }
 
-    /// The greatest value. There is none without values, and where the histogram keeps none.
+    /// The greatest value. There is none without values, and where the aggregation keeps none.
     pub fn max(&self) -> Option<T>
     where
         T: Copy,
@@ -197,7 +197,8 @@ impl<T> HistogramDataPoint<T> {
         self.max
     }
 
-    /// The sum of the values modulo 2^64. It is 0 for up-down counters and observable gauges.
+    /// What the values add up to, modulo 2^64; a signed sum wraps around into the range of `i64`. It is 0 for up-down
+    /// counters and observable gauges.
     pub fn sum(&self) -> T
     where
         T: Copy,

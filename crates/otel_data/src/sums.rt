@@ -38,7 +38,7 @@ impl<T> Sum<T> {
         }
     }
 
-    /// The points.
+    /// The points, one for each set of attributes.
     pub fn data_points(&self) -> Iter<'_, SumDataPoint<T>>
         ensures { iter_rest result ≡ self.now.data_points }
     {
@@ -59,14 +59,15 @@ impl<T> Sum<T> {
         self.time
     }
 
-    /// How the points relate to those of the collection before.
+    /// Whether the points are of the records since the collection before (`Delta`), or of all since the stream was made
+    /// (Metrics data model, "Temporality").
     pub fn temporality(&self) -> Temporality
         ensures { result ≡ self.now.temporality }
     {
         self.temporality
     }
 
-    /// Whether only values of at least 0 are added.
+    /// Whether values are never negative, so that what all of them add up to never falls.
     pub fn is_monotonic(&self) -> bool
         ensures { result ≡ self.now.is_monotonic }
     {

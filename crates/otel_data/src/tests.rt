@@ -8,6 +8,7 @@ use crate::histograms::Histogram;
 use crate::points::{Exemplar, GaugeDataPoint, HistogramDataPoint, SumDataPoint};
 use crate::sums::Sum;
 use otel_common::attributes::{KeyValue, Value};
+use otel_common::faults::Fault;
 use otel_common::keys::Key;
 use otel_common::lists::Items;
 use otel_common::metrics::Temporality;
@@ -17,237 +18,244 @@ use otel_common::strings::StringValue;
 use std::alloc::Global;
 use std::test::Fail;
 
-fn attributes(alloc: Global) -> Result<Items<KeyValue>, Fail> {
+fn attributes(alloc: Global) -> Result<Items<KeyValue>, Fault> {
     let attribute = KeyValue::new(Key::new(alloc, "key")?, Value::Bool(true));
     Ok(Items::from(vec![in alloc; attribute]?))
 }
 
-fn exemplars<T: Drop>(alloc: Global, value: T) -> Result<Items<Exemplar<T>>, Fail> {
+fn exemplars<T: Drop>(alloc: Global, value: T) -> Result<Items<Exemplar<T>>, Fault> {
     let mut list = Vec::new(alloc);
     list.push(Exemplar { value })?;
     Ok(Items::from(list))
 }
 
-fn sum_point<T: Copy + Drop>(alloc: Global, value: T) -> Result<SumDataPoint<T>, Fail> {
-    Ok(SumDataPoint::new(attributes(alloc)?, exemplars(alloc, value)?, value))
+fn sum_point(alloc: Global, value: u64) -> Result<SumDataPoint<u64>, Fault> {
+    let exemplars = exemplars(alloc, value)?;
+    Ok(SumDataPoint::new(attributes(alloc)?, exemplars, value))
 }
 
-fn gauge_point<T: Copy + Drop>(alloc: Global, value: T) -> Result<GaugeDataPoint<T>, Fail> {
-    Ok(GaugeDataPoint::new(attributes(alloc)?, exemplars(alloc, value)?, value))
+fn gauge_point(alloc: Global, value: i64) -> Result<GaugeDataPoint<i64>, Fault> {
+    let exemplars = exemplars(alloc, value)?;
+    Ok(GaugeDataPoint::new(attributes(alloc)?, exemplars, value))
 }
 
-fn histogram_point<T: Copy + Drop>(
-    alloc: Global,
-    least: T,
-    greatest: T,
-    sum: T,
-) -> Result<HistogramDataPoint<T>, Fail> {
+/// A point of three values, with this greatest one.
+fn histogram_point(alloc: Global, greatest: u64) -> Result<HistogramDataPoint<u64>, Fault> {
+    let exemplars = exemplars(alloc, greatest)?;
     let bounds = Items::from(vec![in alloc; -5, 10]?);
     let counts = Items::from(vec![in alloc; 1, 0, 2]?);
     Ok(HistogramDataPoint::new(
         attributes(alloc)?,
-        exemplars(alloc, least)?,
+        exemplars,
         bounds,
         counts,
         3,
-        Some(least),
+        Some(2),
         Some(greatest),
-        sum,
+        44,
     ))
 }
 
-fn sum<T: Copy + Drop>(alloc: Global, value: T) -> Result<Sum<T>, Fail> {
-    let mut points = Vec::new(alloc);
-    points.push(sum_point(alloc, value)?)?;
-    Ok(Sum::new(Items::from(points), 100, 200, Temporality::Delta, true))
+fn is_sum_point(point: &SumDataPoint<u64>, value: u64) -> bool {
+    point.value() == value && point.attributes().count() == 1 && point.exemplars().count() == 1
 }
 
-fn gauge<T: Copy + Drop>(alloc: Global, value: T) -> Result<Gauge<T>, Fail> {
-    let mut points = Vec::new(alloc);
-    points.push(gauge_point(alloc, value)?)?;
-    Ok(Gauge::new(Items::from(points), 300, 400))
+fn is_gauge_point(point: &GaugeDataPoint<i64>, value: i64) -> bool {
+    point.value() == value && point.attributes().count() == 1 && point.exemplars().count() == 1
 }
 
-fn histogram<T: Copy + Drop>(alloc: Global, value: T) -> Result<Histogram<T>, Fail> {
-    let mut points = Vec::new(alloc);
-    points.push(histogram_point(alloc, value, value, value)?)?;
-    Ok(Histogram::new(Items::from(points), 500, 600, Temporality::LowMemory))
+fn has_lists(point: &HistogramDataPoint<u64>) -> bool {
+    point.attributes().count() == 1
+        && point.exemplars().count() == 1
+        && point.bounds().count() == 2
+        && point.bucket_counts().count() == 3
 }
 
-fn metric(alloc: Global, name: &str, data: AggregatedMetrics) -> Result<Metric, Fail> {
-    let name = StringValue::new(alloc, name)?;
+fn is_histogram_point(point: &HistogramDataPoint<u64>, greatest: u64) -> bool {
+    has_lists(point)
+        && point.count() == 3
+        && point.min() == Some(2)
+        && point.max() == Some(greatest)
+        && point.sum() == 44
+}
+
+/// Whether a point has its parts and equals this one.
+fn is_this_sum_point(point: &SumDataPoint<u64>, other: &SumDataPoint<u64>) -> bool {
+    equal_points();
+    is_sum_point(point, 7) && point == other
+}
+
+fn is_this_gauge_point(point: &GaugeDataPoint<i64>, other: &GaugeDataPoint<i64>) -> bool {
+    equal_signed_points();
+    is_gauge_point(point, -7) && point == other
+}
+
+fn is_this_histogram_point(
+    point: &HistogramDataPoint<u64>,
+    other: &HistogramDataPoint<u64>,
+) -> bool {
+    equal_points();
+    is_histogram_point(point, 30) && point == other
+}
+
+fn sum_point_is(alloc: Global, value: u64) -> Result<bool, Fault> {
+    let other = sum_point(alloc, value)?;
+    Ok(is_this_sum_point(&sum_point(alloc, 7)?, &other))
+}
+
+fn gauge_point_is(alloc: Global, value: i64) -> Result<bool, Fault> {
+    let other = gauge_point(alloc, value)?;
+    Ok(is_this_gauge_point(&gauge_point(alloc, -7)?, &other))
+}
+
+fn histogram_point_is(alloc: Global, greatest: u64) -> Result<bool, Fault> {
+    let other = histogram_point(alloc, greatest)?;
+    Ok(is_this_histogram_point(&histogram_point(alloc, 30)?, &other))
+}
+
+#[test]
+fn sum_points(rt: HostRuntime) -> Result<(), Fail> {
+    assert!(rt; sum_point_is(rt.alloc(), 7)?);
+    assert!(rt; !sum_point_is(rt.alloc(), 8)?);
+    Ok(())
+}
+
+#[test]
+fn gauge_points(rt: HostRuntime) -> Result<(), Fail> {
+    assert!(rt; gauge_point_is(rt.alloc(), -7)?);
+    assert!(rt; !gauge_point_is(rt.alloc(), 7)?);
+    Ok(())
+}
+
+#[test]
+fn histogram_points(rt: HostRuntime) -> Result<(), Fail> {
+    assert!(rt; histogram_point_is(rt.alloc(), 30)?);
+    assert!(rt; !histogram_point_is(rt.alloc(), 31)?);
+    Ok(())
+}
+
+fn sum(alloc: Global) -> Result<Sum<u64>, Fault> {
+    let points = Items::from(vec![in alloc; sum_point(alloc, 7)?]?);
+    Ok(Sum::new(points, 100, 200, Temporality::Delta, true))
+}
+
+fn gauge(alloc: Global) -> Result<Gauge<i64>, Fault> {
+    let points = Items::from(vec![in alloc; gauge_point(alloc, -7)?]?);
+    Ok(Gauge::new(points, 300, 400))
+}
+
+fn histogram(alloc: Global) -> Result<Histogram<u64>, Fault> {
+    let points = Items::from(vec![in alloc; histogram_point(alloc, 30)?]?);
+    Ok(Histogram::new(points, 500, 600, Temporality::LowMemory))
+}
+
+fn is_sum(sum: &Sum<u64>) -> bool {
+    sum.data_points().count() == 1
+        && sum.start_time() == 100
+        && sum.time() == 200
+        && sum.temporality() == Temporality::Delta
+        && sum.is_monotonic()
+}
+
+fn is_gauge(gauge: &Gauge<i64>) -> bool {
+    gauge.data_points().count() == 1 && gauge.start_time() == Some(300) && gauge.time() == 400
+}
+
+fn is_histogram(histogram: &Histogram<u64>) -> bool {
+    histogram.data_points().count() == 1
+        && histogram.start_time() == 500
+        && histogram.time() == 600
+        && histogram.temporality() == Temporality::LowMemory
+}
+
+/// The points of a metric of this name.
+fn data(alloc: Global, name: &str) -> Result<AggregatedMetrics, Fault> {
+    Ok(match name {
+        "sum" => MetricData::from(sum(alloc)?).into(),
+        "gauge" => MetricData::from(gauge(alloc)?).into(),
+        _ => MetricData::from(histogram(alloc)?).into(),
+    })
+}
+
+fn is_data(data: &AggregatedMetrics, name: &str) -> bool {
+    match data {
+        AggregatedMetrics::U64(MetricData::Sum(sum)) => name == "sum" && is_sum(sum),
+        AggregatedMetrics::I64(MetricData::Gauge(gauge)) => name == "gauge" && is_gauge(gauge),
+        AggregatedMetrics::U64(MetricData::Histogram(histogram)) => {
+            name == "histogram" && is_histogram(histogram)
+        }
+        _ => false,
+    }
+}
+
+fn metric(alloc: Global, name: &str) -> Result<Metric, Fault> {
+    let text = StringValue::new(alloc, name)?;
     let description = StringValue::new(alloc, "all of them")?;
     let unit = StringValue::new(alloc, "1")?;
-    Ok(Metric::new(name, description, unit, data))
+    Ok(Metric::new(text, description, unit, data(alloc, name)?))
 }
 
-// Of which number type and aggregation the points of a metric are, and when they were collected.
-fn shown(data: &AggregatedMetrics) -> (&'static str, u64) {
-    match data {
-        AggregatedMetrics::U64(MetricData::Gauge(gauge)) => ("u64 gauge", gauge.time()),
-        AggregatedMetrics::U64(MetricData::Sum(sum)) => ("u64 sum", sum.time()),
-        AggregatedMetrics::U64(MetricData::Histogram(histogram)) => {
-            ("u64 histogram", histogram.time())
-        }
-        AggregatedMetrics::I64(MetricData::Gauge(gauge)) => ("i64 gauge", gauge.time()),
-        AggregatedMetrics::I64(MetricData::Sum(sum)) => ("i64 sum", sum.time()),
-        AggregatedMetrics::I64(MetricData::Histogram(histogram)) => {
-            ("i64 histogram", histogram.time())
-        }
+fn is_metric(metric: &Metric, name: &str) -> bool {
+    metric.name() == name
+        && metric.description() == "all of them"
+        && metric.unit() == "1"
+        && is_data(metric.data(), name)
+}
+
+/// A collection of one metric.
+fn collection(alloc: Global, name: &str) -> Result<ResourceMetrics, Fault> {
+    let metrics = Items::from(vec![in alloc; metric(alloc, name)?]?);
+    let scope = ScopeMetrics::new(InstrumentationScope::default(alloc), metrics);
+    let scopes = Items::from(vec![in alloc; scope]?);
+    Ok(ResourceMetrics::new(Resource::builder_empty(alloc).build(), scopes))
+}
+
+fn is_scope(scope: &ScopeMetrics, name: &str) -> bool {
+    match scope.metrics().as_slice() {
+        [metric] => scope.scope().name() == "" && is_metric(metric, name),
+        _ => false,
     }
 }
 
-#[test]
-fn sum_points_answer_their_parts(rt: HostRuntime) -> Result<(), Fail> {
-    let one = sum_point(rt.alloc(), 7_u64)?;
-    assert_eq!(rt; one.value(), 7);
-    assert_eq!(rt; one.attributes().count(), 1);
-    assert_eq!(rt; one.exemplars().count(), 1);
-    for exemplar in one.exemplars() {
-        assert_eq!(rt; exemplar.value, 7);
+fn is_collection(all: &ResourceMetrics, name: &str) -> bool {
+    match all.scope_metrics().as_slice() {
+        [scope] => all.resource().is_empty() && is_scope(scope, name),
+        _ => false,
     }
-    equal_points();
-    assert!(rt; one == sum_point(rt.alloc(), 7)?);
-    assert!(rt; one != sum_point(rt.alloc(), 8)?);
-    assert!(rt; one == one.clone()?);
-    Ok(())
 }
 
-#[test]
-fn gauge_points_answer_their_parts(rt: HostRuntime) -> Result<(), Fail> {
-    let one = gauge_point(rt.alloc(), -7_i64)?;
-    assert_eq!(rt; one.value(), -7);
-    assert_eq!(rt; one.attributes().count(), 1);
-    assert_eq!(rt; one.exemplars().count(), 1);
-    equal_signed_points();
-    assert!(rt; one == gauge_point(rt.alloc(), -7)?);
-    assert!(rt; one != gauge_point(rt.alloc(), 7)?);
-    assert!(rt; one == one.clone()?);
-    let other = gauge_point(rt.alloc(), 7_u64)?;
-    equal_points();
-    assert!(rt; other == gauge_point(rt.alloc(), 7)?);
-    assert!(rt; other != gauge_point(rt.alloc(), 8)?);
-    Ok(())
-}
-
-#[test]
-fn histogram_points_answer_their_parts(rt: HostRuntime) -> Result<(), Fail> {
-    let one = histogram_point(rt.alloc(), 2_u64, 30, 44)?;
-    assert_eq!(rt; one.attributes().count(), 1);
-    assert_eq!(rt; one.exemplars().count(), 1);
-    assert_eq!(rt; one.bounds().count(), 2);
-    assert_eq!(rt; one.bucket_counts().count(), 3);
-    assert_eq!(rt; one.count(), 3);
-    assert_eq!(rt; one.min(), Some(2));
-    assert_eq!(rt; one.max(), Some(30));
-    assert_eq!(rt; one.sum(), 44);
-    equal_points();
-    assert!(rt; one == histogram_point(rt.alloc(), 2, 30, 44)?);
-    assert!(rt; one != histogram_point(rt.alloc(), 2, 31, 44)?);
-    assert!(rt; one == one.clone()?);
-    let other = histogram_point(rt.alloc(), -2_i64, 30, 44)?;
-    equal_signed_points();
-    assert!(rt; other == histogram_point(rt.alloc(), -2, 30, 44)?);
-    assert!(rt; other != histogram_point(rt.alloc(), 2, 30, 44)?);
-    Ok(())
-}
-
-#[test]
-fn sums_answer_their_parts(rt: HostRuntime) -> Result<(), Fail> {
-    let one = sum(rt.alloc(), 7_u64)?;
-    assert_eq!(rt; one.data_points().count(), 1);
-    assert_eq!(rt; one.start_time(), 100);
-    assert_eq!(rt; one.time(), 200);
-    assert_eq!(rt; one.temporality(), Temporality::Delta);
-    assert!(rt; one.is_monotonic());
-    Ok(())
-}
-
-#[test]
-fn gauges_answer_their_parts(rt: HostRuntime) -> Result<(), Fail> {
-    let one = gauge(rt.alloc(), -7_i64)?;
-    assert_eq!(rt; one.data_points().count(), 1);
-    assert_eq!(rt; one.start_time(), Some(300));
-    assert_eq!(rt; one.time(), 400);
-    Ok(())
-}
-
-#[test]
-fn histograms_answer_their_parts(rt: HostRuntime) -> Result<(), Fail> {
-    let one = histogram(rt.alloc(), 7_u64)?;
-    assert_eq!(rt; one.data_points().count(), 1);
-    assert_eq!(rt; one.start_time(), 500);
-    assert_eq!(rt; one.time(), 600);
-    assert_eq!(rt; one.temporality(), Temporality::LowMemory);
-    Ok(())
-}
-
-#[test]
-fn collections_answer_their_parts(rt: HostRuntime) -> Result<(), Fail> {
-    let alloc = rt.alloc();
-    let mut metrics = Vec::new(alloc);
-    metrics.push(metric(
-        alloc,
-        "u64 gauge",
-        MetricData::from(gauge(alloc, 1_u64)?).into(),
-    )?)?;
-    metrics.push(metric(
-        alloc,
-        "u64 sum",
-        MetricData::from(sum(alloc, 1_u64)?).into(),
-    )?)?;
-    metrics.push(metric(
-        alloc,
-        "u64 histogram",
-        MetricData::from(histogram(alloc, 1_u64)?).into(),
-    )?)?;
-    metrics.push(metric(
-        alloc,
-        "i64 gauge",
-        MetricData::from(gauge(alloc, -1_i64)?).into(),
-    )?)?;
-    metrics.push(metric(
-        alloc,
-        "i64 sum",
-        MetricData::from(sum(alloc, -1_i64)?).into(),
-    )?)?;
-    metrics.push(metric(
-        alloc,
-        "i64 histogram",
-        MetricData::from(histogram(alloc, -1_i64)?).into(),
-    )?)?;
-    let scope = ScopeMetrics::new(InstrumentationScope::default(alloc), Items::from(metrics));
-    let scopes = vec![in alloc; scope]?;
-    let resource = Resource::builder_empty(alloc).build();
-    let all = ResourceMetrics::new(resource, Items::from(scopes)).clone()?;
+/// Whether the copy of a collection of one metric is that collection.
+fn is_copied(alloc: Global, name: &str) -> Result<bool, Fault> {
     copied_collection();
-    assert!(rt; all.resource().is_empty());
-    assert_eq!(rt; all.scope_metrics().count(), 1);
-    let mut times = Vec::new(alloc);
-    for scope in all.scope_metrics() {
-        assert_eq!(rt; scope.scope().name(), "");
-        assert_eq!(rt; scope.metrics().count(), 6);
-        for metric in scope.metrics() {
-            assert_eq!(rt; metric.description(), "all of them");
-            assert_eq!(rt; metric.unit(), "1");
-            let (name, time) = shown(metric.data());
-            assert_eq!(rt; metric.name(), name);
-            times.push(time)?;
-        }
+    let all = collection(alloc, name)?;
+    match all.clone() {
+        Ok(copy) => Ok(is_collection(&all, name) && is_collection(&copy, name)),
+        Err(_) => Ok(false),
     }
-    assert!(rt; times.as_slice() == [400, 200, 600, 400, 200, 600].as_slice());
-    Ok(())
 }
 
 #[test]
-fn defaults_are_empty(rt: HostRuntime) -> Result<(), Fail> {
-    let alloc = rt.alloc();
-    let all = ResourceMetrics::default(alloc);
-    assert_eq!(rt; all.scope_metrics().count(), 0);
-    assert!(rt; all.resource().is_empty());
-    assert_eq!(rt; all.resource().len(), 0);
-    assert_eq!(rt; all.resource().schema_url(), None);
-    assert_eq!(rt; ScopeMetrics::default(alloc).metrics().count(), 0);
-    assert_eq!(rt; ScopeMetrics::default(alloc).scope().name(), "");
+fn collections(rt: HostRuntime) -> Result<(), Fail> {
+    for name in ["sum", "gauge", "histogram"] {
+        assert!(rt; is_copied(rt.alloc(), name)?, "of {name}");
+    }
     Ok(())
+}
+
+/// Whether a collection has no scopes, and an empty resource.
+fn is_empty(all: &ResourceMetrics) -> bool {
+    all.scope_metrics().count() == 0
+        && all.resource().is_empty()
+        && all.resource().len() == 0
+        && all.resource().schema_url().is_none()
+}
+
+fn is_empty_scope(scope: &ScopeMetrics) -> bool {
+    scope.metrics().count() == 0 && scope.scope().name() == ""
+}
+
+#[test]
+fn defaults_are_empty(rt: HostRuntime) {
+    assert!(rt; is_empty(&ResourceMetrics::default(rt.alloc())));
+    assert!(rt; is_empty_scope(&ScopeMetrics::default(rt.alloc())));
 }

@@ -13,15 +13,18 @@ use otel_common::metrics::{Aggregation, Temporality};
 use std::alloc::Global;
 use std::marker::Model;
 
-/// What a reader answers for one kind: the temporality of its streams, and perhaps their limit and their aggregation.
+/// What a reader answers for one kind of instrument (Metrics SDK, "MetricReader").
 #[derive(Clone, Debug, Drop)]
 pub struct Answer {
+    /// The temporality of its streams.
     pub temporality: Temporality,
+    /// How many sets of attributes of a stream have points of their own, if it wants a limit.
     pub limit: Option<usize>,
+    /// What a stream keeps of its records, if it wants an aggregation.
     pub aggregation: Option<Aggregation>,
 }
 
-/// What a reader answered for each kind, when it was handed in.
+/// What a reader answered for each kind of instrument, when it was handed in. To ask for one answer takes no memory.
 #[derive(Debug, Drop)]
 pub struct Answers {
     items: Items<Answer>,
@@ -89,7 +92,7 @@ fn ask<R: MetricReader>(reader: &R, kind: InstrumentKind) -> Result<Answer, Faul
 
 impl Answers {
     /// Asks a reader once for each kind for the temporality, the limit and the aggregation that it wants. Takes memory
-    /// for the list and for the bounds of the histograms that it wants.
+    /// for the list and for the bounds of the histograms that it wants, and is refused for want of it alone.
     pub fn of<R: MetricReader>(alloc: Global, reader: &R) -> Result<Answers, Fault>
         ensures answers { IfOk result (λ a. IsAnsweredBy (R.preference reader.now) (R.limit reader.now) (R.aggregation reader.now) a) }
         ensures only_memory { IsOkUnless result Fault.OutOfMemory }

@@ -20,7 +20,9 @@ pub struct Identity {
     pub kind: InstrumentKind,
     /// Whether its values are of type `i64`; else they are of type `u64`.
     pub signed: bool,
+    /// What the stream is for; empty where nothing was said.
     pub description: StringValue,
+    /// The unit of its values; empty where nothing was said.
     pub unit: StringValue,
     /// The name, with its ASCII letters lowered.
     pub name: StringValue,
@@ -33,6 +35,7 @@ pub struct Demand {
     pub identity: Identity,
     /// The name, as collections show it.
     pub spelling: StringValue,
+    /// What the stream keeps of its records.
     pub aggregation: Aggregation,
     /// The keys that are kept of attributes; all of them where there is no list.
     pub allow: Option<Items<Key>>,

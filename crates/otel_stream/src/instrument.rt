@@ -9,7 +9,7 @@ use otel_common::scopes::InstrumentationScope;
 use otel_common::strings::StringValue;
 use std::alloc::AllocError;
 
-/// What an instrument is (Metrics SDK, "Instrument").
+/// What an instrument is: how its values are reported and what becomes of them (Metrics API, "Instrument").
 #[derive(Clone, Copy, Debug, PartialEq, Eq, Hash)]
 pub enum InstrumentKind {
     /// Adds values that are never negative.
@@ -31,7 +31,7 @@ pub enum InstrumentKind {
 impl InstrumentKind {
     /// What a reader of this temporality prefers for the kind: `Cumulative` is cumulative for all kinds,
     /// `Delta` is delta but for the two up-down kinds, `LowMemory` is delta for `Counter` and `Histogram`
-    /// alone (Metrics SDK, "MetricReader").
+    /// alone (Metrics SDK, "MetricReader"). Takes no memory.
     pub fn temporality_preference(self, temporality: Temporality) -> Temporality
         ensures { result ≡ temporality_preference self temporality }
     {
@@ -78,6 +78,7 @@ pub struct Instrument {
     pub name: StringValue,
     /// What the instrument is for; empty where nothing was said.
     pub description: StringValue,
+    /// What it is.
     pub kind: InstrumentKind,
     /// The unit of its values; empty where nothing was said.
     pub unit: StringValue,
@@ -86,14 +87,14 @@ pub struct Instrument {
 }
 
 impl Instrument {
-    /// The name.
+    /// The name, as it was given.
     pub fn name(&self) -> &str
         ensures { result.now ≡ self.now.name }
     {
         self.name.as_str()
     }
 
-    /// The kind.
+    /// What it is.
     pub fn kind(&self) -> InstrumentKind
         ensures { result ≡ self.now.kind }
     {

@@ -16,5 +16,6 @@ pub mod stream_fault;
 pub mod stream_spec;
 #[cfg(test)]
 mod tests;
+pub mod units;
 pub mod view;
 mod wants;

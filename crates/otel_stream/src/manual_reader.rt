@@ -105,7 +105,7 @@ impl ManualReaderBuilder {
         }
     }
 
-    /// With this temporality. Limits and aggregations stay.
+    /// With this temporality, in place of the one before. Limits and aggregations stay. Takes no memory.
     pub fn with_temporality(self, temporality: Temporality) -> ManualReaderBuilder
         ensures temporality { result.temporality ≡ temporality }
         ensures limits { result.limits ≡ self.limits }
@@ -150,7 +150,7 @@ impl ManualReaderBuilder {
         builder
     }
 
-    /// The reader.
+    /// The reader. Takes no memory.
     pub fn build(self) -> ManualReader
         ensures { result ≡ self }
     {

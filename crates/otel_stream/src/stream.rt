@@ -36,7 +36,7 @@ impl Model for Stream {
 }
 
 impl Stream {
-    /// A builder with nothing set.
+    /// A builder with nothing set. Takes no memory.
     pub fn builder() -> StreamBuilder
         ensures { result ≡ nothing_said }
     {
@@ -80,7 +80,7 @@ impl Stream {
         }
     }
 
-    /// What the stream keeps of its records, if it is set.
+    /// What the stream keeps of its records, if that is set.
     pub fn aggregation(&self) -> Option<&Aggregation>
         ensures { option_copied result ≡ self.now.aggregation }
     {
@@ -97,7 +97,7 @@ impl Stream {
         }
     }
 
-    /// How many sets of attributes have points of their own, if it is set.
+    /// How many sets of attributes have points of their own, if that is set.
     pub fn cardinality_limit(&self) -> Option<usize>
         ensures { result ≡ self.now.limit }
     {
@@ -135,7 +135,8 @@ impl Clone for Stream {
     }
 }
 
-/// Makes a stream.
+/// Makes a stream (Metrics SDK, "Stream configuration"). What is set twice is as it was set last. To set something
+/// takes no memory.
 #[derive(Debug, Drop)]
 pub struct StreamBuilder {
     spec: StreamSpec,
@@ -159,7 +160,7 @@ impl StreamBuilder {
         builder
     }
 
-    /// The stream's description, in place of the instrument's.
+    /// The stream's description, in place of the instrument's. Any text is good.
     pub fn with_description(self, description: String) -> StreamBuilder
         ensures { result ≡ record self { description = Some (string_bytes description) } }
     {
@@ -197,7 +198,8 @@ impl StreamBuilder {
         builder
     }
 
-    /// How many sets of attributes have points of their own: 1 to `usize::MAX - 1`.
+    /// How many sets of attributes have points of their own (Metrics SDK, "Cardinality limits"): 1 to
+    /// `usize::MAX - 1`.
     pub fn with_cardinality_limit(self, limit: usize) -> StreamBuilder
         ensures { result ≡ record self { limit = Some limit } }
     {

@@ -1,11 +1,11 @@
 //! What may be said of a stream, and what is wrong with it.
 
-ghost use Rattle.std.specs.Prelude.{◌≡◌, nat_lt};
-ghost use Rattle.std.specs.List.{list_any};
+ghost use Rattle.std.specs.Prelude.{◌≡◌};
 ghost use Rattle.otel_stream.specs.Settings.{nothing_said, fault_by_unit, optional_limit_fault, optional_bounds_fault, bounds_of, settings_fault};
 ghost use Rattle.otel_stream.specs.Units.{unit_fault, optional_unit_fault};
 
 use crate::stream_fault::StreamFault;
+use crate::units::{UNIT_MAX, has_other_than_ascii};
 use otel_common::bounds::is_rising;
 use otel_common::keys::Key;
 use otel_common::laws::{copied_aggregation, copied_attributes};
@@ -14,16 +14,17 @@ use otel_common::metrics::Aggregation;
 use otel_common::strings::StringValue;
 use std::alloc::AllocError;
 
-/// The greatest length of a unit, in bytes.
-const UNIT_MAX: usize = 63;
-
 /// What is said of a stream (Metrics SDK, "Stream configuration"). What it lacks is the instrument's or the
 /// reader's.
 #[derive(Debug, Drop)]
 pub struct StreamSpec {
+    /// The name, in place of the instrument's.
     pub name: Option<StringValue>,
+    /// The description, in place of the instrument's.
     pub description: Option<StringValue>,
+    /// The unit, in place of the instrument's.
     pub unit: Option<StringValue>,
+    /// What the stream keeps of its records.
     pub aggregation: Option<Aggregation>,
     /// The keys that are kept of attributes; all of them where there is no list.
     pub allow: Option<Items<Key>>,
@@ -69,12 +70,6 @@ fn fault_of_text(unit: &str) -> Option<StreamFault>
         return Some(StreamFault::UnitInvalidChar);
     }
     None
-}
-
-fn has_other_than_ascii(bytes: &[u8]) -> bool
-    ensures { result ≡ list_any (λ b. nat_lt 127 b) bytes.now }
-{
-    bytes.iter().any(|byte| *byte > 127)
 }
 
 fn fault_of_limit(limit: Option<usize>) -> Option<StreamFault>

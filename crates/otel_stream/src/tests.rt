@@ -5,11 +5,12 @@ mod streams;
 mod wants;
 
 use crate::instrument::InstrumentKind;
-use crate::laws::{boxed_manual_reader, boxed_reader, kind_laws};
+use crate::laws::{boxed_manual_reader, kind_laws};
 use crate::manual_reader::{ManualReader, ManualReaderBuilder};
 use crate::reader::MetricReader;
 use otel_common::metrics::Temporality;
 use std::alloc::Global;
+use std::fmt::Debug;
 use std::test::Fail;
 
 /// The seven kinds.
@@ -23,85 +24,84 @@ const KINDS: [InstrumentKind; 7] = [
     InstrumentKind::ObservableGauge,
 ];
 
-// What a reader wants for the seven kinds, a letter each: C cumulative, D delta, L low memory.
-fn wanted<R: MetricReader>(alloc: Global, reader: &R) -> Result<String, Fail> {
-    let mut text = String::new(alloc);
-    for kind in KINDS {
-        text.push_str(match reader.temporality(kind) {
-            Temporality::Cumulative => "C",
-            Temporality::Delta => "D",
-            Temporality::LowMemory => "L",
-        })?;
+/// The letter of a temporality.
+fn letter_of(temporality: Temporality) -> &'static str {
+    match temporality {
+        Temporality::Cumulative => "C",
+        Temporality::Delta => "D",
+        Temporality::LowMemory => "L",
     }
-    Ok(text)
+}
+
+/// Whether a reader wants these temporalities for the seven kinds, a letter each.
+fn prefers<R: MetricReader>(reader: &R, letters: [&str; 7]) -> bool {
+    let mut does = true;
+    for (kind, letter) in KINDS.iter().zip(letters.iter()) {
+        does = does && letter_of(reader.temporality(*kind)) == *letter;
+    }
+    does
+}
+
+const CUMULATIVE: [&str; 7] = ["C", "C", "C", "C", "C", "C", "C"];
+
+const DELTA: [&str; 7] = ["D", "C", "D", "D", "C", "D", "D"];
+
+const LOW_MEMORY: [&str; 7] = ["D", "C", "D", "C", "C", "C", "C"];
+
+/// A reader of this temporality.
+fn reader_of(temporality: Temporality) -> ManualReader {
+    ManualReader::builder()
+        .with_temporality(temporality)
+        .build()
+}
+
+/// Whether a value shows this text.
+fn shows<T: Debug>(alloc: Global, value: &T, text: &str) -> bool {
+    match format!(in alloc; "{value:?}") {
+        Ok(shown) => shown.as_str() == text,
+        Err(_) => false,
+    }
+}
+
+/// Whether readers and their builders show their names.
+fn show_their_names(alloc: Global) -> bool {
+    shows(alloc, &ManualReader::default(), "ManualReader")
+        && shows(
+            alloc,
+            &ManualReaderBuilder::default(),
+            "ManualReaderBuilder",
+        )
 }
 
 #[test]
-fn readers_show_their_names(rt: HostRuntime) -> Result<(), Fail> {
-    let alloc = rt.alloc();
-    let reader = ManualReader::default();
-    assert_eq!(rt; format!(in alloc; "{reader:?}")?.as_str(), "ManualReader");
-    let builder = ManualReaderBuilder::default();
-    assert_eq!(rt;
-        format!(in alloc; "{builder:?}")?.as_str(),
-        "ManualReaderBuilder"
-    );
-    Ok(())
+fn readers_show_their_names(rt: HostRuntime) {
+    assert!(rt; show_their_names(rt.alloc()));
+}
+
+/// Whether all readers of which nothing was said are cumulative.
+fn defaults_are_cumulative() -> bool {
+    prefers(&ManualReader::default(), CUMULATIVE)
+        && prefers(&ManualReaderBuilder::default().build(), CUMULATIVE)
+        && prefers(&ManualReaderBuilder::new().build(), CUMULATIVE)
+}
+
+/// Whether readers of each temporality want what it says for each kind.
+fn have_their_preferences() -> bool {
+    prefers(&reader_of(Temporality::Cumulative), CUMULATIVE)
+        && prefers(&reader_of(Temporality::Delta), DELTA)
+        && prefers(&reader_of(Temporality::LowMemory), LOW_MEMORY)
 }
 
 #[test]
-fn defaults_are_cumulative(rt: HostRuntime) -> Result<(), Fail> {
-    let alloc = rt.alloc();
-    assert_eq!(rt;
-        wanted(alloc, &ManualReader::default())?.as_str(),
-        "CCCCCCC"
-    );
-    assert_eq!(rt;
-        wanted(alloc, &ManualReaderBuilder::default().build())?.as_str(),
-        "CCCCCCC"
-    );
-    assert_eq!(rt;
-        wanted(alloc, &ManualReaderBuilder::new().build())?.as_str(),
-        "CCCCCCC"
-    );
-    assert_eq!(rt;
-        wanted(alloc, &ManualReader::builder().build())?.as_str(),
-        "CCCCCCC"
-    );
-    Ok(())
-}
-
-#[test]
-fn readers_have_their_preferences(rt: HostRuntime) -> Result<(), Fail> {
-    let alloc = rt.alloc();
-    let reader = ManualReader::builder()
-        .with_temporality(Temporality::Cumulative)
-        .build();
-    assert_eq!(rt; wanted(alloc, &reader)?.as_str(), "CCCCCCC");
-    let reader = ManualReader::builder()
-        .with_temporality(Temporality::Delta)
-        .build();
-    assert_eq!(rt; wanted(alloc, &reader)?.as_str(), "DCDDCDD");
-    let reader = ManualReader::builder()
-        .with_temporality(Temporality::LowMemory)
-        .build();
-    assert_eq!(rt; wanted(alloc, &reader)?.as_str(), "DCDCCCC");
-    Ok(())
+fn readers_have_their_preferences(rt: HostRuntime) {
+    assert!(rt; defaults_are_cumulative());
+    assert!(rt; have_their_preferences());
 }
 
 #[test]
 fn boxes_want_what_is_in_them(rt: HostRuntime) -> Result<(), Fail> {
-    let alloc = rt.alloc();
-    let reader = ManualReader::builder()
-        .with_temporality(Temporality::LowMemory)
-        .build();
-    let boxed: Box<dyn MetricReader> = Box::new(alloc, reader)?;
-    boxed_reader(&boxed);
-    assert_eq!(rt; wanted(alloc, &boxed)?.as_str(), "DCDCCCC");
-    let reader = ManualReader::builder()
-        .with_temporality(Temporality::Delta)
-        .build();
-    let answer = boxed_manual_reader(alloc, reader, InstrumentKind::Gauge)?;
+    let reader = reader_of(Temporality::Delta);
+    let answer = boxed_manual_reader(rt.alloc(), reader, InstrumentKind::Gauge)?;
     assert_eq!(rt; answer, Temporality::Delta);
     Ok(())
 }

@@ -16,7 +16,7 @@ pub trait View: Drop + Send {
     /// What the view says of the stream of each instrument, or that the instrument is not its own.
     ghost answer: { Self → Instrument → Option StreamSpec };
 
-    /// The stream of this instrument, or none if the view says nothing of it. Refused only for want of memory.
+    /// The settings of this instrument's stream, or none if the view says nothing of it. Refused only for want of memory.
     fn match_inst(&self, inst: &Instrument) -> Result<Option<Stream>, Fault>
         ensures { MatchResult result (λ stream. stream ≡ answer self.now inst.now) (λ fault. fault ≡ Fault.OutOfMemory) };
 }

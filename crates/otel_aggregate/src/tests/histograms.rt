@@ -244,22 +244,28 @@ fn explicit_bucket_histogram_aggregation(rt: HostRuntime) -> Result<(), Fail> {
     Ok(())
 }
 
+/// Takes in a record without attributes that is prepared, if one is.
+fn take_in(histogram: &mut Histogram<i64>, value: i64) -> bool {
+    let is_prepared = histogram.is_prepared();
+    if is_prepared {
+        histogram.measure_ready(value);
+    }
+    is_prepared
+}
+
+/// Whether a cumulative histogram without records takes one in, in two phases.
+fn is_taken_in(histogram: &mut Histogram<i64>) -> Result<bool, Fault> {
+    let is_still = !histogram.resets() && !histogram.is_prepared();
+    histogram.prepare(&[])?;
+    let is_taken = take_in(histogram, -1) && !histogram.is_prepared();
+    Ok(is_still && is_taken && histogram.total() == 1)
+}
+
 #[test]
 fn a_histogram_record_is_prepared(rt: HostRuntime) -> Result<(), Fail> {
-    let alloc = rt.alloc();
-    let mut histogram: Histogram<i64> = made(
-        alloc,
-        Temporality::Cumulative,
-        rising(alloc, &[0])?,
-        true,
-    )?;
-    assert!(rt; !histogram.resets());
-    assert!(rt; !histogram.is_prepared());
-    assert!(rt; histogram.prepare(&[]).is_ok());
-    assert!(rt; histogram.is_prepared());
-    histogram.measure_ready(-1);
-    assert!(rt; !histogram.is_prepared());
-    assert_eq!(rt; histogram.total(), 1);
+    let bounds = rising(rt.alloc(), &[0])?;
+    let mut histogram: Histogram<i64> = made(rt.alloc(), Temporality::Cumulative, bounds, true)?;
+    assert!(rt; is_taken_in(&mut histogram).unwrap_or(false));
     Ok(())
 }
 
@@ -275,15 +281,20 @@ fn restarts(alloc: Global, histogram: &mut Histogram<i64>) -> Result<bool, Fault
     Ok(moments && data.temporality() == Temporality::Delta)
 }
 
+/// Whether a delta histogram without records starts again after two.
+fn starts_again(alloc: Global, histogram: &mut Histogram<i64>) -> Result<bool, Fault> {
+    measure(alloc, histogram, NONE, &[-1, 1])?;
+    let is_one = count_points(alloc, histogram)? == 1;
+    histogram.finish(200);
+    let is_nothing = histogram.total() == 0;
+    histogram.measure(5, &[])?;
+    Ok(is_one && is_nothing && restarts(alloc, histogram)?)
+}
+
 #[test]
 fn a_delta_histogram_starts_again(rt: HostRuntime) -> Result<(), Fail> {
-    let alloc = rt.alloc();
-    let mut histogram = made(alloc, Temporality::Delta, rising(alloc, &[0])?, true)?;
-    assert!(rt; measure(alloc, &mut histogram, NONE, &[-1, 1]).is_ok());
-    assert_eq!(rt; count_points(alloc, &histogram).unwrap_or(0), 1);
-    histogram.finish(200);
-    assert_eq!(rt; histogram.total(), 0);
-    assert!(rt; histogram.measure(5, &[]).is_ok());
-    assert!(rt; restarts(alloc, &mut histogram).unwrap_or(false));
+    let bounds = rising(rt.alloc(), &[0])?;
+    let mut histogram = made(rt.alloc(), Temporality::Delta, bounds, true)?;
+    assert!(rt; starts_again(rt.alloc(), &mut histogram).unwrap_or(false));
     Ok(())
 }

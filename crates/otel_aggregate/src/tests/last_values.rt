@@ -83,36 +83,46 @@ fn gives<T: Number + Drop + PartialEq>(
     are_last_values(alloc, &data, start, now, wanted)
 }
 
+/// Whether last values that are kept show one record of 2.
+fn aggregates(alloc: Global, gauge: &mut LastValue<u64>) -> Result<bool, Fault> {
+    measure(alloc, gauge, B, 2)?;
+    gives(alloc, gauge, 100, 200, &[(B, 2)])
+}
+
 #[test]
 fn last_value_aggregation(rt: HostRuntime) -> Result<(), Fail> {
-    let alloc = rt.alloc();
-    let mut gauge = made::<u64>(alloc, Temporality::Cumulative)?;
-    assert!(rt; measure(alloc, &mut gauge, B, 2).is_ok());
-    assert!(rt; gives(alloc, &mut gauge, 100, 200, &[(B, 2)]).unwrap_or(false));
+    let mut gauge = made::<u64>(rt.alloc(), Temporality::Cumulative)?;
+    assert!(rt; aggregates(rt.alloc(), &mut gauge).unwrap_or(false));
     Ok(())
+}
+
+/// Whether the last of two values stays from collection to collection.
+fn stays(alloc: Global, gauge: &mut LastValue<i64>) -> Result<bool, Fault> {
+    let is_still = !gauge.resets() && !gauge.is_prepared();
+    gauge.measure(7, &[])?;
+    take_in(gauge, -3)?;
+    let is_shown = gauge.total() == 0 && shows(alloc, gauge, 200, &[(NONE, -3)])?;
+    gauge.finish(200);
+    Ok(is_still && is_shown && gives(alloc, gauge, 100, 300, &[(NONE, -3)])?)
 }
 
 #[test]
 fn the_last_value_stays(rt: HostRuntime) -> Result<(), Fail> {
-    let alloc = rt.alloc();
-    let mut gauge = made::<i64>(alloc, Temporality::Cumulative)?;
-    assert!(rt; !gauge.resets());
-    assert!(rt; !gauge.is_prepared());
-    assert!(rt; gauge.measure(7, &[]).is_ok());
-    assert!(rt; take_in(&mut gauge, -3).is_ok());
-    assert_eq!(rt; gauge.total(), 0);
-    assert!(rt; shows(alloc, &gauge, 200, &[(NONE, -3)]).unwrap_or(false));
-    gauge.finish(200);
-    assert!(rt; gives(alloc, &mut gauge, 100, 300, &[(NONE, -3)]).unwrap_or(false));
+    let mut gauge = made::<i64>(rt.alloc(), Temporality::Cumulative)?;
+    assert!(rt; stays(rt.alloc(), &mut gauge).unwrap_or(false));
     Ok(())
+}
+
+/// Whether a value is shown once.
+fn is_forgotten(alloc: Global, gauge: &mut LastValue<i64>) -> Result<bool, Fault> {
+    measure(alloc, gauge, X, 7)?;
+    let is_shown = gives(alloc, gauge, 100, 200, &[(X, 7)])?;
+    Ok(is_shown && gives(alloc, gauge, 200, 300, &[])?)
 }
 
 #[test]
 fn a_delta_value_is_forgotten(rt: HostRuntime) -> Result<(), Fail> {
-    let alloc = rt.alloc();
-    let mut gauge = made::<i64>(alloc, Temporality::Delta)?;
-    assert!(rt; measure(alloc, &mut gauge, X, 7).is_ok());
-    assert!(rt; gives(alloc, &mut gauge, 100, 200, &[(X, 7)]).unwrap_or(false));
-    assert!(rt; gives(alloc, &mut gauge, 200, 300, &[]).unwrap_or(false));
+    let mut gauge = made::<i64>(rt.alloc(), Temporality::Delta)?;
+    assert!(rt; is_forgotten(rt.alloc(), &mut gauge).unwrap_or(false));
     Ok(())
 }

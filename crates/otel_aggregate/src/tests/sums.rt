@@ -162,16 +162,21 @@ fn made<T: Number + Drop>(alloc: Global, kind: Kind, limit: usize) -> Result<Sum
     )?)
 }
 
-/// Whether a sum of this kind and limit, made at 100, goes so from step to step.
-fn follows(alloc: Global, kind: Kind, limit: usize, steps: &[Step]) -> Result<bool, Fault> {
-    let mut sum = made(alloc, kind, limit)?;
+/// Does all steps, and tells whether what is seen is as wanted.
+fn goes_on(alloc: Global, sum: &mut Sum<u64>, kind: Kind, steps: &[Step]) -> Result<bool, Fault> {
     let mut as_wanted = sum.resets() == (kind.temporality == Temporality::Delta);
     for step in steps {
-        if !goes(alloc, &mut sum, kind, step)? {
+        if !goes(alloc, sum, kind, step)? {
             as_wanted = false;
         }
     }
     Ok(as_wanted)
+}
+
+/// Whether a sum of this kind and limit, made at 100, goes so from step to step.
+fn follows(alloc: Global, kind: Kind, limit: usize, steps: &[Step]) -> Result<bool, Fault> {
+    let mut sum = made(alloc, kind, limit)?;
+    Ok(goes_on(alloc, &mut sum, kind, steps).unwrap_or(false))
 }
 
 #[test]
@@ -281,10 +286,10 @@ fn delta_moments_of_zero(rt: HostRuntime) -> Result<(), Fail> {
 #[test]
 fn the_order_of_attributes_does_not_matter(rt: HostRuntime) -> Result<(), Fail> {
     let steps: [Step; 4] = [
-        Step::Record("b=1 a=2", 1),
-        Step::Record("a=2 b=1", 2),
-        Step::Record("a=2 a=9 b=1", 4),
-        Step::Gives(100, 200, &[("a=2 b=1", 7)]),
+        Step::Record(Set::BThenA, 1),
+        Step::Record(Set::AThenB, 2),
+        Step::Record(Set::TwiceAThenB, 4),
+        Step::Gives(100, 200, &[(Set::AThenB, 7)]),
     ];
     assert!(rt; follows(rt.alloc(), CUMULATIVE, 10, &steps)?);
     Ok(())
@@ -297,10 +302,10 @@ fn an_allow_list_drops_other_keys(rt: HostRuntime) -> Result<(), Fail> {
         ..CUMULATIVE
     };
     let steps: [Step; 4] = [
-        Step::Record("b=1 a=2", 1),
-        Step::Record("c=2 b=1", 2),
-        Step::Record("a=1", 4),
-        Step::Gives(100, 200, &[(NONE, 4), ("b=1", 3)]),
+        Step::Record(Set::BThenA, 1),
+        Step::Record(Set::CThenB, 2),
+        Step::Record(Set::A, 4),
+        Step::Gives(100, 200, &[(NONE, 4), (Set::OneB, 3)]),
     ];
     assert!(rt; follows(rt.alloc(), kind, 10, &steps)?);
     Ok(())
@@ -343,22 +348,24 @@ fn sum_aggregation(rt: HostRuntime) -> Result<(), Fail> {
     Ok(())
 }
 
+/// Whether a plain sum of signed numbers wraps around, and stays from collection to collection.
+fn wraps_around(alloc: Global, sum: &mut Sum<i64>, kind: Kind) -> Result<bool, Fault> {
+    let want = [(NONE, -9223372036854775808i64)];
+    prepare(alloc, sum, NONE)?;
+    let is_taken = take_in(sum, 9223372036854775807) && record(alloc, sum, NONE, 1)?;
+    let is_counted = sum.total() == 9223372036854775808 && !sum.resets();
+    let is_shown = shows(alloc, sum, kind, (100, 200), &want)?;
+    sum.finish(200);
+    Ok(is_taken && is_counted && is_shown && gives(alloc, sum, kind, (100, 300), &want)?)
+}
+
 #[test]
 fn row_13(rt: HostRuntime) -> Result<(), Fail> {
-    let alloc = rt.alloc();
     let kind = Kind {
         is_monotonic: false,
         ..CUMULATIVE
     };
-    let want = [(NONE, -9223372036854775808i64)];
-    let mut sum = made::<i64>(alloc, kind, 10)?;
-    assert!(rt; prepare(alloc, &mut sum, NONE).is_ok());
-    assert!(rt; take_in(&mut sum, 9223372036854775807));
-    assert!(rt; record(alloc, &mut sum, NONE, 1).is_ok());
-    assert_eq!(rt; sum.total(), 9223372036854775808);
-    assert!(rt; !sum.resets());
-    assert!(rt; shows(alloc, &sum, kind, (100, 200), &want).unwrap_or(false));
-    sum.finish(200);
-    assert!(rt; gives(alloc, &mut sum, kind, (100, 300), &want).unwrap_or(false));
+    let mut sum = made::<i64>(rt.alloc(), kind, 10)?;
+    assert!(rt; wraps_around(rt.alloc(), &mut sum, kind).unwrap_or(false));
     Ok(())
 }

@@ -10,7 +10,7 @@ use crate::view::View;
 use otel_common::faults::Fault;
 use otel_common::laws::equal_aggregations;
 use otel_common::lists::Items;
-use otel_common::metrics::Aggregation;
+use otel_common::metrics::{Aggregation, MetricError};
 use otel_common::scopes::InstrumentationScope;
 use otel_common::strings::StringValue;
 use std::alloc::Global;
@@ -43,97 +43,122 @@ fn hits(alloc: Global) -> Result<Instrument, Fail> {
     })
 }
 
-#[test]
-fn instruments_show_their_parts(rt: HostRuntime) -> Result<(), Fail> {
-    let instrument = hits(rt.alloc())?;
-    assert_eq!(rt; instrument.name(), "hits");
-    assert_eq!(rt; instrument.unit(), "1");
-    assert!(rt; instrument.kind() == InstrumentKind::Counter);
-    assert_eq!(rt; instrument.scope().name(), "");
-    Ok(())
+/// Whether an instrument has the parts of `hits`.
+fn is_hits(instrument: &Instrument) -> bool {
+    instrument.name() == "hits"
+        && instrument.unit() == "1"
+        && instrument.kind() == InstrumentKind::Counter
+        && instrument.scope().name() == ""
 }
 
-#[test]
-fn instruments_are_equal_by_their_parts(rt: HostRuntime) -> Result<(), Fail> {
+/// Whether an instrument equals its copy, and its copy without a description not.
+fn is_equal_by_parts(instrument: &Instrument, nothing: StringValue) -> Result<bool, Fault> {
     equal_instruments();
-    let instrument = hits(rt.alloc())?;
     let mut other = instrument.clone()?;
-    assert!(rt; instrument == other);
-    other.description = StringValue::new(rt.alloc(), "")?;
-    assert!(rt; instrument != other);
+    let is_equal = *instrument == other;
+    other.description = nothing;
+    Ok(is_equal && *instrument != other)
+}
+
+#[test]
+fn instruments_have_their_parts(rt: HostRuntime) -> Result<(), Fail> {
+    let nothing = StringValue::new(rt.alloc(), "")?;
+    let instrument = hits(rt.alloc())?;
+    assert!(rt; is_hits(&instrument));
+    assert!(rt; is_equal_by_parts(&instrument, nothing).unwrap_or(false));
     Ok(())
 }
 
-/// The limit that a view gives to the streams of an instrument.
-fn limit_by<V: View>(view: &V, instrument: &Instrument) -> Result<Option<usize>, Fault> {
-    match view.match_inst(instrument)? {
-        Some(stream) => Ok(stream.cardinality_limit()),
-        None => Ok(None),
+/// Whether a view gives this limit to the streams of an instrument.
+fn limits<V: View>(view: &V, instrument: &Instrument, limit: usize) -> bool {
+    match view.match_inst(instrument) {
+        Ok(Some(stream)) => stream.cardinality_limit() == Some(limit),
+        _ => false,
     }
+}
+
+fn boxed_limits(view: &Box<dyn View>, instrument: &Instrument, limit: usize) -> bool {
+    boxed_view(view);
+    limits(view, instrument, limit)
 }
 
 #[test]
 fn boxes_answer_what_is_in_them(rt: HostRuntime) -> Result<(), Fail> {
-    let alloc = rt.alloc();
+    let instrument = hits(rt.alloc())?;
     let stream = Stream::builder().with_cardinality_limit(7).build()?;
-    let boxed: Box<dyn View> = Box::new(alloc, Limiting { stream })?;
-    boxed_view(&boxed);
-    assert!(rt; limit_by(&boxed, &hits(alloc)?)? == Some(7));
+    let boxed: Box<dyn View> = Box::new(rt.alloc(), Limiting { stream })?;
+    assert!(rt; boxed_limits(&boxed, &instrument, 7));
     Ok(())
+}
+
+/// Whether an answer is an error of this text.
+fn is_refused(alloc: Global, answer: Result<(), MetricError>, text: &str) -> Result<bool, Fail> {
+    match answer {
+        Ok(()) => Ok(false),
+        Err(error) => Ok(format!(in alloc; "{error}")?.as_str() == text),
+    }
 }
 
 #[test]
 fn aggregations_fit_kinds(rt: HostRuntime) -> Result<(), Fail> {
-    let alloc = rt.alloc();
     let fits = is_aggregator_compatible(InstrumentKind::Counter, &Aggregation::Sum);
     assert!(rt; fits.is_ok());
-    let Err(error) = is_aggregator_compatible(InstrumentKind::Gauge, &Aggregation::Sum) else {
-        return Err(Fail::new("it is accepted"));
-    };
-    assert_eq!(rt;
-        format!(in alloc; "{error}")?.as_str(),
-        "Metrics error: incompatible aggregation"
+    let answer = is_aggregator_compatible(InstrumentKind::Gauge, &Aggregation::Sum);
+    assert!(rt;
+        is_refused(
+            rt.alloc(),
+            answer,
+            "Metrics error: incompatible aggregation"
+        )?
     );
     Ok(())
 }
 
-fn histogram(alloc: Global, bounds: &[i64]) -> Result<Aggregation, Fail> {
+fn histogram(alloc: Global, bounds: &[i64]) -> Result<Aggregation, Fault> {
     Ok(Aggregation::ExplicitBucketHistogram {
         boundaries: Items::from(Vec::from_slice(alloc, bounds)?),
         record_min_max: true,
     })
 }
 
+/// Whether a histogram of these bounds is good.
+fn is_valid(alloc: Global, bounds: &[i64]) -> Result<bool, Fault> {
+    Ok(histogram(alloc, bounds)?.validate().is_ok())
+}
+
 #[test]
 fn validate_aggregation(rt: HostRuntime) -> Result<(), Fail> {
     let alloc = rt.alloc();
     assert!(rt; Aggregation::Default.validate().is_ok());
-    assert!(rt; histogram(alloc, &[0])?.validate().is_ok());
-    assert!(rt; histogram(alloc, &[0, 2, 4, 8])?.validate().is_ok());
-    let Err(error) = histogram(alloc, &[2, 0, 4, 8])?.validate() else {
-        return Err(Fail::new("it is accepted"));
-    };
-    assert_eq!(rt;
-        format!(in alloc; "{error}")?.as_str(),
-        "Config error aggregation: explicit bucket histogram: non-monotonic boundaries"
-    );
+    assert!(rt; is_valid(alloc, &[0])?);
+    assert!(rt; is_valid(alloc, &[0, 2, 4, 8])?);
+    let answer = histogram(alloc, &[2, 0, 4, 8])?.validate();
+    let text = "Config error aggregation: explicit bucket histogram: non-monotonic boundaries";
+    assert!(rt; is_refused(alloc, answer, text)?);
     Ok(())
+}
+
+/// Whether an aggregation equals its copy.
+fn is_copied(aggregation: &Aggregation) -> bool {
+    equal_aggregations();
+    match aggregation.clone() {
+        Ok(copy) => *aggregation == copy,
+        Err(_) => false,
+    }
+}
+
+fn is_named(alloc: Global, aggregation: Aggregation, name: &str) -> Result<bool, Fail> {
+    Ok(is_copied(&aggregation) && format!(in alloc; "{aggregation}")?.as_str() == name)
 }
 
 #[test]
 fn aggregations_show_their_names(rt: HostRuntime) -> Result<(), Fail> {
     let alloc = rt.alloc();
-    equal_aggregations();
+    assert!(rt; is_named(alloc, Aggregation::Drop, "Drop")?);
+    assert!(rt; is_named(alloc, Aggregation::Default, "Default")?);
+    assert!(rt; is_named(alloc, Aggregation::Sum, "Sum")?);
+    assert!(rt; is_named(alloc, Aggregation::LastValue, "LastValue")?);
     let histogram = histogram(alloc, &[1])?;
-    assert!(rt; histogram == histogram.clone()?);
-    for (aggregation, name) in [
-        (Aggregation::Drop, "Drop"),
-        (Aggregation::Default, "Default"),
-        (Aggregation::Sum, "Sum"),
-        (Aggregation::LastValue, "LastValue"),
-        (histogram, "ExplicitBucketHistogram"),
-    ] {
-        assert_eq!(rt; format!(in alloc; "{aggregation}")?.as_str(), name);
-    }
+    assert!(rt; is_named(alloc, histogram, "ExplicitBucketHistogram")?);
     Ok(())
 }

@@ -1,25 +1,53 @@
 //! Which settings of streams are refused, and by which text.
 
 use crate::stream::{Stream, StreamBuilder};
+use crate::stream_fault::StreamFault;
+use otel_common::faults::Fault;
 use otel_common::keys::Key;
 use otel_common::lists::Items;
 use otel_common::metrics::Aggregation;
 use std::alloc::Global;
 use std::test::Fail;
 
-/// What a builder answers: `Ok`, or the fault's text.
-fn answer_of(alloc: Global, builder: StreamBuilder) -> Result<String, Fail> {
-    match builder.build() {
-        Ok(_) => Ok(String::from_str(alloc, "Ok")?),
-        Err(fault) => Ok(format!(in alloc; "{fault}")?),
+/// The fault of a builder, if it is refused.
+fn fault_of(builder: StreamBuilder) -> Option<StreamFault> {
+    builder.build().err()
+}
+
+/// Whether a fault shows this text; no fault shows `Ok`.
+fn shows(alloc: Global, fault: Option<StreamFault>, text: &str) -> Result<bool, Fail> {
+    match fault {
+        None => Ok(text == "Ok"),
+        Some(fault) => Ok(format!(in alloc; "{fault}")?.as_str() == text),
     }
 }
 
-fn histogram(alloc: Global, bounds: &[i64]) -> Result<Aggregation, Fail> {
-    Ok(Aggregation::ExplicitBucketHistogram {
+fn fault_by_name(alloc: Global, name: &str) -> Result<Option<StreamFault>, Fault> {
+    let name = String::from_str(alloc, name)?;
+    Ok(fault_of(Stream::builder().with_name(name)))
+}
+
+fn fault_by_unit(alloc: Global, unit: &str) -> Result<Option<StreamFault>, Fault> {
+    let unit = String::from_str(alloc, unit)?;
+    Ok(fault_of(Stream::builder().with_unit(unit)))
+}
+
+fn fault_by_bounds(alloc: Global, bounds: &[i64]) -> Result<Option<StreamFault>, Fault> {
+    let histogram = Aggregation::ExplicitBucketHistogram {
         boundaries: Items::from(Vec::from_slice(alloc, bounds)?),
         record_min_max: true,
-    })
+    };
+    Ok(fault_of(Stream::builder().with_aggregation(histogram)))
+}
+
+fn fault_by_limit(limit: usize) -> Option<StreamFault> {
+    fault_of(Stream::builder().with_cardinality_limit(limit))
+}
+
+/// Whether a builder with this unit shows this text, or `Ok`.
+fn unit_shows(alloc: Global, unit: &str, text: &str) -> Result<bool, Fail> {
+    let fault = fault_by_unit(alloc, unit)?;
+    shows(alloc, fault, text)
 }
 
 #[test]
@@ -41,8 +69,7 @@ fn stream_name_no_validation(rt: HostRuntime) -> Result<(), Fail> {
         "",
         long.as_str(),
     ] {
-        let builder = Stream::builder().with_name(String::from_str(alloc, name)?);
-        assert_eq!(rt; answer_of(alloc, builder)?.as_str(), "Ok", "of {name}");
+        assert!(rt; fault_by_name(alloc, name)?.is_none(), "of {name}");
     }
     Ok(())
 }
@@ -59,8 +86,7 @@ fn stream_unit_validation(rt: HostRuntime) -> Result<(), Fail> {
         ("%", "Ok"),
         ("", "Ok"),
     ] {
-        let builder = Stream::builder().with_unit(String::from_str(alloc, unit)?);
-        assert_eq!(rt; answer_of(alloc, builder)?.as_str(), answer, "of {unit}");
+        assert!(rt; unit_shows(alloc, unit, answer)?, "of {unit}");
     }
     Ok(())
 }
@@ -77,8 +103,7 @@ fn stream_cardinality_limit_validation(rt: HostRuntime) -> Result<(), Fail> {
         (100, "Ok"),
         (1000, "Ok"),
     ] {
-        let builder = Stream::builder().with_cardinality_limit(limit);
-        assert_eq!(rt; answer_of(alloc, builder)?.as_str(), answer, "of {limit}");
+        assert!(rt; shows(alloc, fault_by_limit(limit), answer)?, "of {limit}");
     }
     Ok(())
 }
@@ -86,31 +111,33 @@ fn stream_cardinality_limit_validation(rt: HostRuntime) -> Result<(), Fail> {
 #[test]
 fn stream_histogram_bucket_validation(rt: HostRuntime) -> Result<(), Fail> {
     let alloc = rt.alloc();
-    let fault = "Bucket boundaries must be sorted and not contain any duplicates";
-    let valid = histogram(alloc, &[1, 2, 5, 10, 20, 50, 100])?;
-    let builder = Stream::builder().with_aggregation(valid);
-    assert_eq!(rt; answer_of(alloc, builder)?.as_str(), "Ok");
-    let unsorted = histogram(alloc, &[1, 5, 2, 10])?;
-    let builder = Stream::builder().with_aggregation(unsorted);
-    assert_eq!(rt; answer_of(alloc, builder)?.as_str(), fault);
-    let doubled = histogram(alloc, &[1, 2, 5, 5, 10])?;
-    let builder = Stream::builder().with_aggregation(doubled);
-    assert_eq!(rt; answer_of(alloc, builder)?.as_str(), fault);
+    let valid = fault_by_bounds(alloc, &[1, 2, 5, 10, 20, 50, 100])?;
+    assert!(rt; valid.is_none());
+    let unsorted = fault_by_bounds(alloc, &[1, 5, 2, 10])?;
+    assert!(rt; unsorted == Some(StreamFault::Boundaries));
+    let doubled = fault_by_bounds(alloc, &[1, 2, 5, 5, 10])?;
+    let text = "Bucket boundaries must be sorted and not contain any duplicates";
+    assert!(rt; shows(alloc, doubled, text)?);
     Ok(())
 }
 
-fn with_texts(alloc: Global, builder: StreamBuilder) -> Result<StreamBuilder, Fail> {
-    Ok(
-        builder
-            .with_name(String::from_str(alloc, "valid_name")?)
-            .with_description(String::from_str(alloc, "A valid stream")?)
-            .with_unit(String::from_str(alloc, "ms")?),
-    )
+/// A builder with each setting, of these texts and keys.
+fn with_all(name: String, description: String, unit: String, keys: Vec<Key>) -> StreamBuilder {
+    StreamBuilder::default()
+        .with_name(name)
+        .with_description(description)
+        .with_unit(unit)
+        .with_allowed_attribute_keys(keys)
+        .with_aggregation(Aggregation::Sum)
+        .with_cardinality_limit(100)
 }
 
-fn with_keys(alloc: Global, builder: StreamBuilder) -> Result<StreamBuilder, Fail> {
+fn builder(alloc: Global) -> Result<StreamBuilder, Fault> {
+    let name = String::from_str(alloc, "valid_name")?;
+    let description = String::from_str(alloc, "A valid stream")?;
+    let unit = String::from_str(alloc, "ms")?;
     let keys = vec![in alloc; Key::new(alloc, "a")?]?;
-    Ok(builder.with_allowed_attribute_keys(keys))
+    Ok(with_all(name, description, unit, keys))
 }
 
 fn has_texts(stream: &Stream) -> bool {
@@ -125,27 +152,46 @@ fn has_rest(stream: &Stream) -> bool {
             .allowed_attribute_keys()
             .is_some_and(|keys| keys.len() == 1)
         && stream.cardinality_limit() == Some(100)
+        && stream.spec().limit == Some(100)
+}
+
+fn is_valid_build(stream: &Stream) -> bool {
+    stream.lawful();
+    has_texts(stream) && has_rest(stream)
+}
+
+/// Whether a builder builds a stream that has all settings, and whose copy has.
+fn builds(builder: StreamBuilder) -> bool {
+    match builder.build() {
+        Ok(stream) => is_valid_build(&stream) && copy_is_valid(&stream),
+        Err(_) => false,
+    }
+}
+
+fn copy_is_valid(stream: &Stream) -> bool {
+    match stream.clone() {
+        Ok(copy) => is_valid_build(&copy),
+        Err(_) => false,
+    }
+}
+
+/// Whether a copy of a builder builds a stream that has all settings.
+fn copy_builds(builder: &StreamBuilder) -> bool {
+    match builder.clone() {
+        Ok(copy) => builds(copy),
+        Err(_) => false,
+    }
+}
+
+/// Whether a stream of which nothing was said has no name.
+fn default_has_no_name() -> bool {
+    Stream::default().name().is_none()
 }
 
 /// Each setting once, with its getter.
 #[test]
 fn stream_valid_build(rt: HostRuntime) -> Result<(), Fail> {
-    let builder = with_texts(rt.alloc(), StreamBuilder::default())?;
-    let builder = with_keys(rt.alloc(), builder)?
-        .with_aggregation(Aggregation::Sum)
-        .with_cardinality_limit(100);
-    let stream = builder.build()?;
-    assert!(rt; has_texts(&stream));
-    assert!(rt; has_rest(&stream));
-    Ok(())
-}
-
-#[test]
-fn copies_and_defaults(rt: HostRuntime) -> Result<(), Fail> {
-    let builder = Stream::builder().with_cardinality_limit(100);
-    let stream = builder.clone()?.build()?.clone()?;
-    stream.lawful();
-    assert!(rt; stream.spec().limit == Some(100));
-    assert!(rt; Stream::default().cardinality_limit().is_none());
+    assert!(rt; copy_builds(&builder(rt.alloc())?));
+    assert!(rt; default_has_no_name());
     Ok(())
 }

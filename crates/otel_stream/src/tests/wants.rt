@@ -2,14 +2,13 @@
 
 ghost use Rattle.otel_common.specs.declared.metrics.Temporality.TheVariants.{Delta};
 
-use super::{KINDS, wanted};
+use super::{DELTA, KINDS, prefers};
 use crate::answers::Answers;
 use crate::instrument::InstrumentKind;
 use crate::laws::{boxed_reader, plain_answers};
 use crate::limit::CardinalityLimit;
-use crate::manual_reader::{ManualReader, ManualReaderBuilder};
+use crate::manual_reader::ManualReader;
 use crate::reader::MetricReader;
-use crate::stream_fault::StreamFault;
 use otel_common::lists::Items;
 use otel_common::metrics::{Aggregation, Temporality};
 use std::alloc::Global;
@@ -28,28 +27,18 @@ impl MetricReader for Old {
     }
 }
 
-/// The limits of a reader for the seven kinds, 0 for none.
-fn limits_of<R: MetricReader>(alloc: Global, reader: &R) -> Result<Vec<usize>, Fail> {
-    let mut limits = Vec::new(alloc);
-    for kind in KINDS {
-        limits.push(match reader.cardinality_limit(kind) {
-            Some(limit) => limit.get(),
-            None => 0,
-        })?;
-    }
-    Ok(limits)
-}
+/// The limits for the seven kinds, 0 for none.
+const NO_LIMITS: [usize; 7] = [0, 0, 0, 0, 0, 0, 0];
 
-/// Those that a reader answered.
-fn answered_limits(alloc: Global, answers: &Answers) -> Result<Vec<usize>, Fail> {
-    let mut limits = Vec::new(alloc);
-    for kind in KINDS {
-        limits.push(answers.limit(kind).unwrap_or(0))?;
-    }
-    Ok(limits)
-}
+const SOME_LIMITS: [usize; 7] = [6, 0, 0, 0, 0, 7, 0];
 
-/// A letter for an aggregation: D drop, A default, S sum, L last value, H histogram, `-` for none.
+/// The aggregations for the seven kinds, a letter each, as `letter_of` has them.
+const NO_AGGREGATIONS: [&str; 7] = ["-", "-", "-", "-", "-", "-", "-"];
+
+const SOME_AGGREGATIONS: [&str; 7] = ["D", "-", "H", "-", "-", "-", "-"];
+
+/// A letter for an aggregation: D drop, A default, S sum, L last value, H histogram of the bounds 10 and 20 alone, `-`
+/// for none, `?` for another histogram.
 fn letter_of(aggregation: Option<&Aggregation>) -> &'static str {
     match aggregation {
         None => "-",
@@ -57,145 +46,151 @@ fn letter_of(aggregation: Option<&Aggregation>) -> &'static str {
         Some(Aggregation::Default) => "A",
         Some(Aggregation::Sum) => "S",
         Some(Aggregation::LastValue) => "L",
-        Some(Aggregation::ExplicitBucketHistogram { .. }) => "H",
-    }
-}
-
-/// The aggregations of a reader for the seven kinds.
-fn aggregations_of<R: MetricReader>(alloc: Global, reader: &R) -> Result<String, Fail> {
-    let mut text = String::new(alloc);
-    for kind in KINDS {
-        text.push_str(letter_of(reader.default_aggregation(kind)))?;
-    }
-    Ok(text)
-}
-
-/// Those that a reader answered.
-fn answered_aggregations(alloc: Global, answers: &Answers) -> Result<String, Fail> {
-    let mut text = String::new(alloc);
-    for kind in KINDS {
-        text.push_str(letter_of(answers.aggregation(kind)))?;
-    }
-    Ok(text)
-}
-
-/// A builder with limits for two kinds, one of them given twice, and aggregations for two, likewise.
-fn builder(alloc: Global) -> Result<ManualReaderBuilder, Fail> {
-    let histogram = Aggregation::ExplicitBucketHistogram {
-        boundaries: Items::from(vec![in alloc; 10i64, 20]?),
-        record_min_max: false,
-    };
-    Ok(
-        ManualReader::builder()
-            .with_cardinality_limit(InstrumentKind::Counter, CardinalityLimit::new(5)?)
-            .with_default_aggregation(InstrumentKind::Histogram, Aggregation::Sum)
-            .with_cardinality_limit(InstrumentKind::Gauge, CardinalityLimit::new(7)?)
-            .with_default_aggregation(InstrumentKind::Counter, Aggregation::Drop)
-            .with_cardinality_limit(InstrumentKind::Counter, CardinalityLimit::new(6)?)
-            .with_default_aggregation(InstrumentKind::Histogram, histogram)
-            .with_temporality(Temporality::Delta),
-    )
-}
-
-#[test]
-fn limits_keep_their_numbers(rt: HostRuntime) -> Result<(), Fail> {
-    assert_eq!(rt; CardinalityLimit::new(1)?.get(), 1);
-    assert_eq!(rt;
-        CardinalityLimit::new(usize::MAX - 1)?.get(),
-        usize::MAX - 1
-    );
-    assert!(rt; matches!(&CardinalityLimit::new(0), Err(StreamFault::LimitZero)));
-    assert!(rt;
-        matches!(
-            &CardinalityLimit::new(usize::MAX),
-            Err(StreamFault::LimitMax)
-        )
-    );
-    Ok(())
-}
-
-#[test]
-fn readers_want_what_was_given_last(rt: HostRuntime) -> Result<(), Fail> {
-    let alloc = rt.alloc();
-    let reader = builder(alloc)?.build();
-    assert_eq!(rt; wanted(alloc, &reader)?.as_str(), "DCDDCDD");
-    assert_eq!(rt;
-        limits_of(alloc, &reader)?.as_slice(),
-        [6, 0, 0, 0, 0, 7, 0].as_slice()
-    );
-    assert_eq!(rt; aggregations_of(alloc, &reader)?.as_str(), "D-H----");
-    let plain = ManualReader::default();
-    assert_eq!(rt;
-        limits_of(alloc, &plain)?.as_slice(),
-        [0, 0, 0, 0, 0, 0, 0].as_slice()
-    );
-    assert_eq!(rt; aggregations_of(alloc, &plain)?.as_str(), "-------");
-    Ok(())
-}
-
-#[test]
-fn boxes_have_the_limits_of_what_is_in_them(rt: HostRuntime) -> Result<(), Fail> {
-    let alloc = rt.alloc();
-    let reader = builder(alloc)?.build();
-    let boxed: Box<dyn MetricReader> = Box::new(alloc, reader)?;
-    boxed_reader(&boxed);
-    assert_eq!(rt;
-        limits_of(alloc, &boxed)?.as_slice(),
-        [6, 0, 0, 0, 0, 7, 0].as_slice()
-    );
-    assert_eq!(rt; aggregations_of(alloc, &boxed)?.as_str(), "D-H----");
-    Ok(())
-}
-
-#[test]
-fn answers_are_kept(rt: HostRuntime) -> Result<(), Fail> {
-    let alloc = rt.alloc();
-    let reader = builder(alloc)?.build();
-    let boxed: Box<dyn MetricReader> = Box::new(alloc, reader)?;
-    let answers = Answers::of(alloc, &boxed)?;
-    assert_eq!(rt;
-        answers.temporality(InstrumentKind::UpDownCounter),
-        Temporality::Cumulative
-    );
-    assert_eq!(rt;
-        answered_limits(alloc, &answers)?.as_slice(),
-        [6, 0, 0, 0, 0, 7, 0].as_slice()
-    );
-    assert_eq!(rt; answered_aggregations(alloc, &answers)?.as_str(), "D-H----");
-    match answers.aggregation(InstrumentKind::Histogram) {
         Some(
             Aggregation::ExplicitBucketHistogram {
                 boundaries,
                 record_min_max,
             },
-        ) => {
-            assert_eq!(rt; boundaries.as_slice(), [10, 20].as_slice());
-            assert!(rt; !*record_min_max);
-            Ok(())
-        }
-        _ => Err("no histogram".into()),
+        ) => letter_of_histogram(boundaries.as_slice(), *record_min_max),
     }
+}
+
+fn letter_of_histogram(bounds: &[i64], has_min_max: bool) -> &'static str {
+    match bounds {
+        [10, 20] if !has_min_max => "H",
+        _ => "?",
+    }
+}
+
+/// The number of a limit, 0 for none.
+fn number_of(limit: Option<CardinalityLimit>) -> usize {
+    match limit {
+        Some(limit) => limit.get(),
+        None => 0,
+    }
+}
+
+/// Whether a reader wants these limits.
+fn limits<R: MetricReader>(reader: &R, numbers: [usize; 7]) -> bool {
+    let mut does = true;
+    for (kind, number) in KINDS.iter().zip(numbers.iter()) {
+        does = does && number_of(reader.cardinality_limit(*kind)) == *number;
+    }
+    does
+}
+
+/// Whether a reader wants these aggregations.
+fn aggregates<R: MetricReader>(reader: &R, letters: [&str; 7]) -> bool {
+    let mut does = true;
+    for (kind, letter) in KINDS.iter().zip(letters.iter()) {
+        does = does && letter_of(reader.default_aggregation(*kind)) == *letter;
+    }
+    does
+}
+
+/// Whether a reader answered these limits.
+fn answered_limits(answers: &Answers, numbers: [usize; 7]) -> bool {
+    let mut does = true;
+    for (kind, number) in KINDS.iter().zip(numbers.iter()) {
+        does = does && answers.limit(*kind).unwrap_or(0) == *number;
+    }
+    does
+}
+
+/// Whether a reader answered these aggregations.
+fn answered_aggregations(answers: &Answers, letters: [&str; 7]) -> bool {
+    let mut does = true;
+    for (kind, letter) in KINDS.iter().zip(letters.iter()) {
+        does = does && letter_of(answers.aggregation(*kind)) == *letter;
+    }
+    does
+}
+
+/// A reader with limits for two kinds, one of them given twice, and aggregations for two, likewise.
+fn built(limits: [CardinalityLimit; 3], histogram: Aggregation) -> ManualReader {
+    ManualReader::builder()
+        .with_cardinality_limit(InstrumentKind::Counter, limits[0])
+        .with_default_aggregation(InstrumentKind::Histogram, Aggregation::Sum)
+        .with_cardinality_limit(InstrumentKind::Gauge, limits[1])
+        .with_default_aggregation(InstrumentKind::Counter, Aggregation::Drop)
+        .with_cardinality_limit(InstrumentKind::Counter, limits[2])
+        .with_default_aggregation(InstrumentKind::Histogram, histogram)
+        .with_temporality(Temporality::Delta)
+        .build()
+}
+
+fn reader(alloc: Global) -> Result<ManualReader, Fail> {
+    let limits = [
+        CardinalityLimit::new(5)?,
+        CardinalityLimit::new(7)?,
+        CardinalityLimit::new(6)?,
+    ];
+    let histogram = Aggregation::ExplicitBucketHistogram {
+        boundaries: Items::from(vec![in alloc; 10i64, 20]?),
+        record_min_max: false,
+    };
+    Ok(built(limits, histogram))
+}
+
+/// Whether a reader, or a box of it, wants what was given last.
+fn wants_all<R: MetricReader>(reader: &R) -> bool {
+    prefers(reader, DELTA) && limits(reader, SOME_LIMITS) && aggregates(reader, SOME_AGGREGATIONS)
+}
+
+/// Whether a reader, or a box of it, wants no limits and no aggregations.
+fn wants_nothing<R: MetricReader>(reader: &R) -> bool {
+    limits(reader, NO_LIMITS) && aggregates(reader, NO_AGGREGATIONS)
+}
+
+fn boxed_wants_all(reader: &Box<dyn MetricReader>) -> bool {
+    boxed_reader(reader);
+    wants_all(reader)
+}
+
+#[test]
+fn readers_want_what_was_given_last(rt: HostRuntime) -> Result<(), Fail> {
+    assert!(rt; wants_nothing(&ManualReader::default()));
+    assert!(rt; wants_all(&reader(rt.alloc())?));
+    Ok(())
+}
+
+/// Whether a box wants what is in it.
+fn is_kept_in_a_box(alloc: Global) -> Result<bool, Fail> {
+    let boxed: Box<dyn MetricReader> = Box::new(alloc, reader(alloc)?)?;
+    Ok(boxed_wants_all(&boxed))
+}
+
+#[test]
+fn boxes_have_the_limits_of_what_is_in_them(rt: HostRuntime) -> Result<(), Fail> {
+    assert!(rt; is_kept_in_a_box(rt.alloc())?);
+    Ok(())
+}
+
+/// Whether a reader answered `Delta` for gauges, and these limits and aggregations.
+fn answered(answers: &Answers, numbers: [usize; 7], letters: [&str; 7]) -> bool {
+    answers.temporality(InstrumentKind::Gauge) == Temporality::Delta
+        && answered_limits(answers, numbers)
+        && answered_aggregations(answers, letters)
+}
+
+fn answers_of_a_box(alloc: Global, boxed: Box<dyn MetricReader>) -> Result<Answers, Fail> {
+    Ok(Answers::of(alloc, &boxed)?)
+}
+
+#[test]
+fn answers_are_kept(rt: HostRuntime) -> Result<(), Fail> {
+    let boxed: Box<dyn MetricReader> = Box::new(rt.alloc(), reader(rt.alloc())?)?;
+    let answers = answers_of_a_box(rt.alloc(), boxed)?;
+    assert!(rt; answered(&answers, SOME_LIMITS, SOME_AGGREGATIONS));
+    Ok(())
 }
 
 #[test]
 fn readers_without_limits_answer_none(rt: HostRuntime) -> Result<(), Fail> {
     plain_answers();
-    let alloc = rt.alloc();
-    assert_eq!(rt;
-        limits_of(alloc, &Old)?.as_slice(),
-        [0, 0, 0, 0, 0, 0, 0].as_slice()
-    );
-    assert_eq!(rt; aggregations_of(alloc, &Old)?.as_str(), "-------");
-    let boxed: Box<dyn MetricReader> = Box::new(alloc, Old)?;
-    let answers = Answers::of(alloc, &boxed)?;
-    assert_eq!(rt;
-        answers.temporality(InstrumentKind::Gauge),
-        Temporality::Delta
-    );
-    assert_eq!(rt;
-        answered_limits(alloc, &answers)?.as_slice(),
-        [0, 0, 0, 0, 0, 0, 0].as_slice()
-    );
-    assert_eq!(rt; answered_aggregations(alloc, &answers)?.as_str(), "-------");
+    assert!(rt; wants_nothing(&Old));
+    let boxed: Box<dyn MetricReader> = Box::new(rt.alloc(), Old)?;
+    let answers = answers_of_a_box(rt.alloc(), boxed)?;
+    assert!(rt; answered(&answers, NO_LIMITS, NO_AGGREGATIONS));
     Ok(())
 }
