@@ -1,6 +1,6 @@
 //! The checks of an instrument's name, unit and bounds.
 
-ghost use Rattle.std.specs.Prelude.{◌≡◌, cond, not, nat_lt, Some, None};
+ghost use Rattle.std.specs.Prelude.{◌≡◌, cond, not, Some, None};
 ghost use Rattle.std.specs.List.{list_any};
 ghost use Rattle.std.specs.Option.{option_map};
 ghost use Rattle.otel_model.specs.Checks.{name_fault, name_fault_text, optional_unit_fault, unit_fault_text, starts_badly, is_name_byte, bounds_fault_text};
@@ -9,6 +9,7 @@ ghost use Rattle.otel_provider.specs.Correspondence.{IsAnswer};
 
 use otel_common::bounds::is_rising;
 use otel_common::metrics::MetricError;
+use otel_stream::units::{UNIT_MAX, has_other_than_ascii};
 
 const NAME_EMPTY: &str = "name must be non-empty";
 
@@ -27,9 +28,6 @@ const BOUNDS: &str = "Bucket boundaries must be sorted and non-duplicate";
 
 /// The greatest length of a name, in bytes.
 const NAME_MAX: usize = 255;
-
-/// The greatest length of a unit, in bytes.
-const UNIT_MAX: usize = 63;
 
 fn is_name_character(byte: u8) -> bool
     ensures { result ≡ is_name_byte byte }
@@ -51,12 +49,6 @@ fn has_other_character(bytes: &[u8]) -> bool
     ensures { result ≡ list_any (λ b. not (is_name_byte b)) bytes.now }
 {
     bytes.iter().any(|byte| !is_name_character(*byte))
-}
-
-fn has_other_than_ascii(bytes: &[u8]) -> bool
-    ensures { result ≡ list_any (λ b. nat_lt 127 b) bytes.now }
-{
-    bytes.iter().any(|byte| *byte > 127)
 }
 
 /// Tells whether a name is good: 1 to 255 bytes, of which the first is an ASCII letter and the others
