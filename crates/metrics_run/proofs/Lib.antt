@@ -1,2 +1,5 @@
 mod Added
+mod Built
+mod Names
 mod Pairs
+mod PerKind
