@@ -36,6 +36,7 @@ row known4 1000 11000 1
 row known10 1000 11000 1
 row known4_other_order 1000 11000 1
 row known4_two_readers 1000 11000 1
+row known4_two_kept 1000 11000 1
 row histogram4 1000 11000 1
 row gauge4 1000 11000 1
 row new4 0 2000 1

@@ -5,10 +5,10 @@
 //!
 //! - [`common`]: attributes and their canonical sets, instrumentation scopes, faults;
 //! - [`resource`]: what all the metrics of a provider come from;
-//! - [`metrics`]: the provider and its calls, checks of instruments, settings of streams, readers, the data of a collection,
-//!   aggregation.
+//! - [`metrics`]: the provider and its calls, checks of instruments, views and settings of streams, readers, the data
+//!   of a collection, aggregation.
 //!
-//! A provider is made by its builder, from readers in boxes. Then it is asked by calls, each of which
+//! A provider is made by its builder, from views and readers in boxes. Then it is asked by calls, each of which
 //! is answered by a reply; a refused call changes nothing. A counter that takes in two records and is
 //! collected:
 //!

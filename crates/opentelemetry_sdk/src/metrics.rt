@@ -13,3 +13,4 @@ pub use otel_stream::instrument::{Instrument, InstrumentKind};
 pub use otel_stream::manual_reader::{ManualReader, ManualReaderBuilder};
 pub use otel_stream::stream::{Stream, StreamBuilder};
 pub use otel_stream::view;
+pub use otel_stream::view::View;

@@ -3,10 +3,24 @@
 use opentelemetry_sdk::common::{Fault, Key, KeyValue, StringValue, Value};
 use std::alloc::Global;
 
+/// The key of a number.
+fn key(alloc: Global, number: usize) -> Result<Key, Fault> {
+    let name = format!(in alloc; "attribute{number:02}")?;
+    Ok(Key::new(alloc, name.as_str())?)
+}
+
+/// The first keys, this many of them.
+pub fn first_keys(alloc: Global, count: usize) -> Result<Vec<Key>, Fault> {
+    let mut keys = Vec::new(alloc);
+    for number in 0..count {
+        keys.push(key(alloc, number)?)?;
+    }
+    Ok(keys)
+}
+
 /// An attribute whose key has this number.
 fn attribute(alloc: Global, number: usize, text: String) -> Result<KeyValue, Fault> {
-    let name = format!(in alloc; "attribute{number:02}")?;
-    let key = Key::new(alloc, name.as_str())?;
+    let key = key(alloc, number)?;
     Ok(KeyValue::new(key, Value::String(StringValue::from(text))))
 }
 

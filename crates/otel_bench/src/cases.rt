@@ -16,6 +16,11 @@ pub enum Case {
     OtherOrder {
         sort: InstrumentSort,
     },
+    /// Records of one set of 4 attributes, sorted by key, of which a view keeps this many.
+    Allowed {
+        sort: InstrumentSort,
+        kept: usize,
+    },
     /// Records of sets of 4 attributes, each for the first time; 2,000 in all.
     NewSets {
         sort: InstrumentSort,
@@ -63,6 +68,7 @@ pub fn case_named(name: &str) -> Option<Case> {
         "known10" => known(sort, 10, 1),
         "known4_two_readers" => known(sort, 4, 2),
         "known4_other_order" => Some(Case::OtherOrder { sort }),
+        "known4_two_kept" => Some(Case::Allowed { sort, kept: 2 }),
         "histogram4" => known(InstrumentSort::U64Histogram, 4, 1),
         "gauge4" => known(InstrumentSort::U64Gauge, 4, 1),
         "new4" => Some(Case::NewSets { sort }),

@@ -24,7 +24,7 @@ fn measure(rt: &impl Print, alloc: Global, name: &str, times: u64) -> Result<(),
         return Ok(());
     };
     let plan = plan_of(alloc, case)?;
-    let mut provider = provider_of(alloc, plan.readers, plan.temporality)?;
+    let mut provider = provider_of(alloc, plan.readers, plan.temporality, plan.kept)?;
     let made = calls_of_plan(&mut provider, &plan, times);
     println!(rt; "{name} {times} {made}")?;
     Ok(())

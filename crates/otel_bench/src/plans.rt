@@ -23,11 +23,13 @@ const MANY: usize = 10_000;
 /// How many streams are built where there are many.
 const MORE: usize = 2_000;
 
-/// The readers of a provider, and the calls that are made of it.
+/// The readers and the view of a provider, and the calls that are made of it.
 #[derive(Drop)]
 pub struct Plan {
     pub readers: usize,
     pub temporality: Temporality,
+    /// How many keys of attributes a view keeps, if there is a view.
+    pub kept: Option<usize>,
     /// The calls that are made first, once.
     pub before: Vec<Call>,
     /// The calls that are made each time before one is counted. They are not counted.
@@ -42,6 +44,7 @@ impl Plan {
         Plan {
             readers: 1,
             temporality: Temporality::Cumulative,
+            kept: None,
             before,
             between: Vec::new(alloc),
             counted,
@@ -73,6 +76,13 @@ fn sorted(
     let then = sorted_set(alloc, attributes)?;
     let mut plan = known_set(alloc, sort, first, then)?;
     plan.readers = readers;
+    Ok(plan)
+}
+
+/// Records of one set of 4 attributes of which a view keeps this many.
+fn allowed(alloc: Global, sort: InstrumentSort, kept: usize) -> Result<Plan, Fault> {
+    let mut plan = sorted(alloc, sort, 4, 1)?;
+    plan.kept = Some(kept);
     Ok(plan)
 }
 
@@ -141,6 +151,7 @@ pub fn plan_of(alloc: Global, case: Case) -> Result<Plan, Fault> {
             readers,
         } => sorted(alloc, sort, attributes, readers),
         Case::OtherOrder { sort } => other_order(alloc, sort),
+        Case::Allowed { sort, kept } => allowed(alloc, sort, kept),
         Case::NewSets { sort } => new_sets(alloc, sort),
         Case::PastLimit { sort } => past_limit(alloc, sort),
         Case::Collections { sort, temporality } => collections(alloc, sort, temporality),

@@ -1,29 +1,61 @@
 //! The provider that is measured.
 
+ghost use Rattle.std.specs.Prelude.{Some};
+
+use crate::attributes::first_keys;
+use anyhow::Error;
 use opentelemetry_sdk::common::Fault;
+use opentelemetry_sdk::metrics::instrument::{Instrument, Stream};
 use opentelemetry_sdk::metrics::provider::{Parts, Provider, ProviderBuilder};
-use opentelemetry_sdk::metrics::{ManualReader, Temporality};
+use opentelemetry_sdk::metrics::{ManualReader, Temporality, View};
 use std::alloc::Global;
 
-/// Readers that are all a `ManualReader`.
-pub struct OnlyManual;
+/// A view of every instrument.
+#[derive(Drop)]
+pub struct OfAll {
+    stream: Stream,
+}
 
-impl Parts for OnlyManual {
+impl View for OfAll {
+    ghost answer = { λ view _. Some view.stream };
+
+    fn match_inst(&self, inst: &Instrument) -> Result<Option<Stream>, Fault> {
+        let _ = inst;
+        Ok(Some(self.stream.clone()?))
+    }
+}
+
+/// Views and readers of one type each, without boxes.
+pub struct Plain;
+
+impl Parts for Plain {
+    type View = OfAll;
     type Reader = ManualReader;
 }
 
-/// A provider with this many readers of a temporality.
+/// A view that keeps this many keys of attributes.
+fn keeping(alloc: Global, kept: usize) -> Result<OfAll, Error> {
+    let keys = first_keys(alloc, kept)?;
+    let stream = Stream::builder().with_allowed_attribute_keys(keys).build()?;
+    Ok(OfAll { stream })
+}
+
+/// A provider with this many readers of a temporality, and perhaps a view that keeps so many keys.
 pub fn provider_of(
     alloc: Global,
     readers: usize,
     temporality: Temporality,
-) -> Result<Provider<OnlyManual>, Fault> {
-    let mut builder: ProviderBuilder<OnlyManual> = Provider::builder(alloc);
+    kept: Option<usize>,
+) -> Result<Provider<Plain>, Error> {
+    let mut builder: ProviderBuilder<Plain> = Provider::builder(alloc);
+    if let Some(kept) = kept {
+        builder = builder.with_view(keeping(alloc, kept)?)?;
+    }
     for _ in 0..readers {
         let reader = ManualReader::builder()
             .with_temporality(temporality)
             .build();
         builder = builder.with_reader(reader)?;
     }
-    builder.build()
+    Ok(builder.build()?)
 }

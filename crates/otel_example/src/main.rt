@@ -1,16 +1,20 @@
 //! A shop counts its requests: how a program uses the library.
 #![tactic(auto)]
 
+mod calls;
 mod parts;
 mod printing;
 mod shop;
+mod stand;
+mod views;
 
 use anyhow::Error;
 use opentelemetry_sdk::metrics::provider::{Provider, SdkMeterProvider};
 use opentelemetry_sdk::metrics::{ManualReader, Temporality};
 use parts::{OnlyManual, boxed_provider};
-use printing::print_sums;
+use printing::print_points;
 use shop::Shop;
+use stand::a_day;
 use std::alloc::Global;
 
 /// Readers in boxes, which may differ in type. The provider goes on when the shop is closed.
@@ -21,10 +25,10 @@ fn with_boxes(rt: &impl Print, alloc: Global) -> Result<(), Error> {
     shop.serve(alloc, "/cart")?;
     shop.serve(alloc, "/cart")?;
     shop.serve(alloc, "/")?;
-    print_sums(rt, &shop.collect(0, 200)?)?;
+    print_points(rt, &shop.collect(0, 200)?)?;
     let mut next = Shop::open(alloc, shop.close(), 300)?;
     next.serve(alloc, "/cart")?;
-    print_sums(rt, &next.collect(0, 400)?)?;
+    print_points(rt, &next.collect(0, 400)?)?;
     Ok(())
 }
 
@@ -36,14 +40,21 @@ fn without_boxes(rt: &impl Print, alloc: Global) -> Result<(), Error> {
     let provider: Provider<OnlyManual> = Provider::builder(alloc).with_reader(reader)?.build()?;
     let mut shop = Shop::open(alloc, provider, 100)?;
     shop.serve(alloc, "/cart")?;
-    print_sums(rt, &shop.collect(0, 200)?)?;
+    print_points(rt, &shop.collect(0, 200)?)?;
     shop.serve(alloc, "/cart")?;
     shop.serve(alloc, "/cart")?;
-    print_sums(rt, &shop.collect(0, 300)?)?;
+    print_points(rt, &shop.collect(0, 300)?)?;
+    Ok(())
+}
+
+/// Views that rename a stream, drop one, keep two attributes of five, set a limit and change buckets.
+fn with_views(rt: &impl Print, alloc: Global) -> Result<(), Error> {
+    print_points(rt, &a_day(alloc)?)?;
     Ok(())
 }
 
 fn main(rt: HostRuntime) -> Result<(), Error> {
     with_boxes(&rt, rt.alloc())?;
-    without_boxes(&rt, rt.alloc())
+    without_boxes(&rt, rt.alloc())?;
+    with_views(&rt, rt.alloc())
 }

@@ -1,15 +1,16 @@
-//! The readers that the program uses.
+//! The views and readers that the program uses.
 
 use opentelemetry_sdk::common::Fault;
-use opentelemetry_sdk::metrics::ManualReader;
+use opentelemetry_sdk::metrics::{ManualReader, View};
 use opentelemetry_sdk::metrics::provider::{Parts, SdkMeterProvider};
 use opentelemetry_sdk::metrics::reader::MetricReader;
 use std::alloc::Global;
 
-/// Readers that are all a `ManualReader`.
+/// Views in boxes, and readers that are all a `ManualReader`.
 pub struct OnlyManual;
 
 impl Parts for OnlyManual {
+    type View = Box<dyn View>;
     type Reader = ManualReader;
 }
 

@@ -2,41 +2,66 @@
 
 use opentelemetry_sdk::common::{KeyValue, Value};
 use opentelemetry_sdk::metrics::data::{
-    AggregatedMetrics, Metric, MetricData, ResourceMetrics, Sum,
+    AggregatedMetrics, HistogramDataPoint, Metric, MetricData, ResourceMetrics,
 };
 use std::io;
 use std::slice::Iter;
 
-/// The text of the first attribute, if it is one.
-fn text_of(attributes: Iter<'_, KeyValue>) -> &str {
+/// Prints the name of a metric and the attributes of a point.
+fn print_place(rt: &impl Print, name: &str, attributes: Iter<'_, KeyValue>) -> io::Result<()> {
+    print!(rt; "{name}")?;
     for attribute in attributes {
-        if let Value::String(text) = &attribute.value {
-            return text.as_str();
+        let key = attribute.key.as_str();
+        match &attribute.value {
+            Value::String(text) => print!(rt; " {key}={}", text.as_str())?,
+            Value::Bool(truth) => print!(rt; " {key}={truth}")?,
+            Value::I64(number) => print!(rt; " {key}={number}")?,
+            Value::Array(_) => print!(rt; " {key}=..")?,
         }
-    }
-    ""
-}
-
-/// Prints a line for each point of a sum.
-fn print_sum(rt: &impl Print, name: &str, sum: &Sum<u64>) -> io::Result<()> {
-    for point in sum.data_points() {
-        let value = point.value();
-        let text = text_of(point.attributes());
-        println!(rt; "{name} {text} {value}")?;
     }
     Ok(())
 }
 
-/// Prints the points of a metric, if it is a sum of unsigned numbers.
+/// Prints how many records fell into each bucket, and ends the line.
+fn print_buckets(rt: &impl Print, point: &HistogramDataPoint<u64>) -> io::Result<()> {
+    print!(rt; ":")?;
+    for count in point.bucket_counts() {
+        print!(rt; " {count}")?;
+    }
+    println!(rt; "")
+}
+
+/// Prints a line for each point of a metric of unsigned numbers.
+fn print_data(rt: &impl Print, name: &str, data: &MetricData<u64>) -> io::Result<()> {
+    match data {
+        MetricData::Sum(sum) => {
+            for point in sum.data_points() {
+                print_place(rt, name, point.attributes())?;
+                let value = point.value();
+                println!(rt; ": {value}")?;
+            }
+        }
+        MetricData::Histogram(histogram) => {
+            for point in histogram.data_points() {
+                print_place(rt, name, point.attributes())?;
+                print_buckets(rt, point)?;
+            }
+        }
+        MetricData::Gauge(_) => {}
+    }
+    Ok(())
+}
+
+/// Prints the points of a metric, if they are of unsigned numbers.
 fn print_metric(rt: &impl Print, metric: &Metric) -> io::Result<()> {
     match metric.data() {
-        AggregatedMetrics::U64(MetricData::Sum(sum)) => print_sum(rt, metric.name(), sum),
-        _ => Ok(()),
+        AggregatedMetrics::U64(data) => print_data(rt, metric.name(), data),
+        AggregatedMetrics::I64(_) => Ok(()),
     }
 }
 
-/// Prints the sums of a collection.
-pub fn print_sums(rt: &impl Print, collected: &ResourceMetrics) -> io::Result<()> {
+/// Prints the points of a collection.
+pub fn print_points(rt: &impl Print, collected: &ResourceMetrics) -> io::Result<()> {
     println!(rt; "collected")?;
     for scope in collected.scope_metrics() {
         for metric in scope.metrics() {

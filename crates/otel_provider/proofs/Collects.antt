@@ -6,6 +6,7 @@ use Rattle.std.proofs.lemmas.Option.{slice_get-map}
 use Rattle.otel_common.specs.declared.scopes.InstrumentationScope.{InstrumentationScope}
 use Rattle.otel_data.specs.declared.collections.ResourceMetrics.{ResourceMetrics}
 use Rattle.otel_model.specs.Calls as model
+use Rattle.otel_model.specs.Demands.{Views}
 use Rattle.otel_model.specs.Machine.{changed_at, part_sent, accepted_after}
 use Rattle.otel_model.specs.Refusals.{refusal}
 use Rattle.otel_model.specs.Resources.{Resource}
@@ -51,15 +52,15 @@ get-none (q ∷ ps) (suc r) e = omega (arith, get-none ps r e)
 -- a collection of a reader that is there
 pub collection-made : (resource : Resource) (meters : List InstrumentationScope) (instruments : List InstrumentState) (ps : List Piped) (readers : List ReaderPart) (r now : ℕ) (p : Piped) (c : ResourceMetrics)
     → slice_get ps r ≡ Some p → IsCollectedFrom resource meters now (part_of p) c → readers ≡ changed_at r (part_sent 0 (model.Call.Collect r now [])) (map part_of ps)
-    → IsMade (state_of resource meters instruments ps) (model.Call.Collect r now []) (model.Reply.Collected c) (record { shared = shared_of resource meters instruments; readers = readers })
-collection-made resource meters instruments ps readers r now p c at given left =
+    → (views : Views) → IsMade views (state_of resource meters instruments ps) (model.Call.Collect r now []) (model.Reply.Collected c) (record { shared = shared_of resource meters instruments; readers = readers })
+collection-made resource meters instruments ps readers r now p c at given left views =
     let known : nat_lt r (length (map part_of ps)) ≡ true = lt-ltb r (length (map part_of ps)) (rw length-map (get-some ps r p at)) in
     let found : slice_get (map part_of ps) r ≡ Some (part_of p) = slice_get-map part_of ps r ∙ ap (option_map part_of) at in
     record {
       answer = ap model.Reply.Collected (given (shared_of resource meters instruments) refl refl)
           ∙ sym (λ i. reply_by (cond (known i) None (Some model.Fault.UnknownReader)) (collect_reply (shared_of resource meters instruments) now [] (found i)));
       state = (λ i. record { shared = shared_of resource meters instruments; readers = left i })
-          ∙ sym (λ i. after_by (cond (known i) None (Some model.Fault.UnknownReader)) (state_of resource meters instruments ps) (accepted_after [] (state_of resource meters instruments ps) (model.Call.Collect r now [])));
+          ∙ sym (λ i. after_by (cond (known i) None (Some model.Fault.UnknownReader)) (state_of resource meters instruments ps) (accepted_after views (state_of resource meters instruments ps) (model.Call.Collect r now [])));
     }
 
 -- of one that isn't

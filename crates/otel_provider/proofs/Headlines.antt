@@ -1,5 +1,5 @@
 -- The laws of the model, cited for a run of the code.
-use Rattle.std.proofs.Common.{◌≡◌, ℕ, List, [], map, Some, slice_get, subst}
+use Rattle.std.proofs.Common.{◌≡◌, ℕ, List, map, Some, slice_get, subst}
 use Rattle.otel_model.specs.Calls as model
 use Rattle.otel_model.specs.Demands.{ReaderAnswers, Views}
 use Rattle.otel_model.specs.Laws.{OfReader, OfStream, OfEachReader, OfEachStream, IsRun}
@@ -13,15 +13,15 @@ use Rattle.otel_provider.specs.declared.calls.Call.{Call}
 use Rattle.otel_provider.specs.declared.calls.Reply.{Reply}
 
 -- the calls and replies of the code are a run
-abbrev pub IsRunOf : State → List Call → List Reply → State → Type 0
-IsRunOf old calls replies new = Run [] old (map call_of calls) (map reply_of replies) new
+abbrev pub IsRunOf : Views → State → List Call → List Reply → State → Type 0
+IsRunOf views old calls replies new = Run views old (map call_of calls) (map reply_of replies) new
 
-pub of_readers : (P : OfReader) (law : OfEachReader P) (old new : State) (calls : List Call) (replies : List Reply) → IsRunOf old calls replies new → OfReaders P old calls replies new
-of_readers P law old new calls replies run resource identity readers fresh r answers part at is =
-    law [] resource identity readers (map call_of calls) (map reply_of replies) new (subst (λ st. IsRunOf st calls replies new) fresh run) r answers part at is
+pub of_readers : (P : OfReader) (law : OfEachReader P) (views : Views) (old new : State) (calls : List Call) (replies : List Reply) → IsRunOf views old calls replies new → OfReaders P views old calls replies new
+of_readers P law views old new calls replies run resource identity readers fresh r answers part at is =
+    law views resource identity readers (map call_of calls) (map reply_of replies) new (subst (λ st. IsRunOf views st calls replies new) fresh run) r answers part at is
 
-pub of_streams : (P : OfStream) (law : OfEachStream P) (old new : State) (calls : List Call) (replies : List Reply) → IsRunOf old calls replies new → OfStreams P old calls replies new
-of_streams P law old new calls replies run = of_readers _ law old new calls replies run
+pub of_streams : (P : OfStream) (law : OfEachStream P) (views : Views) (old new : State) (calls : List Call) (replies : List Reply) → IsRunOf views old calls replies new → OfStreams P views old calls replies new
+of_streams P law views old new calls replies run = of_readers _ law views old new calls replies run
 
 -- what holds of each reader's answers
 abbrev pub EachAnswered : (Views → Resource → ℕ → List model.Call → List model.Reply → ℕ → ReaderAnswers → Type 0) → Type 0
@@ -29,10 +29,10 @@ EachAnswered P = (views : Views) (resource : Resource) (identity : ℕ) (readers
     → IsRun views resource identity readers calls replies new
     → (r : ℕ) (answers : ReaderAnswers) → slice_get readers r ≡ Some answers → P views resource identity calls replies r answers
 
-pub of_answers : (P : Views → Resource → ℕ → List model.Call → List model.Reply → ℕ → ReaderAnswers → Type 0) (law : EachAnswered P) (old new : State) (calls : List Call) (replies : List Reply)
-    → IsRunOf old calls replies new → OfAnswers P old calls replies
-of_answers P law old new calls replies run resource identity readers fresh r answers at =
-    law [] resource identity readers (map call_of calls) (map reply_of replies) new (subst (λ st. IsRunOf st calls replies new) fresh run) r answers at
+pub of_answers : (P : Views → Resource → ℕ → List model.Call → List model.Reply → ℕ → ReaderAnswers → Type 0) (law : EachAnswered P) (views : Views) (old new : State) (calls : List Call) (replies : List Reply)
+    → IsRunOf views old calls replies new → OfAnswers P views old calls replies
+of_answers P law views old new calls replies run resource identity readers fresh r answers at =
+    law views resource identity readers (map call_of calls) (map reply_of replies) new (subst (λ st. IsRunOf views st calls replies new) fresh run) r answers at
 
-pub in_any_order : (old new : State) (calls : List Call) (replies : List Reply) → IsRunOf old calls replies new → InAnyOrder old calls replies new
-in_any_order old new calls replies run before later n v l m reordered is = records_law [] old new before later n v l m (map reply_of replies) reordered (subst (λ cs. Run [] old cs (map reply_of replies) new) is run)
+pub in_any_order : (views : Views) (old new : State) (calls : List Call) (replies : List Reply) → IsRunOf views old calls replies new → InAnyOrder views old calls replies new
+in_any_order views old new calls replies run before later n v l m reordered is = records_law views old new before later n v l m (map reply_of replies) reordered (subst (λ cs. Run views old cs (map reply_of replies) new) is run)

@@ -1,3 +1,4 @@
+pub mod Asked
 pub mod Collects
 pub mod Headlines
 pub mod Lawful

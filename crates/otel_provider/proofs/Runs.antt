@@ -17,9 +17,9 @@ Run-push views (c ∷ calls) [] old mid new call reply run step = absurd run
 Run-push views (c ∷ calls) (r ∷ replies) old mid new call reply run step = (run.0, run.1, Run-push views calls replies run.0 mid new call reply run.2 step)
 
 -- the calls so far and one more
-pub run-more : (calls : List Call) (i : ℕ) (call : Call) (replies more : List Reply) (old mid new : State) (reply : Reply) → i < length calls → call ≡ get_or calls i call → more ≡ replies ++ reply ∷ []
-    → Run [] old (map call_of (take i calls)) (map reply_of replies) mid → Step [] mid (call_of call) (reply_of reply) new
-    → Run [] old (map call_of (take (i + 1) calls)) (map reply_of more) new
-run-more calls i call replies more old mid new reply h at e run step =
+pub run-more : (views : Views) (calls : List Call) (i : ℕ) (call : Call) (replies more : List Reply) (old mid new : State) (reply : Reply) → i < length calls → call ≡ get_or calls i call → more ≡ replies ++ reply ∷ []
+    → Run views old (map call_of (take i calls)) (map reply_of replies) mid → Step views mid (call_of call) (reply_of reply) new
+    → Run views old (map call_of (take (i + 1) calls)) (map reply_of more) new
+run-more views calls i call replies more old mid new reply h at e run step =
     let longer : take (i + 1) calls ≡ take i calls ++ call ∷ [] = take_more calls i call h ∙ ap (λ x. take i calls ++ x ∷ []) (sym at) in
-    rw (longer, e, map-append, map-append) (Run-push [] (map call_of (take i calls)) (map reply_of replies) old mid new (call_of call) (reply_of reply) run step)
+    rw (longer, e, map-append, map-append) (Run-push views (map call_of (take i calls)) (map reply_of replies) old mid new (call_of call) (reply_of reply) run step)

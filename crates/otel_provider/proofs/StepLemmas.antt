@@ -12,7 +12,7 @@ use Rattle.otel_data.specs.declared.numbers.NumberValue.TheVariants as number
 use Rattle.otel_aggregate.specs.Any.{is_signed_value, amount_of}
 use Rattle.otel_model.specs.Calls as model
 use Rattle.otel_model.specs.Checks.{is_good_name, optional_unit_fault}
-use Rattle.otel_model.specs.Demands.{is_good, are_good_bounds}
+use Rattle.otel_model.specs.Demands.{StreamSpec, Views, is_good, are_good_bounds}
 use Rattle.otel_model.specs.Machine as machine
 use Rattle.otel_model.specs.Refusals.{meter_refusal, record_refusal}
 use Rattle.otel_model.specs.Resources.{Resource}
@@ -21,9 +21,11 @@ use Rattle.otel_model.specs.State.{ReaderPart, InstrumentState}
 use Rattle.otel_model.specs.Steps.{number_from, reply_by, after_by}
 use Rattle.otel_pipeline.specs.Pipelines.{Piped, part_of, recorded, IsBuildableIn, IsPreparedFor}
 use Rattle.otel_pipeline.proofs.Builds.{any-position, position-cons}
+use Rattle.otel_pipeline.specs.Views.{answering}
 use Rattle.otel_pipeline.proofs.Records.{recorded-sent}
+use Rattle.otel_provider.proofs.Asked.{built-answered}
 use Rattle.otel_provider.specs.Correspondence.{number_of}
-use Rattle.otel_provider.specs.States.{IsMade, IsFault, IsScopeOf, IsNoMeter, IsGoodIn, FeedType, state_of, shared_of}
+use Rattle.otel_provider.specs.States.{IsMade, IsFault, IsScopeOf, IsNoMeter, IsGoodIn, AreAsked, FeedType, state_of, shared_of}
 
 -- ======== meters ========
 scope_eq-flip : (a b : InstrumentationScope) → scope_eq a b ≡ scope_eq b a
@@ -93,14 +95,22 @@ good-in None about true e = tt
 good-in (Some scope) about true e = e
 
 -- and demands nothing
-built-alike : (scope : Option InstrumentationScope) (about : model.About) (now : ℕ) (b : Bool) → is_good about ≡ b → (p : ReaderPart) → machine.built [] (cond b scope None) about now p ≡ machine.built [] scope about now p
-built-alike scope about now true e p = refl
-built-alike None about now false e p = refl
-built-alike (Some scope) about now false e p = rw e refl
+built-alike : (views : Views) (scope : Option InstrumentationScope) (about : model.About) (now : ℕ) (b : Bool) → is_good about ≡ b → (p : ReaderPart) → machine.built views (cond b scope None) about now p ≡ machine.built views scope about now p
+built-alike views scope about now true e p = refl
+built-alike views None about now false e p = refl
+built-alike views (Some scope) about now false e p = rw e refl
 
-pub all-alike : (scope : Option InstrumentationScope) (about : model.About) (now : ℕ) (b : Bool) → is_good about ≡ b → (ps : List ReaderPart) → map (machine.built [] (cond b scope None) about now) ps ≡ map (machine.built [] scope about now) ps
-all-alike scope about now b e [] = refl
-all-alike scope about now b e (p ∷ ps) = λ i. built-alike scope about now b e p i ∷ all-alike scope about now b e ps i
+all-alike : (views : Views) (scope : Option InstrumentationScope) (about : model.About) (now : ℕ) (b : Bool) → is_good about ≡ b → (ps : List ReaderPart) → map (machine.built views (cond b scope None) about now) ps ≡ map (machine.built views scope about now) ps
+all-alike views scope about now b e [] = refl
+all-alike views scope about now b e (p ∷ ps) = λ i. built-alike views scope about now b e p i ∷ all-alike views scope about now b e ps i
+
+-- a build sees what the views answer of the instrument, and no more
+all-asked : (views : Views) (scope : Option InstrumentationScope) (about : model.About) (now : ℕ) (answered : List (Option StreamSpec)) → AreAsked views scope about answered
+    → (ps : List ReaderPart) → map (machine.built (answering answered) scope about now) ps ≡ map (machine.built views scope about now) ps
+all-asked views None about now answered asked ps = refl
+all-asked views (Some scope) about now answered asked [] = refl
+all-asked views (Some scope) about now answered asked (p ∷ ps) =
+    λ i. (ap (λ l. machine.built (answering l) (Some scope) about now p) asked ∙ built-answered views scope about now p) i ∷ all-asked views (Some scope) about now answered asked ps i
 
 -- ======== records ========
 -- a value with its number type
@@ -141,29 +151,29 @@ pub record-made : (resource : Resource) (meters : List InstrumentationScope) (in
     → record_refusal (slice_get instruments n) v.signed ≡ None
     → more ≡ machine.changed_at n (machine.accepted v.amount) instruments
     → readers ≡ map (machine.part_sent 0 (model.Call.Record n v l)) (map part_of ps)
-    → IsMade (state_of resource meters instruments ps) (model.Call.Record n v l) model.Reply.Done (record { shared = shared_of resource meters more; readers = readers })
-record-made resource meters instruments more ps readers n v l fits accepted sent = record {
+    → (views : Views) → IsMade views (state_of resource meters instruments ps) (model.Call.Record n v l) model.Reply.Done (record { shared = shared_of resource meters more; readers = readers })
+record-made resource meters instruments more ps readers n v l fits accepted sent views = record {
   answer = sym (ap (λ o. reply_by o model.Reply.Done) fits);
   state =
       (λ i. record { shared = shared_of resource meters (accepted i); readers = sent i })
-      ∙ sym (ap (λ o. after_by o (state_of resource meters instruments ps) (machine.accepted_after [] (state_of resource meters instruments ps) (model.Call.Record n v l))) fits);
+      ∙ sym (ap (λ o. after_by o (state_of resource meters instruments ps) (machine.accepted_after views (state_of resource meters instruments ps) (model.Call.Record n v l))) fits);
 }
 
 -- a build, of an instrument that may be bad
-pub build-made : (resource : Resource) (meters : List InstrumentationScope) (instruments more : List InstrumentState) (ps : List Piped) (readers : List ReaderPart) (meter : Option ℕ) (scope named : Option InstrumentationScope) (about : model.About) (now n : ℕ)
+pub build-made : (views : Views) (answered : List (Option StreamSpec)) (resource : Resource) (meters : List InstrumentationScope) (instruments more : List InstrumentState) (ps : List Piped) (readers : List ReaderPart) (meter : Option ℕ) (scope named : Option InstrumentationScope) (about : model.About) (now n : ℕ)
     → IsScopeOf meters meter scope → named ≡ cond (is_good about) scope None → n ≡ length instruments → more ≡ instruments ++ machine.new_instrument about ∷ []
-    → readers ≡ map (machine.built [] named about now) (map part_of ps)
-    → IsMade (state_of resource meters instruments ps) (model.Call.Build meter about now) (model.Reply.Instrument n) (record { shared = shared_of resource meters more; readers = readers })
-build-made resource meters instruments more ps readers meter scope named about now n at named_is number made built =
+    → AreAsked views named about answered → readers ≡ map (machine.built (answering answered) named about now) (map part_of ps)
+    → IsMade views (state_of resource meters instruments ps) (model.Call.Build meter about now) (model.Reply.Instrument n) (record { shared = shared_of resource meters more; readers = readers })
+build-made views answered resource meters instruments more ps readers meter scope named about now n at named_is number made asked built =
     let known : meter_refusal (shared_of resource meters instruments) meter ≡ None = at.known resource instruments in
     record {
       answer = ap model.Reply.Instrument number ∙ sym (ap (λ o. reply_by o (model.Reply.Instrument (length instruments))) known);
       state =
           (λ i. record {
             shared = shared_of resource meters (made i);
-            readers = (built ∙ (ap (λ s. map (machine.built [] s about now) (map part_of ps)) named_is ∙ (all-alike scope about now (is_good about) refl (map part_of ps) ∙ ap (λ s. map (machine.built [] s about now) (map part_of ps)) at.is))) i;
+            readers = (built ∙ (all-asked views named about now answered asked (map part_of ps) ∙ (ap (λ s. map (machine.built views s about now) (map part_of ps)) named_is ∙ (all-alike views scope about now (is_good about) refl (map part_of ps) ∙ ap (λ s. map (machine.built views s about now) (map part_of ps)) at.is)))) i;
           })
-          ∙ sym (ap (λ o. after_by o (state_of resource meters instruments ps) (machine.accepted_after [] (state_of resource meters instruments ps) (model.Call.Build meter about now))) known);
+          ∙ sym (ap (λ o. after_by o (state_of resource meters instruments ps) (machine.accepted_after views (state_of resource meters instruments ps) (model.Call.Build meter about now))) known);
     }
 
 position-first : {X : Type 0} (p : X → Bool) (xs : List X) (n : ℕ) → position p xs ≡ Some n → n ≡ position_or_len p xs
@@ -177,8 +187,8 @@ position-first p (x ∷ xs) n e = next (p x) (position p xs) (λ m q. position-f
 
 -- a meter that is known stays as it is
 pub meter-known : (resource : Resource) (meters : List InstrumentationScope) (instruments : List InstrumentState) (ps : List Piped) (scope : InstrumentationScope) (n : ℕ) → position (scope_eq scope) meters ≡ Some n
-    → IsMade (state_of resource meters instruments ps) (model.Call.Meter scope) (model.Reply.Meter (Some n)) (state_of resource meters instruments ps)
-meter-known resource meters instruments ps scope n at =
+    → (views : Views) → IsMade views (state_of resource meters instruments ps) (model.Call.Meter scope) (model.Reply.Meter (Some n)) (state_of resource meters instruments ps)
+meter-known resource meters instruments ps scope n at views =
     let there : list_any (scope_eq scope) meters ≡ true = sym (any-position (scope_eq scope) meters) ∙ ap is_some at in
     let first : n ≡ position_or_len (scope_eq scope) meters = position-first (scope_eq scope) meters n at in
     record {

@@ -1,13 +1,13 @@
 -- What an instrument feeds has its number type, whatever is called.
 use Rattle.std.proofs.Common.{◌≡◌, ◌⊎◌, inl, inr, ⊎_elim, ℕ, zero, suc, Bool, true, false, cond, List, [], ◌∷◌, ◌++◌, map, length, set, Option, Some, None, slice_get, refl, sym, ◌∙◌, ap, subst, arith}
-use Rattle.std.specs.Prelude.{fold, Result, Ok, Err, OnOk, OnErr}
+use Rattle.std.specs.Prelude.{filter, fold, Result, Ok, Err, OnOk, OnErr}
 use Rattle.std.proofs.lemmas.Bool.{false≢true}
 use Rattle.std.proofs.lemmas.List.{length-append}
 use Rattle.otel_common.specs.declared.scopes.InstrumentationScope.{InstrumentationScope}
 use Rattle.otel_model_stream.specs.Folds.{Amount}
 use Rattle.otel_model.specs.Calls.{About, Call, Collect, Number}
-use Rattle.otel_model.specs.Demands.{Identity, Demand, has_identity, is_known, is_dropped, is_good, fed, own_demand, identity_eq}
-use Rattle.otel_model.specs.Machine.{changed_at, accepted, new_instrument, demanded, build_demands, built, part_sent}
+use Rattle.otel_model.specs.Demands.{Identity, Demand, ReaderAnswers, StreamSpec, Views, has_identity, instrument_of, add_answer, view_demands, demands_with, is_compatible, is_known, is_dropped, is_good, fed, own_demand, identity_eq}
+use Rattle.otel_model.specs.Machine.{changed_at, accepted, enter, new_instrument, demanded, build_demands, built, part_sent}
 use Rattle.otel_model.specs.Sent.{is_fed}
 use Rattle.otel_model.specs.State.{InstrumentState, ReaderPart}
 use Rattle.otel_model.proofs.Gather.{identity_eq_true}
@@ -40,12 +40,37 @@ abbrev OfType : Bool → List Demand → Type 0
 OfType signed [] = Unit {0}
 OfType signed (d ∷ ds) = (d.identity.signed ≡ signed) × OfType signed ds
 
-demands-typed : (scope : Option InstrumentationScope) (about : About) (p : ReaderPart) → OfType about.signed (build_demands [] p scope about)
-demands-typed None about p = tt
-demands-typed (Some scope) about p = by (is_good about)
+typed-append : (signed : Bool) (ds es : List Demand) → OfType signed ds → OfType signed es → OfType signed (ds ++ es)
+typed-append signed [] es all more = more
+typed-append signed (d ∷ ds) es all more = (all.0, typed-append signed ds es all.1 more)
+
+typed-filter : (signed : Bool) (p : Demand → Bool) (ds : List Demand) → OfType signed ds → OfType signed (filter p ds)
+typed-filter signed p [] all = tt
+typed-filter signed p (d ∷ ds) all = by (p d) (typed-filter signed p ds all.1)
   where
-    by : (b : Bool) → OfType about.signed (cond b (own_demand p.answers scope about ∷ []) [])
-    by true = (refl, tt)
+    by : (b : Bool) → OfType signed (filter p ds) → OfType signed (cond b (d ∷ filter p ds) (filter p ds))
+    by true rest = (all.0, rest)
+    by false rest = rest
+
+views-typed : (views : Views) (answers : ReaderAnswers) (scope : InstrumentationScope) (about : About) → OfType about.signed (view_demands views answers scope about)
+views-typed [] answers scope about = tt
+views-typed (view ∷ views) answers scope about = by (view (instrument_of scope about)) (views-typed views answers scope about)
+  where
+    by : (o : Option StreamSpec) → OfType about.signed (view_demands views answers scope about) → OfType about.signed (add_answer answers scope about o (view_demands views answers scope about))
+    by None rest = rest
+    by (Some s) rest = (refl, rest)
+
+-- whatever the views answer
+demands-typed : (views : Views) (scope : Option InstrumentationScope) (about : About) (p : ReaderPart) → OfType about.signed (build_demands views p scope about)
+demands-typed views None about p = tt
+demands-typed views (Some scope) about p = by (is_good about)
+  where
+    own : (b : Bool) → OfType about.signed (cond b (own_demand p.answers scope about ∷ []) [])
+    own true = (refl, tt)
+    own false = tt
+
+    by : (b : Bool) → OfType about.signed (cond b (demands_with (λ ds. is_dropped (fold enter p.fates ds)) views p.answers scope about) [])
+    by true = typed-append about.signed _ _ (typed-filter about.signed is_compatible (view_demands views p.answers scope about) (views-typed views p.answers scope about)) (own _)
     by false = tt
 
 known-typed : (signed : Bool) (ds : List Demand) (x : Identity) → OfType signed ds → is_known ds x ≡ true → x.signed ≡ signed
@@ -55,9 +80,9 @@ known-typed signed (d ∷ ds) x all e = ⊎_elim
     (λ t. known-typed signed ds x all.1 t)
     (is_one (identity_eq d.identity x) (is_known ds x) e)
 
-one-built : (is : List InstrumentState) (scope : Option InstrumentationScope) (about : About) (now : ℕ) (p : ReaderPart) → IsTyped is p → IsTyped (is ++ new_instrument about ∷ []) (built [] scope about now p)
-one-built is scope about now p typed =
-    let ds : List Demand = build_demands [] p scope about in
+one-built : (views : Views) (is : List InstrumentState) (scope : Option InstrumentationScope) (about : About) (now : ℕ) (p : ReaderPart) → IsTyped is p → IsTyped (is ++ new_instrument about ∷ []) (built views scope about now p)
+one-built views is scope about now p typed =
+    let ds : List Demand = build_demands views p scope about in
     let after : ReaderPart = fold (demanded now) p ds in
     let new : List Identity = fed (is_dropped after.fates) ds in
     let same : after.feeds ≡ p.feeds = same-feeds now ds p in
@@ -65,13 +90,13 @@ one-built is scope about now p typed =
       as_many = omega (arith, ap length same, typed.as_many, length-append {A = List Identity}, length-append {A = InstrumentState});
       types = λ n x i f g. ⊎_elim
           (λ t. typed.types n x i t.0 t.1)
-          (λ t. known-typed about.signed ds x (demands-typed scope about p) (fed_demanded (is_dropped after.fates) ds x t.0) ∙ ap (λ (j : InstrumentState). j.signed) t.1)
+          (λ t. known-typed about.signed ds x (demands-typed views scope about p) (fed_demanded (is_dropped after.fates) ds x t.0) ∙ ap (λ (j : InstrumentState). j.signed) t.1)
           (fed-split p.feeds new is (new_instrument about) n x i typed.as_many (subst (λ (fs : List (List Identity)). is_fed (fs ++ new ∷ []) n x ≡ true) same f) g);
     }
 
-pub typed-built : (is : List InstrumentState) (scope : Option InstrumentationScope) (about : About) (now : ℕ) (ps : List ReaderPart) → AreTyped is ps → AreTyped (is ++ new_instrument about ∷ []) (map (built [] scope about now) ps)
-typed-built is scope about now [] all = tt
-typed-built is scope about now (p ∷ ps) all = (one-built is scope about now p all.0, typed-built is scope about now ps all.1)
+pub typed-built : (views : Views) (is : List InstrumentState) (scope : Option InstrumentationScope) (about : About) (now : ℕ) (ps : List ReaderPart) → AreTyped is ps → AreTyped (is ++ new_instrument about ∷ []) (map (built views scope about now) ps)
+typed-built views is scope about now [] all = tt
+typed-built views is scope about now (p ∷ ps) all = (one-built views is scope about now p all.0, typed-built views is scope about now ps all.1)
 
 -- ======== records ========
 -- an instrument that accepts keeps its number type
@@ -117,10 +142,10 @@ typed-set is (q ∷ ps) zero p new at e all =
 typed-set is (q ∷ ps) (suc r) p new at e all = (all.0, typed-set is ps r p new at e all.1)
 
 -- whether an instrument was made or not
-pub typed-made : {T E : Type 0} (r : Result T E) (is more : List InstrumentState) (scope : Option InstrumentationScope) (about : About) (now : ℕ) (ps readers : List ReaderPart)
-    → OnOk r (more ≡ is ++ new_instrument about ∷ []) → OnOk r (readers ≡ map (built [] scope about now) ps) → OnErr r (more ≡ is) → OnErr r (readers ≡ ps) → AreTyped is ps → AreTyped more readers
-typed-made (Ok t) is more scope about now ps readers m e same same_readers all = rw (m, e) (typed-built is scope about now ps all)
-typed-made (Err t) is more scope about now ps readers m e same same_readers all = rw (same, same_readers) all
+pub typed-made : {T E : Type 0} (views : Views) (r : Result T E) (is more : List InstrumentState) (scope : Option InstrumentationScope) (about : About) (now : ℕ) (ps readers : List ReaderPart)
+    → OnOk r (more ≡ is ++ new_instrument about ∷ []) → OnOk r (readers ≡ map (built views scope about now) ps) → OnErr r (more ≡ is) → OnErr r (readers ≡ ps) → AreTyped is ps → AreTyped more readers
+typed-made views (Ok t) is more scope about now ps readers m e same same_readers all = rw (m, e) (typed-built views is scope about now ps all)
+typed-made views (Err t) is more scope about now ps readers m e same same_readers all = rw (same, same_readers) all
 
 -- what a collection or a failed call leaves of what feeds
 pub same_feeds-by : {T E : Type 0} (r : Result T E) (next now : ℕ) (new p : Piped) → OnOk r ((q : ℕ) → part_of new ≡ part_sent next (Collect q now []) (part_of p)) → OnErr r (part_of new ≡ part_of p) → (part_of new).feeds ≡ (part_of p).feeds

@@ -1,6 +1,6 @@
--- The laws of the model, said of a list of calls and its replies: for a provider as `build` gave it, but for the
+-- The laws of the model, said of views, a list of calls and its replies: for a provider as `build` gave it, but for the
 -- one on the order of attributes.
-use Rattle.std.specs.Prelude.{◌≡◌, ℕ, List, [], ◌∷◌, ◌++◌, map, Some, slice_get}
+use Rattle.std.specs.Prelude.{◌≡◌, ℕ, List, ◌∷◌, ◌++◌, map, Some, slice_get}
 use Rattle.otel_common.specs.declared.attributes.KeyValue.{KeyValue}
 use Rattle.otel_model.specs.Calls as model
 use Rattle.otel_model.specs.Calls.{Number}
@@ -20,22 +20,22 @@ abbrev pub FromBuilt : State → (Resource → ℕ → List ReaderAnswers → Ty
 FromBuilt old P = (resource : Resource) (identity : ℕ) (readers : List ReaderAnswers) → old ≡ new_state resource identity readers → P resource identity readers
 
 -- it holds of each of its readers
-abbrev pub OfReaders : OfReader → State → List Call → List Reply → State → Type 0
-OfReaders P old calls replies new = FromBuilt old (λ resource identity readers.
+abbrev pub OfReaders : OfReader → Views → State → List Call → List Reply → State → Type 0
+OfReaders P views old calls replies new = FromBuilt old (λ resource identity readers.
     (r : ℕ) (answers : ReaderAnswers) (part : ReaderPart) → slice_get readers r ≡ Some answers → slice_get new.readers r ≡ Some part
-    → P [] resource (map call_of calls) (map reply_of replies) new r answers part)
+    → P views resource (map call_of calls) (map reply_of replies) new r answers part)
 
 -- and of each of their streams
-abbrev pub OfStreams : OfStream → State → List Call → List Reply → State → Type 0
+abbrev pub OfStreams : OfStream → Views → State → List Call → List Reply → State → Type 0
 OfStreams P = OfReaders (λ views resource calls replies new r answers part.
     (j : ℕ) (s : Stream) → slice_get part.streams j ≡ Some s → P views calls replies new r answers part s)
 
 -- it holds of what each of its readers is answered
-abbrev pub OfAnswers : (Views → Resource → ℕ → List model.Call → List model.Reply → ℕ → ReaderAnswers → Type 0) → State → List Call → List Reply → Type 0
-OfAnswers P old calls replies = FromBuilt old (λ resource identity readers.
-    (r : ℕ) (answers : ReaderAnswers) → slice_get readers r ≡ Some answers → P [] resource identity (map call_of calls) (map reply_of replies) r answers)
+abbrev pub OfAnswers : (Views → Resource → ℕ → List model.Call → List model.Reply → ℕ → ReaderAnswers → Type 0) → Views → State → List Call → List Reply → Type 0
+OfAnswers P views old calls replies = FromBuilt old (λ resource identity readers.
+    (r : ℕ) (answers : ReaderAnswers) → slice_get readers r ≡ Some answers → P views resource identity (map call_of calls) (map reply_of replies) r answers)
 
 -- the attributes of any of its records in another order, where no key stands twice: the same replies and state
-abbrev pub InAnyOrder : State → List Call → List Reply → State → Type 0
-InAnyOrder old calls replies new = (before later : List model.Call) (n : ℕ) (v : Number) (l m : List KeyValue) → IsReordered l m
-    → map call_of calls ≡ before ++ model.Record n v l ∷ later → Run [] old (before ++ model.Record n v m ∷ later) (map reply_of replies) new
+abbrev pub InAnyOrder : Views → State → List Call → List Reply → State → Type 0
+InAnyOrder views old calls replies new = (before later : List model.Call) (n : ℕ) (v : Number) (l m : List KeyValue) → IsReordered l m
+    → map call_of calls ≡ before ++ model.Record n v l ∷ later → Run views old (before ++ model.Record n v m ∷ later) (map reply_of replies) new

@@ -1,28 +1,43 @@
--- What a provider and its builder are in the words of the model. `P` is the bundle of their parts, `R` the type of their
--- readers.
-use Rattle.std.specs.Prelude.{List}
-use Rattle.otel_model.specs.Demands.{ReaderAnswers}
+-- What a provider and its builder are in the words of the model. `P` is the bundle of their parts, `V` the type of
+-- their views, `R` that of their readers.
+use Rattle.std.specs.Prelude.{List, Option, map}
+use Rattle.otel_model.specs.Demands.{Instrument, ReaderAnswers, StreamSpec, Views}
 use Rattle.otel_model.specs.Resources.{Resource}
 use Rattle.otel_model.specs.State.{State}
 use Rattle.otel_provider.specs.declared.provider.Provider.{Provider}
 use Rattle.otel_provider.specs.declared.provider.ProviderBuilder.{ProviderBuilder}
 
 -- the resource of a builder
-abbrev pub resource_of : {P R : Type 0} → ProviderBuilder P R → Resource
+abbrev pub resource_of : {P V R : Type 0} → ProviderBuilder P V R → Resource
 resource_of b = b.core.resource
 
 -- what a builder's readers answered for each kind
-abbrev pub answers_of_readers : {P R : Type 0} → ProviderBuilder P R → List ReaderAnswers
+abbrev pub answers_of_readers : {P V R : Type 0} → ProviderBuilder P V R → List ReaderAnswers
 answers_of_readers b = b.core.readers
 
 -- a provider's state: all of it but the readers themselves
-abbrev pub state_of : {P R : Type 0} → Provider P R → State
+abbrev pub state_of : {P V R : Type 0} → Provider P V R → State
 state_of p = p.core
 
 -- the readers of a builder
-abbrev pub builder_readers : {P R : Type 0} → ProviderBuilder P R → List R
+abbrev pub builder_readers : {P V R : Type 0} → ProviderBuilder P V R → List R
 builder_readers b = b.readers.items
 
 -- the readers of a provider
-abbrev pub provider_readers : {P R : Type 0} → Provider P R → List R
+abbrev pub provider_readers : {P V R : Type 0} → Provider P V R → List R
 provider_readers p = p.readers.items
+
+-- the views of a builder, by what a view answers
+abbrev pub views_of_builder : {P V R : Type 0} → (V → Instrument → Option StreamSpec) → ProviderBuilder P V R → Views
+views_of_builder answer b = map answer b.views.items
+
+-- the views of a provider
+abbrev pub views_of : {P V R : Type 0} → (V → Instrument → Option StreamSpec) → Provider P V R → Views
+views_of answer p = map answer p.views.items
+
+-- the views themselves
+abbrev pub builder_views : {P V R : Type 0} → ProviderBuilder P V R → List V
+builder_views b = b.views.items
+
+abbrev pub provider_views : {P V R : Type 0} → Provider P V R → List V
+provider_views p = p.views.items

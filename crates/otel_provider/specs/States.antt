@@ -5,7 +5,7 @@ use Rattle.otel_common.specs.declared.faults.Fault.{Fault}
 use Rattle.otel_common.specs.declared.faults.Fault.TheVariants as fault
 use Rattle.otel_common.specs.declared.scopes.InstrumentationScope.{InstrumentationScope}
 use Rattle.otel_model.specs.Calls as model
-use Rattle.otel_model.specs.Demands.{Identity, is_good}
+use Rattle.otel_model.specs.Demands.{Identity, StreamSpec, View, Views, instrument_of, is_good}
 use Rattle.otel_model.specs.Resources.{Resource}
 use Rattle.otel_model.specs.State.{InstrumentState, Shared, ReaderPart, State}
 use Rattle.otel_model.specs.Refusals.{refusal, meter_refusal}
@@ -20,10 +20,10 @@ shared_of resource meters instruments = record { resource = resource; identity =
 abbrev pub state_of : Resource → List InstrumentationScope → List InstrumentState → List Piped → State
 state_of resource meters instruments pipelines = record { shared = shared_of resource meters instruments; readers = map part_of pipelines }
 
--- the call is answered and carried out as the model's machine does
-pub record IsMade (old : State) (call : model.Call) (reply : model.Reply) (new : State) : Type 0 where
+-- the call is answered and carried out as the model's machine does, with these views
+pub record IsMade (views : Views) (old : State) (call : model.Call) (reply : model.Reply) (new : State) : Type 0 where
   pub answer : reply ≡ reply_of old call
-  pub state : new ≡ after [] old call
+  pub state : new ≡ after views old call
 
 -- the fault that a call is refused by: out of memory only where no other stands
 abbrev pub IsFault : Option model.Fault → Fault → Type 0
@@ -59,6 +59,11 @@ pub record IsNoMeter (meters : List InstrumentationScope) (meter : Option ℕ) (
 abbrev pub IsGoodIn : Option InstrumentationScope → model.About → Type 0
 IsGoodIn None about = Unit {0}
 IsGoodIn (Some scope) about = is_good about ≡ true
+
+-- what the views answer of an instrument with this scope; without one they are not asked
+abbrev pub AreAsked : Views → Option InstrumentationScope → model.About → List (Option StreamSpec) → Type 0
+AreAsked views None about answered = Unit {0}
+AreAsked views (Some scope) about answered = answered ≡ map (λ (view : View). view (instrument_of scope about)) views
 
 -- ======== number types ========
 -- what an instrument feeds has its number type, at a reader that knows all instruments

@@ -1,6 +1,6 @@
 //! The state of a provider with what no call can break.
 
-ghost use Rattle.std.specs.Prelude.{◌≡◌, [], map, IfOk, OnErr, IsOkUnless};
+ghost use Rattle.std.specs.Prelude.{◌≡◌, map, IfOk, OnErr, IsOkUnless};
 ghost use Rattle.otel_model.specs.Machine.{new_state};
 ghost use Rattle.otel_model.specs.Steps.{Step, Run};
 ghost use Rattle.otel_model_laws.specs.Lawful.{Balances};
@@ -10,6 +10,7 @@ use crate::calls::{Call, Reply};
 use crate::fresh::FreshCore;
 use crate::provider_core::Core;
 use otel_common::faults::Fault;
+use otel_stream::view::View;
 use std::alloc::Global;
 use std::marker::Model;
 
@@ -43,20 +44,25 @@ impl BalancedCore {
     }
 
     /// One call.
-    pub(crate) fn step(&mut self, call: &Call) -> Reply
-        ensures step { Step [] self.old (call_of call.now) (reply_of result) self.new }
+    pub(crate) fn step<V: View>(&mut self, views: &[V], call: &Call) -> Reply
+        ensures step { Step (map V.answer views.now) self.old (call_of call.now) (reply_of result) self.new }
         ensures balances { Balances self.new }
     {
-        self.core.step(call)
+        self.core.step(views, call)
     }
 
     /// A list of calls, one after another, with the reply to each.
-    pub(crate) fn run(&mut self, alloc: Global, calls: &[Call]) -> Result<Vec<Reply>, Fault>
-        ensures run { IfOk result (λ replies. Run [] self.old (map call_of calls.now) (map reply_of replies.items) self.new) }
+    pub(crate) fn run<V: View>(
+        &mut self,
+        views: &[V],
+        alloc: Global,
+        calls: &[Call],
+    ) -> Result<Vec<Reply>, Fault>
+        ensures run { IfOk result (λ replies. Run (map V.answer views.now) self.old (map call_of calls.now) (map reply_of replies.items) self.new) }
         ensures unmade { OnErr result (self.new ≡ self.old) }
         ensures only_memory { IsOkUnless result Fault.OutOfMemory }
         ensures balances { Balances self.new }
     {
-        self.core.run(alloc, calls)
+        self.core.run(views, alloc, calls)
     }
 }

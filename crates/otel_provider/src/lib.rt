@@ -1,6 +1,7 @@
 //! The provider: meters, instruments and, for each reader, streams.
 #![tactic(auto)]
 
+mod asking;
 mod balanced;
 pub mod calls;
 mod fresh;

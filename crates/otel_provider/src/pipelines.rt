@@ -6,6 +6,7 @@ ghost use Rattle.otel_model.specs.Calls as model;
 ghost use Rattle.otel_model.specs.Machine as machine;
 ghost use Rattle.otel_model.specs.Machine.{part_sent};
 ghost use Rattle.otel_pipeline.specs.Pipelines.{part_of, built, recorded, IsBuildableIn, IsPlanned, IsReadyFor, IsPreparedFor};
+ghost use Rattle.otel_pipeline.specs.Views.{answering};
 ghost use Rattle.otel_provider.specs.Correspondence.{number_of};
 ghost use Rattle.otel_provider.specs.States.{IsGoodIn, FeedType};
 
@@ -15,21 +16,23 @@ use otel_common::scopes::InstrumentationScope;
 use otel_data::numbers::NumberValue;
 use otel_pipeline::about::About;
 use otel_pipeline::pipeline::Pipeline;
+use otel_stream::stream::Stream;
 
-/// Plans a build at all readers. What they have stays as it was.
+/// Plans a build, of which each view answered this, at all readers. What they have stays as it was.
 fn plan_all(
     pipelines: &mut [Pipeline],
     scope: Option<&InstrumentationScope>,
     about: &About<'_>,
+    answered: &[Option<Stream>],
     now: u64,
 ) -> Result<(), Fault>
     requires { IsBuildableIn (option_map (λ s. s.now) scope) about.now }
     ensures same { map part_of pipelines.new ≡ map part_of pipelines.old }
-    ensures ready { OnOk result (All (IsReadyFor [] (option_map (λ s. s.now) scope.entry) about.now now) pipelines.new) }
+    ensures ready { OnOk result (All (IsReadyFor (answering answered.now) (option_map (λ s. s.now) scope.entry) about.now now) pipelines.new) }
     ensures only_memory { IsOkUnless result Fault.OutOfMemory }
 {
     for i in 0..pipelines.len() {
-        pipelines[i].plan(scope, about, &[], now)?;
+        pipelines[i].plan(scope, about, answered, now)?;
     }
     Ok(())
 }
@@ -70,20 +73,21 @@ fn commit_all(pipelines: &mut [Pipeline], instrument: usize, value: NumberValue)
     }
 }
 
-/// Builds an instrument at all readers or at none. Without a scope it demands nothing.
+/// Builds an instrument, of which each view answered this, at all readers or at none. Without a scope it demands nothing.
 pub(crate) fn build_or_none(
     pipelines: &mut [Pipeline],
     scope: Option<&InstrumentationScope>,
     about: &About<'_>,
+    answered: &[Option<Stream>],
     now: u64,
 ) -> Result<(), Fault>
     requires good { IsGoodIn (option_map (λ s. s.now) scope) about.now }
     requires synchronous { model.is_observable about.now.kind ≡ false }
-    ensures ok { OnOk result (map part_of pipelines.new ≡ map (machine.built [] (option_map (λ s. s.now) scope.entry) about.now now) (map part_of pipelines.old)) }
+    ensures ok { OnOk result (map part_of pipelines.new ≡ map (machine.built (answering answered.now) (option_map (λ s. s.now) scope.entry) about.now now) (map part_of pipelines.old)) }
     ensures err { OnErr result (map part_of pipelines.new ≡ map part_of pipelines.old) }
     ensures only_memory { IsOkUnless result Fault.OutOfMemory }
 {
-    plan_all(pipelines, scope, about, now)?;
+    plan_all(pipelines, scope, about, answered, now)?;
     build_all(pipelines);
     Ok(())
 }

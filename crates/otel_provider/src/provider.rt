@@ -9,7 +9,7 @@ ghost use Rattle.otel_model.specs.Resources.{empty_resource};
 ghost use Rattle.otel_model.specs.Steps.{Step, Run};
 ghost use Rattle.otel_model_laws.specs.Lawful.{Balances};
 ghost use Rattle.otel_provider.specs.Headline.{OfReaders, OfStreams, OfAnswers, InAnyOrder};
-ghost use Rattle.otel_provider.specs.Providers.{state_of, resource_of, answers_of_readers, builder_readers, provider_readers};
+ghost use Rattle.otel_provider.specs.Providers.{state_of, resource_of, answers_of_readers, views_of, builder_readers, builder_views, provider_readers, provider_views};
 ghost use Rattle.otel_provider.specs.Correspondence.{call_of, reply_of};
 ghost use Rattle.otel_stream.specs.Answers.{IsAnsweredBy};
 
@@ -25,6 +25,7 @@ use std::alloc::Global;
 #[derive(Drop)]
 pub struct ProviderBuilder<P: Parts> {
     core: FreshCore,
+    views: Vec<P::View>,
     readers: Vec<P::Reader>,
 }
 
@@ -33,6 +34,7 @@ pub struct ProviderBuilder<P: Parts> {
 #[derive(Drop)]
 pub struct Provider<P: Parts> {
     core: BalancedCore,
+    views: Vec<P::View>,
     readers: Vec<P::Reader>,
 }
 
@@ -48,6 +50,7 @@ impl<P: Parts> ProviderBuilder<P> {
         ensures answers { answers_of_readers result ≡ [] }
         ensures resource { resource_of result ≡ empty_resource }
         ensures kept { builder_readers result ≡ [] }
+        ensures views { builder_views result ≡ [] }
     {
         Provider::builder(alloc)
     }
@@ -61,12 +64,42 @@ impl<P: Parts> ProviderBuilder<P> {
         ensures answers { IfOk result (λ b. (answers : ReaderAnswers) × IsAnsweredBy (P.Reader.preference reader) (P.Reader.limit reader) (P.Reader.aggregation reader) answers × (answers_of_readers b ≡ answers_of_readers self ++ answers ∷ [])) }
         ensures resource { IfOk result (λ b. resource_of b ≡ resource_of self) }
         ensures kept { IfOk result (λ b. builder_readers b ≡ builder_readers self ++ reader ∷ []) }
+        ensures views { IfOk result (λ b. builder_views b ≡ builder_views self) }
         ensures only_memory { IsOkUnless result Fault.OutOfMemory }
     {
-        let ProviderBuilder { core, mut readers } = self;
+        let ProviderBuilder {
+            core,
+            views,
+            mut readers,
+        } = self;
         let core = core.with_reader(&reader)?;
         readers.push(reader)?;
-        Ok(ProviderBuilder { core, readers })
+        Ok(ProviderBuilder {
+            core,
+            views,
+            readers,
+        })
+    }
+
+    /// Adds a view. Views are asked in order of adding. Refused only for want of memory; then the builder is given up.
+    pub fn with_view(self, view: P::View) -> Result<Self, Fault>
+        ensures answers { IfOk result (λ b. answers_of_readers b ≡ answers_of_readers self) }
+        ensures resource { IfOk result (λ b. resource_of b ≡ resource_of self) }
+        ensures kept { IfOk result (λ b. builder_readers b ≡ builder_readers self) }
+        ensures views { IfOk result (λ b. builder_views b ≡ builder_views self ++ view ∷ []) }
+        ensures only_memory { IsOkUnless result Fault.OutOfMemory }
+    {
+        let ProviderBuilder {
+            core,
+            mut views,
+            readers,
+        } = self;
+        views.push(view)?;
+        Ok(ProviderBuilder {
+            core,
+            views,
+            readers,
+        })
     }
 
     /// The provider, without meters and instruments, and with the resource and the readers of the builder. It
@@ -74,10 +107,19 @@ impl<P: Parts> ProviderBuilder<P> {
     pub fn build(self) -> Result<Provider<P>, Fault>
         ensures state { IsOkAnd result (λ p. state_of p ≡ new_state (resource_of self) 0 (answers_of_readers self)) }
         ensures kept { IfOk result (λ p. provider_readers p ≡ builder_readers self) }
+        ensures views { IfOk result (λ p. provider_views p ≡ builder_views self) }
     {
-        let ProviderBuilder { core, readers } = self;
+        let ProviderBuilder {
+            core,
+            views,
+            readers,
+        } = self;
         let core = BalancedCore::new(core);
-        Ok(Provider { core, readers })
+        Ok(Provider {
+            core,
+            views,
+            readers,
+        })
     }
 }
 
@@ -87,9 +129,11 @@ impl<P: Parts> Provider<P> {
         ensures answers { answers_of_readers result ≡ [] }
         ensures resource { resource_of result ≡ empty_resource }
         ensures kept { builder_readers result ≡ [] }
+        ensures views { builder_views result ≡ [] }
     {
         ProviderBuilder {
             core: FreshCore::new(alloc),
+            views: Vec::new(alloc),
             readers: Vec::new(alloc),
         }
     }
@@ -98,11 +142,17 @@ impl<P: Parts> Provider<P> {
     pub fn default(alloc: Global) -> Provider<P>
         ensures state { state_of result ≡ new_state empty_resource 0 [] }
         ensures kept { provider_readers result ≡ [] }
+        ensures views { provider_views result ≡ [] }
     {
         let builder: ProviderBuilder<P> = Provider::builder(alloc);
-        let ProviderBuilder { core, readers } = builder;
+        let ProviderBuilder {
+            core,
+            views,
+            readers,
+        } = builder;
         Provider {
             core: BalancedCore::new(core),
+            views,
             readers,
         }
     }
@@ -122,12 +172,13 @@ impl<P: Parts> Provider<P> {
     ///   what is shown scopes, texts and sets, and a histogram's bounds and counts. Then the streams whose reader wants
     ///   `Delta` start again, which takes no memory; nothing else changes, and other readers' streams never.
     pub fn step(&mut self, call: &Call) -> Reply
-        ensures step { Step [] (state_of self.old) (call_of call.now) (reply_of result) (state_of self.new) }
+        ensures step { Step (views_of P.View.answer self.old) (state_of self.old) (call_of call.now) (reply_of result) (state_of self.new) }
         ensures balances { Balances (state_of self.new) }
         ensures readers { KeepsReaders (state_of self.old) (state_of self.new) }
         ensures kept { provider_readers self.new ≡ provider_readers self.old }
+        ensures views { provider_views self.new ≡ provider_views self.old }
     {
-        self.core.step(call)
+        self.core.step(&self.views, call)
     }
 
     /// A list of calls, one after another, with the reply to each. It costs what its calls do as steps.
@@ -139,28 +190,29 @@ impl<P: Parts> Provider<P> {
     /// record's attributes the same replies and state are right. The clauses from `streams` on say, for a
     /// provider as `build` gave it, what can be read off the calls and replies alone.
     pub fn run(&mut self, alloc: Global, calls: &[Call]) -> Result<Vec<Reply>, Fault>
-        ensures run { IfOk result (λ replies. Run [] (state_of self.old) (map call_of calls.now) (map reply_of replies.items) (state_of self.new)) }
+        ensures run { IfOk result (λ replies. Run (views_of P.View.answer self.old) (state_of self.old) (map call_of calls.now) (map reply_of replies.items) (state_of self.new)) }
         ensures unmade { OnErr result (state_of self.new ≡ state_of self.old) }
         ensures only_memory { IsOkUnless result Fault.OutOfMemory }
         ensures balances { Balances (state_of self.new) }
         ensures readers { KeepsReaders (state_of self.old) (state_of self.new) }
         ensures kept { provider_readers self.new ≡ provider_readers self.old }
-        ensures order { IfOk result (λ replies. InAnyOrder (state_of self.old) calls.now replies.items (state_of self.new)) }
-        ensures streams { IfOk result (λ replies. OfReaders HasStreamsOfBuilds (state_of self.old) calls.now replies.items (state_of self.new)) }
-        ensures feeds { IfOk result (λ replies. OfReaders HasFeedsOfBuilds (state_of self.old) calls.now replies.items (state_of self.new)) }
-        ensures places { IfOk result (λ replies. OfReaders HasPlacesOfHistories (state_of self.old) calls.now replies.items (state_of self.new)) }
-        ensures counted { IfOk result (λ replies. OfReaders HasCountedOfHistories (state_of self.old) calls.now replies.items (state_of self.new)) }
-        ensures collections { IfOk result (λ replies. OfAnswers IsGivenCollections (state_of self.old) calls.now replies.items) }
-        ensures only_reader { IfOk result (λ replies. OfAnswers IsAnsweredAsOnly (state_of self.old) calls.now replies.items) }
-        ensures recorded { IfOk result (λ replies. OfStreams HasRecordedTotal (state_of self.old) calls.now replies.items (state_of self.new)) }
-        ensures exported { IfOk result (λ replies. OfStreams HasExportedTotal (state_of self.old) calls.now replies.items (state_of self.new)) }
-        ensures pending { IfOk result (λ replies. OfStreams HasPendingPoints (state_of self.old) calls.now replies.items (state_of self.new)) }
-        ensures conserved { IfOk result (λ replies. OfStreams Conserves (state_of self.old) calls.now replies.items (state_of self.new)) }
-        ensures accepted { IfOk result (λ replies. OfStreams HasAccepted (state_of self.old) calls.now replies.items (state_of self.new)) }
-        ensures totals { IfOk result (λ replies. OfAnswers (OfEachMetric ShowsWindow) (state_of self.old) calls.now replies.items) }
-        ensures all_shown { IfOk result (λ replies. OfAnswers (OfEachMetric ShowsAll) (state_of self.old) calls.now replies.items) }
-        ensures few { IfOk result (λ replies. OfAnswers (OfEachMetric HasFewPoints) (state_of self.old) calls.now replies.items) }
+        ensures views { provider_views self.new ≡ provider_views self.old }
+        ensures order { IfOk result (λ replies. InAnyOrder (views_of P.View.answer self.old) (state_of self.old) calls.now replies.items (state_of self.new)) }
+        ensures streams { IfOk result (λ replies. OfReaders HasStreamsOfBuilds (views_of P.View.answer self.old) (state_of self.old) calls.now replies.items (state_of self.new)) }
+        ensures feeds { IfOk result (λ replies. OfReaders HasFeedsOfBuilds (views_of P.View.answer self.old) (state_of self.old) calls.now replies.items (state_of self.new)) }
+        ensures places { IfOk result (λ replies. OfReaders HasPlacesOfHistories (views_of P.View.answer self.old) (state_of self.old) calls.now replies.items (state_of self.new)) }
+        ensures counted { IfOk result (λ replies. OfReaders HasCountedOfHistories (views_of P.View.answer self.old) (state_of self.old) calls.now replies.items (state_of self.new)) }
+        ensures collections { IfOk result (λ replies. OfAnswers IsGivenCollections (views_of P.View.answer self.old) (state_of self.old) calls.now replies.items) }
+        ensures only_reader { IfOk result (λ replies. OfAnswers IsAnsweredAsOnly (views_of P.View.answer self.old) (state_of self.old) calls.now replies.items) }
+        ensures recorded { IfOk result (λ replies. OfStreams HasRecordedTotal (views_of P.View.answer self.old) (state_of self.old) calls.now replies.items (state_of self.new)) }
+        ensures exported { IfOk result (λ replies. OfStreams HasExportedTotal (views_of P.View.answer self.old) (state_of self.old) calls.now replies.items (state_of self.new)) }
+        ensures pending { IfOk result (λ replies. OfStreams HasPendingPoints (views_of P.View.answer self.old) (state_of self.old) calls.now replies.items (state_of self.new)) }
+        ensures conserved { IfOk result (λ replies. OfStreams Conserves (views_of P.View.answer self.old) (state_of self.old) calls.now replies.items (state_of self.new)) }
+        ensures accepted { IfOk result (λ replies. OfStreams HasAccepted (views_of P.View.answer self.old) (state_of self.old) calls.now replies.items (state_of self.new)) }
+        ensures totals { IfOk result (λ replies. OfAnswers (OfEachMetric ShowsWindow) (views_of P.View.answer self.old) (state_of self.old) calls.now replies.items) }
+        ensures all_shown { IfOk result (λ replies. OfAnswers (OfEachMetric ShowsAll) (views_of P.View.answer self.old) (state_of self.old) calls.now replies.items) }
+        ensures few { IfOk result (λ replies. OfAnswers (OfEachMetric HasFewPoints) (views_of P.View.answer self.old) (state_of self.old) calls.now replies.items) }
     {
-        self.core.run(alloc, calls)
+        self.core.run(&self.views, alloc, calls)
     }
 }

@@ -3,17 +3,19 @@
 ghost use Rattle.std.specs.Prelude.{◌≡◌, ◌∷◌, ◌++◌, [], Option, cond, length, map, slice_get, Some, None, true, OnOk, OnErr, IfOk, IfErr, IsOk, IsOkUnless, MatchResult};
 ghost use Rattle.std.specs.Option.{option_map};
 ghost use Rattle.otel_model.specs.Calls as model;
-ghost use Rattle.otel_model.specs.Demands.{is_good, are_good_bounds};
+ghost use Rattle.otel_model.specs.Demands.{Views, is_good, are_good_bounds};
 ghost use Rattle.otel_model.specs.Machine.{new_state, new_part, new_instrument, built};
 ghost use Rattle.otel_model.specs.Refusals.{record_refusal};
 ghost use Rattle.otel_model.specs.Resources.{empty_resource};
 ghost use Rattle.otel_model.specs.Sent.{has_scope};
 ghost use Rattle.otel_model.specs.Steps.{Step, Run};
 ghost use Rattle.otel_pipeline.specs.Pipelines.{part_of};
+ghost use Rattle.otel_pipeline.specs.Views.{answering};
 ghost use Rattle.otel_provider.specs.Correspondence.{about, kind_of, is_signed, number_of, call_of, reply_of};
 ghost use Rattle.otel_provider.specs.States.{IsMade, IsFault, IsFaultOf, IsNamed, IsScopeOf, IsNoMeter, IsGoodIn, IsTakenBy};
 ghost use Rattle.otel_provider.specs.declared.sorts.InstrumentSort.{InstrumentSort};
 
+use crate::asking::ask_in;
 use crate::calls::{Call, Reply};
 use crate::instrument::Instrument;
 use crate::meter::{
@@ -35,6 +37,8 @@ use otel_pipeline::about::About;
 use otel_pipeline::pipeline::Pipeline;
 use otel_stream::answers::Answers;
 use otel_stream::instrument::InstrumentKind;
+use otel_stream::stream::Stream;
+use otel_stream::view::View;
 use std::alloc::Global;
 use std::marker::Model;
 
@@ -138,13 +142,14 @@ fn check_value(
     }
 }
 
-/// Makes an instrument, at all readers or at none. Without a scope it demands nothing.
+/// Makes an instrument, of which each view answered this, at all readers or at none. Without a scope it demands nothing.
 fn make(
     instruments: &mut Vec<Instrument>,
     pipelines: &mut [Pipeline],
     scope: Option<&InstrumentationScope>,
     sort: InstrumentSort,
     about: &About<'_>,
+    answered: &[Option<Stream>],
     now: u64,
 ) -> Result<usize, Fault>
     requires good { IsGoodIn (option_map (λ s. s.now) scope) about.now }
@@ -152,13 +157,13 @@ fn make(
     requires signed { about.now.signed ≡ is_signed sort }
     ensures number { IfOk result (λ n. n ≡ length instruments.old.items) }
     ensures instruments { OnOk result (instruments.new.items ≡ instruments.old.items ++ new_instrument about.now ∷ []) }
-    ensures readers { OnOk result (map part_of pipelines.new ≡ map (built [] (option_map (λ s. s.now) scope.entry) about.now now) (map part_of pipelines.old)) }
+    ensures readers { OnOk result (map part_of pipelines.new ≡ map (built (answering answered.now) (option_map (λ s. s.now) scope.entry) about.now now) (map part_of pipelines.old)) }
     ensures same { OnErr result (instruments.new.items ≡ instruments.old.items) }
     ensures same_readers { OnErr result (map part_of pipelines.new ≡ map part_of pipelines.old) }
     ensures only_memory { IsOkUnless result Fault.OutOfMemory }
 {
     instruments.reserve(1)?;
-    build_or_none(pipelines, scope, about, now)?;
+    build_or_none(pipelines, scope, about, answered, now)?;
     let number = instruments.len();
     instruments.push_reserved(Instrument::new(sort));
     Ok(number)
@@ -196,7 +201,7 @@ impl Core {
 
     /// The number of the meter of a scope, which is new if there was none.
     fn meter(&mut self, scope: &InstrumentationScope) -> Result<usize, Fault>
-        ensures ok { IfOk result (λ n. IsMade self.old (model.Call.Meter scope.now) (model.Reply.Meter (Some n)) self.new) }
+        ensures ok { IfOk result (λ n. (views : Views) → IsMade views self.old (model.Call.Meter scope.now) (model.Reply.Meter (Some n)) self.new) }
         ensures err { OnErr result (self.new ≡ self.old) }
         ensures known { has_scope scope.now self.old.shared.meters ≡ true → IsOk result }
         ensures only_memory { IsOkUnless result Fault.OutOfMemory }
@@ -208,9 +213,10 @@ impl Core {
         Ok(number)
     }
 
-    /// Builds an instrument.
-    fn build(
+    /// Builds an instrument. Each view is asked once, before anything is changed.
+    fn build<V: View>(
         &mut self,
+        views: &[V],
         meter: Option<usize>,
         sort: InstrumentSort,
         about: &About<'_>,
@@ -218,7 +224,7 @@ impl Core {
     ) -> Result<usize, Fault>
         requires kind { about.now.kind ≡ kind_of sort }
         requires signed { about.now.signed ≡ is_signed sort }
-        ensures ok { IfOk result (λ n. IsMade self.old (model.Call.Build meter about.now now) (model.Reply.Instrument n) self.new) }
+        ensures ok { IfOk result (λ n. IsMade (map V.answer views.now) self.old (model.Call.Build meter about.now now) (model.Reply.Instrument n) self.new) }
         ensures err { OnErr result (self.new ≡ self.old) }
         ensures fault { IfErr result (IsFaultOf self.old (model.Call.Build meter about.now now)) }
     {
@@ -226,12 +232,15 @@ impl Core {
             Ok(scope) => scope,
             Err(fault) => return Err(fault),
         };
+        let scope = good_scope(scope, about);
+        let answered = ask_in(self.alloc, views, scope, about)?;
         make(
             &mut self.instruments,
             &mut self.pipelines,
-            good_scope(scope, about),
+            scope,
             sort,
             about,
+            &answered,
             now,
         )
     }
@@ -243,7 +252,7 @@ impl Core {
         value: NumberValue,
         attributes: &[KeyValue],
     ) -> Result<(), Fault>
-        ensures ok { OnOk result (IsMade self.old (model.Call.Record instrument (number_of value) attributes.now) model.Reply.Done self.new) }
+        ensures ok { OnOk result ((views : Views) → IsMade views self.old (model.Call.Record instrument (number_of value) attributes.now) model.Reply.Done self.new) }
         ensures err { OnErr result (self.new ≡ self.old) }
         ensures fault { IfErr result (IsFaultOf self.old (model.Call.Record instrument (number_of value) attributes.now)) }
         ensures free { attributes.now ≡ [] → IfErr result IsNamed }
@@ -258,7 +267,7 @@ impl Core {
 
     /// Makes a collection of a reader at a moment.
     fn collect(&mut self, reader: usize, now: u64) -> Result<ResourceMetrics, Fault>
-        ensures ok { IfOk result (λ c. IsMade self.old (model.Call.Collect reader now []) (model.Reply.Collected c) self.new) }
+        ensures ok { IfOk result (λ c. (views : Views) → IsMade views self.old (model.Call.Collect reader now []) (model.Reply.Collected c) self.new) }
         ensures err { OnErr result (self.new ≡ self.old) }
         ensures fault { IfErr result (IsFaultOf self.old (model.Call.Collect reader now [])) }
     {
@@ -269,7 +278,7 @@ impl Core {
     }
 
     fn step_meter(&mut self, scope: &InstrumentationScope) -> Reply
-        ensures { Step [] self.old (model.Call.Meter scope.now) (reply_of result) self.new }
+        ensures { (views : Views) → Step views self.old (model.Call.Meter scope.now) (reply_of result) self.new }
     {
         match self.meter(scope) {
             Ok(number) => Reply::Meter(Some(number)),
@@ -277,8 +286,9 @@ impl Core {
         }
     }
 
-    fn step_build(
+    fn step_build<V: View>(
         &mut self,
+        views: &[V],
         meter: Option<usize>,
         sort: InstrumentSort,
         about: &About<'_>,
@@ -286,9 +296,9 @@ impl Core {
     ) -> Reply
         requires kind { about.now.kind ≡ kind_of sort }
         requires signed { about.now.signed ≡ is_signed sort }
-        ensures { Step [] self.old (model.Call.Build meter about.now now) (reply_of result) self.new }
+        ensures { Step (map V.answer views.now) self.old (model.Call.Build meter about.now now) (reply_of result) self.new }
     {
-        match self.build(meter, sort, about, now) {
+        match self.build(views, meter, sort, about, now) {
             Ok(number) => Reply::Instrument(number),
             Err(fault) => Reply::Refused(fault),
         }
@@ -300,7 +310,7 @@ impl Core {
         value: NumberValue,
         attributes: &[KeyValue],
     ) -> Reply
-        ensures { Step [] self.old (model.Call.Record instrument (number_of value) attributes.now) (reply_of result) self.new }
+        ensures { (views : Views) → Step views self.old (model.Call.Record instrument (number_of value) attributes.now) (reply_of result) self.new }
     {
         match self.record(instrument, value, attributes) {
             Ok(()) => Reply::Done,
@@ -309,7 +319,7 @@ impl Core {
     }
 
     fn step_collect(&mut self, reader: usize, now: u64) -> Reply
-        ensures { Step [] self.old (model.Call.Collect reader now []) (reply_of result) self.new }
+        ensures { (views : Views) → Step views self.old (model.Call.Collect reader now []) (reply_of result) self.new }
     {
         match self.collect(reader, now) {
             Ok(metrics) => Reply::Collected(metrics),
@@ -318,8 +328,8 @@ impl Core {
     }
 
     /// One call.
-    pub(crate) fn step(&mut self, call: &Call) -> Reply
-        ensures { Step [] self.old (call_of call.now) (reply_of result) self.new }
+    pub(crate) fn step<V: View>(&mut self, views: &[V], call: &Call) -> Reply
+        ensures { Step (map V.answer views.now) self.old (call_of call.now) (reply_of result) self.new }
     {
         match call {
             Call::Meter { scope } => self.step_meter(scope),
@@ -340,7 +350,7 @@ impl Core {
                     unit,
                     bounds: boundaries,
                 };
-                self.step_build(*meter, *sort, &about, *now)
+                self.step_build(views, *meter, *sort, &about, *now)
             }
             Call::Record {
                 instrument,
@@ -352,14 +362,19 @@ impl Core {
     }
 
     /// A list of calls, one after another, with the reply to each.
-    pub(crate) fn run(&mut self, alloc: Global, calls: &[Call]) -> Result<Vec<Reply>, Fault>
-        ensures run { IfOk result (λ replies. Run [] self.old (map call_of calls.now) (map reply_of replies.items) self.new) }
+    pub(crate) fn run<V: View>(
+        &mut self,
+        views: &[V],
+        alloc: Global,
+        calls: &[Call],
+    ) -> Result<Vec<Reply>, Fault>
+        ensures run { IfOk result (λ replies. Run (map V.answer views.now) self.old (map call_of calls.now) (map reply_of replies.items) self.new) }
         ensures unmade { OnErr result (self.new ≡ self.old) }
         ensures only_memory { IsOkUnless result Fault.OutOfMemory }
     {
         let mut replies = Vec::with_capacity(alloc, calls.len())?;
         for call in calls {
-            let reply = self.step(call);
+            let reply = self.step(views, call);
             replies.push_reserved(reply);
         }
         Ok(replies)

@@ -3,7 +3,7 @@
 pub use otel_data::numbers::NumberValue;
 pub use otel_provider::calls::{Call, Reply};
 pub use otel_provider::laws::{copied_call, copied_numbers, copied_reply};
-pub use otel_provider::parts::{Boxed, Parts, ReaderPart};
+pub use otel_provider::parts::{Boxed, Parts, ReaderPart, ViewPart};
 pub use otel_provider::provider::{
     MeterProviderBuilder, Provider, ProviderBuilder, SdkMeterProvider,
 };

@@ -1,5 +1,6 @@
-use Rattle.std.proofs.Common.{◌∙◌, ap, map, []}
+use Rattle.std.proofs.Common.{◌∙◌, ap, map}
 use Rattle.otel_model.specs.Machine.{built as model_built}
+use Rattle.otel_pipeline.specs.Views.{answering}
 use Rattle.otel_pipeline.proofs.Plans.{all_built, ready-planned}
 use Rattle.otel_provider.proofs.StepLemmas.{buildable-in, good-or-none}
 use Rattle.otel_provider.proofs.pipelines.build_or_none.Goals as goal
@@ -8,10 +9,10 @@ pub plan_all-requires : goal.plan_all-requires
 plan_all-requires c = buildable-in _ c.args.about.now c.requires.good c.requires.synchronous
 
 pub build_all-requires : goal.build_all-requires
-build_all-requires c = λ k d h. ready-planned [] _ c.args.about.now c.args.now _ (c.in_ok-plan_all.ensures.ready k d h)
+build_all-requires c = λ k d h. ready-planned (answering c.args.answered.now) _ c.args.about.now c.args.now _ (c.in_ok-plan_all.ensures.ready k d h)
 
 pub returns-clause-ok : goal.returns-clause-ok
 returns-clause-ok c =
     c.build_all.ensures
-    ∙ (all_built [] _ c.args.about.now c.args.now c.plan_all.new.pipelines (good-or-none _ c.args.about.now c.requires.good) c.in_ok-plan_all.ensures.ready
-    ∙ ap (map (model_built [] _ c.args.about.now c.args.now)) c.plan_all.ensures.same)
+    ∙ (all_built (answering c.args.answered.now) _ c.args.about.now c.args.now c.plan_all.new.pipelines (good-or-none _ c.args.about.now c.requires.good) c.in_ok-plan_all.ensures.ready
+    ∙ ap (map (model_built (answering c.args.answered.now) _ c.args.about.now c.args.now)) c.plan_all.ensures.same)

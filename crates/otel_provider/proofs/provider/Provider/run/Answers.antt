@@ -1,4 +1,5 @@
-use Rattle.std.specs.Prelude.{map}
+use Rattle.std.specs.Prelude.{map, IfOk}
+use Rattle.std.proofs.Common.{subst}
 use Rattle.std.specs.Global.{Vec}
 use Rattle.std.proofs.lemmas.Result.{IfOk-weaker}
 use Rattle.otel_model.proofs.Runs.{streams_law, feeds_law, places_law, counted_law, collections_law}
@@ -9,55 +10,61 @@ use Rattle.otel_model_laws.proofs.Booked.{accepted_law}
 use Rattle.otel_model.specs.Answered.{OfEachMetric, ShowsWindow, ShowsAll, HasFewPoints}
 use Rattle.otel_model.specs.Laws.{HasStreamsOfBuilds, HasFeedsOfBuilds, HasPlacesOfHistories, HasCountedOfHistories, IsGivenCollections, IsAnsweredAsOnly, HasRecordedTotal, HasExportedTotal, HasPendingPoints, Conserves, HasAccepted}
 use Rattle.otel_provider.specs.Correspondence.{call_of, reply_of}
+use Rattle.otel_provider.specs.Providers.{views_of}
 use Rattle.otel_provider.specs.declared.calls.Reply.{Reply}
 use Rattle.otel_provider.proofs.Lawful.{kept_run}
-use Rattle.otel_provider.proofs.Headlines.{of_readers, of_streams, of_answers, in_any_order}
+use Rattle.otel_provider.proofs.Headlines.{IsRunOf, of_readers, of_streams, of_answers, in_any_order}
+use Rattle.otel_provider.proofs.provider.Provider.run.Given as given
 use Rattle.otel_provider.proofs.provider.Provider.run.Goals as goal
 
+-- the core's run, with the provider's own views
+as-run : (g : given.Over) (c : goal.After-run g) → IfOk c.run.result (λ replies. IsRunOf (views_of g.P.View.View.answer c.args.self.now) c.args.self.now.core c.args.calls.now replies.items c.run.new.self)
+as-run g c = subst (λ vs. IfOk c.run.result (λ replies. IsRunOf (map g.P.View.View.answer vs) c.args.self.now.core c.args.calls.now replies.items c.run.new.self)) c.deref.ensures.value c.run.ensures.run
+
 pub returns-clause-streams : goal.returns-clause-streams
-returns-clause-streams g c = IfOk-weaker c.run.result _ _ (λ replies is. of_readers HasStreamsOfBuilds streams_law c.args.self.now.core c.run.new.self c.args.calls.now replies.items is) c.run.ensures.run
+returns-clause-streams g c = IfOk-weaker c.run.result _ _ (λ replies is. of_readers HasStreamsOfBuilds streams_law (views_of g.P.View.View.answer c.args.self.now) c.args.self.now.core c.run.new.self c.args.calls.now replies.items is) (as-run g c)
 
 pub returns-clause-feeds : goal.returns-clause-feeds
-returns-clause-feeds g c = IfOk-weaker c.run.result _ _ (λ replies is. of_readers HasFeedsOfBuilds feeds_law c.args.self.now.core c.run.new.self c.args.calls.now replies.items is) c.run.ensures.run
+returns-clause-feeds g c = IfOk-weaker c.run.result _ _ (λ replies is. of_readers HasFeedsOfBuilds feeds_law (views_of g.P.View.View.answer c.args.self.now) c.args.self.now.core c.run.new.self c.args.calls.now replies.items is) (as-run g c)
 
 pub returns-clause-places : goal.returns-clause-places
-returns-clause-places g c = IfOk-weaker c.run.result _ _ (λ replies is. of_readers HasPlacesOfHistories places_law c.args.self.now.core c.run.new.self c.args.calls.now replies.items is) c.run.ensures.run
+returns-clause-places g c = IfOk-weaker c.run.result _ _ (λ replies is. of_readers HasPlacesOfHistories places_law (views_of g.P.View.View.answer c.args.self.now) c.args.self.now.core c.run.new.self c.args.calls.now replies.items is) (as-run g c)
 
 pub returns-clause-counted : goal.returns-clause-counted
-returns-clause-counted g c = IfOk-weaker c.run.result _ _ (λ replies is. of_readers HasCountedOfHistories counted_law c.args.self.now.core c.run.new.self c.args.calls.now replies.items is) c.run.ensures.run
+returns-clause-counted g c = IfOk-weaker c.run.result _ _ (λ replies is. of_readers HasCountedOfHistories counted_law (views_of g.P.View.View.answer c.args.self.now) c.args.self.now.core c.run.new.self c.args.calls.now replies.items is) (as-run g c)
 
 pub returns-clause-collections : goal.returns-clause-collections
-returns-clause-collections g c = IfOk-weaker c.run.result _ _ (λ replies is. of_answers IsGivenCollections collections_law c.args.self.now.core c.run.new.self c.args.calls.now replies.items is) c.run.ensures.run
+returns-clause-collections g c = IfOk-weaker c.run.result _ _ (λ replies is. of_answers IsGivenCollections collections_law (views_of g.P.View.View.answer c.args.self.now) c.args.self.now.core c.run.new.self c.args.calls.now replies.items is) (as-run g c)
 
 pub returns-clause-only_reader : goal.returns-clause-only_reader
-returns-clause-only_reader g c = IfOk-weaker c.run.result _ _ (λ replies is. of_answers IsAnsweredAsOnly as_only c.args.self.now.core c.run.new.self c.args.calls.now replies.items is) c.run.ensures.run
+returns-clause-only_reader g c = IfOk-weaker c.run.result _ _ (λ replies is. of_answers IsAnsweredAsOnly as_only (views_of g.P.View.View.answer c.args.self.now) c.args.self.now.core c.run.new.self c.args.calls.now replies.items is) (as-run g c)
 
 pub returns-clause-recorded : goal.returns-clause-recorded
-returns-clause-recorded g c = IfOk-weaker c.run.result _ _ (λ replies is. of_streams HasRecordedTotal recorded_law c.args.self.now.core c.run.new.self c.args.calls.now replies.items is) c.run.ensures.run
+returns-clause-recorded g c = IfOk-weaker c.run.result _ _ (λ replies is. of_streams HasRecordedTotal recorded_law (views_of g.P.View.View.answer c.args.self.now) c.args.self.now.core c.run.new.self c.args.calls.now replies.items is) (as-run g c)
 
 pub returns-clause-exported : goal.returns-clause-exported
-returns-clause-exported g c = IfOk-weaker c.run.result _ _ (λ replies is. of_streams HasExportedTotal exported_law c.args.self.now.core c.run.new.self c.args.calls.now replies.items is) c.run.ensures.run
+returns-clause-exported g c = IfOk-weaker c.run.result _ _ (λ replies is. of_streams HasExportedTotal exported_law (views_of g.P.View.View.answer c.args.self.now) c.args.self.now.core c.run.new.self c.args.calls.now replies.items is) (as-run g c)
 
 pub returns-clause-conserved : goal.returns-clause-conserved
-returns-clause-conserved g c = IfOk-weaker c.run.result _ _ (λ replies is. of_streams Conserves conserved_law c.args.self.now.core c.run.new.self c.args.calls.now replies.items is) c.run.ensures.run
+returns-clause-conserved g c = IfOk-weaker c.run.result _ _ (λ replies is. of_streams Conserves conserved_law (views_of g.P.View.View.answer c.args.self.now) c.args.self.now.core c.run.new.self c.args.calls.now replies.items is) (as-run g c)
 
 pub returns-clause-accepted : goal.returns-clause-accepted
-returns-clause-accepted g c = IfOk-weaker c.run.result _ _ (λ replies is. of_streams HasAccepted accepted_law c.args.self.now.core c.run.new.self c.args.calls.now replies.items is) c.run.ensures.run
+returns-clause-accepted g c = IfOk-weaker c.run.result _ _ (λ replies is. of_streams HasAccepted accepted_law (views_of g.P.View.View.answer c.args.self.now) c.args.self.now.core c.run.new.self c.args.calls.now replies.items is) (as-run g c)
 
 pub returns-clause-order : goal.returns-clause-order
-returns-clause-order g c = IfOk-weaker c.run.result _ _ (λ replies is. in_any_order c.args.self.now.core c.run.new.self c.args.calls.now replies.items is) c.run.ensures.run
+returns-clause-order g c = IfOk-weaker c.run.result _ _ (λ replies is. in_any_order (views_of g.P.View.View.answer c.args.self.now) c.args.self.now.core c.run.new.self c.args.calls.now replies.items is) (as-run g c)
 
 pub returns-clause-pending : goal.returns-clause-pending
-returns-clause-pending g c = IfOk-weaker c.run.result _ _ (λ replies is. of_streams HasPendingPoints pending_law c.args.self.now.core c.run.new.self c.args.calls.now replies.items is) c.run.ensures.run
+returns-clause-pending g c = IfOk-weaker c.run.result _ _ (λ replies is. of_streams HasPendingPoints pending_law (views_of g.P.View.View.answer c.args.self.now) c.args.self.now.core c.run.new.self c.args.calls.now replies.items is) (as-run g c)
 
 pub returns-clause-totals : goal.returns-clause-totals
-returns-clause-totals g c = IfOk-weaker c.run.result _ _ (λ replies is. of_answers (OfEachMetric ShowsWindow) totals_answered_law c.args.self.now.core c.run.new.self c.args.calls.now replies.items is) c.run.ensures.run
+returns-clause-totals g c = IfOk-weaker c.run.result _ _ (λ replies is. of_answers (OfEachMetric ShowsWindow) totals_answered_law (views_of g.P.View.View.answer c.args.self.now) c.args.self.now.core c.run.new.self c.args.calls.now replies.items is) (as-run g c)
 
 pub returns-clause-all_shown : goal.returns-clause-all_shown
-returns-clause-all_shown g c = IfOk-weaker c.run.result _ _ (λ replies is. of_answers (OfEachMetric ShowsAll) all_answered_law c.args.self.now.core c.run.new.self c.args.calls.now replies.items is) c.run.ensures.run
+returns-clause-all_shown g c = IfOk-weaker c.run.result _ _ (λ replies is. of_answers (OfEachMetric ShowsAll) all_answered_law (views_of g.P.View.View.answer c.args.self.now) c.args.self.now.core c.run.new.self c.args.calls.now replies.items is) (as-run g c)
 
 pub returns-clause-few : goal.returns-clause-few
-returns-clause-few g c = IfOk-weaker c.run.result _ _ (λ replies is. of_answers (OfEachMetric HasFewPoints) few_answered_law c.args.self.now.core c.run.new.self c.args.calls.now replies.items is) c.run.ensures.run
+returns-clause-few g c = IfOk-weaker c.run.result _ _ (λ replies is. of_answers (OfEachMetric HasFewPoints) few_answered_law (views_of g.P.View.View.answer c.args.self.now) c.args.self.now.core c.run.new.self c.args.calls.now replies.items is) (as-run g c)
 
 pub returns-clause-readers : goal.returns-clause-readers
-returns-clause-readers g c = kept_run c.run.result (map call_of c.args.calls.now) (λ (replies : Vec Reply). map reply_of replies.items) c.args.self.now.core c.run.new.self c.run.ensures.run c.run.ensures.unmade
+returns-clause-readers g c = kept_run (views_of g.P.View.View.answer c.args.self.now) c.run.result (map call_of c.args.calls.now) (λ (replies : Vec Reply). map reply_of replies.items) c.args.self.now.core c.run.new.self (as-run g c) c.run.ensures.unmade

@@ -14,7 +14,7 @@ returns-clause-ok c =
     let scope : InstrumentationScope = c.args.scope.now in
     let copy : c.in_ok-copy_scope.field-0 ≡ scope = c.in_ok-copy_scope.ensures.copy in
     let first : c.in_ok-number.number ≡ position_or_len (scope_eq scope) keys = c.in_ok-number.ensures.index ∙ ap (λ s. position_or_len (scope_eq s) keys) copy in
-    rw (← c.self.view_is) (record {
+    rw (← c.self.view_is) (λ views. record {
       answer = ap model.Reply.Meter (meter_number scope keys c.in_ok-number.number first);
       state = ap (λ ks. state_of c.self.inside.resource ks c.self.inside.instruments.items c.self.inside.pipelines.items) (c.in_ok-number.ensures.keys ∙ (ap (λ s. cond (list_any (scope_eq s) keys) keys (keys ++ s ∷ [])) copy ∙ ap (λ b. cond b keys (keys ++ scope ∷ [])) (sym (has_scope-flip scope keys))));
     })

@@ -1,4 +1,4 @@
-use Rattle.std.proofs.Common.{◌≡◌, ◌≤◌, [], length, map, take, vec_len}
+use Rattle.std.proofs.Common.{◌≡◌, ◌≤◌, length, map, take, vec_len}
 use Rattle.std.specs.Prelude.{vec_capacity}
 use Rattle.otel_model.specs.Steps.{Run}
 use Rattle.otel_provider.specs.Correspondence.{call_of, reply_of}
@@ -6,8 +6,8 @@ use Rattle.otel_provider.proofs.provider_core.Core.run.Given as goal
 
 -- a reply to each call so far, as the machine gives it, and room for the others
 abbrev pub invariant-loop-call : goal.invariant-loop-call
-invariant-loop-call l = record {
+invariant-loop-call g l = record {
   many : vec_len l.replies ≡ l.call-index;
   room : length l.calls ≤ vec_capacity l.replies;
-  so_far : Run [] l.initial.self (map call_of (take l.call-index l.calls)) (map reply_of l.replies.items) l.self;
+  so_far : Run (map g.V.View.answer l.views) l.initial.self (map call_of (take l.call-index l.calls)) (map reply_of l.replies.items) l.self;
 }

@@ -1,0 +1,74 @@
+//! Views: the streams of some instruments are set apart from the code that records.
+
+ghost use Rattle.std.specs.Prelude.{cond, Some, None};
+ghost use Rattle.otel_common.specs.Equality.{bytes_eq};
+
+use anyhow::Error;
+use opentelemetry_sdk::common::{Fault, Key, StringValue};
+use opentelemetry_sdk::metrics::instrument::{Instrument, Stream};
+use opentelemetry_sdk::metrics::{Aggregation, View};
+use std::alloc::Global;
+
+/// A view of the instruments of one name, whatever their scope.
+#[derive(Drop)]
+pub struct OfName {
+    name: StringValue,
+    stream: Stream,
+}
+
+impl View for OfName {
+    ghost answer = { λ view instrument. cond (bytes_eq instrument.name view.name) (Some view.stream) None };
+
+    fn match_inst(&self, inst: &Instrument) -> Result<Option<Stream>, Fault> {
+        if inst.name == self.name {
+            Ok(Some(self.stream.clone()?))
+        } else {
+            Ok(None)
+        }
+    }
+}
+
+/// A view that sets the streams of the instruments of a name so.
+fn of_name(alloc: Global, name: &str, stream: Stream) -> Result<Box<dyn View>, Error> {
+    let name = StringValue::new(alloc, name)?;
+    let view: Box<dyn View> = Box::new(alloc, OfName { name, stream })?;
+    Ok(view)
+}
+
+/// The stream has a name of its own.
+pub fn renamed(alloc: Global) -> Result<Box<dyn View>, Error> {
+    let name = String::from_str(alloc, "shop.requests")?;
+    let stream = Stream::builder().with_name(name).build()?;
+    of_name(alloc, "requests", stream)
+}
+
+/// The instrument has no stream.
+pub fn dropped(alloc: Global) -> Result<Box<dyn View>, Error> {
+    let stream = Stream::builder()
+        .with_aggregation(Aggregation::Drop)
+        .build()?;
+    of_name(alloc, "debug", stream)
+}
+
+/// Of the attributes of an order two are kept.
+pub fn two_attributes(alloc: Global) -> Result<Box<dyn View>, Error> {
+    let keys = vec![in alloc; Key::new(alloc, "country")?, Key::new(alloc, "paid")?]?;
+    let stream = Stream::builder().with_allowed_attribute_keys(keys).build()?;
+    of_name(alloc, "orders", stream)
+}
+
+/// Two users have points of their own, all others share one.
+pub fn few_points(alloc: Global) -> Result<Box<dyn View>, Error> {
+    let stream = Stream::builder().with_cardinality_limit(2).build()?;
+    of_name(alloc, "users", stream)
+}
+
+/// The buckets of a histogram end at 10, 100 and 1000.
+pub fn other_buckets(alloc: Global) -> Result<Box<dyn View>, Error> {
+    let aggregation = Aggregation::ExplicitBucketHistogram {
+        boundaries: vec![in alloc; 10i64, 100i64, 1000i64]?.into(),
+        record_min_max: true,
+    };
+    let stream = Stream::builder().with_aggregation(aggregation).build()?;
+    of_name(alloc, "latency", stream)
+}
