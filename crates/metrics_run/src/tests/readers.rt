@@ -31,6 +31,30 @@ fn row_42(rt: HostRuntime) -> Result<(), Fail> {
     )
 }
 
+/// The limit of a view wins over that of a reader.
+#[test]
+fn row_43(rt: HostRuntime) -> Result<(), Fail> {
+    assert_prints(
+        &rt,
+        rt.alloc(),
+        b"reader delta limit:counter=1\n\
+          view c limit=2\n\
+          go\n\
+          meter m\n\
+          build 0 u64_counter c 100\n\
+          record 0 u:1 x=i:1\n\
+          record 0 u:2 y=i:1\n\
+          collect 0 200\n",
+        "meter 0\n\
+         instrument 0\n\
+         ok\n\
+         ok\n\
+         collected 2\n\
+         point m c sum delta monotonic 100 200 x=i:1 1\n\
+         point m c sum delta monotonic 100 200 y=i:1 2\n",
+    )
+}
+
 /// The limit for counters is none for an up-down counter.
 #[test]
 fn row_44(rt: HostRuntime) -> Result<(), Fail> {
@@ -149,6 +173,33 @@ fn row_48(rt: HostRuntime) -> Result<(), Fail> {
          point m h sum cumulative monotonic 100 200 - 21\n\
          collected 1\n\
          point m h histogram cumulative 100 200 - 2 21 none none 0,2\n",
+    )
+}
+
+/// A view that wants the default wants the bounds of the reader.
+#[test]
+fn row_49(rt: HostRuntime) -> Result<(), Fail> {
+    assert_prints(
+        &rt,
+        rt.alloc(),
+        b"reader cumulative agg:histogram=sum\n\
+          reader cumulative agg:histogram=plain:10\n\
+          view h agg=default\n\
+          go\n\
+          meter m\n\
+          build 0 u64_histogram h 100 bounds=5\n\
+          record 0 u:10 -\n\
+          record 0 u:11 -\n\
+          collect 0 200\n\
+          collect 1 200\n",
+        "meter 0\n\
+         instrument 0\n\
+         ok\n\
+         ok\n\
+         collected 1\n\
+         point m h sum cumulative monotonic 100 200 - 21\n\
+         collected 1\n\
+         point m h histogram cumulative 100 200 - 2 21 none none 1,1\n",
     )
 }
 
