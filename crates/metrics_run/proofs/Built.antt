@@ -27,3 +27,8 @@ all_said start named described united limited kept aggregated name description u
 pub built_as_said : (fault : Option StreamFault) (said stream : StreamSpec) → let built : Result StreamSpec StreamFault = Ok stream in MatchOption fault (built ≡ Ok said) (λ f. built ≡ Err f) → stream ≡ said
 built_as_said None said stream is = cc
 built_as_said (Some f) said stream is = cc
+
+-- what can't be built has a fault
+pub unbuilt_has_fault : (fault : Option StreamFault) (said : StreamSpec) (refused : StreamFault) → let built : Result StreamSpec StreamFault = Err refused in MatchOption fault (built ≡ Ok said) (λ f. built ≡ Err f) → fault ≡ None → ⊥
+unbuilt_has_fault None said refused is none = cc
+unbuilt_has_fault (Some f) said refused is none = cc

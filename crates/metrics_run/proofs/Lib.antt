@@ -3,3 +3,4 @@ mod Built
 mod Names
 mod Pairs
 mod PerKind
+mod Unread

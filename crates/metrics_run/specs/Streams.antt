@@ -1,6 +1,7 @@
 -- Streams of a script.
-use Rattle.std.specs.Prelude.{ℕ, IsTrue, List, [], ◌∷◌, codes}
+use Rattle.std.specs.Prelude.{ℕ, IsTrue, List, [], ◌∷◌, codes, ◌⊎◌}
 use Rattle.std.specs.List.{list_all}
+use Rattle.otel_stream.specs.Settings.{IsLawful}
 use Rattle.otel_stream.specs.declared.stream_spec.StreamSpec.{StreamSpec}
 use Rattle.metrics_run.specs.Aggregations.{IsAggregationWord}
 use Rattle.metrics_run.specs.Calls.{IsIndexWord}
@@ -22,3 +23,7 @@ ReadsStream words stream =
     × ReadsOption IsIndexWord (codes "limit") words stream.limit
     × ReadsOption ReadsKeys (codes "keys") words stream.allow
     × ReadsOption IsAggregationWord (codes "agg") words stream.aggregation
+
+-- nothing is read of the words, or a stream whose settings are no good ones
+abbrev pub SaysNoStream : List (List ℕ) → Type 0
+SaysNoStream words = ((stream : StreamSpec) → ¬ ReadsStream words stream) ⊎ ((stream : StreamSpec) × ReadsStream words stream × ¬ IsLawful stream)

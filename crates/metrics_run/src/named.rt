@@ -1,12 +1,12 @@
 //! Words of a line that are a name, `=` and a value.
 
-ghost use Rattle.std.specs.Prelude.{◌≡◌, ◌==◌, map, IfOk, IsOkUnless};
+ghost use Rattle.std.specs.Prelude.{◌≡◌, ◌==◌, ◌<◌, IsTrue, map, length, IfOk, IfErr, OnErr, IsOkUnless};
 ghost use Rattle.std.specs.Cmp.Lexicographic.{pointwise};
 ghost use Rattle.std.specs.List.{list_all, list_any};
 ghost use Rattle.std.specs.Option.{option_map, option_to_list};
 ghost use Rattle.std.specs.String.{string_bytes};
 ghost use Rattle.metrics_run.specs.Aggregations.{IsAggregationWord};
-ghost use Rattle.metrics_run.specs.Named.{has_name_of};
+ghost use Rattle.metrics_run.specs.Named.{has_name_of, has_value, ReadsNothing};
 ghost use Rattle.metrics_run.specs.Options.{values_named, ReadsOption, ReadsText};
 
 use crate::aggregations::aggregation_of;
@@ -53,6 +53,7 @@ fn is_one_of(given: &str, names: &[&str]) -> bool
 /// The value of the only word of this name, or none if no word has it.
 pub fn value_named<'a>(words: &[&'a str], name: &str) -> Result<Option<&'a str>, Refusal>
     ensures value { IfOk result (λ value. option_to_list (option_map (λ text. text.now) value) ≡ values_named name.now (map (λ word. word.now) words.now)) }
+    ensures meaningless { OnErr result (IsTrue (list_all has_value (map (λ word. word.now) words.now)) → 1 < length (values_named name.now (map (λ word. word.now) words.now))) }
     ensures refused { IsOkUnless result Refusal.BadCommand }
 {
     let mut value = None;
@@ -69,7 +70,8 @@ pub fn value_named<'a>(words: &[&'a str], name: &str) -> Result<Option<&'a str>,
 
 /// The text of the only word of this name, or none if no word has it.
 pub fn text_named(alloc: Global, words: &[&str], name: &str) -> Result<Option<String>, Refusal>
-    ensures { IfOk result (λ text. ReadsOption ReadsText name.now (map (λ word. word.now) words.now) (option_map string_bytes text)) }
+    ensures text { IfOk result (λ text. ReadsOption ReadsText name.now (map (λ word. word.now) words.now) (option_map string_bytes text)) }
+    ensures meaningless { IfErr result (λ refusal. refusal ≡ Refusal.BadCommand → ReadsNothing ReadsText name.now (map (λ word. word.now) words.now)) }
 {
     match value_named(words, name)? {
         Some(value) => Ok(Some(text_of_word(alloc, value)?)),
@@ -83,7 +85,8 @@ pub fn aggregation_named(
     words: &[&str],
     name: &str,
 ) -> Result<Option<Aggregation>, Refusal>
-    ensures { IfOk result (ReadsOption IsAggregationWord name.now (map (λ word. word.now) words.now)) }
+    ensures aggregation { IfOk result (ReadsOption IsAggregationWord name.now (map (λ word. word.now) words.now)) }
+    ensures meaningless { IfErr result (λ refusal. refusal ≡ Refusal.BadCommand → ReadsNothing IsAggregationWord name.now (map (λ word. word.now) words.now)) }
 {
     match value_named(words, name)? {
         Some(value) => Ok(Some(aggregation_of(alloc, value)?)),

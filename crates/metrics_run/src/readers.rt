@@ -1,14 +1,15 @@
 //! Readers of a script.
 
-ghost use Rattle.std.specs.Prelude.{◌≡◌, None, Some, Ok, false, map, codes, IfOk, OnErr, IsOkUnless};
+ghost use Rattle.std.specs.Prelude.{◌≡◌, ℕ, Option, None, Some, Ok, false, IsTrue, map, codes, IfOk, IfErr, OnErr, IsOkUnless};
 ghost use Rattle.std.specs.List.{list_all};
 ghost use Rattle.otel_common.specs.Temporalities.{temporality_named};
 ghost use Rattle.otel_stream.specs.Answers.{kind_eq};
 ghost use Rattle.otel_stream.specs.Wants.{limit_of, aggregation_of};
 ghost use Rattle.otel_stream.specs.declared.instrument.InstrumentKind.{InstrumentKind};
+ghost use Rattle.otel_stream.specs.declared.wants.Wants.{Wants};
 ghost use Rattle.metrics_run.specs.Options.{ReadsOption};
 ghost use Rattle.metrics_run.specs.Readers.{IsLimitWord, ReadsKind, ReadsReader, reader_names};
-ghost use Rattle.metrics_run.specs.Named.{has_name_of};
+ghost use Rattle.metrics_run.specs.Named.{has_name_of, has_value, ReadsNothing};
 ghost use Rattle.metrics_run.specs.Refusals.{StandsForNothing};
 
 use crate::kinds::{KINDS, aggregation_name, limit_name};
@@ -30,6 +31,7 @@ pub fn reader_of(
     options: &[&str],
 ) -> Result<ManualReader, Refusal>
     ensures reader { IfOk result (ReadsReader temporality.now (map (λ word. word.now) options.now)) }
+    ensures meaningless { IfErr result (λ refusal. refusal ≡ Refusal.BadCommand → (reader : Wants) → ¬ ReadsReader temporality.now (map (λ word. word.now) options.now) reader) }
 {
     let mut builder = ManualReader::builder().with_temporality(temporality_of(temporality)?);
     if !are_reader_options(options) {
@@ -92,6 +94,7 @@ fn with_options_of(
     ensures given { limit_of builder kind ≡ None → aggregation_of builder kind ≡ None → IfOk result (λ made. ReadsKind (map (λ word. word.now) options.now) limit.now made kind) }
     ensures others { IfOk result (λ made. (other : InstrumentKind) → kind_eq other kind ≡ false → (limit_of made other ≡ limit_of builder other) × (aggregation_of made other ≡ aggregation_of builder other)) }
     ensures temporality { IfOk result (λ made. made.temporality ≡ builder.temporality) }
+    ensures meaningless { IfErr result (λ refusal. refusal ≡ Refusal.BadCommand → IsTrue (list_all has_value (map (λ word. word.now) options.now)) → (for_all : Option ℕ) (reader : Wants) → ¬ ReadsKind (map (λ word. word.now) options.now) for_all reader kind) }
 {
     let own = limit_named(options, limit_name(kind))?;
     let aggregation = aggregation_named(alloc, options, aggregation_name(kind))?;
@@ -101,7 +104,9 @@ fn with_options_of(
 
 /// The limit of the only word of this name, or none if no word has it.
 fn limit_named(words: &[&str], name: &str) -> Result<Option<CardinalityLimit>, Refusal>
-    ensures { IfOk result (ReadsOption IsLimitWord name.now (map (λ word. word.now) words.now)) }
+    ensures limit { IfOk result (ReadsOption IsLimitWord name.now (map (λ word. word.now) words.now)) }
+    ensures meaningless { OnErr result (ReadsNothing IsLimitWord name.now (map (λ word. word.now) words.now)) }
+    ensures refused { IsOkUnless result Refusal.BadCommand }
 {
     match value_named(words, name)? {
         Some(value) => Ok(Some(limit_of_word(value)?)),

@@ -1,12 +1,13 @@
 //! Streams of a script.
 
-ghost use Rattle.std.specs.Prelude.{◌≡◌, None, map, codes, IfOk};
+ghost use Rattle.std.specs.Prelude.{◌≡◌, None, map, codes, IfOk, IfErr, OnErr, IsOkUnless};
 ghost use Rattle.std.specs.Option.{option_map};
 ghost use Rattle.std.specs.String.{string_bytes};
 ghost use Rattle.metrics_run.specs.Calls.{IsIndexWord};
 ghost use Rattle.metrics_run.specs.Keys.{ReadsKeys};
+ghost use Rattle.metrics_run.specs.Named.{ReadsNothing};
 ghost use Rattle.metrics_run.specs.Options.{ReadsOption};
-ghost use Rattle.metrics_run.specs.Streams.{ReadsStream};
+ghost use Rattle.metrics_run.specs.Streams.{ReadsStream, SaysNoStream};
 
 use crate::keys::keys_of;
 use crate::named::{aggregation_named, have_names_of, text_named, value_named};
@@ -19,6 +20,7 @@ use std::alloc::Global;
 /// The stream that these words ask for, each with another name. Its settings have to be good.
 pub fn stream_of(alloc: Global, words: &[&str]) -> Result<Stream, Refusal>
     ensures stream { IfOk result (ReadsStream (map (λ word. word.now) words.now)) }
+    ensures meaningless { IfErr result (λ refusal. refusal ≡ Refusal.BadCommand → SaysNoStream (map (λ word. word.now) words.now)) }
 {
     if !have_names_of(
         words,
@@ -41,7 +43,9 @@ pub fn stream_of(alloc: Global, words: &[&str]) -> Result<Stream, Refusal>
 
 /// The limit, if one is given.
 fn limit_of(words: &[&str]) -> Result<Option<usize>, Refusal>
-    ensures { IfOk result (ReadsOption IsIndexWord (codes "limit") (map (λ word. word.now) words.now)) }
+    ensures limit { IfOk result (ReadsOption IsIndexWord (codes "limit") (map (λ word. word.now) words.now)) }
+    ensures meaningless { OnErr result (ReadsNothing IsIndexWord (codes "limit") (map (λ word. word.now) words.now)) }
+    ensures refused { IsOkUnless result Refusal.BadCommand }
 {
     match value_named(words, "limit")? {
         Some(value) => Ok(Some(index(value)?)),
@@ -51,7 +55,8 @@ fn limit_of(words: &[&str]) -> Result<Option<usize>, Refusal>
 
 /// The keys that are kept, if they are given.
 fn allowed_keys_of(alloc: Global, words: &[&str]) -> Result<Option<Vec<Key>>, Refusal>
-    ensures { IfOk result (λ keys. ReadsOption ReadsKeys (codes "keys") (map (λ word. word.now) words.now) (option_map (λ keys. keys.items) keys)) }
+    ensures keys { IfOk result (λ keys. ReadsOption ReadsKeys (codes "keys") (map (λ word. word.now) words.now) (option_map (λ keys. keys.items) keys)) }
+    ensures meaningless { IfErr result (λ refusal. refusal ≡ Refusal.BadCommand → ReadsNothing ReadsKeys (codes "keys") (map (λ word. word.now) words.now)) }
 {
     match value_named(words, "keys")? {
         Some(value) => Ok(Some(keys_of(alloc, value)?)),

@@ -1,7 +1,8 @@
 //! Views of a script.
 
-ghost use Rattle.std.specs.Prelude.{◌≡◌, map, IfOk, IfErr};
+ghost use Rattle.std.specs.Prelude.{◌≡◌, ◌⊎◌, map, IfOk, IfErr};
 ghost use Rattle.metrics_run.specs.Refusals.{StandsForNothing};
+ghost use Rattle.metrics_run.specs.Streams.{SaysNoStream};
 ghost use Rattle.metrics_run.specs.Views.{IsSelectorWord, ReadsView, selects};
 
 use crate::refusals::Refusal;
@@ -21,6 +22,7 @@ pub struct NamedView {
 }
 
 impl View for NamedView {
+    ghost use Rattle.metrics_run.specs.Streams.{SaysNoStream};
     ghost use Rattle.metrics_run.specs.Views.{answer_of};
 
     ghost answer = { answer_of };
@@ -48,6 +50,7 @@ impl NamedView {
 /// The view of a line: which instruments it is for, and what it says of their stream.
 pub fn view_of(alloc: Global, selector: &str, options: &[&str]) -> Result<NamedView, Refusal>
     ensures view { IfOk result (ReadsView selector.now (map (λ word. word.now) options.now)) }
+    ensures meaningless { IfErr result (λ refusal. refusal ≡ Refusal.BadCommand → StandsForNothing IsSelectorWord selector.now ⊎ SaysNoStream (map (λ word. word.now) options.now)) }
 {
     Ok(NamedView {
         name: name_of(alloc, selector)?,
