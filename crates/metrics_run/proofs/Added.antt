@@ -1,6 +1,6 @@
 -- One more word of options.
 use Rattle.std.proofs.Common.{◌≡◌, ◌<◌, ◌≤◌, ◌+◌, ℕ, zero, suc, Bool, true, false, cond, List, [], ◌∷◌, ◌++◌, map, length, take, get_or, Option, Some, None, subst, arith}
-use Rattle.std.specs.Prelude.{MatchOption, filter}
+use Rattle.std.specs.Prelude.{MatchOption}
 use Rattle.std.specs.Bool.{MatchBool}
 use Rattle.std.specs.List.{AllZip, after_first}
 use Rattle.std.specs.Option.{option_to_list}

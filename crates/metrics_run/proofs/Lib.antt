@@ -1,2 +1,6 @@
 mod Added
+mod Built
+mod Names
 mod Pairs
+mod PerKind
+mod Unread

@@ -1,8 +1,15 @@
+pub mod Aggregations
 pub mod Attributes
 pub mod Boundaries
 pub mod Calls
 pub mod Failures
+pub mod Keys
+pub mod Kinds
+pub mod Named
 pub mod Numbers
 pub mod Options
+pub mod Readers
 pub mod Refusals
+pub mod Streams
 pub mod Texts
+pub mod Views

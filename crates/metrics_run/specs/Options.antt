@@ -1,5 +1,5 @@
 -- What a line that builds an instrument may add about it.
-use Rattle.std.specs.Prelude.{◌≡◌, ◌==◌, ◌<◌, ◌||◌, ℕ, Bool, IsTrue, List, [], map, filter, length, codes, Option, None, MatchOption}
+use Rattle.std.specs.Prelude.{◌≡◌, ◌==◌, ◌<◌, ◌||◌, ℕ, Bool, IsTrue, List, map, filter, length, codes, Option, None, MatchOption}
 use Rattle.std.specs.Bool.{MatchBool}
 use Rattle.std.specs.Cmp.Lexicographic.{pointwise}
 use Rattle.std.specs.List.{All, AllZip, position_or_len, before_first, after_first}

@@ -4,10 +4,11 @@ ghost use Rattle.std.specs.Prelude.{◌≡◌, IfOk, IfErr, OnErr, IsOkUnless};
 ghost use Rattle.metrics_run.specs.Attributes.{IsAttributeWord, IsTruthWord, IsValueWord, ReadsAttributes};
 ghost use Rattle.metrics_run.specs.Refusals.{StandsForNothing};
 
+use crate::keys::key_of;
 use crate::numbers::signed;
 use crate::refusals::Refusal;
 use crate::texts::unescaped;
-use opentelemetry_sdk::common::{Key, KeyValue, Value};
+use opentelemetry_sdk::common::{KeyValue, Value};
 use std::alloc::Global;
 
 /// The attributes of a word: `-` for none, else pairs with commas between them.
@@ -33,8 +34,7 @@ fn attribute_of(alloc: Global, pair: &str) -> Result<KeyValue, Refusal>
     let Some((key, value)) = pair.split_once('=') else {
         return Err(Refusal::BadCommand);
     };
-    let key = unescaped(alloc, key)?;
-    let key = Key::new(alloc, key.as_str())?;
+    let key = key_of(alloc, key)?;
     let value = value_of(alloc, value)?;
     Ok(KeyValue::new(key, value))
 }

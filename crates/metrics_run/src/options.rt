@@ -51,7 +51,7 @@ impl Options {
 }
 
 /// Sets an option that wasn't given before.
-fn set_once<T: Drop>(option: &mut Option<T>, value: T) -> Result<(), Refusal>
+pub fn set_once<T: Drop>(option: &mut Option<T>, value: T) -> Result<(), Refusal>
     ensures once { OkIff result (option.old ≡ None) tt }
     ensures set { OnOk result (option.new ≡ Some value) }
     ensures refused { IsOkUnless result Refusal.BadCommand }

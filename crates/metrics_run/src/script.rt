@@ -37,10 +37,17 @@ fn run_script<R: Read + Drop, W: Write + Drop>(
     output: W,
 ) -> Result<(), Failure> {
     let bytes = read_all(alloc, input)?;
-    let Script { readers, calls } = script_of(alloc, bytes.as_slice())?;
+    let Script {
+        readers,
+        views,
+        calls,
+    } = script_of(alloc, bytes.as_slice())?;
     let mut builder = SdkMeterProvider::builder(alloc);
     for reader in readers {
         builder = builder.with_reader(Box::new(alloc, reader)?)?;
+    }
+    for view in views {
+        builder = builder.with_view(Box::new(alloc, view)?)?;
     }
     let mut provider = builder.build()?;
     let replies = provider.run(alloc, calls.as_slice())?;

@@ -1,21 +1,20 @@
 //! A whole script: what stands before `go`, and the calls after it.
 
-ghost use Rattle.std.specs.Prelude.{◌≡◌, Ok, Err, MatchResult};
-ghost use Rattle.otel_common.specs.Temporalities.{temporality_named};
-ghost use Rattle.otel_stream.specs.Wants.{temporality_alone};
-
 use crate::calls::call_of;
 use crate::failures::Failure;
+use crate::readers::reader_of;
 use crate::refusals::Refusal;
+use crate::views::{NamedView, view_of};
+use opentelemetry_sdk::metrics::ManualReader;
 use opentelemetry_sdk::metrics::provider::Call;
-use opentelemetry_sdk::metrics::{ManualReader, Temporality};
 use std::alloc::{AllocError, Global};
-use std::str::FromStr;
 
-/// What a script asks for: the provider's readers, and the calls.
+/// What a script asks for: the provider's readers and views, each in the order of their lines, and
+/// the calls.
 #[derive(Drop)]
 pub struct Script {
     pub readers: Vec<ManualReader>,
+    pub views: Vec<NamedView>,
     pub calls: Vec<Call>,
 }
 
@@ -34,6 +33,7 @@ pub fn script_of(alloc: Global, input: &[u8]) -> Result<Script, Failure> {
     let mut reading = Reading {
         script: Script {
             readers: Vec::new(alloc),
+            views: Vec::new(alloc),
             calls: Vec::new(alloc),
         },
         is_started: false,
@@ -69,20 +69,6 @@ fn words_of(alloc: Global, line: &str) -> Result<Vec<&str>, AllocError> {
         .collect(alloc)
 }
 
-/// The reader of this temporality, without limits and aggregations.
-fn reader_of(word: &str) -> Result<ManualReader, Refusal>
-    ensures reader { MatchResult result (λ reader. (temporality_named word.now ≡ Ok reader.temporality) × (reader ≡ temporality_alone reader.temporality)) (λ refusal. (refusal ≡ Refusal.BadCommand) × (temporality_named word.now ≡ Err tt)) }
-{
-    match Temporality::from_str(word) {
-        Ok(temporality) => Ok(
-            ManualReader::builder()
-                .with_temporality(temporality)
-                .build(),
-        ),
-        Err(()) => Err(Refusal::BadCommand),
-    }
-}
-
 impl Reading {
     /// Takes in the next line.
     fn add_line(&mut self, alloc: Global, line: &[u8]) -> Result<(), Refusal> {
@@ -98,14 +84,20 @@ impl Reading {
             self.script.calls.push(call)?;
             return Ok(());
         }
-        self.set_up(words.as_slice())
+        self.set_up(alloc, words.as_slice())
     }
 
     /// Takes in the words of a line before `go`, or of `go` itself.
-    fn set_up(&mut self, words: &[&str]) -> Result<(), Refusal> {
+    fn set_up(&mut self, alloc: Global, words: &[&str]) -> Result<(), Refusal> {
         match words {
-            ["reader", temporality] => {
-                self.script.readers.push(reader_of(temporality)?)?;
+            ["reader", temporality, options @ ..] => {
+                let reader = reader_of(alloc, temporality, options)?;
+                self.script.readers.push(reader)?;
+                Ok(())
+            }
+            ["view", selector, options @ ..] => {
+                let view = view_of(alloc, selector, options)?;
+                self.script.views.push(view)?;
                 Ok(())
             }
             ["go"] => {

@@ -8,8 +8,10 @@ use std::test::Fail;
 mod failing;
 mod lines;
 mod points;
+mod readers;
 mod replies;
 mod sorts;
+mod views;
 mod words;
 
 /// What the program wrote, and the status that it answered.

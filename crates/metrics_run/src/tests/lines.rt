@@ -6,7 +6,7 @@ use std::test::Fail;
 /// A script with these lines before `go`, and its first bad line.
 #[test]
 fn before_go(rt: HostRuntime) -> Result<(), Fail> {
-    let scripts: [(&[u8], u64); 12] = [
+    let scripts: [(&[u8], u64); 11] = [
         (b"\n", 2),
         (b"# \xff\n   \n#go", 4),
         (b"reader cumulative", 2),
@@ -14,7 +14,6 @@ fn before_go(rt: HostRuntime) -> Result<(), Fail> {
         (b"reader gauge\ngo", 1),
         (b"reader\ngo", 1),
         (b"reader cumulative cumulative\ngo", 1),
-        (b"view requests name=hits\ngo", 1),
         (b"meter app\ngo", 1),
         (b"go\r\n", 1),
         (b" # a comment\ngo", 1),

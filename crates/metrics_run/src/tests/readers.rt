@@ -1,0 +1,336 @@
+//! Options of readers.
+
+use super::{assert_is_bad, assert_prints};
+use std::test::Fail;
+
+/// One of two readers has a limit for counters.
+#[test]
+fn row_42(rt: HostRuntime) -> Result<(), Fail> {
+    assert_prints(
+        &rt,
+        rt.alloc(),
+        b"reader delta limit:counter=1\n\
+          reader delta\n\
+          go\n\
+          meter m\n\
+          build 0 u64_counter c 100\n\
+          record 0 u:1 x=i:1\n\
+          record 0 u:2 y=i:1\n\
+          collect 0 200\n\
+          collect 1 200\n",
+        "meter 0\n\
+         instrument 0\n\
+         ok\n\
+         ok\n\
+         collected 2\n\
+         point m c sum delta monotonic 100 200 x=i:1 1\n\
+         point m c sum delta monotonic 100 200 otel.metric.overflow=b:true 2\n\
+         collected 2\n\
+         point m c sum delta monotonic 100 200 x=i:1 1\n\
+         point m c sum delta monotonic 100 200 y=i:1 2\n",
+    )
+}
+
+/// The limit of a view wins over that of a reader.
+#[test]
+fn row_43(rt: HostRuntime) -> Result<(), Fail> {
+    assert_prints(
+        &rt,
+        rt.alloc(),
+        b"reader delta limit:counter=1\n\
+          view c limit=2\n\
+          go\n\
+          meter m\n\
+          build 0 u64_counter c 100\n\
+          record 0 u:1 x=i:1\n\
+          record 0 u:2 y=i:1\n\
+          collect 0 200\n",
+        "meter 0\n\
+         instrument 0\n\
+         ok\n\
+         ok\n\
+         collected 2\n\
+         point m c sum delta monotonic 100 200 x=i:1 1\n\
+         point m c sum delta monotonic 100 200 y=i:1 2\n",
+    )
+}
+
+/// The limit for counters is none for an up-down counter.
+#[test]
+fn row_44(rt: HostRuntime) -> Result<(), Fail> {
+    assert_prints(
+        &rt,
+        rt.alloc(),
+        b"reader delta limit:counter=1\n\
+          go\n\
+          meter m\n\
+          build 0 i64_up_down_counter c 100\n\
+          record 0 i:1 x=i:1\n\
+          record 0 i:2 y=i:1\n\
+          collect 0 200\n",
+        "meter 0\n\
+         instrument 0\n\
+         ok\n\
+         ok\n\
+         collected 2\n\
+         point m c sum cumulative plain 100 200 x=i:1 1\n\
+         point m c sum cumulative plain 100 200 y=i:1 2\n",
+    )
+}
+
+/// The limit for a kind wins over the one for all kinds.
+#[test]
+fn row_45(rt: HostRuntime) -> Result<(), Fail> {
+    assert_prints(
+        &rt,
+        rt.alloc(),
+        b"reader delta limit=1 limit:counter=2\n\
+          go\n\
+          meter m\n\
+          build 0 u64_counter c 100\n\
+          record 0 u:1 x=i:1\n\
+          record 0 u:2 y=i:1\n\
+          collect 0 200\n",
+        "meter 0\n\
+         instrument 0\n\
+         ok\n\
+         ok\n\
+         collected 2\n\
+         point m c sum delta monotonic 100 200 x=i:1 1\n\
+         point m c sum delta monotonic 100 200 y=i:1 2\n",
+    )
+}
+
+/// One of two readers drops counters.
+#[test]
+fn row_46(rt: HostRuntime) -> Result<(), Fail> {
+    assert_prints(
+        &rt,
+        rt.alloc(),
+        b"reader cumulative agg:counter=drop\n\
+          reader cumulative\n\
+          go\n\
+          meter m\n\
+          build 0 u64_counter c 100\n\
+          record 0 u:5 -\n\
+          collect 0 200\n\
+          collect 1 200\n",
+        "meter 0\n\
+         instrument 0\n\
+         ok\n\
+         collected 0\n\
+         collected 1\n\
+         point m c sum cumulative monotonic 100 200 - 5\n",
+    )
+}
+
+/// Two readers want different things of histograms.
+#[test]
+fn row_47(rt: HostRuntime) -> Result<(), Fail> {
+    assert_prints(
+        &rt,
+        rt.alloc(),
+        b"reader cumulative agg:histogram=sum\n\
+          reader cumulative agg:histogram=plain:10\n\
+          go\n\
+          meter m\n\
+          build 0 u64_histogram h 100\n\
+          record 0 u:10 -\n\
+          record 0 u:11 -\n\
+          collect 0 200\n\
+          collect 1 200\n",
+        "meter 0\n\
+         instrument 0\n\
+         ok\n\
+         ok\n\
+         collected 1\n\
+         point m h sum cumulative monotonic 100 200 - 21\n\
+         collected 1\n\
+         point m h histogram cumulative 100 200 - 2 21 none none 1,1\n",
+    )
+}
+
+/// The bounds of a histogram win over those of a reader, which says whether its least and greatest values are kept.
+#[test]
+fn row_48(rt: HostRuntime) -> Result<(), Fail> {
+    assert_prints(
+        &rt,
+        rt.alloc(),
+        b"reader cumulative agg:histogram=sum\n\
+          reader cumulative agg:histogram=plain:10\n\
+          go\n\
+          meter m\n\
+          build 0 u64_histogram h 100 bounds=5\n\
+          record 0 u:10 -\n\
+          record 0 u:11 -\n\
+          collect 0 200\n\
+          collect 1 200\n",
+        "meter 0\n\
+         instrument 0\n\
+         ok\n\
+         ok\n\
+         collected 1\n\
+         point m h sum cumulative monotonic 100 200 - 21\n\
+         collected 1\n\
+         point m h histogram cumulative 100 200 - 2 21 none none 0,2\n",
+    )
+}
+
+/// A view that wants the default wants the bounds of the reader.
+#[test]
+fn row_49(rt: HostRuntime) -> Result<(), Fail> {
+    assert_prints(
+        &rt,
+        rt.alloc(),
+        b"reader cumulative agg:histogram=sum\n\
+          reader cumulative agg:histogram=plain:10\n\
+          view h agg=default\n\
+          go\n\
+          meter m\n\
+          build 0 u64_histogram h 100 bounds=5\n\
+          record 0 u:10 -\n\
+          record 0 u:11 -\n\
+          collect 0 200\n\
+          collect 1 200\n",
+        "meter 0\n\
+         instrument 0\n\
+         ok\n\
+         ok\n\
+         collected 1\n\
+         point m h sum cumulative monotonic 100 200 - 21\n\
+         collected 1\n\
+         point m h histogram cumulative 100 200 - 2 21 none none 1,1\n",
+    )
+}
+
+/// A reader that wants of counters what they have not gets sums.
+#[test]
+fn row_50(rt: HostRuntime) -> Result<(), Fail> {
+    assert_prints(
+        &rt,
+        rt.alloc(),
+        b"reader cumulative agg:counter=lastvalue\n\
+          go\n\
+          meter m\n\
+          build 0 u64_counter c 100\n\
+          record 0 u:2 -\n\
+          record 0 u:3 -\n\
+          collect 0 200\n",
+        "meter 0\n\
+         instrument 0\n\
+         ok\n\
+         ok\n\
+         collected 1\n\
+         point m c sum cumulative monotonic 100 200 - 5\n",
+    )
+}
+
+/// A counter may be kept as a histogram.
+#[test]
+fn row_52(rt: HostRuntime) -> Result<(), Fail> {
+    assert_prints(
+        &rt,
+        rt.alloc(),
+        b"reader cumulative agg:counter=hist:10\n\
+          go\n\
+          meter m\n\
+          build 0 u64_counter c 100\n\
+          record 0 u:10 -\n\
+          record 0 u:11 -\n\
+          collect 0 200\n",
+        "meter 0\n\
+         instrument 0\n\
+         ok\n\
+         ok\n\
+         collected 1\n\
+         point m c histogram cumulative 100 200 - 2 21 10 11 1,1\n",
+    )
+}
+
+/// A limit for a kind wins in whatever order the two stand, and bounds of a reader may be any: where
+/// they do not rise the kind's own are taken.
+#[test]
+fn options(rt: HostRuntime) -> Result<(), Fail> {
+    assert_prints(
+        &rt,
+        rt.alloc(),
+        b"reader delta limit:gauge=2 limit=18446744073709551614 agg:histogram=hist:2,1 agg:gauge=default\n\
+          reader delta limit:counter=2 limit=1 agg:histogram=hist: agg:gauge=drop\n\
+          go\n\
+          meter m\n\
+          build 0 u64_counter c 100\n\
+          build 0 u64_gauge g 100\n\
+          build 0 u64_histogram h 100\n\
+          record 0 u:1 x=i:1\n\
+          record 0 u:2 y=i:1\n\
+          record 0 u:4 z=i:1\n\
+          record 1 u:7 -\n\
+          record 2 u:5 x=i:1\n\
+          record 2 u:6 y=i:1\n\
+          collect 0 200\n\
+          collect 1 200\n",
+        "meter 0\n\
+         instrument 0\n\
+         instrument 1\n\
+         instrument 2\n\
+         ok\n\
+         ok\n\
+         ok\n\
+         ok\n\
+         ok\n\
+         ok\n\
+         collected 6\n\
+         point m c sum delta monotonic 100 200 x=i:1 1\n\
+         point m c sum delta monotonic 100 200 y=i:1 2\n\
+         point m c sum delta monotonic 100 200 z=i:1 4\n\
+         point m g gauge 100 200 - 7\n\
+         point m h histogram delta 100 200 x=i:1 1 5 5 5 0,1,0,0,0,0,0,0,0,0,0,0,0,0,0,0\n\
+         point m h histogram delta 100 200 y=i:1 1 6 6 6 0,0,1,0,0,0,0,0,0,0,0,0,0,0,0,0\n\
+         collected 5\n\
+         point m c sum delta monotonic 100 200 x=i:1 1\n\
+         point m c sum delta monotonic 100 200 y=i:1 2\n\
+         point m c sum delta monotonic 100 200 otel.metric.overflow=b:true 4\n\
+         point m h histogram delta 100 200 x=i:1 1 5 5 5 -\n\
+         point m h histogram delta 100 200 otel.metric.overflow=b:true 1 6 6 6 -\n",
+    )
+}
+
+/// Options that are none, that are given twice, or whose values are none.
+#[test]
+fn bad_options(rt: HostRuntime) -> Result<(), Fail> {
+    let options = [
+        "=1",
+        "limit",
+        "limit=",
+        "limit=0",
+        "limit=-1",
+        "limit=+1",
+        "limit=18446744073709551615",
+        "limit=18446744073709551616",
+        "Limit=1",
+        "limit=1 limit=1",
+        "limit:=1",
+        "limit:counter",
+        "limit:counter=0",
+        "limit:counter=18446744073709551615",
+        "limit:Counter=1",
+        "limit:counters=1",
+        "limit:counter:=1",
+        "limit:counter=1 limit:gauge=1 limit:counter=2",
+        "agg=sum",
+        "agg:counter",
+        "agg:counter=",
+        "agg:counter=Sum",
+        "agg:counter=sum:",
+        "agg:counter=hist",
+        "agg:counter=hist:1,",
+        "agg:counter=bounds:1",
+        "agg:counter=sum agg:counter=sum",
+        "name=x",
+    ];
+    for option in options {
+        let script = format!(in rt.alloc(); "#\nreader delta {option}\ngo\n")?;
+        assert_is_bad(&rt, rt.alloc(), script.as_bytes(), 2)?;
+    }
+    Ok(())
+}

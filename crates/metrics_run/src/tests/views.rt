@@ -1,0 +1,298 @@
+//! Views.
+
+use super::{assert_is_bad, assert_prints};
+use std::test::Fail;
+
+/// Attributes beyond the limit of a view go to the overflow point.
+#[test]
+fn row_3(rt: HostRuntime) -> Result<(), Fail> {
+    assert_prints(
+        &rt,
+        rt.alloc(),
+        b"reader delta\n\
+          view c limit=2\n\
+          go\n\
+          meter m\n\
+          build 0 u64_counter c 100\n\
+          record 0 u:1 x=i:1\n\
+          record 0 u:2 y=i:1\n\
+          record 0 u:4 z=i:1\n\
+          record 0 u:8 x=i:1\n\
+          collect 0 200\n",
+        "meter 0\n\
+         instrument 0\n\
+         ok\n\
+         ok\n\
+         ok\n\
+         ok\n\
+         collected 3\n\
+         point m c sum delta monotonic 100 200 x=i:1 9\n\
+         point m c sum delta monotonic 100 200 y=i:1 2\n\
+         point m c sum delta monotonic 100 200 otel.metric.overflow=b:true 4\n",
+    )
+}
+
+/// A place is free again when its attributes were quiet from one collection to the next.
+#[test]
+fn row_4(rt: HostRuntime) -> Result<(), Fail> {
+    assert_prints(
+        &rt,
+        rt.alloc(),
+        b"reader delta\n\
+          view c limit=1\n\
+          go\n\
+          meter m\n\
+          build 0 u64_counter c 100\n\
+          record 0 u:1 x=i:1\n\
+          collect 0 200\n\
+          record 0 u:2 y=i:1\n\
+          collect 0 300\n\
+          record 0 u:4 y=i:1\n\
+          collect 0 400\n",
+        "meter 0\n\
+         instrument 0\n\
+         ok\n\
+         collected 1\n\
+         point m c sum delta monotonic 100 200 x=i:1 1\n\
+         ok\n\
+         collected 1\n\
+         point m c sum delta monotonic 200 300 otel.metric.overflow=b:true 2\n\
+         ok\n\
+         collected 1\n\
+         point m c sum delta monotonic 300 400 y=i:1 4\n",
+    )
+}
+
+/// The attributes of the overflow point, given by a record, take the only place for good.
+#[test]
+fn row_7(rt: HostRuntime) -> Result<(), Fail> {
+    assert_prints(
+        &rt,
+        rt.alloc(),
+        b"reader delta\n\
+          view c limit=1\n\
+          go\n\
+          meter m\n\
+          build 0 u64_counter c 100\n\
+          record 0 u:1 otel.metric.overflow=b:true\n\
+          record 0 u:2 x=i:1\n\
+          collect 0 200\n\
+          collect 0 300\n\
+          record 0 u:5 x=i:1\n\
+          collect 0 400\n",
+        "meter 0\n\
+         instrument 0\n\
+         ok\n\
+         ok\n\
+         collected 1\n\
+         point m c sum delta monotonic 100 200 otel.metric.overflow=b:true 3\n\
+         collected 0\n\
+         ok\n\
+         collected 1\n\
+         point m c sum delta monotonic 300 400 otel.metric.overflow=b:true 5\n",
+    )
+}
+
+/// Two views give a counter one name in other letters: one stream, which counts once.
+#[test]
+fn row_11(rt: HostRuntime) -> Result<(), Fail> {
+    assert_prints(
+        &rt,
+        rt.alloc(),
+        b"reader cumulative\n\
+          view c name=Foo\n\
+          view c name=foo\n\
+          go\n\
+          meter m\n\
+          build 0 u64_counter c 100\n\
+          record 0 u:1 -\n\
+          collect 0 200\n",
+        "meter 0\n\
+         instrument 0\n\
+         ok\n\
+         collected 1\n\
+         point m Foo sum cumulative monotonic 100 200 - 1\n",
+    )
+}
+
+/// A view that drops the stream, before one that wants what a counter has not.
+#[test]
+fn row_12(rt: HostRuntime) -> Result<(), Fail> {
+    assert_prints(
+        &rt,
+        rt.alloc(),
+        b"reader cumulative\n\
+          view c agg=drop\n\
+          view c agg=lastvalue\n\
+          go\n\
+          meter m\n\
+          build 0 u64_counter c 100\n\
+          record 0 u:1 -\n\
+          collect 0 200\n",
+        "meter 0\n\
+         instrument 0\n\
+         ok\n\
+         collected 0\n",
+    )
+}
+
+/// No attributes at all have a place beside the limit.
+#[test]
+fn row_22(rt: HostRuntime) -> Result<(), Fail> {
+    assert_prints(
+        &rt,
+        rt.alloc(),
+        b"reader delta\n\
+          view c limit=1\n\
+          go\n\
+          meter m\n\
+          build 0 u64_counter c 100\n\
+          record 0 u:1 -\n\
+          record 0 u:2 x=i:1\n\
+          record 0 u:4 y=i:1\n\
+          collect 0 200\n",
+        "meter 0\n\
+         instrument 0\n\
+         ok\n\
+         ok\n\
+         ok\n\
+         collected 3\n\
+         point m c sum delta monotonic 100 200 - 1\n\
+         point m c sum delta monotonic 100 200 x=i:1 2\n\
+         point m c sum delta monotonic 100 200 otel.metric.overflow=b:true 4\n",
+    )
+}
+
+/// The only view wants what a counter has not: the stream is the counter's own.
+#[test]
+fn row_23(rt: HostRuntime) -> Result<(), Fail> {
+    assert_prints(
+        &rt,
+        rt.alloc(),
+        b"reader cumulative\n\
+          view hits name=x agg=lastvalue\n\
+          go\n\
+          meter m\n\
+          build 0 u64_counter hits 100\n\
+          record 0 u:5 -\n\
+          collect 0 200\n",
+        "meter 0\n\
+         instrument 0\n\
+         ok\n\
+         collected 1\n\
+         point m hits sum cumulative monotonic 100 200 - 5\n",
+    )
+}
+
+/// A view that keeps no keys.
+#[test]
+fn row_24(rt: HostRuntime) -> Result<(), Fail> {
+    assert_prints(
+        &rt,
+        rt.alloc(),
+        b"reader cumulative\n\
+          view c keys=\n\
+          go\n\
+          meter m\n\
+          build 0 u64_counter c 100\n\
+          record 0 u:1 x=i:1\n\
+          record 0 u:2 y=i:1\n\
+          collect 0 200\n",
+        "meter 0\n\
+         instrument 0\n\
+         ok\n\
+         ok\n\
+         collected 1\n\
+         point m c sum cumulative monotonic 100 200 - 3\n",
+    )
+}
+
+/// Limits that are none, and the greatest one.
+#[test]
+fn row_16(rt: HostRuntime) -> Result<(), Fail> {
+    assert_is_bad(&rt, rt.alloc(), b"view c limit=0\ngo\n", 1)?;
+    assert_is_bad(
+        &rt,
+        rt.alloc(),
+        b"view c limit=18446744073709551615\ngo\n",
+        1,
+    )?;
+    assert_prints(
+        &rt,
+        rt.alloc(),
+        b"view c limit=18446744073709551614\ngo\n",
+        "",
+    )
+}
+
+/// The name of a view is compared byte for byte. The word `*` stands for all instruments, its escape for
+/// the name `*`. Views are asked in the order of their lines, and readers may stand among them.
+#[test]
+fn selectors(rt: HostRuntime) -> Result<(), Fail> {
+    assert_prints(
+        &rt,
+        rt.alloc(),
+        b"view a%62 name=x\n\
+          view AB name=lost\n\
+          reader cumulative\n\
+          view %2A name=lost\n\
+          view - name=lost\n\
+          view * keys=k,=,- description=d unit=-\n\
+          go\n\
+          meter m\n\
+          build 0 u64_counter ab 100\n\
+          build 0 u64_counter b 110\n\
+          record 0 u:1 k=i:1,l=i:1\n\
+          record 1 u:2 -=i:2,%3D=i:3,k=i:4,l=i:5\n\
+          collect 0 200\n",
+        "meter 0\n\
+         instrument 0\n\
+         instrument 1\n\
+         ok\n\
+         ok\n\
+         collected 3\n\
+         point m x sum cumulative monotonic 100 200 k=i:1,l=i:1 1\n\
+         point m ab sum cumulative monotonic 100 200 k=i:1 1\n\
+         point m b sum cumulative monotonic 110 200 -=i:2,%3D=i:3,k=i:4 2\n",
+    )
+}
+
+/// Options that are none, that are given twice, or whose values are none or no good settings.
+#[test]
+fn bad_options(rt: HostRuntime) -> Result<(), Fail> {
+    let options = [
+        "",
+        "%80",
+        "c =x",
+        "c name",
+        "c Name=x",
+        "c name=%ff",
+        "c name=x unit= name=x",
+        "c description=%80",
+        "c description= description=",
+        "c unit=%C3%B6",
+        "c unit=s unit=s",
+        "c limit=",
+        "c limit=-1",
+        "c limit=18446744073709551616",
+        "c limit=1 limit=1",
+        "c limit:counter=1",
+        "c keys",
+        "c keys=a,%80",
+        "c keys= keys=",
+        "c agg=",
+        "c agg=Drop",
+        "c agg=hist",
+        "c agg=hist:,",
+        "c agg=hist:2,1",
+        "c agg=plain:1,1",
+        "c agg=sum agg=sum",
+        "c agg:counter=sum",
+        "c bounds=1",
+    ];
+    for option in options {
+        let script = format!(in rt.alloc(); "#\nview {option}\ngo\n")?;
+        assert_is_bad(&rt, rt.alloc(), script.as_bytes(), 2)?;
+    }
+    assert_is_bad(&rt, rt.alloc(), b"go\nview c\n", 2)
+}
