@@ -63,7 +63,7 @@ fn ask_each<V: View>(
     Ok(answers)
 }
 
-/// Asks each view once for the instrument of a build; without a scope none is asked.
+/// Asks each view once for the instrument of a build; without a scope none is asked. Where no view is there it takes no memory.
 pub(crate) fn ask_in<V: View>(
     alloc: Global,
     views: &[V],
@@ -75,6 +75,9 @@ pub(crate) fn ask_in<V: View>(
 {
     match scope {
         Some(scope) => {
+            if views.is_empty() {
+                return Ok(Vec::new(alloc));
+            }
             let instrument = seen_by_views(alloc, scope, about)?;
             ask_each(alloc, views, &instrument)
         }

@@ -161,8 +161,9 @@ impl<P: Parts> Provider<P> {
     /// other fault stands.
     ///
     /// - `Meter` looks the scope up. A new one is copied and added; one that is known takes no memory.
-    /// - `Build` goes over name, unit and bounds once to check them, copies scope, texts and bounds at each reader,
-    ///   and looks up the identity there. It is made at all readers or at none.
+    /// - `Build` goes over name, unit and bounds once to check them. It asks each view once, for which it copies scope
+    ///   and texts. At each reader it copies scope, texts and bounds for each stream that is demanded, and looks up its
+    ///   identity. It is made at all readers or at none.
     /// - `Record` looks what a stream keeps of the attributes up in each stream that the instrument feeds, once
     ///   and without memory where that is sorted by key, no key twice, and has a point there. Else it sorts a
     ///   copy and looks that up, and a new set takes memory besides. Without attributes there is no look-up, and
