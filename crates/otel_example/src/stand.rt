@@ -9,19 +9,6 @@ use opentelemetry_sdk::metrics::data::ResourceMetrics;
 use opentelemetry_sdk::metrics::provider::{InstrumentSort, SdkMeterProvider};
 use std::alloc::Global;
 
-/// A provider with five views and one reader.
-fn provider_with_views(alloc: Global) -> Result<SdkMeterProvider, Error> {
-    let provider = SdkMeterProvider::builder(alloc)
-        .with_view(renamed(alloc)?)?
-        .with_view(dropped(alloc)?)?
-        .with_view(two_attributes(alloc)?)?
-        .with_view(few_points(alloc)?)?
-        .with_view(other_buckets(alloc)?)?
-        .with_reader(Box::new(alloc, ManualReader::default())?)?
-        .build()?;
-    Ok(provider)
-}
-
 /// The attributes of an order.
 fn order(alloc: Global, country: &str, paid: &str, cart: &str) -> Result<Vec<KeyValue>, Fault> {
     let attributes = vec![in alloc;
@@ -73,15 +60,27 @@ fn greet(alloc: Global, provider: &mut SdkMeterProvider, users: usize) -> Result
     Ok(())
 }
 
-/// What the stand's reader collects of a day.
+/// What the reader of a provider with five views collects of a day.
 pub fn a_day(alloc: Global) -> Result<ResourceMetrics, Error> {
-    let mut provider = provider_with_views(alloc)?;
-    let of = make_instruments(alloc, &mut provider)?;
-    record(&mut provider, of.requests, 3, Vec::new(alloc))?;
-    record(&mut provider, of.debug, 1, Vec::new(alloc))?;
-    take_orders(alloc, &mut provider, of.orders)?;
-    greet(alloc, &mut provider, of.users)?;
-    record(&mut provider, of.latency, 7, Vec::new(alloc))?;
-    record(&mut provider, of.latency, 70, Vec::new(alloc))?;
+    let mut provider = SdkMeterProvider::builder(alloc)
+        .with_view(Box::new(alloc, renamed(alloc)?)?)?
+        .with_view(Box::new(alloc, dropped(alloc)?)?)?
+        .with_view(Box::new(alloc, two_attributes(alloc)?)?)?
+        .with_view(Box::new(alloc, few_points(alloc)?)?)?
+        .with_view(Box::new(alloc, other_buckets(alloc)?)?)?
+        .with_reader(Box::new(alloc, ManualReader::default())?)?
+        .build()?;
+    count_a_day(alloc, &mut provider)?;
     Ok(collect(&mut provider, 0, 200)?)
+}
+
+/// Counts what happens on a day.
+fn count_a_day(alloc: Global, provider: &mut SdkMeterProvider) -> Result<(), Fault> {
+    let of = make_instruments(alloc, provider)?;
+    record(provider, of.requests, 3, Vec::new(alloc))?;
+    record(provider, of.debug, 1, Vec::new(alloc))?;
+    take_orders(alloc, provider, of.orders)?;
+    greet(alloc, provider, of.users)?;
+    record(provider, of.latency, 7, Vec::new(alloc))?;
+    record(provider, of.latency, 70, Vec::new(alloc))
 }
