@@ -1,8 +1,9 @@
 #!/bin/sh
 # Prints how many instructions a call takes in each case, or in the cases that are named: measure.sh [CASE..]
 #
-# Valgrind counts what `counted_calls` does, with all that it calls, in the program as `rt run` builds it. That is done
-# for two numbers of calls, and the difference of the instructions is divided by that of the calls. Needs rt and valgrind.
+# Valgrind counts what `counted_calls` or `counted_adds` does, with all that it calls, in the program as `rt run` builds
+# it. That is done for two numbers of calls, and the difference of the instructions is divided by that of the calls. Needs
+# rt and valgrind.
 set -eu
 cd "$(dirname "$0")"
 wanted="$*"
@@ -14,7 +15,7 @@ rt run >/dev/null 2>&1 || { echo "rt run failed" >&2; exit 1; }
 # The instructions of a number of calls of a case.
 instructions() {
     valgrind --tool=callgrind --callgrind-out-file="$counts" --collect-atstart=no \
-        --toggle-collect='*counted_calls*' out/otel_bench "$1" "$2" >/dev/null 2>&1
+        --toggle-collect='*counted_calls*' --toggle-collect='*counted_adds*' out/otel_bench "$1" "$2" >/dev/null 2>&1
     sed -n 's/^\(summary\|totals\): *\([0-9][0-9]*\).*/\2/p' "$counts" | head -n 1
 }
 
@@ -37,6 +38,7 @@ row known10 1000 11000 1
 row known4_other_order 1000 11000 1
 row known4_two_readers 1000 11000 1
 row known4_two_kept 1000 11000 1
+row typed4 1000 11000 1
 row histogram4 1000 11000 1
 row gauge4 1000 11000 1
 row new4 0 2000 1

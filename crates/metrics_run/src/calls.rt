@@ -1,11 +1,13 @@
 //! The lines of a script that are calls.
 
-ghost use Rattle.std.specs.Prelude.{◌≡◌, None, [], IfSome, IfOk, OnErr, IsOkUnless};
+ghost use Rattle.std.specs.Prelude.{◌≡◌, None, [], IfSome, IfOk, IfErr, OnErr, IsOkUnless};
 ghost use Rattle.std.specs.Option.{option_map};
 ghost use Rattle.std.specs.Str.{IsUtf8};
-ghost use Rattle.metrics_run.specs.Calls.{IsMeterWord, IsSortWord};
+ghost use Rattle.metrics_run.specs.Calls.{IsMeterWord, IsSortWord, IsCollectOf, IsObservedOf};
 ghost use Rattle.metrics_run.specs.Refusals.{StandsForNothing};
 ghost use Rattle.metrics_run.specs.Texts.{text_of_word};
+ghost use Rattle.otel_callback.specs.declared.observation.Observed.{Observed};
+ghost use Rattle.otel_provider.specs.declared.calls.Call.{Call};
 
 use crate::attributes::attributes_of;
 use crate::numbers::{index, unsigned, value};
@@ -13,10 +15,10 @@ use crate::options::{Options, options_of};
 use crate::refusals::Refusal;
 use crate::texts::text_of_word;
 use opentelemetry_sdk::common::InstrumentationScope;
-use opentelemetry_sdk::metrics::provider::{Call, InstrumentSort};
+use opentelemetry_sdk::metrics::provider::{Call, InstrumentSort, Observed};
 use std::alloc::Global;
 
-/// The call that the words of a line ask for.
+/// The call that the words of a line ask for, but for a collection.
 pub fn call_of(alloc: Global, words: &[&str]) -> Result<Call, Refusal> {
     match words {
         ["meter", name] => Ok(Call::Meter {
@@ -26,36 +28,76 @@ pub fn call_of(alloc: Global, words: &[&str]) -> Result<Call, Refusal> {
             scope: scope_of(alloc, name, Some(version))?,
         }),
         ["build", meter, sort, name, now, options @ ..] => {
-            let meter = meter_of(meter)?;
-            let sort = sort_of(sort)?;
-            let name = text_of_word(alloc, name)?;
-            let now = unsigned(now)?;
-            let Options {
-                description,
-                unit,
-                boundaries,
-            } = options_of(alloc, options)?;
-            Ok(Call::Build {
-                meter,
-                sort,
-                name: name.into(),
-                description,
-                unit,
-                boundaries,
-                now,
-            })
+            build_of(alloc, meter, sort, name, now, options)
         }
         ["record", instrument, number, attributes] => Ok(Call::Record {
             instrument: index(instrument)?,
             value: value(number)?,
             attributes: attributes_of(alloc, attributes)?.into(),
         }),
-        ["collect", reader, now] => Ok(Call::Collect {
-            reader: index(reader)?,
-            now: unsigned(now)?,
-        }),
+        ["flush"] => Ok(Call::Flush),
+        ["shutdown"] => Ok(Call::Shutdown),
         _ => Err(Refusal::BadCommand),
     }
+}
+
+/// The collection that the words of a line ask for, with what was observed before.
+pub fn collect_of(reader: &str, now: &str, observations: Vec<Observed>) -> Result<Call, Refusal>
+    ensures collect { IfOk result (IsCollectOf reader.now now.now observations.items) }
+    ensures meaningless { OnErr result ((call : Call) → ¬ IsCollectOf reader.now now.now observations.items call) }
+    ensures refused { IsOkUnless result Refusal.BadCommand }
+{
+    Ok(Call::Collect {
+        reader: index(reader)?,
+        now: unsigned(now)?,
+        observations: observations.into(),
+    })
+}
+
+/// What the words of a line say was observed.
+pub fn observed_of(
+    alloc: Global,
+    instrument: &str,
+    number: &str,
+    attributes: &str,
+) -> Result<Observed, Refusal>
+    ensures observed { IfOk result (IsObservedOf instrument.now number.now attributes.now) }
+    ensures meaningless { IfErr result (λ refusal. refusal ≡ Refusal.BadCommand → (observed : Observed) → ¬ IsObservedOf instrument.now number.now attributes.now observed) }
+{
+    Ok(Observed {
+        instrument: index(instrument)?,
+        value: value(number)?,
+        attributes: attributes_of(alloc, attributes)?.into(),
+    })
+}
+
+/// The build that the words of a line ask for.
+fn build_of(
+    alloc: Global,
+    meter: &str,
+    sort: &str,
+    name: &str,
+    now: &str,
+    options: &[&str],
+) -> Result<Call, Refusal> {
+    let meter = meter_of(meter)?;
+    let sort = sort_of(sort)?;
+    let name = text_of_word(alloc, name)?;
+    let now = unsigned(now)?;
+    let Options {
+        description,
+        unit,
+        boundaries,
+    } = options_of(alloc, options)?;
+    Ok(Call::Build {
+        meter,
+        sort,
+        name: name.into(),
+        description,
+        unit,
+        boundaries,
+        now,
+    })
 }
 
 /// The scope of a name and, if one is given, a version.
@@ -95,9 +137,13 @@ fn sort_of(word: &str) -> Result<InstrumentSort, Refusal>
 {
     match word {
         "u64_counter" => Ok(InstrumentSort::U64Counter),
+        "u64_observable_counter" => Ok(InstrumentSort::U64ObservableCounter),
         "i64_up_down_counter" => Ok(InstrumentSort::I64UpDownCounter),
+        "i64_observable_up_down_counter" => Ok(InstrumentSort::I64ObservableUpDownCounter),
         "u64_gauge" => Ok(InstrumentSort::U64Gauge),
         "i64_gauge" => Ok(InstrumentSort::I64Gauge),
+        "u64_observable_gauge" => Ok(InstrumentSort::U64ObservableGauge),
+        "i64_observable_gauge" => Ok(InstrumentSort::I64ObservableGauge),
         "u64_histogram" => Ok(InstrumentSort::U64Histogram),
         _ => Err(Refusal::BadCommand),
     }

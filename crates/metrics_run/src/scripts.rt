@@ -1,13 +1,14 @@
 //! A whole script: what stands before `go`, and the calls after it.
 
-use crate::calls::call_of;
+use crate::calls::{call_of, collect_of, observed_of};
 use crate::failures::Failure;
 use crate::readers::reader_of;
 use crate::refusals::Refusal;
 use crate::views::{NamedView, view_of};
 use opentelemetry_sdk::metrics::ManualReader;
-use opentelemetry_sdk::metrics::provider::Call;
+use opentelemetry_sdk::metrics::provider::{Call, Observed};
 use std::alloc::{AllocError, Global};
+use std::mem::replace;
 
 /// What a script asks for: the provider's readers and views, each in the order of their lines, and
 /// the calls.
@@ -24,11 +25,13 @@ struct Reading {
     script: Script,
     /// Whether the line `go` was there.
     is_started: bool,
+    /// What was observed since the last call, for the next collection.
+    observations: Vec<Observed>,
 }
 
 /// The script that these bytes are, or the number of its first bad line.
 ///
-/// A script without `go` is bad at the line after its last.
+/// A script without `go`, and one that ends with observations, is bad at the line after its last.
 pub fn script_of(alloc: Global, input: &[u8]) -> Result<Script, Failure> {
     let mut reading = Reading {
         script: Script {
@@ -37,6 +40,7 @@ pub fn script_of(alloc: Global, input: &[u8]) -> Result<Script, Failure> {
             calls: Vec::new(alloc),
         },
         is_started: false,
+        observations: Vec::new(alloc),
     };
     let mut number = 1u64;
     for line in input.split_inclusive(|byte| *byte == b'\n') {
@@ -46,7 +50,7 @@ pub fn script_of(alloc: Global, input: &[u8]) -> Result<Script, Failure> {
             Err(Refusal::OutOfMemory) => return Err(Failure::OutOfMemory),
         }
     }
-    if !reading.is_started {
+    if !reading.is_started || !reading.observations.is_empty() {
         return Err(Failure::BadLine(number));
     }
     Ok(reading.script)
@@ -80,11 +84,33 @@ impl Reading {
         };
         let words = words_of(alloc, line)?;
         if self.is_started {
-            let call = call_of(alloc, words.as_slice())?;
-            self.script.calls.push(call)?;
-            return Ok(());
+            return self.go_on(alloc, words.as_slice());
         }
         self.set_up(alloc, words.as_slice())
+    }
+
+    /// Takes in the words of a line after `go`. Observations wait for the next collection, before which no other call
+    /// may stand.
+    fn go_on(&mut self, alloc: Global, words: &[&str]) -> Result<(), Refusal> {
+        match words {
+            ["observe", instrument, number, attributes] => {
+                let observed = observed_of(alloc, instrument, number, attributes)?;
+                self.observations.push(observed)?;
+                Ok(())
+            }
+            ["collect", reader, now] => {
+                let observations = replace(&mut self.observations, Vec::new(alloc));
+                let call = collect_of(reader, now, observations)?;
+                self.script.calls.push(call)?;
+                Ok(())
+            }
+            _ if self.observations.is_empty() => {
+                let call = call_of(alloc, words)?;
+                self.script.calls.push(call)?;
+                Ok(())
+            }
+            _ => Err(Refusal::BadCommand),
+        }
     }
 
     /// Takes in the words of a line before `go`, or of `go` itself.

@@ -7,6 +7,7 @@ use std::test::Fail;
 
 mod failing;
 mod lines;
+mod observed;
 mod points;
 mod readers;
 mod replies;

@@ -29,7 +29,7 @@
 //!     },
 //!     Call::Record { instrument: 0, value: NumberValue::U64(3), attributes: Items::from(Vec::new(alloc)) },
 //!     Call::Record { instrument: 0, value: NumberValue::U64(4), attributes: Items::from(Vec::new(alloc)) },
-//!     Call::Collect { reader: 0, now: 200 }
+//!     Call::Collect { reader: 0, now: 200, observations: Items::from(Vec::new(alloc)) }
 //! ]?;
 //! let replies = provider.run(alloc, calls.as_slice())?;
 //! ```
@@ -40,6 +40,7 @@
 
 pub mod metrics;
 
+pub use otel_common::resource::Resource;
 pub use otel_common::{common, resource};
 
 #[cfg(test)]

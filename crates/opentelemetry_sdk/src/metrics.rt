@@ -1,13 +1,13 @@
 //! The provider of meters and what belongs to it.
 
 pub mod instrument;
+pub mod meter;
 pub mod provider;
 pub mod reader;
 
 pub use otel_aggregate::internal;
 pub use otel_common::metrics::{Aggregation, MetricError, Temporality};
 pub use otel_data::data;
-pub use otel_provider::meter;
 pub use otel_provider::provider::{MeterProviderBuilder, SdkMeterProvider};
 pub use otel_stream::instrument::{Instrument, InstrumentKind};
 pub use otel_stream::manual_reader::{ManualReader, ManualReaderBuilder};

@@ -2,9 +2,13 @@
 
 mod calls;
 mod kinds;
+mod observed;
 mod replies;
+mod resources;
 mod rows;
 mod runs;
+mod shutdowns;
 mod texts;
+mod typed;
 mod wanted;
 mod wholes;

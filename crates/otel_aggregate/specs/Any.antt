@@ -1,5 +1,5 @@
 -- A stream of any aggregate and either number type.
-use Rattle.std.specs.Prelude.{ℕ, ℤ, pos, Bool, true, false, cond, ◌&&◌, is_some, Option}
+use Rattle.std.specs.Prelude.{ℕ, ℤ, pos, ◌≡◌, Bool, true, false, cond, ◌&&◌, ◌||◌, is_some, List, [], Option, None}
 use Rattle.std.specs.Bool.{beq}
 use Rattle.std.specs.Int.{cast_unsigned, w64}
 use Rattle.otel_data.specs.declared.aggregated.AggregatedMetrics.{AggregatedMetrics}
@@ -8,31 +8,46 @@ use Rattle.otel_data.specs.declared.aggregated.MetricData.{MetricData}
 use Rattle.otel_data.specs.declared.aggregated.MetricData.TheVariants as metric
 use Rattle.otel_data.specs.declared.numbers.NumberValue.{NumberValue}
 use Rattle.otel_data.specs.declared.numbers.NumberValue.TheVariants as number
-use Rattle.otel_model_stream.specs.Sets.{AttributeSet}
+use Rattle.otel_model_stream.specs.Sets.{AttributeSet, AllowList}
 use Rattle.otel_model_stream.specs.Folds.{Aggregate, Sum, LastValue, Histogram, Amount}
+use Rattle.otel_model_stream.specs.Entries.{Table, Point}
+use Rattle.otel_model_stream.specs.Maps.{draining_points}
 use Rattle.otel_model_stream.specs.Data.{natural, signed_of}
 use Rattle.otel_aggregate.specs.declared.settings.AnySettings.{AnySettings}
 use Rattle.otel_aggregate.specs.declared.settings.AnySettings.TheVariants as settings
 use Rattle.otel_aggregate.specs.Data.{sum_data, gauge_data, histogram_data}
-use Rattle.otel_aggregate.specs.Streams.{StreamState, HeldStream, taken as taken_of}
+use Rattle.otel_aggregate.specs.Streams.{StreamState, HeldStream, new_stream, points_now, collected, taken as taken_of}
+use Rattle.otel_aggregate.specs.Observed.{ObservedState, HeldObserved, drained_at, observed_data}
 
--- whether its numbers are signed, the stream, and the set of the record that is prepared
+-- whether its numbers are signed, the stream, the set of the record that is prepared, whether each
+-- collection empties it, as one of observed sums, and what such a stream reported in the last one
 pub record HeldAny : Type 0 where
   pub is_signed : Bool
   pub state : StreamState
   pub pending : Option AttributeSet
+  pub drains : Bool
+  pub reported : List Point
 
 -- the aggregate of these settings
 abbrev pub aggregate_of : AnySettings → Aggregate
 aggregate_of (settings.Sum is_monotonic) = Sum
+aggregate_of (settings.PrecomputedSum is_monotonic) = LastValue
 aggregate_of settings.LastValue = LastValue
 aggregate_of (settings.Histogram s) = Histogram s.bounds s.has_min_max s.has_sum
 
 -- whether only values of at least 0 are added
 abbrev pub is_monotonic_of : AnySettings → Bool
 is_monotonic_of (settings.Sum is_monotonic) = is_monotonic
+is_monotonic_of (settings.PrecomputedSum is_monotonic) = is_monotonic
 is_monotonic_of settings.LastValue = false
 is_monotonic_of (settings.Histogram s) = false
+
+-- whether each collection empties the stream
+abbrev pub drains_of : AnySettings → Bool
+drains_of (settings.Sum is_monotonic) = false
+drains_of (settings.PrecomputedSum is_monotonic) = true
+drains_of settings.LastValue = false
+drains_of (settings.Histogram s) = false
 
 -- whether a value is of the signed number type
 abbrev pub is_signed_value : NumberValue → Bool
@@ -44,18 +59,37 @@ abbrev pub amount_of : NumberValue → Amount
 amount_of (number.U64 n) = record { bits = n; wide = pos n }
 amount_of (number.I64 z) = record { bits = cast_unsigned w64 z; wide = z }
 
--- ======== records ========
--- a stream of one number type
-abbrev pub of_type : Bool → HeldStream → HeldAny
-of_type is_signed s = record { is_signed = is_signed; state = s.state; pending = s.pending }
+-- ======== streams ========
+-- one without records of these settings, of this limit, made at this moment
+abbrev pub new_any : AnySettings → Bool → AllowList → Bool → ℕ → ℕ → HeldAny
+new_any s is_signed allow resets limit start = record {
+  is_signed = is_signed;
+  state = new_stream (aggregate_of s) (is_monotonic_of s) allow resets limit start;
+  pending = None;
+  drains = drains_of s;
+  reported = [];
+}
 
--- without its number type
+-- one of one number type
+abbrev pub of_type : Bool → HeldStream → HeldAny
+of_type is_signed s = record { is_signed = is_signed; state = s.state; pending = s.pending; drains = false; reported = [] }
+
+-- observed sums of one number type
+abbrev pub of_observed : Bool → HeldObserved → HeldAny
+of_observed is_signed s = record { is_signed = is_signed; state = s.state.stream; pending = s.pending; drains = true; reported = s.state.reported }
+
+-- the stream by itself
 abbrev pub stream_in : HeldAny → HeldStream
 stream_in a = record { state = a.state; pending = a.pending }
 
+-- with this one in its place
+abbrev pub with_stream : HeldAny → HeldStream → HeldAny
+with_stream a s = record a { state = s.state; pending = s.pending }
+
+-- ======== records ========
 -- after the record that is prepared, if there is one, of a value that has the stream's number type
 abbrev pub taken : NumberValue → HeldAny → HeldAny
-taken value a = cond (beq (is_signed_value value) a.is_signed) (of_type a.is_signed (taken_of (amount_of value) (stream_in a))) a
+taken value a = cond (beq (is_signed_value value) a.is_signed) (with_stream a (taken_of (amount_of value) (stream_in a))) a
 
 -- whether a record is made so
 abbrev pub is_taken : NumberValue → HeldAny → Bool
@@ -73,3 +107,63 @@ module _ {T : Type 0} (of_bits : ℕ → T) (of_whole : ℤ → T) where
 abbrev pub metrics_of : Bool → ℕ → StreamState → AggregatedMetrics
 metrics_of false now a = metrics.U64 (data_of (λ n. n) natural a.aggregate now a)
 metrics_of true now a = metrics.I64 (data_of signed_of (λ z. z) a.aggregate now a)
+
+-- the stream as one of observed sums
+abbrev pub observed_in : HeldAny → ObservedState
+observed_in a = record { stream = a.state; reported = a.reported }
+
+-- what a collection at a moment gives of observed sums, by their number type
+abbrev pub observed_metrics : Bool → ℕ → ObservedState → AggregatedMetrics
+observed_metrics false now a = metrics.U64 (metric.Sum (observed_data (λ n. n) natural now a))
+observed_metrics true now a = metrics.I64 (metric.Sum (observed_data signed_of (λ z. z) now a))
+
+-- what a collection at a moment gives
+abbrev pub metrics_now : ℕ → HeldAny → AggregatedMetrics
+metrics_now now a = cond a.drains (observed_metrics a.is_signed now (observed_in a)) (metrics_of a.is_signed now a.state)
+
+-- the points whose total is told; of observed sums the values, and not the differences that are shown
+abbrev pub any_points : HeldAny → List Point
+any_points a = cond a.drains (draining_points a.state.map_state) (points_now a.state)
+
+-- with observed sums in its place
+abbrev pub with_observed : HeldAny → ObservedState → HeldAny
+with_observed a s = record a { state = s.stream; reported = s.reported }
+
+-- the state after a collection at a moment
+abbrev pub ended_state : ℕ → HeldAny → HeldAny
+ended_state now a = cond a.drains (with_observed a (drained_at now (observed_in a))) (record a { state = collected now a.state })
+
+-- after a collection at a moment: where it empties the stream or starts it again, a record that was prepared is given up
+abbrev pub ended : ℕ → HeldAny → HeldAny
+ended now a = record (ended_state now a) { pending = cond (a.drains || a.state.resets) None a.pending }
+
+-- ======== saved entries ========
+-- what a stream keeps of the records of a set: their sum, the last of them, or how they spread
+pub data Form : Type 0 where
+  Sums : Form
+  LastValues : Form
+  Spreads : Form
+
+abbrev pub form_of : Aggregate → Form
+form_of Sum = Sums
+form_of LastValue = LastValues
+form_of (Histogram bounds has_min_max has_sum) = Spreads
+
+-- the entries of a stream, with the form and the number type of what it keeps of each set
+pub record HeldSaved : Type 0 where
+  pub is_signed : Bool
+  pub form : Form
+  pub table : Table
+
+-- the entries of this stream
+abbrev pub saved_of : HeldAny → HeldSaved
+saved_of a = record { is_signed = a.is_signed; form = form_of a.state.aggregate; table = a.state.map_state.table }
+
+-- these entries can be those of the stream
+pub record IsLike (saved : HeldSaved) (a : HeldAny) : Type 0 where
+  pub number : saved.is_signed ≡ a.is_signed
+  pub form : saved.form ≡ form_of a.state.aggregate
+
+-- with these entries in place of its own; a record that was prepared is given up
+abbrev pub with_saved : HeldSaved → HeldAny → HeldAny
+with_saved saved a = record a { state = record a.state { map_state = record a.state.map_state { table = saved.table } }; pending = None }

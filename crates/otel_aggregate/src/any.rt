@@ -1,15 +1,18 @@
 //! A stream of any aggregate and either number type.
 
-ghost use Rattle.std.specs.Prelude.{◌≡◌, cond, is_some, None, Some, IsTrue, OnOk, OnErr, IfOk, IsOk, IsOkUnless};
+ghost use Rattle.std.specs.Prelude.{◌≡◌, [], is_some, None, Some, IsTrue, OnOk, OnErr, IfOk, IsOk, IsOkUnless};
 ghost use Rattle.otel_common.specs.Temporalities.{resets};
 ghost use Rattle.otel_model_stream.specs.Sets.{set_of};
 ghost use Rattle.otel_model_stream.specs.Folds.{wrapped};
 ghost use Rattle.otel_model_stream.specs.Totals.{points_total};
-ghost use Rattle.otel_aggregate.specs.Any.{aggregate_of, is_monotonic_of, taken, is_taken, metrics_of};
-ghost use Rattle.otel_aggregate.specs.Streams.{new_stream, is_known, collected, points_now};
+ghost use Rattle.otel_aggregate.specs.Any.{aggregate_of, is_monotonic_of, drains_of, taken, is_taken, metrics_now, any_points, ended, saved_of, IsLike, with_saved};
+ghost use Rattle.otel_aggregate.specs.Streams.{new_stream, is_known};
 
 use crate::histogram::Histogram;
 use crate::last_value::LastValue;
+use crate::making::{new_histogram, new_last_value, new_precomputed_sum, new_sum, told_form};
+use crate::precomputed_sum::PrecomputedSum;
+use crate::saved::{SavedAggregate, SavedInner};
 use crate::settings::AnySettings;
 use crate::sum::Sum;
 use otel_common::attributes::KeyValue;
@@ -27,6 +30,8 @@ use std::marker::Model;
 pub enum Inner {
     SumU64(Sum<u64>),
     SumI64(Sum<i64>),
+    PrecomputedSumU64(PrecomputedSum<u64>),
+    PrecomputedSumI64(PrecomputedSum<i64>),
     LastValueU64(LastValue<u64>),
     LastValueI64(LastValue<i64>),
     HistogramU64(Histogram<u64>),
@@ -65,59 +70,23 @@ impl AnyAggregate {
         ensures made { IfOk result (λ made. made.state ≡ new_stream (aggregate_of settings) (is_monotonic_of settings) allow (resets temporality) limit now) }
         ensures number { IfOk result (λ made. made.is_signed ≡ is_signed) }
         ensures unprepared { IfOk result (λ made. made.pending ≡ None) }
+        ensures drains { IfOk result (λ made. made.drains ≡ drains_of settings) }
+        ensures reported { IfOk result (λ made. made.reported ≡ []) }
         ensures only_memory { IsOkUnless result Fault.OutOfMemory }
     {
-        let inner = match (settings, is_signed) {
-            (AnySettings::Sum { is_monotonic }, false) => Inner::SumU64(Sum::new(
-                alloc,
-                temporality,
-                allow,
-                limit,
-                now,
-                is_monotonic,
-            )?),
-            (AnySettings::Sum { is_monotonic }, true) => Inner::SumI64(Sum::new(
-                alloc,
-                temporality,
-                allow,
-                limit,
-                now,
-                is_monotonic,
-            )?),
-            (AnySettings::LastValue, false) => Inner::LastValueU64(LastValue::new(
-                alloc,
-                temporality,
-                allow,
-                limit,
-                now,
-            )?),
-            (AnySettings::LastValue, true) => Inner::LastValueI64(LastValue::new(
-                alloc,
-                temporality,
-                allow,
-                limit,
-                now,
-            )?),
-            (AnySettings::Histogram(settings), false) => Inner::HistogramU64(Histogram::new(
-                alloc,
-                temporality,
-                allow,
-                limit,
-                now,
-                settings.bounds,
-                settings.has_min_max,
-                settings.has_sum,
-            )?),
-            (AnySettings::Histogram(settings), true) => Inner::HistogramI64(Histogram::new(
-                alloc,
-                temporality,
-                allow,
-                limit,
-                now,
-                settings.bounds,
-                settings.has_min_max,
-                settings.has_sum,
-            )?),
+        let inner = match settings {
+            AnySettings::Sum {
+                is_monotonic: rises,
+            } => new_sum(alloc, is_signed, temporality, allow, limit, now, rises)?,
+            AnySettings::PrecomputedSum {
+                is_monotonic: rises,
+            } => new_precomputed_sum(alloc, is_signed, temporality, allow, limit, now, rises)?,
+            AnySettings::LastValue => {
+                new_last_value(alloc, is_signed, temporality, allow, limit, now)?
+            }
+            AnySettings::Histogram(settings) => {
+                new_histogram(alloc, is_signed, temporality, allow, limit, now, settings)?
+            }
         };
         Ok(AnyAggregate { inner })
     }
@@ -129,6 +98,8 @@ impl AnyAggregate {
         match &self.inner {
             Inner::SumU64(_) => false,
             Inner::SumI64(_) => true,
+            Inner::PrecomputedSumU64(_) => false,
+            Inner::PrecomputedSumI64(_) => true,
             Inner::LastValueU64(_) => false,
             Inner::LastValueI64(_) => true,
             Inner::HistogramU64(_) => false,
@@ -146,6 +117,8 @@ impl AnyAggregate {
     pub fn prepare(&mut self, attributes: &[KeyValue]) -> Result<(), Fault>
         ensures same { self.new.state ≡ self.old.state }
         ensures number { self.new.is_signed ≡ self.old.is_signed }
+        ensures drains { self.new.drains ≡ self.old.drains }
+        ensures reported { self.new.reported ≡ self.old.reported }
         ensures ready { OnOk result (self.new.pending ≡ Some (set_of self.old.state.allow attributes.now)) }
         ensures refused { OnErr result (self.new.pending ≡ None) }
         ensures known { IsTrue (is_known self.old.state.allow attributes.now self.old.state.map_state) → IsOk result }
@@ -154,6 +127,8 @@ impl AnyAggregate {
         match &mut self.inner {
             Inner::SumU64(stream) => stream.prepare(attributes),
             Inner::SumI64(stream) => stream.prepare(attributes),
+            Inner::PrecomputedSumU64(stream) => stream.prepare(attributes),
+            Inner::PrecomputedSumI64(stream) => stream.prepare(attributes),
             Inner::LastValueU64(stream) => stream.prepare(attributes),
             Inner::LastValueI64(stream) => stream.prepare(attributes),
             Inner::HistogramU64(stream) => stream.prepare(attributes),
@@ -168,6 +143,8 @@ impl AnyAggregate {
         match &self.inner {
             Inner::SumU64(stream) => stream.is_prepared(),
             Inner::SumI64(stream) => stream.is_prepared(),
+            Inner::PrecomputedSumU64(stream) => stream.is_prepared(),
+            Inner::PrecomputedSumI64(stream) => stream.is_prepared(),
             Inner::LastValueU64(stream) => stream.is_prepared(),
             Inner::LastValueI64(stream) => stream.is_prepared(),
             Inner::HistogramU64(stream) => stream.is_prepared(),
@@ -184,6 +161,8 @@ impl AnyAggregate {
         match (&mut self.inner, value) {
             (Inner::SumU64(stream), NumberValue::U64(value)) => stream.commit(value),
             (Inner::SumI64(stream), NumberValue::I64(value)) => stream.commit(value),
+            (Inner::PrecomputedSumU64(stream), NumberValue::U64(value)) => stream.commit(value),
+            (Inner::PrecomputedSumI64(stream), NumberValue::I64(value)) => stream.commit(value),
             (Inner::LastValueU64(stream), NumberValue::U64(value)) => stream.commit(value),
             (Inner::LastValueI64(stream), NumberValue::I64(value)) => stream.commit(value),
             (Inner::HistogramU64(stream), NumberValue::U64(value)) => stream.commit(value),
@@ -195,7 +174,7 @@ impl AnyAggregate {
     /// What a collection at a moment, in nanoseconds since 1970, gives: the start, the points and
     /// `now`. The stream stays as it was. It copies each set that is shown.
     pub fn points(&self, alloc: Global, now: u64) -> Result<AggregatedMetrics, Fault>
-        ensures points { IfOk result (λ given. given ≡ metrics_of self.now.is_signed now self.now.state) }
+        ensures points { IfOk result (λ given. given ≡ metrics_now now self.now) }
         ensures only_memory { IsOkUnless result Fault.OutOfMemory }
     {
         match &self.inner {
@@ -204,6 +183,14 @@ impl AnyAggregate {
                 Ok(AggregatedMetrics::U64(MetricData::Sum(given)))
             }
             Inner::SumI64(stream) => {
+                let given = stream.points(alloc, now)?;
+                Ok(AggregatedMetrics::I64(MetricData::Sum(given)))
+            }
+            Inner::PrecomputedSumU64(stream) => {
+                let given = stream.points(alloc, now)?;
+                Ok(AggregatedMetrics::U64(MetricData::Sum(given)))
+            }
+            Inner::PrecomputedSumI64(stream) => {
                 let given = stream.points(alloc, now)?;
                 Ok(AggregatedMetrics::I64(MetricData::Sum(given)))
             }
@@ -227,13 +214,15 @@ impl AnyAggregate {
     }
 
     /// What the points of a collection now would add up to, modulo 2^64: of a sum the 64 bits of its
-    /// values, of a histogram how many records it counts, of last values nothing.
+    /// values, of a histogram how many records it counts, of last values and observed sums nothing.
     pub fn total(&self) -> u64
-        ensures { result ≡ wrapped (points_total (points_now self.now.state)) }
+        ensures { result ≡ wrapped (points_total (any_points self.now)) }
     {
         match &self.inner {
             Inner::SumU64(stream) => stream.total(),
             Inner::SumI64(stream) => stream.total(),
+            Inner::PrecomputedSumU64(stream) => stream.total(),
+            Inner::PrecomputedSumI64(stream) => stream.total(),
             Inner::LastValueU64(stream) => stream.total(),
             Inner::LastValueI64(stream) => stream.total(),
             Inner::HistogramU64(stream) => stream.total(),
@@ -248,6 +237,8 @@ impl AnyAggregate {
         match &self.inner {
             Inner::SumU64(stream) => stream.resets(),
             Inner::SumI64(stream) => stream.resets(),
+            Inner::PrecomputedSumU64(stream) => stream.resets(),
+            Inner::PrecomputedSumI64(stream) => stream.resets(),
             Inner::LastValueU64(stream) => stream.resets(),
             Inner::LastValueI64(stream) => stream.resets(),
             Inner::HistogramU64(stream) => stream.resets(),
@@ -255,20 +246,78 @@ impl AnyAggregate {
         }
     }
 
+    /// Whether each collection empties it: a stream of observed sums.
+    pub fn drains(&self) -> bool
+        ensures { result ≡ self.now.drains }
+    {
+        match &self.inner {
+            Inner::SumU64(_) => false,
+            Inner::SumI64(_) => false,
+            Inner::PrecomputedSumU64(_) => true,
+            Inner::PrecomputedSumI64(_) => true,
+            Inner::LastValueU64(_) => false,
+            Inner::LastValueI64(_) => false,
+            Inner::HistogramU64(_) => false,
+            Inner::HistogramI64(_) => false,
+        }
+    }
+
     /// Ends a collection whose points were taken, at a moment in nanoseconds since 1970: where the stream
-    /// resets, it starts again from there, and a record that was prepared is given up.
+    /// resets, it starts again from there; where it drains, what was observed is forgotten. In both a
+    /// record that was prepared is given up.
     pub fn finish(&mut self, now: u64)
-        ensures state { self.new.state ≡ collected now self.old.state }
-        ensures number { self.new.is_signed ≡ self.old.is_signed }
-        ensures pending { self.new.pending ≡ cond self.old.state.resets None self.old.pending }
+        ensures ended { self.new ≡ ended now self.old }
     {
         match &mut self.inner {
             Inner::SumU64(stream) => stream.finish(now),
             Inner::SumI64(stream) => stream.finish(now),
+            Inner::PrecomputedSumU64(stream) => stream.finish(now),
+            Inner::PrecomputedSumI64(stream) => stream.finish(now),
             Inner::LastValueU64(stream) => stream.finish(now),
             Inner::LastValueI64(stream) => stream.finish(now),
             Inner::HistogramU64(stream) => stream.finish(now),
             Inner::HistogramI64(stream) => stream.finish(now),
+        }
+    }
+
+    /// A copy of the entries, to be restored later. A stream without entries takes no memory for them.
+    pub fn save(&self, alloc: Global) -> Result<SavedAggregate, Fault>
+        ensures saved { IfOk result (λ saved. saved ≡ saved_of self.now) }
+        ensures only_memory { IsOkUnless result Fault.OutOfMemory }
+    {
+        // Tells the prover what is kept of each set.
+        told_form(&self.inner);
+        let inner = match &self.inner {
+            Inner::SumU64(stream) => SavedInner::SumU64(stream.save(alloc)?),
+            Inner::SumI64(stream) => SavedInner::SumI64(stream.save(alloc)?),
+            Inner::PrecomputedSumU64(stream) => SavedInner::LastValueU64(stream.save(alloc)?),
+            Inner::PrecomputedSumI64(stream) => SavedInner::LastValueI64(stream.save(alloc)?),
+            Inner::LastValueU64(stream) => SavedInner::LastValueU64(stream.save(alloc)?),
+            Inner::LastValueI64(stream) => SavedInner::LastValueI64(stream.save(alloc)?),
+            Inner::HistogramU64(stream) => SavedInner::HistogramU64(stream.save(alloc)?),
+            Inner::HistogramI64(stream) => SavedInner::HistogramI64(stream.save(alloc)?),
+        };
+        Ok(SavedAggregate::of(inner))
+    }
+
+    /// Puts saved entries in the place of its own, and gives up a record that was prepared. What observed
+    /// sums reported stays as it was. It takes no memory.
+    pub fn restore(&mut self, saved: SavedAggregate)
+        requires { IsLike saved self.old }
+        ensures { self.new ≡ with_saved saved self.old }
+    {
+        // Tells the prover what is kept of each set, so that no entries are of another form.
+        told_form(&self.inner);
+        match (&mut self.inner, saved.into_inner()) {
+            (Inner::SumU64(stream), SavedInner::SumU64(saved)) => stream.restore(saved),
+            (Inner::SumI64(stream), SavedInner::SumI64(saved)) => stream.restore(saved),
+            (Inner::PrecomputedSumU64(sum), SavedInner::LastValueU64(saved)) => sum.restore(saved),
+            (Inner::PrecomputedSumI64(sum), SavedInner::LastValueI64(saved)) => sum.restore(saved),
+            (Inner::LastValueU64(stream), SavedInner::LastValueU64(saved)) => stream.restore(saved),
+            (Inner::LastValueI64(stream), SavedInner::LastValueI64(saved)) => stream.restore(saved),
+            (Inner::HistogramU64(stream), SavedInner::HistogramU64(saved)) => stream.restore(saved),
+            (Inner::HistogramI64(stream), SavedInner::HistogramI64(saved)) => stream.restore(saved),
+            _ => {}
         }
     }
 }

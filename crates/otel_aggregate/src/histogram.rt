@@ -19,6 +19,7 @@ use otel_data::histograms::Histogram as HistogramData;
 use otel_value_map::bounds::Bounds;
 use otel_value_map::buckets::Buckets;
 use otel_value_map::number::Number;
+use otel_value_map::saved::Saved;
 use std::alloc::Global;
 use std::marker::Model;
 
@@ -149,6 +150,30 @@ impl<T: Number + Drop> Histogram<T> {
         ensures pending { self.new.pending ≡ cond self.old.state.resets None self.old.pending }
     {
         self.stream.finish(now);
+    }
+
+    /// A copy of the histograms, to be restored later. A stream without entries takes no memory for them.
+    pub fn save(&self, alloc: Global) -> Result<Saved<Buckets<T>>, Fault>
+        ensures saved { IfOk result (λ saved. saved ≡ self.now.state.map_state.table) }
+        ensures only_memory { IsOkUnless result Fault.OutOfMemory }
+    {
+        self.stream.save(alloc)
+    }
+
+    /// Puts saved histograms in the place of its own, and gives up a record that was prepared. It takes no
+    /// memory.
+    pub fn restore(&mut self, saved: Saved<Buckets<T>>)
+        ensures state { self.new.state ≡ record self.old.state { map_state = record self.old.state.map_state { table = saved } } }
+        ensures unprepared { self.new.pending ≡ None }
+    {
+        self.stream.restore(saved);
+    }
+
+    /// The law that it is a stream of histograms.
+    pub fn told_aggregate(&self)
+        ensures { self.now.state.aggregate ≡ HistogramAggregate (bounds_of self.now.state.aggregate) (keeps_min_max self.now.state.aggregate) (keeps_sum self.now.state.aggregate) }
+    {
+        let _ = self.stream.settings();
     }
 
     /// A collection at a moment, in nanoseconds since 1970: `points`, and then `finish`. Where it is

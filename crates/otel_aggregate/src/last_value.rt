@@ -17,6 +17,7 @@ use otel_common::metrics::Temporality;
 use otel_data::gauges::Gauge;
 use otel_value_map::assign::Assign;
 use otel_value_map::number::Number;
+use otel_value_map::saved::Saved;
 use std::alloc::Global;
 use std::marker::Model;
 
@@ -136,6 +137,30 @@ impl<T: Number + Drop> LastValue<T> {
         ensures pending { self.new.pending ≡ cond self.old.state.resets None self.old.pending }
     {
         self.stream.finish(now);
+    }
+
+    /// A copy of the values, to be restored later. A stream without entries takes no memory for them.
+    pub fn save(&self, alloc: Global) -> Result<Saved<Assign<T>>, Fault>
+        ensures saved { IfOk result (λ saved. saved ≡ self.now.state.map_state.table) }
+        ensures only_memory { IsOkUnless result Fault.OutOfMemory }
+    {
+        self.stream.save(alloc)
+    }
+
+    /// Puts saved values in the place of its own, and gives up a record that was prepared. It takes no
+    /// memory.
+    pub fn restore(&mut self, saved: Saved<Assign<T>>)
+        ensures state { self.new.state ≡ record self.old.state { map_state = record self.old.state.map_state { table = saved } } }
+        ensures unprepared { self.new.pending ≡ None }
+    {
+        self.stream.restore(saved);
+    }
+
+    /// The law that it is a stream of last values.
+    pub fn told_aggregate(&self)
+        ensures { self.now.state.aggregate ≡ LastValueAggregate }
+    {
+        let _ = self.stream.settings();
     }
 
     /// A collection at a moment, in nanoseconds since 1970: `points`, and then `finish`. Where it is

@@ -20,6 +20,11 @@ pub enum AnySettings {
         /// Whether only values of at least 0 are added.
         is_monotonic: bool,
     },
+    /// Keeps the last one of values that were summed before, and forgets all at each collection.
+    PrecomputedSum {
+        /// Whether only values of at least 0 are added.
+        is_monotonic: bool,
+    },
     /// Keeps the last one.
     LastValue,
     /// Counts them by bucket.

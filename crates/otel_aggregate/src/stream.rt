@@ -6,6 +6,8 @@ ghost use Rattle.otel_common.specs.declared.metrics.Temporality.TheVariants as s
 ghost use Rattle.otel_model_stream.specs.Sets.{AttributeSet, set_of};
 ghost use Rattle.otel_model_stream.specs.Folds.{wrapped};
 ghost use Rattle.otel_model_stream.specs.Totals.{points_total};
+ghost use Rattle.otel_model_stream.specs.Maps.{draining_points, drained_map};
+ghost use Rattle.otel_value_map.specs.Tallies.{HasTally, copies};
 ghost use Rattle.otel_aggregate.specs.Data.{temporality_of};
 ghost use Rattle.otel_aggregate.specs.Streams.{new_stream, is_known, recorded_set, recorded_attributes, taken, collected, points_now};
 
@@ -15,9 +17,11 @@ use otel_common::faults::Fault;
 use otel_common::keys::Key;
 use otel_common::lists::Items;
 use otel_common::metrics::Temporality;
+use otel_value_map::saved::Saved;
 use otel_value_map::value_map::ValueMap;
 use std::alloc::Global;
 use std::marker::Model;
+use std::mem::swap;
 
 /// Whether a stream resets at each collection, by its reader's answer.
 fn is_delta(temporality: Temporality) -> bool
@@ -31,7 +35,7 @@ fn is_delta(temporality: Temporality) -> bool
 }
 
 /// The temporality of the points of a stream that resets at each collection, or doesn't.
-fn shown_temporality(resets: bool) -> Temporality
+pub fn shown_temporality(resets: bool) -> Temporality
     ensures { result ≡ cond resets shown.Delta shown.Cumulative }
 {
     if resets {
@@ -169,11 +173,34 @@ impl<A: Shows> Stream<A> {
         Ok(A::into_data(&self.settings, points, temporality, self.start, now))
     }
 
+    /// Every set that has an entry, and the empty one if it was updated, with copies of their aggregators.
+    pub fn every_set(&self, alloc: Global) -> Result<Vec<(Items<KeyValue>, A)>, Fault>
+        ensures points { IfOk result (λ given. copies A.meaning given.items ≡ draining_points self.now.state.map_state) }
+        ensures only_memory { IsOkUnless result Fault.OutOfMemory }
+    {
+        self.map.points(alloc, true)
+    }
+
     /// What the points of a collection now would add up to, modulo 2^64.
     pub fn total(&self) -> u64
         ensures { result ≡ wrapped (points_total (points_now self.now.state)) }
     {
         self.map.total(!self.resets)
+    }
+
+    /// What the points of every set that has an entry, and of the empty one if it was updated, would add
+    /// up to, modulo 2^64.
+    pub fn total_of_every(&self) -> u64
+        ensures { result ≡ wrapped (points_total (draining_points self.now.state.map_state)) }
+    {
+        self.map.total(true)
+    }
+
+    /// What all its sets share.
+    pub fn settings(&self) -> &A::Settings
+        ensures { self.now.state.aggregate ≡ A.aggregate result.now }
+    {
+        &self.settings
     }
 
     /// Whether each collection starts again.
@@ -193,6 +220,52 @@ impl<A: Shows> Stream<A> {
             self.map.reset_and_evict();
             self.start = now;
         }
+    }
+
+    /// The moment since when its records are, in nanoseconds since 1970.
+    pub fn start(&self) -> u64
+        ensures { result ≡ self.now.state.start }
+    {
+        self.start
+    }
+
+    /// Forgets all records and entries. A record that was prepared is given up.
+    pub fn drain(&mut self)
+        ensures state { self.new.state ≡ record self.old.state { map_state = drained_map self.old.state.map_state } }
+        ensures unprepared { self.new.pending ≡ None }
+    {
+        self.map.drain();
+    }
+
+    /// A copy of the entries, to be restored later. A stream without entries takes no memory for them.
+    pub fn save(&self, alloc: Global) -> Result<Saved<A>, Fault>
+        ensures saved { IfOk result (λ saved. saved ≡ self.now.state.map_state.table) }
+        ensures only_memory { IsOkUnless result Fault.OutOfMemory }
+    {
+        self.map.save(alloc)
+    }
+
+    /// Puts saved entries in the place of its own, and gives up a record that was prepared. It takes no
+    /// memory.
+    pub fn restore(&mut self, saved: Saved<A>)
+        ensures state { self.new.state ≡ record self.old.state { map_state = record self.old.state.map_state { table = saved } } }
+        ensures unprepared { self.new.pending ≡ None }
+        ensures was_tally { HasTally A.meaning self.old.state.map_state.table }
+        ensures is_tally { HasTally A.meaning saved }
+    {
+        self.map.restore(saved);
+    }
+
+    /// Puts its records into a map, whose own are forgotten, and starts again with none, at a moment in
+    /// nanoseconds since 1970. The two maps are swapped, and nothing is copied.
+    pub fn drain_into(&mut self, kept: &mut ValueMap<A>, now: u64)
+        ensures kept { kept.new.state ≡ self.old.state.map_state }
+        ensures state { self.new.state ≡ record self.old.state { map_state = drained_map kept.old.state; start = now } }
+        ensures unprepared { self.new.pending ≡ None }
+    {
+        kept.drain();
+        swap(&mut self.map, kept);
+        self.start = now;
     }
 
     /// A collection at a moment, in nanoseconds since 1970: `points`, and then `finish`. Where it is

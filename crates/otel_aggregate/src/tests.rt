@@ -79,4 +79,5 @@ fn attributes(alloc: Global, set: Set) -> Result<Vec<KeyValue>, Fault> {
 mod anys;
 mod histograms;
 mod last_values;
+mod precomputed_sums;
 mod sums;

@@ -41,10 +41,11 @@ pub fn record(instrument: usize, attributes: Vec<KeyValue>) -> Call {
 }
 
 /// Collects what the first reader's streams have.
-pub fn collect() -> Call {
+pub fn collect(alloc: Global) -> Call {
     Call::Collect {
         reader: 0,
         now: 200,
+        observations: Items::from(Vec::new(alloc)),
     }
 }
 

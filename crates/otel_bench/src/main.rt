@@ -8,14 +8,17 @@ mod cases;
 mod counted;
 mod plans;
 mod providers;
+mod typed;
 
 use anyhow::Error;
 use cases::case_named;
 use counted::calls_of_plan;
+use opentelemetry_sdk::metrics::Temporality;
 use plans::plan_of;
 use providers::provider_of;
 use std::alloc::Global;
 use std::env;
+use typed::adds_of_known;
 
 /// Makes this many calls of the case of this name, and prints how many of them were carried out.
 fn measure(rt: &impl Print, alloc: Global, name: &str, times: u64) -> Result<(), Error> {
@@ -30,11 +33,23 @@ fn measure(rt: &impl Print, alloc: Global, name: &str, times: u64) -> Result<(),
     Ok(())
 }
 
+/// Adds this many times at a counter that is a value, and prints how often that was done.
+fn measure_typed(rt: &impl Print, alloc: Global, name: &str, times: u64) -> Result<(), Error> {
+    let mut provider = provider_of(alloc, 1, Temporality::Cumulative, None)?;
+    let made = adds_of_known(alloc, &mut provider, 4, times)?;
+    println!(rt; "{name} {times} {made}")?;
+    Ok(())
+}
+
 /// Measures what each two words say: a case and a number.
 fn measure_all(rt: &impl Print, alloc: Global, words: &[String]) -> Result<(), Error> {
     for pair in words.chunks(2) {
         if let [name, times] = pair {
-            measure(rt, alloc, name.as_str(), times.as_str().parse::<u64>()?)?;
+            let times = times.as_str().parse::<u64>()?;
+            match name.as_str() {
+                "typed4" => measure_typed(rt, alloc, "typed4", times)?,
+                name => measure(rt, alloc, name, times)?,
+            }
         }
     }
     Ok(())

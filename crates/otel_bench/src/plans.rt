@@ -117,7 +117,7 @@ fn collections(
     temporality: Temporality,
 ) -> Result<Plan, Fault> {
     let before = instrument(alloc, sort)?;
-    let counted = vec![in alloc; collect()]?;
+    let counted = vec![in alloc; collect(alloc)]?;
     let mut plan = Plan::new(alloc, before, counted);
     plan.temporality = temporality;
     add_records_of_sets(alloc, &mut plan.between, 0, SETS)?;
@@ -138,7 +138,7 @@ fn of_meters(alloc: Global, sort: InstrumentSort) -> Result<Plan, Fault> {
     let mut before = meters(alloc, MANY)?;
     add_builds_of_meters(alloc, &mut before, sort, MANY)?;
     add_records_of_instruments(alloc, &mut before, MANY)?;
-    let counted = vec![in alloc; collect()]?;
+    let counted = vec![in alloc; collect(alloc)]?;
     Ok(Plan::new(alloc, before, counted))
 }
 

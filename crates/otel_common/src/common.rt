@@ -2,7 +2,7 @@
 
 pub use crate::attributes::{Array, KeyValue, Value};
 pub use crate::canonical::{canonical, canonical_laws};
-pub use crate::faults::Fault;
+pub use crate::faults::{Fault, InternalFault, OTelSdkResult};
 pub use crate::keys::Key;
 pub use crate::laws::{
     copied_attributes, copied_scope, equal_attributes, equal_scopes, resource_laws,

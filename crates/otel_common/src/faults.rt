@@ -7,7 +7,11 @@ ghost use Rattle.otel_common.specs.declared.faults.Fault.TheVariants.{OutOfMemor
 use std::alloc::{AllocError, AllocFailed};
 use thiserror::Error;
 
-/// Why a call was refused. A refused call changes nothing.
+/// What a flush or a shutdown is answered: done, or why it was refused.
+pub type OTelSdkResult = Result<(), Fault>;
+
+/// Why a call was refused. A refused call changes nothing, but for a flush or a shutdown in which readers failed: there
+/// every reader was asked, and the shutdown has shut the provider down.
 #[derive(Clone, Debug, Drop, Error)]
 pub enum Fault {
     /// A growth was refused in this call.
@@ -25,6 +29,26 @@ pub enum Fault {
     /// A `u64` for an `i64` instrument, or the other way round.
     #[error("wrong number type")]
     WrongNumber,
+    /// The instrument is of another kind: a record at an observable one, or an observation of one that isn't.
+    #[error("wrong instrument kind")]
+    WrongKind,
+    /// A flush or a shutdown of a provider that was shut down before (Metrics SDK, "Shutdown").
+    #[error("already shut down")]
+    AlreadyShutdown,
+    /// A reader could not do what it was asked to.
+    #[error("{0}")]
+    InternalFailure(InternalFault),
+}
+
+/// What a reader could not do.
+#[derive(Clone, Debug, Drop, Error)]
+pub enum InternalFault {
+    /// A collection of a provider that was shut down before.
+    #[error("reader is shut down or not registered")]
+    ReaderShutDown,
+    /// So many readers failed in a flush or a shutdown, and this is the number of the first of them.
+    #[error("{failed} readers failed, the first is {first}")]
+    Readers { failed: usize, first: usize },
 }
 
 impl Fault {
@@ -38,6 +62,10 @@ impl Fault {
             Fault::UnknownInstrument => 3,
             Fault::UnknownReader => 5,
             Fault::WrongNumber => 6,
+            Fault::WrongKind => 7,
+            Fault::AlreadyShutdown => 8,
+            Fault::InternalFailure(InternalFault::ReaderShutDown) => 9,
+            Fault::InternalFailure(InternalFault::Readers { .. }) => 10,
         }
     }
 }

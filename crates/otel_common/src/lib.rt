@@ -14,5 +14,8 @@ pub mod laws;
 pub mod lists;
 pub mod metrics;
 pub mod resource;
+mod resource_builder;
+mod resource_iter;
 pub mod scopes;
+mod sets;
 pub mod strings;

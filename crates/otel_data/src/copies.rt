@@ -12,7 +12,7 @@ ghost use Rattle.otel_data.specs.declared.collections.ResourceMetrics.{ResourceM
 ghost use Rattle.otel_data.specs.declared.collections.ScopeMetrics.{ScopeMetrics};
 ghost use Rattle.otel_data.specs.declared.gauges.Gauge.{Gauge};
 ghost use Rattle.otel_data.specs.declared.histograms.Histogram.{Histogram};
-ghost use Rattle.otel_data.specs.declared.points.Exemplar.{Exemplar};
+ghost use Rattle.otel_data.specs.declared.exemplars.Exemplar.{Exemplar};
 ghost use Rattle.otel_data.specs.declared.points.GaugeDataPoint.{GaugeDataPoint};
 ghost use Rattle.otel_data.specs.declared.points.HistogramDataPoint.{HistogramDataPoint};
 ghost use Rattle.otel_data.specs.declared.points.SumDataPoint.{SumDataPoint};
@@ -20,9 +20,10 @@ ghost use Rattle.otel_data.specs.declared.sums.Sum.{Sum};
 
 use crate::aggregated::{AggregatedMetrics, MetricData};
 use crate::collections::{Metric, ResourceMetrics, ScopeMetrics};
+use crate::exemplars::Exemplar;
 use crate::gauges::Gauge;
 use crate::histograms::Histogram;
-use crate::points::{Exemplar, GaugeDataPoint, HistogramDataPoint, SumDataPoint};
+use crate::points::{GaugeDataPoint, HistogramDataPoint, SumDataPoint};
 use crate::sums::Sum;
 use otel_common::laws::resource_laws;
 

@@ -3,16 +3,10 @@
 ghost use Rattle.std.specs.Prelude.{◌≡◌};
 ghost use Rattle.std.specs.Slice.Iter.{iter_rest};
 
+use crate::exemplars::Exemplar;
 use otel_common::attributes::KeyValue;
 use otel_common::lists::Items;
 use std::slice::Iter;
-
-/// A value that was recorded, kept as an example (Metrics SDK, "Exemplar").
-#[derive(Clone, Debug, Drop, PartialEq)]
-pub struct Exemplar<T> {
-    /// The value that was recorded.
-    pub value: T,
-}
 
 /// A point of a sum: what the records of one set of attributes add up to (Metrics data model,
 /// "Sums").

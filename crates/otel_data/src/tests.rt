@@ -2,10 +2,11 @@
 
 use crate::aggregated::{AggregatedMetrics, MetricData};
 use crate::collections::{Metric, ResourceMetrics, ScopeMetrics};
-use crate::copies::{copied_collection, equal_points, equal_signed_points};
+use crate::copies::{copied_collection, copied_points, equal_points, equal_signed_points};
+use crate::exemplars::Exemplar;
 use crate::gauges::Gauge;
 use crate::histograms::Histogram;
-use crate::points::{Exemplar, GaugeDataPoint, HistogramDataPoint, SumDataPoint};
+use crate::points::{GaugeDataPoint, HistogramDataPoint, SumDataPoint};
 use crate::sums::Sum;
 use otel_common::attributes::{KeyValue, Value};
 use otel_common::faults::Fault;
@@ -19,29 +20,28 @@ use std::alloc::Global;
 use std::test::Fail;
 
 fn attributes(alloc: Global) -> Result<Items<KeyValue>, Fault> {
-    let attribute = KeyValue::new(Key::new(alloc, "key")?, Value::Bool(true));
+    let value = Value::String(StringValue::new(alloc, "value")?);
+    let attribute = KeyValue::new(Key::new(alloc, "key")?, value);
     Ok(Items::from(vec![in alloc; attribute]?))
 }
 
-fn exemplars<T: Drop>(alloc: Global, value: T) -> Result<Items<Exemplar<T>>, Fault> {
-    let mut list = Vec::new(alloc);
-    list.push(Exemplar { value })?;
-    Ok(Items::from(list))
+fn exemplar<T>(alloc: Global, value: T) -> Exemplar<T> {
+    Exemplar::new(Items::from(Vec::new(alloc)), 50, value, [1; 8], [2; 16])
 }
 
 fn sum_point(alloc: Global, value: u64) -> Result<SumDataPoint<u64>, Fault> {
-    let exemplars = exemplars(alloc, value)?;
+    let exemplars = Items::from(vec![in alloc; exemplar(alloc, value)]?);
     Ok(SumDataPoint::new(attributes(alloc)?, exemplars, value))
 }
 
 fn gauge_point(alloc: Global, value: i64) -> Result<GaugeDataPoint<i64>, Fault> {
-    let exemplars = exemplars(alloc, value)?;
+    let exemplars = Items::from(vec![in alloc; exemplar(alloc, value)]?);
     Ok(GaugeDataPoint::new(attributes(alloc)?, exemplars, value))
 }
 
 /// A point of three values, with this greatest one.
 fn histogram_point(alloc: Global, greatest: u64) -> Result<HistogramDataPoint<u64>, Fault> {
-    let exemplars = exemplars(alloc, greatest)?;
+    let exemplars = Items::from(vec![in alloc; exemplar(alloc, greatest)]?);
     let bounds = Items::from(vec![in alloc; -5, 10]?);
     let counts = Items::from(vec![in alloc; 1, 0, 2]?);
     Ok(HistogramDataPoint::new(
@@ -131,6 +131,54 @@ fn gauge_points(rt: HostRuntime) -> Result<(), Fail> {
 fn histogram_points(rt: HostRuntime) -> Result<(), Fail> {
     assert!(rt; histogram_point_is(rt.alloc(), 30)?);
     assert!(rt; !histogram_point_is(rt.alloc(), 31)?);
+    Ok(())
+}
+
+/// Whether an exemplar has the parts that those of these tests have.
+fn is_exemplar(exemplar: &Exemplar<u64>) -> bool {
+    exemplar.value == 7
+        && exemplar.time() == 50
+        && exemplar.filtered_attributes().count() == 0
+        && exemplar.span_id()[7] == 1
+        && exemplar.trace_id()[15] == 2
+}
+
+#[test]
+fn exemplars_of_a_point(rt: HostRuntime) -> Result<(), Fail> {
+    let point = sum_point(rt.alloc(), 7)?;
+    assert!(rt; matches!(point.exemplars().as_slice(), [exemplar] if is_exemplar(exemplar)));
+    Ok(())
+}
+
+fn is_copied_sum_point(alloc: Global) -> Result<bool, Fault> {
+    copied_points();
+    equal_points();
+    let point = sum_point(alloc, 0)?;
+    let copy = point.clone()?;
+    Ok(point == copy)
+}
+
+/// A point of no values.
+fn zero_histogram_point(alloc: Global) -> Result<HistogramDataPoint<u64>, Fault> {
+    let exemplars = Items::from(vec![in alloc; exemplar(alloc, 0)]?);
+    let attributes = attributes(alloc)?;
+    let bounds = Items::from(Vec::new(alloc));
+    let counts = Items::from(Vec::new(alloc));
+    Ok(HistogramDataPoint::new(attributes, exemplars, bounds, counts, 0, None, None, 0))
+}
+
+fn is_copied_histogram_point(alloc: Global) -> Result<bool, Fault> {
+    copied_points();
+    equal_points();
+    let point = zero_histogram_point(alloc)?;
+    let copy = point.clone()?;
+    Ok(point == copy)
+}
+
+#[test]
+fn validate_cloning_data_points(rt: HostRuntime) -> Result<(), Fail> {
+    assert!(rt; is_copied_sum_point(rt.alloc())?);
+    assert!(rt; is_copied_histogram_point(rt.alloc())?);
     Ok(())
 }
 

@@ -2,6 +2,7 @@
 #![tactic(auto)]
 
 mod calls;
+mod first;
 mod parts;
 mod printing;
 mod shop;
@@ -9,6 +10,8 @@ mod stand;
 mod views;
 
 use anyhow::Error;
+use calls::collect;
+use first::{serve_two, service};
 use opentelemetry_sdk::metrics::provider::{Provider, SdkMeterProvider};
 use opentelemetry_sdk::metrics::{ManualReader, Temporality};
 use parts::{OnlyManual, boxed_provider};
@@ -16,6 +19,18 @@ use printing::print_points;
 use shop::Shop;
 use stand::a_day;
 use std::alloc::Global;
+
+/// A service that serves two requests.
+fn first_program(rt: &impl Print, alloc: Global) -> Result<(), Error> {
+    let reader = Box::new(alloc, ManualReader::default())?;
+    let mut provider = SdkMeterProvider::builder(alloc)
+        .with_resource(service(alloc)?)?
+        .with_reader(reader)?
+        .build()?;
+    serve_two(alloc, &mut provider)?;
+    print_points(rt, &collect(alloc, &mut provider, 0, 200)?)?;
+    Ok(())
+}
 
 /// Readers in boxes, which may differ in type. The provider goes on when the shop is closed.
 fn with_boxes(rt: &impl Print, alloc: Global) -> Result<(), Error> {
@@ -25,10 +40,10 @@ fn with_boxes(rt: &impl Print, alloc: Global) -> Result<(), Error> {
     shop.serve(alloc, "/cart")?;
     shop.serve(alloc, "/cart")?;
     shop.serve(alloc, "/")?;
-    print_points(rt, &shop.collect(0, 200)?)?;
+    print_points(rt, &shop.collect(alloc, 0, 200)?)?;
     let mut next = Shop::open(alloc, shop.close(), 300)?;
     next.serve(alloc, "/cart")?;
-    print_points(rt, &next.collect(0, 400)?)?;
+    print_points(rt, &next.collect(alloc, 0, 400)?)?;
     Ok(())
 }
 
@@ -40,10 +55,10 @@ fn without_boxes(rt: &impl Print, alloc: Global) -> Result<(), Error> {
     let provider: Provider<OnlyManual> = Provider::builder(alloc).with_reader(reader)?.build()?;
     let mut shop = Shop::open(alloc, provider, 100)?;
     shop.serve(alloc, "/cart")?;
-    print_points(rt, &shop.collect(0, 200)?)?;
+    print_points(rt, &shop.collect(alloc, 0, 200)?)?;
     shop.serve(alloc, "/cart")?;
     shop.serve(alloc, "/cart")?;
-    print_points(rt, &shop.collect(0, 300)?)?;
+    print_points(rt, &shop.collect(alloc, 0, 300)?)?;
     Ok(())
 }
 
@@ -54,6 +69,7 @@ fn with_views(rt: &impl Print, alloc: Global) -> Result<(), Error> {
 }
 
 fn main(rt: HostRuntime) -> Result<(), Error> {
+    first_program(&rt, rt.alloc())?;
     with_boxes(&rt, rt.alloc())?;
     without_boxes(&rt, rt.alloc())?;
     with_views(&rt, rt.alloc())

@@ -1,86 +1,91 @@
 //! A stand that counts at a provider with views.
 
-use crate::calls::{collect, instrument, meter, record, text};
+use crate::calls::{collect, text};
 use crate::views::{dropped, few_points, other_buckets, renamed, two_attributes};
 use anyhow::Error;
 use opentelemetry_sdk::common::{Fault, KeyValue};
 use opentelemetry_sdk::metrics::ManualReader;
 use opentelemetry_sdk::metrics::data::ResourceMetrics;
-use opentelemetry_sdk::metrics::provider::{InstrumentSort, SdkMeterProvider};
+use opentelemetry_sdk::metrics::meter::{Counter, Meter};
+use opentelemetry_sdk::metrics::provider::SdkMeterProvider;
 use std::alloc::Global;
 
 /// The attributes of an order.
-fn order(alloc: Global, country: &str, paid: &str, cart: &str) -> Result<Vec<KeyValue>, Fault> {
-    let attributes = vec![in alloc;
-        text(alloc, "country", country)?,
-        text(alloc, "paid", paid)?,
+fn order(alloc: Global, cart: &str) -> Result<[KeyValue; 5], Fault> {
+    Ok([
+        text(alloc, "country", "se")?,
+        text(alloc, "paid", "card")?,
         text(alloc, "cart", cart)?,
         text(alloc, "browser", "lynx")?,
         text(alloc, "page", "7")?,
-    ]?;
-    Ok(attributes)
+    ])
 }
 
-/// The instruments of the stand.
-#[derive(Clone, Copy)]
-struct Instruments {
-    requests: usize,
-    debug: usize,
-    orders: usize,
-    users: usize,
-    latency: usize,
-}
-
-/// Makes the instruments of the stand, at the moment 100.
-fn make_instruments(alloc: Global, provider: &mut SdkMeterProvider) -> Result<Instruments, Fault> {
-    let meter = meter(alloc, provider, "stand")?;
-    let counter = InstrumentSort::U64Counter;
-    let histogram = InstrumentSort::U64Histogram;
-    Ok(Instruments {
-        requests: instrument(alloc, provider, meter, counter, "requests", 100)?,
-        debug: instrument(alloc, provider, meter, counter, "debug", 100)?,
-        orders: instrument(alloc, provider, meter, counter, "orders", 100)?,
-        users: instrument(alloc, provider, meter, counter, "users", 100)?,
-        latency: instrument(alloc, provider, meter, histogram, "latency", 100)?,
-    })
+/// A counter of the stand, made at the moment 100.
+fn counter(
+    alloc: Global,
+    provider: &mut SdkMeterProvider,
+    meter: Meter,
+    name: &str,
+) -> Result<Counter<u64>, Fault> {
+    meter
+        .u64_counter(String::from_str(alloc, name)?)
+        .build(provider, 100)
 }
 
 /// Two orders, of different carts, from one country.
-fn take_orders(alloc: Global, provider: &mut SdkMeterProvider, orders: usize) -> Result<(), Fault> {
-    record(provider, orders, 1, order(alloc, "se", "card", "21")?)?;
-    record(provider, orders, 1, order(alloc, "se", "card", "22")?)
+fn take_orders(alloc: Global, provider: &mut SdkMeterProvider, meter: Meter) -> Result<(), Fault> {
+    let orders = counter(alloc, provider, meter, "orders")?;
+    orders.add(provider, 1, &order(alloc, "21")?)?;
+    orders.add(provider, 1, &order(alloc, "22")?)
 }
 
 /// Four users come, of whom two have a point of their own.
-fn greet(alloc: Global, provider: &mut SdkMeterProvider, users: usize) -> Result<(), Fault> {
+fn greet(alloc: Global, provider: &mut SdkMeterProvider, meter: Meter) -> Result<(), Fault> {
+    let users = counter(alloc, provider, meter, "users")?;
     for name in ["ada", "grace", "edsger", "tony"] {
-        let attributes = vec![in alloc; text(alloc, "user", name)?]?;
-        record(provider, users, 1, attributes)?;
+        users.add(provider, 1, &[text(alloc, "user", name)?])?;
     }
     Ok(())
 }
 
-/// What the reader of a provider with five views collects of a day.
-pub fn a_day(alloc: Global) -> Result<ResourceMetrics, Error> {
-    let mut provider = SdkMeterProvider::builder(alloc)
-        .with_view(Box::new(alloc, renamed(alloc)?)?)?
-        .with_view(Box::new(alloc, dropped(alloc)?)?)?
-        .with_view(Box::new(alloc, two_attributes(alloc)?)?)?
-        .with_view(Box::new(alloc, few_points(alloc)?)?)?
-        .with_view(Box::new(alloc, other_buckets(alloc)?)?)?
-        .with_reader(Box::new(alloc, ManualReader::default())?)?
-        .build()?;
-    count_a_day(alloc, &mut provider)?;
-    Ok(collect(&mut provider, 0, 200)?)
+/// How long two requests took.
+fn time(alloc: Global, provider: &mut SdkMeterProvider, meter: Meter) -> Result<(), Fault> {
+    let latency = meter
+        .u64_histogram(String::from_str(alloc, "latency")?)
+        .build(provider, 100)?;
+    latency.record(provider, 7, &[])?;
+    latency.record(provider, 70, &[])
 }
 
 /// Counts what happens on a day.
 fn count_a_day(alloc: Global, provider: &mut SdkMeterProvider) -> Result<(), Fault> {
-    let of = make_instruments(alloc, provider)?;
-    record(provider, of.requests, 3, Vec::new(alloc))?;
-    record(provider, of.debug, 1, Vec::new(alloc))?;
-    take_orders(alloc, provider, of.orders)?;
-    greet(alloc, provider, of.users)?;
-    record(provider, of.latency, 7, Vec::new(alloc))?;
-    record(provider, of.latency, 70, Vec::new(alloc))
+    let meter = provider.meter("stand")?;
+    let requests = counter(alloc, provider, meter, "requests")?;
+    requests.add(provider, 3, &[])?;
+    let debug = counter(alloc, provider, meter, "debug")?;
+    debug.add(provider, 1, &[])?;
+    take_orders(alloc, provider, meter)?;
+    greet(alloc, provider, meter)?;
+    time(alloc, provider, meter)
+}
+
+/// What the reader of a provider with five views collects of a day.
+pub fn a_day(alloc: Global) -> Result<ResourceMetrics, Error> {
+    let named = Box::new(alloc, renamed(alloc)?)?;
+    let none = Box::new(alloc, dropped(alloc)?)?;
+    let narrow = Box::new(alloc, two_attributes(alloc)?)?;
+    let few = Box::new(alloc, few_points(alloc)?)?;
+    let wide = Box::new(alloc, other_buckets(alloc)?)?;
+    let reader = Box::new(alloc, ManualReader::default())?;
+    let mut provider = SdkMeterProvider::builder(alloc)
+        .with_view(named)?
+        .with_view(none)?
+        .with_view(narrow)?
+        .with_view(few)?
+        .with_view(wide)?
+        .with_reader(reader)?
+        .build()?;
+    count_a_day(alloc, &mut provider)?;
+    Ok(collect(alloc, &mut provider, 0, 200)?)
 }

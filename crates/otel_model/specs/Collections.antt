@@ -1,6 +1,5 @@
 -- What a collection has (Metrics SDK, "MetricReader" and "Metric points" of the data model).
-use Rattle.std.specs.Prelude.{ℕ, ◌+◌, ◌-◌, ◌^◌, nat_lt, ℤ, Bool, true, false, cond, ◌&&◌, List, [], ◌∷◌, map, filter, length}
-use Rattle.otel_common.specs.Equality.{set_eq}
+use Rattle.std.specs.Prelude.{ℕ, nat_lt, ℤ, Bool, true, false, cond, ◌&&◌, List, map, filter, length}
 use Rattle.otel_common.specs.Scopes.{scope_eq}
 use Rattle.otel_common.specs.declared.metrics.Temporality.{Temporality}
 use Rattle.otel_common.specs.declared.metrics.Temporality.TheVariants.{Cumulative, Delta}
@@ -11,9 +10,8 @@ use Rattle.otel_data.specs.declared.aggregated.MetricData.{MetricData}
 use Rattle.otel_data.specs.declared.collections.Metric.{Metric}
 use Rattle.otel_data.specs.declared.collections.ResourceMetrics.{ResourceMetrics}
 use Rattle.otel_data.specs.declared.collections.ScopeMetrics.{ScopeMetrics}
-use Rattle.otel_model_stream.specs.Sets.{AttributeSet}
-use Rattle.otel_model_stream.specs.Folds.{Last, wrapped}
 use Rattle.otel_model_stream.specs.Events.{Point}
+pub use Rattle.otel_model_stream.specs.Observed.{value_before, less, difference}
 pub use Rattle.otel_model_stream.specs.Data.{value_of, spread_of, natural, signed_of, gauge_point, sum_point, histogram_point, gauge_of, sum_of, histogram_of}
 use Rattle.otel_model.specs.Demands.{Aggregation, ReaderAnswers, Demand}
 use Rattle.otel_model.specs.Streams.{is_drained, is_delta, is_monotonic_kind}
@@ -22,19 +20,6 @@ use Rattle.otel_model.specs.Streams.{is_drained, is_delta, is_monotonic_kind}
 -- a sum of values that were summed before shows in a delta stream what was added since its collection before
 abbrev pub shows_differences : ReaderAnswers → Demand → Bool
 shows_differences answers d = is_drained d && is_delta answers d
-
--- the value that a set had in the collection before, 0 if it had no point there
-abbrev pub value_before : List Point → AttributeSet → ℕ
-value_before [] x = 0
-value_before (p ∷ ps) x = cond (set_eq p.0 x) (value_of p.1) (value_before ps x)
-
--- one number less another, modulo 2^64
-abbrev pub less : ℕ → ℕ → ℕ
-less n before = wrapped (n + (2 ^ 64 - wrapped before))
-
--- a point less its value in the collection before
-abbrev pub difference : List Point → Point → Point
-difference before p = (p.0, Last (less (value_of p.1) (value_before before p.0)))
 
 -- the points of a stream, as differences where it shows these
 abbrev pub differences : ReaderAnswers → Demand → List Point → List Point → List Point

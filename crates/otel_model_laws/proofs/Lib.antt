@@ -2,7 +2,6 @@ pub mod Plus
 pub mod Reorder
 pub mod Differences
 pub mod Alike
-pub mod Merging
 pub mod Amounts
 pub mod Feeding
 pub mod Booked

@@ -7,5 +7,6 @@ pub mod Maps
 pub mod Machine
 pub mod Windows
 pub mod Totals
+pub mod Observed
 pub mod Data
 pub mod Laws

@@ -1,40 +1,15 @@
--- Streams that reset as their reader's answers say, and are of synchronous instruments, whatever is done to them.
-use Rattle.std.proofs.Common.{◌≡◌, ℕ, zero, suc, Bool, true, false, ◌||◌, ◌&&◌, cond, List, [], ◌∷◌, ◌++◌, map, Option, Some, None, refl, sym, ◌∙◌, ap}
+-- Streams that reset as their reader's answers say, whatever is done to them.
+use Rattle.std.proofs.Common.{◌≡◌, ℕ, zero, suc, Bool, true, false, cond, List, [], ◌∷◌, ◌++◌, map, Option, Some, None, refl, ap}
 use Rattle.std.specs.Bool.{beq}
 use Rattle.std.specs.List.{AllByRecursion}
 use Rattle.otel_data.specs.declared.numbers.NumberValue.{NumberValue}
 use Rattle.otel_model_stream.specs.Folds.{Amount}
 use Rattle.otel_model_stream.specs.Sets.{AttributeSet}
 use Rattle.otel_aggregate.specs.Any.{is_signed_value, amount_of}
-use Rattle.otel_model.specs.Calls.{InstrumentKind, Counter, UpDownCounter, Histogram, ObservableCounter, ObservableUpDownCounter, Gauge, ObservableGauge, is_observable}
-use Rattle.otel_model.specs.Demands.{Demand, ReaderAnswers, resets, answer_for}
+use Rattle.otel_model.specs.Demands.{Demand}
 use Rattle.otel_model.specs.Machine.{changed_at}
-use Rattle.otel_model.specs.Streams.{is_delta, is_last_value, observes_last_values}
 use Rattle.otel_pipeline.specs.Pipelines.{all_settled, committed_each, finished_all}
-use Rattle.otel_pipeline.specs.Streams.{Held, committed, committed_by, settled, finished, restarted}
-
--- synchronous kinds observe no last values
-unobserved : (kind : InstrumentKind) → is_observable kind ≡ false → observes_last_values kind ≡ false
-unobserved Counter e = refl
-unobserved UpDownCounter e = refl
-unobserved Histogram e = refl
-unobserved ObservableCounter e = refl
-unobserved ObservableUpDownCounter e = refl
-unobserved Gauge e = refl
-unobserved ObservableGauge e = e
-
--- the answer for a kind decides
-pub resets-is : (answers : ReaderAnswers) (d : Demand) → is_observable d.identity.kind ≡ false → resets (answer_for answers d.identity.kind).temporality ≡ is_delta answers d
-resets-is answers d e =
-    sym (or_false _) ∙ ap (λ b. resets (answer_for answers d.identity.kind).temporality || b) (sym (and_false (is_last_value d.aggregation)) ∙ sym (ap (λ b. is_last_value d.aggregation && b) (unobserved d.identity.kind e)))
-  where
-    or_false : (b : Bool) → (b || false) ≡ b
-    or_false true = refl
-    or_false false = refl
-
-    and_false : (b : Bool) → (b && false) ≡ false
-    and_false true = refl
-    and_false false = refl
+use Rattle.otel_pipeline.specs.Streams.{Held, committed, committed_by, settled, finished}
 
 -- a change of streams that leaves their demands and whether they reset
 abbrev pub KeepsAnswer : (Held → Held) → Type 0
@@ -63,9 +38,8 @@ commits_if false v k = (refl, refl)
 pub commits : (value : NumberValue) → KeepsAnswer (committed value)
 commits value k = commits_if (beq (is_signed_value value) k.stream.demand.identity.signed) (amount_of value) k
 
-pub finishes : (now : ℕ) (b : Bool) (k : Held) → ((cond b (restarted now k) k).resets ≡ k.resets) × ((cond b (restarted now k) k).stream.demand ≡ k.stream.demand)
-finishes now true k = (refl, refl)
-finishes now false k = (refl, refl)
+pub finishes : (now : ℕ) → KeepsAnswer (finished now)
+finishes now k = (refl, refl)
 
 module _ (P : Bool → Demand → Type 0) where
   changed_one : (k m : Held) → m.resets ≡ k.resets → m.stream.demand ≡ k.stream.demand → P k.resets k.stream.demand → P m.resets m.stream.demand
@@ -93,7 +67,7 @@ module _ (P : Bool → Demand → Type 0) where
       (changed_one b a (ap (λ (k : Held). k.resets) one) (ap (λ (k : Held). k.stream.demand) one) all.0, answered-settled new old (ap tail_of e) all.1)
 
   pub answered-finished : (now : ℕ) (ks : List Held) → OfAnswer P ks → OfAnswer P (finished_all now ks)
-  answered-finished now ks all = answered-map (finished now) (λ k. finishes now k.resets k) ks all
+  answered-finished now ks all = answered-map (finished now) (finishes now) ks all
 
   pub answered-push : (ks : List Held) (k : Held) → OfAnswer P ks → P k.resets k.stream.demand → OfAnswer P (ks ++ k ∷ [])
   answered-push [] k all is = (is, tt)

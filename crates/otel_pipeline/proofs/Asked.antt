@@ -2,41 +2,39 @@
 use Rattle.std.proofs.Common.{◌≡◌, ℕ, ◌+◌, Bool, true, false, cond, ◌&&◌, is_some, [], Option, Some, None, refl, sym, ◌∙◌, ap, subst, true≢false}
 use Rattle.std.specs.Bool.{beq}
 use Rattle.otel_data.specs.declared.numbers.NumberValue.{NumberValue}
-use Rattle.otel_model_stream.specs.Entries.{Table, place, recorded_at}
-use Rattle.otel_model_stream.specs.Folds.{Amount, sample_of, wrapped}
+use Rattle.otel_model_stream.specs.Entries.{Entry, Table, is_of, on, write, place, recorded_at}
+use Rattle.otel_model_stream.specs.Folds.{Amount, Sample, sample_of, wrapped}
 use Rattle.otel_model_stream.specs.Sets.{AttributeSet}
 use Rattle.otel_model_stream.specs.Totals.{size}
 use Rattle.otel_model.specs.Demands.{Demand}
-use Rattle.otel_aggregate.specs.Any.{HeldAny, is_signed_value, amount_of, of_type, stream_in, taken, is_taken}
+use Rattle.otel_model.specs.Streams.{aggregate_of}
+use Rattle.otel_aggregate.specs.Any.{HeldAny, is_signed_value, amount_of, stream_in, taken, is_taken, with_stream}
 use Rattle.otel_aggregate.specs.Streams.{StreamState, recorded_set, taken_from}
 use Rattle.otel_pipeline.specs.Streams.{Held, IsAsked, asked, held_of, with_record, committed, committed_by}
-use Rattle.otel_model.specs.Calls.{InstrumentKind, Counter, UpDownCounter, Histogram, ObservableCounter, ObservableUpDownCounter, Gauge, ObservableGauge, is_observable}
-use Rattle.otel_model.specs.Streams.{observes_sums, aggregate_of}
 
--- asynchronous kinds alone observe sums
-pub unobserved : (kind : InstrumentKind) → is_observable kind ≡ false → observes_sums kind ≡ false
-unobserved Counter e = refl
-unobserved UpDownCounter e = refl
-unobserved Histogram e = refl
-unobserved ObservableCounter e = e
-unobserved ObservableUpDownCounter e = e
-unobserved Gauge e = refl
-unobserved ObservableGauge e = refl
+-- ======== the aggregate that was asked for ========
+unheld-on : (g : AttributeSet) (v : Sample) (e : Entry) → (on g (write v) e).handles ≡ e.handles
+unheld-on g v e = by (is_of g e)
+  where
+    by : (b : Bool) → (cond b (write v e) e).handles ≡ e.handles
+    by true = refl
+    by false = refl
 
 -- a record leaves the aggregate the one that was asked for
-pub asked-recorded : (d : Demand) (old new : HeldAny) (s : AttributeSet) (v : Amount) → IsAsked d old → new.state ≡ recorded_set s v old.state → new.is_signed ≡ old.is_signed → IsAsked d new
-asked-recorded d old new s v is made same =
-    let to : new.state ≡ recorded_set s v (asked d old.state.resets old.state.map_state.table old.state.start) = made ∙ ap (recorded_set s v) is.state in
+pub asked-recorded : (d : Demand) (old : HeldAny) (s : AttributeSet) (v : Amount) → IsAsked d old → IsAsked d (with_stream old (taken_from (Some s) v (stream_in old)))
+asked-recorded d old s v is =
+    let to : recorded_set s v old.state ≡ recorded_set s v (asked d old.state.resets old.state.map_state.table old.state.start) = ap (recorded_set s v) is.state in
     record {
       state = to ∙ sym (ap (λ (a : StreamState). asked d a.resets a.map_state.table a.start) to);
-      signed = same ∙ is.signed;
-      synchronous = is.synchronous;
+      signed = is.signed;
+      drains = is.drains;
+      unheld = unheld-on _ _ old.state.map_state.table.none ∙ is.unheld;
     }
 
 -- ======== the record that is prepared ========
-asked-if : (d : Demand) (a : HeldAny) (b : Bool) (o : Option AttributeSet) (v : Amount) → IsAsked d a → IsAsked d (cond b (of_type a.is_signed (taken_from o v (stream_in a))) a)
+asked-if : (d : Demand) (a : HeldAny) (b : Bool) (o : Option AttributeSet) (v : Amount) → IsAsked d a → IsAsked d (cond b (with_stream a (taken_from o v (stream_in a))) a)
 asked-if d a true None v is = is
-asked-if d a true (Some s) v is = asked-recorded d a (of_type a.is_signed (taken_from (Some s) v (stream_in a))) s v is refl refl
+asked-if d a true (Some s) v is = asked-recorded d a s v is
 asked-if d a false o v is = is
 
 pub asked-taken : (d : Demand) (a new : HeldAny) (value : NumberValue) → IsAsked d a → new ≡ taken value a → IsAsked d new
@@ -55,19 +53,19 @@ module _ (d : Demand) (a : HeldAny) (value : NumberValue) (recorded exported : �
       ap (λ signed. cond (beq (is_signed_value value) signed) (committed_by a.pending v held) held) (sym is.signed)
       ∙ (ap (λ c. cond c (committed_by a.pending v held) held) f ∙ ap (λ p. cond b (committed_by p v held) held) e)
 
-  taken-as : (b : Bool) (o : Option AttributeSet) → beq (is_signed_value value) a.is_signed ≡ b → a.pending ≡ o → taken value a ≡ cond b (of_type a.is_signed (taken_from o v (stream_in a))) a
+  taken-as : (b : Bool) (o : Option AttributeSet) → beq (is_signed_value value) a.is_signed ≡ b → a.pending ≡ o → taken value a ≡ cond b (with_stream a (taken_from o v (stream_in a))) a
   taken-as b o f e =
-      ap (λ c. cond c (of_type a.is_signed (taken_from a.pending v (stream_in a))) a) f ∙ ap (λ p. cond b (of_type a.is_signed (taken_from p v (stream_in a))) a) e
+      ap (λ c. cond c (with_stream a (taken_from a.pending v (stream_in a))) a) f ∙ ap (λ p. cond b (with_stream a (taken_from p v (stream_in a))) a) e
 
   -- with these entries and this total
   abbrev with_table : Table → ℕ → Held
   with_table t total = record {
-    stream = record { demand = d; machine = record { table = t; live = [] }; since = a.state.start; reported = []; recorded = total; exported = exported };
+    stream = record { demand = d; machine = record { table = t; live = [] }; since = a.state.start; reported = a.reported; recorded = total; exported = exported };
     resets = a.state.resets;
     pending = None;
   }
 
-  record-as : (s : AttributeSet) → held_of d (of_type a.is_signed (taken_from (Some s) v (stream_in a))) (wrapped (recorded + size (aggregate_of d) v)) exported ≡ with_record s v held
+  record-as : (s : AttributeSet) → held_of d (with_stream a (taken_from (Some s) v (stream_in a))) (wrapped (recorded + size (aggregate_of d) v)) exported ≡ with_record s v held
   record-as s = ap (λ (st : StreamState). with_table (recorded_at s (sample_of st.aggregate v) (place st.map_state.limit st.map_state.empty s a.state.map_state.table)) (wrapped (recorded + size (aggregate_of d) v))) is.state
 
   then_by : (b : Bool) (o : Option AttributeSet) → beq (is_signed_value value) a.is_signed ≡ b → a.pending ≡ o → (b && is_some o) ≡ true

@@ -4,6 +4,7 @@ pub mod Builds
 pub mod Collects
 pub mod Commits
 pub mod Identities
+pub mod Observes
 pub mod Outcomes
 pub mod DemandLemmas
 pub mod PipelineLemmas
@@ -12,5 +13,7 @@ pub mod Plans
 pub mod Places
 pub mod Records
 pub mod Shows
+pub mod Taken
+pub mod Undone
 pub mod ViewLemmas
 pub mod Writes

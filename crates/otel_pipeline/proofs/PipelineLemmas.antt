@@ -7,7 +7,7 @@ use Rattle.otel_model.specs.Demands.{Identity, Demand, ReaderAnswers}
 use Rattle.otel_model.specs.Machine.{changed_at}
 use Rattle.otel_pipeline.specs.Pipelines.{AreNumbers, all_settled, committed_each, fates_of, finished_all, stream_identities, identity_of, part_by, named, identity_at, is_streamed, streamed}
 use Rattle.otel_pipeline.specs.Streams.{Held, committed, settled}
-use Rattle.otel_pipeline.proofs.Answered.{commits, finishes}
+use Rattle.otel_pipeline.proofs.Answered.{commits}
 
 -- ======== demands stay ========
 pub demands-settled : (ks : List Held) → fates_of (all_settled ks) ≡ fates_of ks
@@ -25,7 +25,7 @@ demands-committed value (n ∷ ns) ks = demands-committed value ns (changed_at n
 
 pub demands-finished : (now : ℕ) (ks : List Held) → fates_of (finished_all now ks) ≡ fates_of ks
 demands-finished now [] = refl
-demands-finished now (k ∷ ks) = λ i. (finishes now k.resets k).1 i ∷ demands-finished now ks i
+demands-finished now (k ∷ ks) = ap (λ ds. k.stream.demand ∷ ds) (demands-finished now ks)
 
 -- ======== what is read off the demands ========
 identities-demands : (ks : List Held) → stream_identities ks ≡ map (λ (d : Demand). d.identity) (fates_of ks)

@@ -9,7 +9,7 @@ use Rattle.std.proofs.lemmas.List.{append-nil, map-append, length-map, length-ap
 use Rattle.std.proofs.lemmas.List.Elements.{All-push, filter-append}
 use Rattle.std.proofs.lemmas.List.Sums.{fold-append}
 use Rattle.otel_model_stream.specs.Totals.{has_number}
-use Rattle.otel_model.specs.Calls.{About, InstrumentKind, is_observable}
+use Rattle.otel_model.specs.Calls.{About, InstrumentKind}
 use Rattle.otel_model.specs.Demands as model
 use Rattle.otel_model.specs.Demands.{Identity, Demand, ReaderAnswers, Views, identity_eq}
 use Rattle.otel_model.specs.State.{ReaderPart}
@@ -369,7 +369,6 @@ module _ (answers : ReaderAnswers) (made : List Held) (now : ℕ) (ds : List Dem
     apart = is.apart;
     numbers = numbers-once all (drops_at all n) n plan.feeds (omega (arith, position-within (identity_eq d.identity) (stream_identities all) n e, length-map {A = Held} {B = Identity})) is.numbers;
     answered = is.answered;
-    synchronous = is.synchronous;
     streams = sym (demanded-known now answers all d (known d.identity all ∙ ap is_some e)) ∙ sym after-more;
     feeds = by (drops_at all n) refl ∙ sym (fed-push dropped ds d);
   }
@@ -400,13 +399,12 @@ module _ (answers : ReaderAnswers) (made : List Held) (now : ℕ) (ds : List Dem
           ∙ ap (λ b. fed ++ cond (b || has (ids ds) d.identity) [] (d.identity ∷ [])) (sym (f.drops ∙ t))
 
   -- a demand of an identity that has none
-  pub plan-new : (resets : Bool) → stream_number d.identity (stream_identities all) ≡ None → resets ≡ is_delta answers d → is_observable d.identity.kind ≡ false
+  pub plan-new : (resets : Bool) → stream_number d.identity (stream_identities all) ≡ None → resets ≡ is_delta answers d
       → IsPlanOf answers made now (ds ++ d ∷ []) (record { feeds = fed_once (model.is_drop d.aggregation) (length all) plan.feeds; added = plan.added ++ new_held resets d now ∷ [] })
-  plan-new resets e delta sync = record {
+  plan-new resets e delta = record {
     apart = subst (λ (l : List Held). IsDistinct identity_eq (stream_identities l)) longer (subst (IsDistinct identity_eq) (sym (map-append identity_of all (fresh ∷ []))) (distinct-push (stream_identities all) d.identity is.apart absent));
     numbers = subst (λ (l : List Held). AreNumbers l (fed_once (model.is_drop d.aggregation) (length all) plan.feeds)) longer (numbers-once (all ++ fresh ∷ []) (model.is_drop d.aggregation) (length all) plan.feeds (omega (arith, length-append {A = Held})) numbers-more);
     answered = answered-push (λ resets d. resets ≡ is_delta answers d) plan.added fresh is.answered delta;
-    synchronous = answered-push (λ resets d. is_observable d.identity.kind ≡ false) plan.added fresh is.synchronous sync;
     streams = ap (λ (l : List Held). part_by answers l []) (sym longer) ∙ (sym (demanded-new now answers all d resets unknown) ∙ sym after-more);
     feeds = ap (λ (l : List Held). named l (fed_once (model.is_drop d.aggregation) (length all) plan.feeds)) (sym longer)
         ∙ (named-new (model.is_drop d.aggregation) refl
@@ -561,13 +559,13 @@ demanded-found answers made now d old new n b e is ds before =
 
 -- one whose stream is new
 pub demanded-added : (answers : ReaderAnswers) (made : List Held) (now : ℕ) (d : Demand) (old new : Planned) (n : ℕ) (b resets : Bool) → None ≡ found_at d.identity (made ++ old.added)
-    → n ≡ length made + length old.added → b ≡ model.is_drop d.aggregation → resets ≡ is_delta answers d → is_observable d.identity.kind ≡ false
+    → n ≡ length made + length old.added → b ≡ model.is_drop d.aggregation → resets ≡ is_delta answers d
     → new ≡ record { feeds = fed_once b n old.feeds; added = old.added ++ new_held resets d now ∷ [] } → (ds : List Demand) → IsPlanOf answers made now ds old → IsPlanOf answers made now (ds ++ d ∷ []) new
-demanded-added answers made now d old new n b resets e long drops delta sync is ds before =
+demanded-added answers made now d old new n b resets e long drops delta is ds before =
     let none = not-found (stream_number d.identity (stream_identities (made ++ old.added))) (made ++ old.added) e in
     subst (IsPlanOf answers made now (ds ++ d ∷ []))
     ((λ i. record { feeds = fed_once (sym drops i) ((length-append {A = Held} made old.added ∙ sym long) i) old.feeds; added = old.added ++ new_held resets d now ∷ [] }) ∙ sym is)
-    (plan-new answers made now ds d old before resets none delta sync)
+    (plan-new answers made now ds d old before resets none delta)
 
 -- an identity that has no stream is not among the new ones
 pub absent-added : (x : Identity) (ks ms : List Held) → None ≡ found_at x (ks ++ ms) → list_any (identity_eq x) (stream_identities ms) ≡ false
@@ -582,7 +580,6 @@ plan-none answers made now apart = record {
   apart = subst (λ (l : List Held). IsDistinct identity_eq (stream_identities l)) (sym (append-nil made)) apart;
   numbers = λ j n h. absurd (omega arith);
   answered = tt;
-  synchronous = tt;
   streams = ap (λ (l : List Held). part_by answers l []) (append-nil made);
   feeds = refl;
 }

@@ -17,12 +17,13 @@ use Rattle.otel_model.specs.Calls.{or_else, Number, Record as RecordCall}
 use Rattle.otel_model.specs.Demands as model
 use Rattle.otel_model.specs.Machine.{stream_after, part_sent}
 use Rattle.otel_model.specs.Sent.{is_fed, set_for}
-use Rattle.otel_model.specs.State.{Stream}
+use Rattle.otel_model.specs.State.{ReaderPart, Stream}
 use Rattle.otel_model.proofs.Gather.{identity_eq_self}
 use Rattle.otel_pipeline.specs.Pipelines.{fates_of, named, identity_at, identity_of, is_streamed, streamed, part_of, Piped, AreNumbers, ArePrepared, IsPrepared, IsPreparedFor, fed_by, recorded, committed_each, FeedsType}
+use Rattle.otel_pipeline.specs.Observations.{changed_in}
 use Rattle.otel_pipeline.specs.Streams.{Held, with_record, committed, committed_by}
 use Rattle.otel_pipeline.proofs.Answered.{commits}
-use Rattle.otel_pipeline.proofs.Commits.{mapped_from, fold-changed}
+use Rattle.otel_pipeline.proofs.Commits.{fold-changed}
 use Rattle.otel_pipeline.proofs.Identities.{AreApart, are_apart}
 use Rattle.otel_pipeline.proofs.PipelineLemmas.{demands-committed, feeds-same}
 
@@ -35,10 +36,10 @@ committed-if : (b : Bool) (v : Amount) (k : Held) → cond b (committed_by (cond
 committed-if true v k = committed-settled v k.pending k refl
 committed-if false v k = refl
 
-abbrev fits : NumberValue → model.Demand → Bool
+abbrev pub fits : NumberValue → model.Demand → Bool
 fits value d = beq (is_signed_value value) d.identity.signed
 
-committed-twice : (value : NumberValue) (k : Held) → committed value (committed value k) ≡ committed value k
+pub committed-twice : (value : NumberValue) (k : Held) → committed value (committed value k) ≡ committed value k
 committed-twice value k =
     ap (λ d. cond (fits value d) (committed_by (committed value k).pending (amount_of value) (committed value k)) (committed value k)) (commits value k).1
     ∙ committed-if (fits value k.stream.demand) (amount_of value) k
@@ -85,33 +86,31 @@ fed-named ks feeds n = ap (λ o. or_else o []) (slice_get-map (named ks) feeds n
     cases (Some ns) = refl
 
 -- ======== all streams of a reader ========
-abbrev number : NumberValue → Number
+abbrev pub number : NumberValue → Number
 number value = record { signed = is_signed_value value; amount = amount_of value }
 
-module _ (answers : model.ReaderAnswers) (all : List Held) (apart : AreApart all) (feeds : List (List ℕ)) (next n : ℕ) (value : NumberValue) (l : List KeyValue)
+-- `f` is what becomes of a stream that the instrument feeds
+module _ (answers : model.ReaderAnswers) (all : List Held) (apart : AreApart all) (feeds : List (List ℕ)) (next n : ℕ) (v : Number) (l : List KeyValue) (f : Held → Held)
     (numbers : HaveStreams (or_else (slice_get feeds n) []) all)
-    (ready : (i : ℕ) (k : Held) → slice_get all i ≡ Some k → has_number i (or_else (slice_get feeds n) []) ≡ true → k.pending ≡ Some (set_for k.stream.demand l))
-    (typed : (x : model.Identity) → is_fed (map (named all) feeds) n x ≡ true → x.signed ≡ is_signed_value value) where
+    (keeps : (k : Held) → (f k).stream.demand ≡ k.stream.demand)
+    (made : (i : ℕ) (k : Held) → slice_get all i ≡ Some k → has_number i (or_else (slice_get feeds n) []) ≡ true → is_fed (map (named all) feeds) n (identity_of k) ≡ true → (with_record (set_for k.stream.demand l) v.amount k).stream ≡ (f k).stream) where
   abbrev ns : List ℕ
   ns = or_else (slice_get feeds n) []
 
   abbrev after : Stream → Stream
-  after = stream_after answers (map (named all) feeds) next (RecordCall n (number value) l)
+  after = stream_after answers (map (named all) feeds) next (RecordCall n v l)
 
   fed_at : (i : ℕ) (k : Held) → slice_get all i ≡ Some k → is_fed (map (named all) feeds) n (identity_of k) ≡ has_number i ns
   fed_at i k at = ap (λ xs. model.has_identity xs (identity_of k)) (fed-named all feeds n) ∙ named-has all apart ns numbers i k at
 
-  one_sent : (i : ℕ) (k : Held) → slice_get all i ≡ Some k → (b : Bool) → has_number i ns ≡ b → after k.stream ≡ (cond b (committed value k) k).stream
+  one_sent : (i : ℕ) (k : Held) → slice_get all i ≡ Some k → (b : Bool) → has_number i ns ≡ b → after k.stream ≡ (cond b (f k) k).stream
   one_sent i k at true h =
       let fed : is_fed (map (named all) feeds) n (identity_of k) ≡ true = fed_at i k at ∙ h in
-      let same : fits value k.stream.demand ≡ true = (booleans_Decides (is_signed_value value) k.stream.demand.identity.signed).1 (sym (typed (identity_of k) fed)) in
-      sent_if answers next n (number value) l (map (named all) feeds) k true fed
-      ∙ ap (λ o. (committed_by o (amount_of value) k).stream) (sym (ready i k at h))
-      ∙ ap (λ b. (cond b (committed_by k.pending (amount_of value) k) k).stream) (sym same)
-  one_sent i k at false h = sent_if answers next n (number value) l (map (named all) feeds) k false (fed_at i k at ∙ h)
+      sent_if answers next n v l (map (named all) feeds) k true fed ∙ made i k at h fed
+  one_sent i k at false h = sent_if answers next n v l (map (named all) feeds) k false (fed_at i k at ∙ h)
 
-  kept_streamed : (b : Bool) (k : Held) → is_streamed (cond b (committed value k) k) ≡ is_streamed k
-  kept_streamed true k = ap (λ (d : model.Demand). not (model.is_drop d.aggregation)) (commits value k).1
+  kept_streamed : (b : Bool) (k : Held) → is_streamed (cond b (f k) k) ≡ is_streamed k
+  kept_streamed true k = ap (λ (d : model.Demand). not (model.is_drop d.aggregation)) (keeps k)
   kept_streamed false k = refl
 
   -- one stream more, whether it drops or not
@@ -121,15 +120,15 @@ module _ (answers : model.ReaderAnswers) (all : List Held) (apart : AreApart all
   more_sent false k m ks ms p q e rest = rw (p, q) rest
 
   rest_sent : (i : ℕ) (ks : List Held) → ((j : ℕ) (k : Held) → slice_get ks j ≡ Some k → slice_get all (i + j) ≡ Some k)
-      → map after (streamed ks) ≡ streamed (mapped_from ns (committed value) i ks)
+      → map after (streamed ks) ≡ streamed (changed_in ns f i ks)
   rest_sent i [] at = refl
   rest_sent i (k ∷ ks) at =
-      more_sent (is_streamed k) k _ ks (mapped_from ns (committed value) (suc i) ks) refl (kept_streamed (has_number i ns) k)
+      more_sent (is_streamed k) k _ ks (changed_in ns f (suc i) ks) refl (kept_streamed (has_number i ns) k)
       (one_sent i k (ap (slice_get all) (omega arith) ∙ at 0 k refl) (has_number i ns) refl)
       (rest_sent (suc i) ks (λ j m e. ap (slice_get all) (omega arith) ∙ at (suc j) m e))
 
-  pub all_sent : map after (streamed all) ≡ streamed (committed_each value ns all)
-  all_sent = rest_sent 0 all (λ j k e. ap (slice_get all) (omega arith) ∙ e) ∙ ap streamed (sym (fold-changed (committed value) (committed-twice value) ns all))
+  pub all_sent : map after (streamed all) ≡ streamed (changed_in ns f 0 all)
+  all_sent = rest_sent 0 all (λ j k e. ap (slice_get all) (omega arith) ∙ e)
 
 -- ======== numbers of streams ========
 get-below : (ks : List Held) (n : ℕ) → n < length ks → (k : Held) × (slice_get ks n ≡ Some k)
@@ -141,7 +140,7 @@ pub numbers-named : (ks : List Held) (ns : List ℕ) → AreNumbers ks ns → Ha
 numbers-named ks [] all = tt
 numbers-named ks (n ∷ ns) all = (get-below ks n (all 0 n (omega arith)), numbers-named ks ns (λ i d h. all (suc i) d (omega arith)))
 
-fed-numbers : (ks : List Held) (feeds : List (List ℕ)) (n : ℕ) → All (AreNumbers ks) feeds → HaveStreams (or_else (slice_get feeds n) []) ks
+pub fed-numbers : (ks : List Held) (feeds : List (List ℕ)) (n : ℕ) → All (AreNumbers ks) feeds → HaveStreams (or_else (slice_get feeds n) []) ks
 fed-numbers ks [] n all = tt
 fed-numbers ks (ns ∷ feeds) zero all = numbers-named ks ns (all 0 ns (omega arith))
 fed-numbers ks (ns ∷ feeds) (suc n) all = fed-numbers ks feeds n (λ j d h. all (suc j) d (omega arith))
@@ -151,7 +150,7 @@ prepared-get : (l : List KeyValue) (o : Option Held) (k : Held) → o ≡ Some k
 prepared-get l None k e h = absurd (cc)
 prepared-get l (Some m) k e h = subst (λ x. IsPrepared l (Some x)) (some_same m k e) h
 
-prepared-at : (l : List KeyValue) (ks : List Held) (ns : List ℕ) → ArePrepared l ks ns → (i : ℕ) (k : Held) → slice_get ks i ≡ Some k → has_number i ns ≡ true → k.pending ≡ Some (set_for k.stream.demand l)
+pub prepared-at : (l : List KeyValue) (ks : List Held) (ns : List ℕ) → ArePrepared l ks ns → (i : ℕ) (k : Held) → slice_get ks i ≡ Some k → has_number i ns ≡ true → k.pending ≡ Some (set_for k.stream.demand l)
 prepared-at l ks [] all i k e h = absurd (true≢false (sym h))
 prepared-at l ks (n ∷ ns) all i k e h = by (n == i) refl h (λ q. prepared-at l ks ns (λ j d h. all (suc j) d (omega arith)) i k e q)
   where
@@ -160,6 +159,10 @@ prepared-at l ks (n ∷ ns) all i k e h = by (n == i) refl h (λ q. prepared-at 
     by false t q rest = rest q
 
 -- ======== a reader ========
+-- a value of the number type of a stream that its instrument feeds
+pub typed-fits : (n : ℕ) (value : NumberValue) (p : ReaderPart) (d : model.Demand) → FeedsType n (is_signed_value value) p → is_fed p.feeds n d.identity ≡ true → fits value d ≡ true
+typed-fits n value p d typed fed = (booleans_Decides (is_signed_value value) d.identity.signed).1 (sym (typed d.identity fed))
+
 pub recorded-sent : (next n : ℕ) (value : NumberValue) (l : List KeyValue) (p : Piped) → IsPreparedFor n l p → FeedsType n (is_signed_value value) (part_of p)
     → recorded n value p ≡ part_sent next (RecordCall n (number value) l) (part_of p)
 recorded-sent next n value l p prepared typed =
@@ -167,6 +170,13 @@ recorded-sent next n value l p prepared typed =
     λ i. record {
       answers = p.answers;
       fates = same i;
-      streams = sym (all_sent p.answers p.streams (are_apart p.streams prepared.lawful.apart) p.feeds next n value l (fed-numbers p.streams p.feeds n prepared.lawful.numbers) (prepared-at l p.streams (fed_by n p) prepared.prepared) typed) i;
+      streams = (ap streamed (fold-changed (committed value) (committed-twice value) (fed_by n p) p.streams)
+          ∙ sym (all_sent p.answers p.streams (are_apart p.streams prepared.lawful.apart) p.feeds next n (number value) l (committed value) (fed-numbers p.streams p.feeds n prepared.lawful.numbers) (λ k. (commits value k).1) made)) i;
       feeds = feeds-same (committed_each value (fed_by n p) p.streams) p.streams same p.feeds i;
     }
+  where
+    made : (i : ℕ) (k : Held) → slice_get p.streams i ≡ Some k → has_number i (fed_by n p) ≡ true → is_fed (map (named p.streams) p.feeds) n (identity_of k) ≡ true
+        → (with_record (set_for k.stream.demand l) (amount_of value) k).stream ≡ (committed value k).stream
+    made i k at h fed =
+        ap (λ o. (committed_by o (amount_of value) k).stream) (sym (prepared-at l p.streams (fed_by n p) prepared.prepared i k at h))
+        ∙ ap (λ b. (cond b (committed_by k.pending (amount_of value) k) k).stream) (sym (typed-fits n value (part_of p) k.stream.demand typed fed))

@@ -7,6 +7,7 @@ use Rattle.otel_data.specs.declared.collections.Metric.{Metric}
 use Rattle.otel_data.specs.declared.collections.ResourceMetrics.{ResourceMetrics}
 use Rattle.otel_data.specs.declared.collections.ScopeMetrics.{ScopeMetrics}
 use Rattle.otel_model.specs.Collections.{ScopedMetric, in_scope, has_points, has_metrics}
+use Rattle.otel_model.specs.Calls.{Observed}
 use Rattle.otel_model.specs.State.{Shared, ReaderPart}
 use Rattle.otel_model.specs.Steps.{collect_from}
 use Rattle.otel_pipeline.specs.Pipelines.{is_streamed}
@@ -45,6 +46,6 @@ joined [] ys = []
 joined (x ∷ xs) [] = x ∷ xs
 joined (x ∷ xs) (y ∷ ys) = (x ++ y) ∷ joined xs ys
 
--- what a collection of this reader gives, from the resource, by the scopes of these meters
-abbrev pub IsCollectedFrom : Resource → List InstrumentationScope → ℕ → ReaderPart → ResourceMetrics → Type 0
-IsCollectedFrom resource meters now part c = (s : Shared) → s.resource ≡ resource → s.meters ≡ meters → c ≡ collect_from s now [] part
+-- what a collection of this reader with these observations gives, from the resource, by the scopes of these meters
+abbrev pub IsCollectedFrom : Resource → List InstrumentationScope → ℕ → List Observed → ReaderPart → ResourceMetrics → Type 0
+IsCollectedFrom resource meters now os part c = (s : Shared) → s.resource ≡ resource → s.meters ≡ meters → c ≡ collect_from s now os part

@@ -1,6 +1,7 @@
 pub mod Collections
 pub mod Defaults
 pub mod Identities
+pub mod Observations
 pub mod Pipelines
 pub mod Streams
 pub mod Views

@@ -5,7 +5,7 @@ use Rattle.std.specs.List.{IsDistinct, AllByRecursion}
 use Rattle.otel_common.specs.declared.attributes.KeyValue.{KeyValue}
 use Rattle.otel_common.specs.declared.scopes.InstrumentationScope.{InstrumentationScope}
 use Rattle.otel_data.specs.declared.numbers.NumberValue.{NumberValue}
-use Rattle.otel_model.specs.Calls.{About, is_observable, or_else}
+use Rattle.otel_model.specs.Calls.{About, or_else}
 use Rattle.otel_model.specs.Demands.{Identity, Demand, ReaderAnswers, Views, identity_eq, is_drop, is_dropped, are_good_bounds, demands_with, fed}
 use Rattle.otel_model.specs.State.{Stream, ReaderPart}
 use Rattle.otel_model.specs.Machine.{changed_at, demanded, enter}
@@ -86,20 +86,14 @@ AreNumbers streams ns = All (λ n. n < length streams) ns
 abbrev pub AreAnswered : ReaderAnswers → List Held → Type 0
 AreAnswered answers streams = AllByRecursion (λ h. h.resets ≡ is_delta answers h.stream.demand) streams
 
--- the streams are of synchronous instruments
-abbrev pub AreSynchronous : List Held → Type 0
-AreSynchronous streams = AllByRecursion (λ h. is_observable h.stream.demand.identity.kind ≡ false) streams
-
 -- the streams have identities of their own, the instruments feed streams that are there, and so on
 pub record IsLawful (p : Piped) : Type 0 where
   pub apart : IsDistinct identity_eq (stream_identities p.streams)
   pub numbers : All (AreNumbers p.streams) p.feeds
-  pub synchronous : AreSynchronous p.streams
 
 -- ======== builds ========
--- what a build can be made of: a synchronous instrument with bounds that rise
+-- what a build can be made of: an instrument with bounds that rise
 pub record IsBuildable (about : About) : Type 0 where
-  pub synchronous : is_observable about.kind ≡ false
   pub bounds : are_good_bounds about.kind about.bounds ≡ true
 
 -- a build without a scope demands nothing
@@ -150,7 +144,6 @@ pub record IsPlanOf (answers : ReaderAnswers) (made : List Held) (now : ℕ) (de
   pub apart : IsDistinct identity_eq (stream_identities (made ++ plan.added))
   pub numbers : AreNumbers (made ++ plan.added) plan.feeds
   pub answered : AreAnswered answers plan.added
-  pub synchronous : AreSynchronous plan.added
   pub streams : part_by answers (made ++ plan.added) [] ≡ fold (demanded now) (part_by answers made []) demands
   pub feeds : named (made ++ plan.added) plan.feeds ≡ fed (is_dropped (fates_of (made ++ plan.added))) demands
 

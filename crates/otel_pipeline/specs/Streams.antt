@@ -1,21 +1,23 @@
 -- One stream of a reader: the model's stream, and what is no part of it.
-use Rattle.std.specs.Prelude.{ℕ, ◌+◌, Bool, true, false, not, cond, List, [], Option, None, Some, ◌≡◌}
+use Rattle.std.specs.Prelude.{ℕ, ◌+◌, Bool, true, false, cond, ◌&&◌, List, [], map, Option, None, Some, ◌≡◌}
 use Rattle.std.specs.Bool.{beq}
 use Rattle.otel_common.specs.declared.metrics.Temporality.TheVariants.{Cumulative, Delta}
 use Rattle.otel_data.specs.declared.collections.Metric.{Metric}
 use Rattle.otel_data.specs.declared.numbers.NumberValue.{NumberValue}
 use Rattle.otel_model_stream.specs.Sets.{AttributeSet}
 use Rattle.otel_model_stream.specs.Folds.{Amount, empty_of, sample_of, wrapped}
-use Rattle.otel_model_stream.specs.Entries.{Table, Point, place, recorded_at, points, evicted}
+use Rattle.otel_model_stream.specs.Entries.{Table, Point, place, recorded_at}
+use Rattle.otel_model_stream.specs.Events.{Kind}
+use Rattle.otel_model_stream.specs.Machine.{points, collected}
+use Rattle.otel_model_stream.specs.Observed.{difference}
 use Rattle.otel_model_stream.specs.Totals.{size, points_total}
 use Rattle.otel_aggregate.specs.Any.{HeldAny, is_signed_value, amount_of}
 use Rattle.otel_aggregate.specs.Streams.{StreamState}
-use Rattle.otel_model.specs.Calls.{is_observable}
 use Rattle.otel_model.specs.Demands.{Aggregation, Drop, Default, Sum, LastValue, ExplicitBucketHistogram, Demand, is_valid}
 use Rattle.otel_model.specs.Collections.{aggregated, has_points}
 use Rattle.otel_model.specs.Machine.{new_stream}
 use Rattle.otel_model.specs.State.{Stream}
-use Rattle.otel_model.specs.Streams.{aggregate_of, is_monotonic_kind}
+use Rattle.otel_model.specs.Streams.{aggregate_of, is_drained, is_monotonic_kind}
 
 -- a stream, whether each collection resets it, and the set of the record that is prepared
 pub record Held : Type 0 where
@@ -46,25 +48,25 @@ asked d resets table start = record {
   start = start;
 }
 
--- a demand that a stream of synchronous instruments can be made of
+-- a demand that a stream can be made of
 pub record IsMakeable (d : Demand) : Type 0 where
-  pub synchronous : is_observable d.identity.kind ≡ false
   pub valid : is_valid d.aggregation ≡ true
 
--- the aggregate is the one that the demand asks for, and the demand is of synchronous instruments
+-- the aggregate is the one that the demand asks for; it has no handles
 pub record IsAsked (d : Demand) (a : HeldAny) : Type 0 where
   pub state : a.state ≡ asked d a.state.resets a.state.map_state.table a.state.start
   pub signed : a.is_signed ≡ d.identity.signed
-  pub synchronous : is_observable d.identity.kind ≡ false
+  pub drains : a.drains ≡ is_drained d
+  pub unheld : a.state.map_state.table.none.handles ≡ 0
 
--- a stream with this aggregate and these totals. It has no handles, and shows no differences
+-- a stream with this aggregate and these totals
 abbrev pub held_of : Demand → HeldAny → ℕ → ℕ → Held
 held_of d a recorded exported = record {
   stream = record {
     demand = d;
     machine = record { table = a.state.map_state.table; live = [] };
     since = a.state.start;
-    reported = [];
+    reported = a.reported;
     recorded = recorded;
     exported = exported;
   };
@@ -108,28 +110,36 @@ abbrev pub settled : Held → Held
 settled h = record { stream = h.stream; resets = h.resets; pending = None }
 
 -- ======== collections ========
+-- how its history is cut into windows
+abbrev pub window_of : Held → Kind
+window_of h = cond (is_drained h.stream.demand) Kind.Drained (cond h.resets Kind.Delta Kind.Cumulative)
+
 -- the points that a collection shows
 abbrev pub shown_points : Held → List Point
-shown_points h = points (not h.resets) h.stream.machine.table
+shown_points h = points (window_of h) h.stream.machine
 
--- a stream that resets starts again at the moment of a collection
-abbrev pub restarted : ℕ → Held → Held
-restarted now h = record {
+-- whether it shows what was added since the collection before
+abbrev pub shows_added : Held → Bool
+shows_added h = is_drained h.stream.demand && h.resets
+
+-- the points, or what was added to them
+abbrev pub shown_values : Held → List Point
+shown_values h = cond (shows_added h) (map (difference h.stream.reported) (shown_points h)) (shown_points h)
+
+-- a stream after a collection at a moment
+abbrev pub finished : ℕ → Held → Held
+finished now h = record {
   stream = record {
     demand = h.stream.demand;
-    machine = record { table = evicted h.stream.machine.table; live = h.stream.machine.live };
-    since = now;
-    reported = h.stream.reported;
+    machine = collected (window_of h) h.stream.machine;
+    since = cond h.resets now h.stream.since;
+    reported = cond (shows_added h) (shown_points h) h.stream.reported;
     recorded = h.stream.recorded;
-    exported = wrapped (h.stream.exported + points_total (points false h.stream.machine.table));
+    exported = cond h.resets (wrapped (h.stream.exported + points_total (shown_points h))) h.stream.exported;
   };
   resets = h.resets;
   pending = h.pending;
 }
-
--- a stream after a collection at a moment
-abbrev pub finished : ℕ → Held → Held
-finished now h = cond h.resets (restarted now h) h
 
 -- what a collection at a moment gives of the stream, with points or without
 abbrev pub shown_metric : ℕ → Held → Metric
@@ -137,7 +147,7 @@ shown_metric now h = record {
   name = h.stream.demand.spelling;
   description = h.stream.demand.identity.description;
   unit = h.stream.demand.identity.unit;
-  content = aggregated h.stream.demand.identity.signed (cond h.resets Delta Cumulative) (is_monotonic_kind h.stream.demand.identity.kind) h.stream.demand.aggregation h.stream.since now (shown_points h);
+  content = aggregated h.stream.demand.identity.signed (cond h.resets Delta Cumulative) (is_monotonic_kind h.stream.demand.identity.kind) h.stream.demand.aggregation h.stream.since now (shown_values h);
 }
 
 -- if it has points

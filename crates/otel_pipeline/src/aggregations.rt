@@ -2,17 +2,18 @@
 
 ghost use Rattle.std.specs.Prelude.{◌≡◌, false, IfOk, IsOkUnless};
 ghost use Rattle.otel_aggregate.specs.Any as any;
-ghost use Rattle.otel_model.specs.Calls.{is_observable};
 ghost use Rattle.otel_model.specs.Demands as demands;
-ghost use Rattle.otel_model.specs.Streams.{aggregate_of, is_monotonic_kind, has_sum};
+ghost use Rattle.otel_model.specs.Demands.{resets};
+ghost use Rattle.otel_model.specs.Streams.{aggregate_of, always_resets, has_sum, is_delta, is_drained, is_monotonic_kind, observes_sums};
 ghost use Rattle.otel_model_stream.specs.Totals.{size};
 ghost use Rattle.otel_pipeline.specs.Streams.{IsMakeable, asks_monotonic};
 
 use crate::numbers::bits_of;
 use otel_aggregate::settings::{AnySettings, HistogramSettings};
 use otel_common::faults::Fault;
-use otel_common::metrics::Aggregation;
+use otel_common::metrics::{Aggregation, Temporality};
 use otel_data::numbers::NumberValue;
+use otel_stream::answers::Answers;
 use otel_stream::demand::Demand;
 use otel_stream::instrument::InstrumentKind;
 use otel_value_map::bounds::Bounds;
@@ -60,11 +61,62 @@ fn has_sum(kind: InstrumentKind) -> bool
     }
 }
 
+/// Whether a kind observes values that were summed before.
+fn observes_sums(kind: InstrumentKind) -> bool
+    ensures { result ≡ observes_sums kind }
+{
+    match kind {
+        InstrumentKind::Counter => false,
+        InstrumentKind::UpDownCounter => false,
+        InstrumentKind::Histogram => false,
+        InstrumentKind::ObservableCounter => true,
+        InstrumentKind::ObservableUpDownCounter => true,
+        InstrumentKind::Gauge => false,
+        InstrumentKind::ObservableGauge => false,
+    }
+}
+
+/// Whether each collection empties the stream of this demand: a sum of values that were summed before.
+fn is_drained(demand: &Demand) -> bool
+    ensures { result ≡ is_drained demand.now }
+{
+    match &demand.aggregation {
+        Aggregation::Sum => observes_sums(demand.identity.kind),
+        Aggregation::Drop => false,
+        Aggregation::Default => false,
+        Aggregation::LastValue => false,
+        Aggregation::ExplicitBucketHistogram { .. } => false,
+    }
+}
+
+/// Whether the stream of this demand starts again at each collection, whatever its reader answers: the last values of
+/// an asynchronous gauge.
+fn always_resets(demand: &Demand) -> bool
+    ensures { result ≡ always_resets demand.now }
+{
+    match (&demand.aggregation, demand.identity.kind) {
+        (Aggregation::LastValue, InstrumentKind::ObservableGauge) => true,
+        _ => false,
+    }
+}
+
+/// The temporality of the stream of this demand, at a reader that answered this.
+pub(crate) fn temporality_of(answers: &Answers, demand: &Demand) -> Temporality
+    ensures { resets result ≡ is_delta answers.now demand.now }
+{
+    if always_resets(demand) {
+        Temporality::Delta
+    } else {
+        answers.temporality(demand.identity.kind)
+    }
+}
+
 /// What a stream of this demand makes of its records.
 pub(crate) fn settings_of(demand: &Demand) -> Result<AnySettings, Fault>
     requires { IsMakeable demand.now }
     ensures aggregate { IfOk result (λ s. any.aggregate_of s ≡ aggregate_of demand.now) }
     ensures monotonic { IfOk result (λ s. any.is_monotonic_of s ≡ asks_monotonic demand.now) }
+    ensures drains { IfOk result (λ s. any.drains_of s ≡ is_drained demand.now) }
     ensures only_memory { IsOkUnless result Fault.OutOfMemory }
 {
     let kind = demand.identity.kind;
@@ -81,20 +133,23 @@ pub(crate) fn settings_of(demand: &Demand) -> Result<AnySettings, Fault>
                 has_sum: has_sum(kind),
             }))
         }
+        Aggregation::Sum if observes_sums(kind) => Ok(AnySettings::PrecomputedSum {
+            is_monotonic: is_monotonic(kind),
+        }),
         Aggregation::Sum | Aggregation::Drop | Aggregation::Default => Ok(AnySettings::Sum {
             is_monotonic: is_monotonic(kind),
         }),
     }
 }
 
-/// What a record of a value adds to the total of a stream of synchronous instruments.
+/// What a record of a value adds to the total of a stream.
 pub(crate) fn size_of(demand: &Demand, value: NumberValue) -> u64
-    requires { is_observable demand.now.identity.kind ≡ false }
     ensures { result ≡ size (aggregate_of demand.now) (any.amount_of value) }
 {
     match &demand.aggregation {
         Aggregation::LastValue => 0,
         Aggregation::ExplicitBucketHistogram { .. } => 1,
+        Aggregation::Sum if observes_sums(demand.identity.kind) => 0,
         Aggregation::Sum | Aggregation::Drop | Aggregation::Default => bits_of(value),
     }
 }

@@ -7,10 +7,10 @@ mod collecting;
 pub mod defaults;
 pub mod demands;
 pub mod numbers;
+mod observing;
 pub mod pipeline;
 mod plan;
 mod planning;
+mod saved;
 mod stream;
 mod streams;
-#[cfg(test)]
-mod tests;

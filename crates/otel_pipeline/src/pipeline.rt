@@ -1,23 +1,23 @@
 //! What one reader has: its answers, its streams, and what feeds them.
 
-ghost use Rattle.std.specs.Prelude.{◌≡◌, [], ℕ, IfOk, OnOk, OnErr, IsOk, IsOkUnless, slice_get};
+ghost use Rattle.std.specs.Prelude.{◌≡◌, [], ℕ, IfOk, OnOk, OnErr, IsOk, IsOkUnless, map};
 ghost use Rattle.otel_model.specs.Calls as model;
-ghost use Rattle.otel_model.specs.Calls.{or_else};
 ghost use Rattle.otel_model.specs.Machine.{part_sent};
 ghost use Rattle.std.specs.Option.{option_map};
 ghost use Rattle.otel_pipeline.specs.Collections.{IsCollectedFrom};
+ghost use Rattle.otel_pipeline.specs.Observations.{AreTypedFor, observed_of};
 ghost use Rattle.otel_pipeline.specs.Pipelines.{part_of, built, recorded, IsBuildableIn, IsPlanned, IsReadyFor, IsPreparedFor};
 ghost use Rattle.otel_pipeline.specs.Views.{answering};
 
 use crate::about::About;
-use crate::collecting::scopes_of;
+use crate::observing::collect_observed;
 use crate::plan::Plan;
 use crate::stream::Stream;
-use crate::streams::{commit_each, finish_each, prepare_each};
+use crate::streams::{commit_each, prepare_each, streams_fed};
 use indexmap::IndexSet;
+use otel_callback::observation::Observed;
 use otel_common::attributes::KeyValue;
 use otel_common::faults::Fault;
-use otel_common::laws::resource_laws;
 use otel_common::lists::Items;
 use otel_common::resource::Resource;
 use otel_common::scopes::InstrumentationScope;
@@ -43,20 +43,10 @@ pub struct Pipeline {
     plan: Option<Plan>,
 }
 
-/// The numbers of the streams that an instrument feeds.
-fn streams_fed(feeds: &[Items<usize>], instrument: usize) -> &[usize]
-    ensures { result.now ≡ or_else (slice_get feeds.now instrument) [] }
-{
-    match feeds.get(instrument) {
-        Some(numbers) => numbers.as_slice(),
-        None => &[],
-    }
-}
-
 impl Model for Pipeline {
     ghost use Rattle.std.specs.Prelude.{◌≡◌, ◌+◌, ◌&&◌, nat_lt, nat_le, All, vec_len, vec_capacity};
     ghost use Rattle.indexmap.specs.IndexSet.{spare};
-    ghost use Rattle.otel_pipeline.specs.Pipelines.{Piped, AreNumbers, AreAnswered, AreSynchronous, many_added, stream_identities};
+    ghost use Rattle.otel_pipeline.specs.Pipelines.{Piped, AreNumbers, AreAnswered, many_added, stream_identities};
 
     ghost Value = { Piped };
 
@@ -68,7 +58,7 @@ impl Model for Pipeline {
       room = nat_le (many_added p.plan) (spare p.identities) && (nat_le (vec_len p.streams + many_added p.plan) (vec_capacity p.streams) && nat_lt (vec_len p.feeds) (vec_capacity p.feeds));
     } };
 
-    ghost invariant = { λ p. (p.identities.keys ≡ stream_identities p.streams.items) × All (AreNumbers p.streams.items) p.feeds.items × AreAnswered p.answers p.streams.items × AreSynchronous p.streams.items };
+    ghost invariant = { λ p. (p.identities.keys ≡ stream_identities p.streams.items) × All (AreNumbers p.streams.items) p.feeds.items × AreAnswered p.answers p.streams.items };
 }
 
 impl Pipeline {
@@ -166,25 +156,36 @@ impl Pipeline {
         );
     }
 
-    /// Makes a collection at a moment, from the resource, by the scopes of these meters. Then the streams whose
-    /// reader wants `Delta` start again.
+    /// Takes in what was observed, and makes a collection at a moment, from the resource, by the scopes of these
+    /// meters. Then the streams whose reader wants `Delta` start again, and those of observed sums are empty. Where
+    /// it is refused, the observations are undone.
     ///
-    /// Goes once over streams, points and meters; copies the resource, the scopes and each set that is shown.
+    /// Goes once over streams, points and meters; copies the resource, the scopes and each set that is shown, and the
+    /// entries of each stream that takes an observation in, to undo that.
     pub fn collect(
         &mut self,
         resource: &Resource,
         meters: &IndexSet<InstrumentationScope>,
+        observations: &[Observed],
         now: u64,
     ) -> Result<ResourceMetrics, Fault>
-        ensures collection { IfOk result (λ c. IsCollectedFrom resource.now meters.now.keys now (part_of self.old) c) }
-        ensures ok { OnOk result ((r : ℕ) → part_of self.new ≡ part_sent 0 (model.Call.Collect r now []) (part_of self.old)) }
+        requires { AreTypedFor observations.now (part_of self.old) }
+        ensures collection { IfOk result (λ c. IsCollectedFrom resource.now meters.now.keys now (map observed_of observations.now) (part_of self.old) c) }
+        ensures ok { OnOk result ((r : ℕ) → part_of self.new ≡ part_sent 0 (model.Call.Collect r now (map observed_of observations.now)) (part_of self.old)) }
         ensures err { OnErr result (part_of self.new ≡ part_of self.old) }
         ensures only_memory { IsOkUnless result Fault.OutOfMemory }
     {
-        resource_laws();
-        let scopes = scopes_of(self.alloc, &self.streams, meters, now)?;
-        let resource = resource.clone()?;
-        finish_each(&mut self.streams, now);
-        Ok(ResourceMetrics::new(resource, scopes))
+        // These two tell the prover that no identity stands twice.
+        kind_laws();
+        let _ = self.identities.len();
+        collect_observed(
+            self.alloc,
+            &mut self.streams,
+            &self.feeds,
+            resource,
+            meters,
+            observations,
+            now,
+        )
     }
 }

@@ -5,11 +5,12 @@ ghost use Rattle.std.specs.Option.{option_map};
 ghost use Rattle.indexmap.specs.IndexSet.{spare};
 ghost use Rattle.std.specs.List.{list_any};
 ghost use Rattle.otel_model.specs.Demands as demands;
-ghost use Rattle.otel_model.specs.Demands.{answer_for, identity_eq, resets};
+ghost use Rattle.otel_model.specs.Demands.{identity_eq};
+ghost use Rattle.otel_model.specs.Streams.{is_delta};
 ghost use Rattle.otel_pipeline.specs.Pipelines.{IsPlanOf, stream_identities, counted_from, fed_once, found_at};
 ghost use Rattle.otel_pipeline.specs.Streams.{IsMakeable, new_held};
 
-use crate::aggregations::is_drop;
+use crate::aggregations::{is_drop, temporality_of};
 use crate::stream::Stream;
 use indexmap::IndexSet;
 use otel_common::faults::Fault;
@@ -55,10 +56,10 @@ fn new_stream(
     now: u64,
 ) -> Result<(Identity, Stream), Fault>
     requires { IsMakeable demand }
-    ensures stream { IfOk result (λ made. made ≡ (demand.identity, new_held (resets (answer_for answers.now demand.identity.kind).temporality) demand now)) }
+    ensures stream { IfOk result (λ made. made ≡ (demand.identity, new_held (is_delta answers.now demand) demand now)) }
     ensures only_memory { IsOkUnless result Fault.OutOfMemory }
 {
-    let temporality = answers.temporality(demand.identity.kind);
+    let temporality = temporality_of(answers, &demand);
     let identity = demand.identity.clone()?;
     Ok((identity, Stream::new(alloc, temporality, demand, now)?))
 }
@@ -132,7 +133,7 @@ impl Plan {
     ) -> Result<(), Fault>
         requires makeable { IsMakeable demand }
         requires absent { list_any (identity_eq demand.identity) (stream_identities self.old.added) ≡ false }
-        ensures added { OnOk result (self.new ≡ record { feeds = self.old.feeds; added = self.old.added ++ new_held (resets (answer_for answers.now demand.identity.kind).temporality) demand now ∷ [] }) }
+        ensures added { OnOk result (self.new ≡ record { feeds = self.old.feeds; added = self.old.added ++ new_held (is_delta answers.now demand) demand now ∷ [] }) }
         ensures only_memory { IsOkUnless result Fault.OutOfMemory }
     {
         kind_laws();

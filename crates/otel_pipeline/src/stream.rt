@@ -4,9 +4,11 @@ ghost use Rattle.std.specs.Prelude.{◌≡◌, nat_lt, [], Some, IfOk, IsOk, OnO
 ghost use Rattle.otel_common.specs.Temporalities.{resets};
 ghost use Rattle.otel_model.specs.Collections.{number_of_points};
 ghost use Rattle.otel_model.specs.Sent.{set_for};
+ghost use Rattle.otel_pipeline.specs.Observations.{IsSavedOf, restored, saved_by};
 ghost use Rattle.otel_pipeline.specs.Streams.{IsMakeable, new_held, settled, committed, finished, shown_metric, if_points};
 
 use crate::aggregations::{settings_of, size_of};
+use crate::saved::SavedStream;
 use otel_aggregate::any::AnyAggregate;
 use otel_common::attributes::KeyValue;
 use otel_common::faults::Fault;
@@ -121,6 +123,33 @@ impl Stream {
             self.exported = self.exported.wrapping_add(self.aggregate.total());
         }
         self.aggregate.finish(now);
+    }
+
+    /// Keeps its entries and the total of its records.
+    ///
+    /// Copies each set that has an entry.
+    pub(crate) fn save(&self, alloc: Global) -> Result<SavedStream, Fault>
+        ensures saved { IfOk result (λ saved. saved ≡ saved_by self.now) }
+        ensures only_memory { IsOkUnless result Fault.OutOfMemory }
+    {
+        let aggregate = self.aggregate.save(alloc)?;
+        Ok(SavedStream {
+            aggregate,
+            recorded: self.recorded,
+        })
+    }
+
+    /// Puts back what was kept of it. Takes no memory.
+    pub(crate) fn restore(&mut self, saved: SavedStream)
+        requires { IsSavedOf saved self.old }
+        ensures { self.new ≡ restored saved self.old }
+    {
+        let SavedStream {
+            aggregate,
+            recorded,
+        } = saved;
+        self.aggregate.restore(aggregate);
+        self.recorded = recorded;
     }
 
     /// What a collection at a moment gives of the stream, if it has points.

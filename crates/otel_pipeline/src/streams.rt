@@ -1,12 +1,24 @@
 //! What is done to the streams of one reader, one after another.
 
-ghost use Rattle.std.specs.Prelude.{◌≡◌, ◌<◌, [], OnOk, IsOk, IsOkUnless};
+ghost use Rattle.std.specs.Prelude.{◌≡◌, ◌<◌, [], slice_get, OnOk, IsOk, IsOkUnless};
+ghost use Rattle.otel_model.specs.Calls.{or_else};
 ghost use Rattle.otel_pipeline.specs.Pipelines.{AreNumbers, ArePrepared, all_settled, committed_each, finished_all};
 
 use crate::stream::Stream;
 use otel_common::attributes::KeyValue;
 use otel_common::faults::Fault;
+use otel_common::lists::Items;
 use otel_data::numbers::NumberValue;
+
+/// The numbers of the streams that an instrument feeds.
+pub(crate) fn streams_fed(feeds: &[Items<usize>], instrument: usize) -> &[usize]
+    ensures { result.now ≡ or_else (slice_get feeds.now instrument) [] }
+{
+    match feeds.get(instrument) {
+        Some(numbers) => numbers.as_slice(),
+        None => &[],
+    }
+}
 
 /// Prepares a record in each of these streams.
 pub(crate) fn prepare_each(

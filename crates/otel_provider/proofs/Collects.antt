@@ -1,6 +1,6 @@
 -- Collections that the provider makes are the model's.
-use Rattle.std.proofs.Common.{◌≡◌, ◌<◌, ◌≤◌, ℕ, zero, suc, true, false, cond, List, [], ◌∷◌, map, length, set, slice_get, slice_index_or, nat_lt, Some, None, option_map, refl, sym, ◌∙◌, ap, arith}
-use Rattle.std.proofs.lemmas.Bool.{lt-ltb, le-ltb}
+use Rattle.std.proofs.Common.{◌≡◌, ◌<◌, ℕ, zero, suc, Bool, true, false, cond, List, [], ◌∷◌, map, length, set, slice_get, slice_index_or, nat_lt, Option, Some, None, option_map, refl, sym, ◌∙◌, ap, arith}
+use Rattle.std.proofs.lemmas.Bool.{lt-ltb}
 use Rattle.std.proofs.lemmas.List.{length-map}
 use Rattle.std.proofs.lemmas.Option.{slice_get-map}
 use Rattle.otel_common.specs.declared.scopes.InstrumentationScope.{InstrumentationScope}
@@ -8,7 +8,7 @@ use Rattle.otel_data.specs.declared.collections.ResourceMetrics.{ResourceMetrics
 use Rattle.otel_model.specs.Calls as model
 use Rattle.otel_model.specs.Demands.{Views}
 use Rattle.otel_model.specs.Machine.{changed_at, part_sent, accepted_after}
-use Rattle.otel_model.specs.Refusals.{refusal}
+use Rattle.otel_model.specs.Refusals.{observations_refusal}
 use Rattle.otel_model.specs.Resources.{Resource}
 use Rattle.otel_model.specs.State.{InstrumentState, ReaderPart}
 use Rattle.otel_model.specs.Steps.{collect_reply, reply_by, after_by}
@@ -44,35 +44,20 @@ get-some [] r p e = absurd (cc)
 get-some (q ∷ ps) zero p e = omega arith
 get-some (q ∷ ps) (suc r) p e = omega (arith, get-some ps r p e)
 
-get-none : (ps : List Piped) (r : ℕ) → slice_get ps r ≡ None → length ps ≤ r
-get-none [] r e = omega arith
-get-none (q ∷ ps) zero e = absurd (cc)
-get-none (q ∷ ps) (suc r) e = omega (arith, get-none ps r e)
+-- why a collection is refused: the reader isn't there, the provider was shut down, or an observation is bad
+abbrev fault_by : Bool → Bool → Option model.Fault → Option model.Fault
+fault_by known shut bad = cond known (cond shut (Some model.Fault.ReaderShutDown) bad) (Some model.Fault.UnknownReader)
 
--- a collection of a reader that is there
-pub collection-made : (resource : Resource) (meters : List InstrumentationScope) (instruments : List InstrumentState) (ps : List Piped) (readers : List ReaderPart) (r now : ℕ) (p : Piped) (c : ResourceMetrics)
-    → slice_get ps r ≡ Some p → IsCollectedFrom resource meters now (part_of p) c → readers ≡ changed_at r (part_sent 0 (model.Call.Collect r now [])) (map part_of ps)
-    → (views : Views) → IsMade views (state_of resource meters instruments ps) (model.Call.Collect r now []) (model.Reply.Collected c) (record { shared = shared_of resource meters instruments; readers = readers })
-collection-made resource meters instruments ps readers r now p c at given left views =
+-- a collection of a reader that is there, with good observations
+pub collection-made : (shut : Bool) (resource : Resource) (identity : ℕ) (meters : List InstrumentationScope) (instruments : List InstrumentState) (ps : List Piped) (readers : List ReaderPart) (r now : ℕ) (os : List model.Observed) (p : Piped) (c : ResourceMetrics)
+    → shut ≡ false → slice_get ps r ≡ Some p → observations_refusal instruments os ≡ None → IsCollectedFrom resource meters now os (part_of p) c → readers ≡ changed_at r (part_sent 0 (model.Call.Collect r now os)) (map part_of ps)
+    → (views : Views) → IsMade views (state_of shut resource identity meters instruments ps) (model.Call.Collect r now os) (model.Reply.Collected c) (record { shared = shared_of shut resource identity meters instruments; readers = readers })
+collection-made shut resource identity meters instruments ps readers r now os p c opened at good given left views =
     let known : nat_lt r (length (map part_of ps)) ≡ true = lt-ltb r (length (map part_of ps)) (rw length-map (get-some ps r p at)) in
     let found : slice_get (map part_of ps) r ≡ Some (part_of p) = slice_get-map part_of ps r ∙ ap (option_map part_of) at in
     record {
-      answer = ap model.Reply.Collected (given (shared_of resource meters instruments) refl refl)
-          ∙ sym (λ i. reply_by (cond (known i) None (Some model.Fault.UnknownReader)) (collect_reply (shared_of resource meters instruments) now [] (found i)));
-      state = (λ i. record { shared = shared_of resource meters instruments; readers = left i })
-          ∙ sym (λ i. after_by (cond (known i) None (Some model.Fault.UnknownReader)) (state_of resource meters instruments ps) (accepted_after views (state_of resource meters instruments ps) (model.Call.Collect r now [])));
+      answer = ap model.Reply.Collected (given (shared_of shut resource identity meters instruments) refl refl)
+          ∙ sym (λ i. reply_by (fault_by (known i) (opened i) (good i)) (collect_reply (shared_of shut resource identity meters instruments) now os (found i)));
+      state = (λ i. record { shared = shared_of shut resource identity meters instruments; readers = left i })
+          ∙ sym (λ i. after_by (fault_by (known i) (opened i) (good i)) (state_of shut resource identity meters instruments ps) (accepted_after views (state_of shut resource identity meters instruments ps) (model.Call.Collect r now os)));
     }
-
--- of one that isn't
-pub collection-refused : (resource : Resource) (meters : List InstrumentationScope) (instruments : List InstrumentState) (ps : List Piped) (r now : ℕ) → slice_get ps r ≡ None
-    → refusal (shared_of resource meters instruments) (length (map part_of ps)) (model.Call.Collect r now []) ≡ Some model.Fault.UnknownReader
-collection-refused resource meters instruments ps r now at =
-    let unknown : nat_lt r (length (map part_of ps)) ≡ false = le-ltb r (length (map part_of ps)) (rw length-map (get-none ps r at)) in
-    ap (λ b. cond b None (Some model.Fault.UnknownReader)) unknown
-
--- memory may be wanting only where the reader is there
-pub collection-allowed : (resource : Resource) (meters : List InstrumentationScope) (instruments : List InstrumentState) (ps : List Piped) (r now : ℕ) (p : Piped) → slice_get ps r ≡ Some p
-    → refusal (shared_of resource meters instruments) (length (map part_of ps)) (model.Call.Collect r now []) ≡ None
-collection-allowed resource meters instruments ps r now p at =
-    let known : nat_lt r (length (map part_of ps)) ≡ true = lt-ltb r (length (map part_of ps)) (rw length-map (get-some ps r p at)) in
-    ap (λ b. cond b None (Some model.Fault.UnknownReader)) known

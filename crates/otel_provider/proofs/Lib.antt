@@ -3,6 +3,8 @@ pub mod Collects
 pub mod Headlines
 pub mod Lawful
 pub mod Outcomes
+pub mod Reached
 pub mod Runs
 pub mod StepLemmas
+pub mod Stepped
 pub mod Typed

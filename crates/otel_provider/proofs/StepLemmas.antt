@@ -81,10 +81,9 @@ pub good-or-none : (scope : Option InstrumentationScope) (about : model.About) �
 good-or-none None about good = inl refl
 good-or-none (Some scope) about good = inr good
 
-pub buildable-in : (scope : Option InstrumentationScope) (about : model.About) → IsGoodIn scope about → model.is_observable about.kind ≡ false → IsBuildableIn scope about
-buildable-in None about good sync = tt
-buildable-in (Some scope) about good sync = record {
-  synchronous = sync;
+pub buildable-in : (scope : Option InstrumentationScope) (about : model.About) → IsGoodIn scope about → IsBuildableIn scope about
+buildable-in None about good = tt
+buildable-in (Some scope) about good = record {
   bounds = (and_parts (is_none (optional_unit_fault about.unit)) (are_good_bounds about.kind about.bounds) (and_parts (is_good_name about.name) _ good).1).1;
 }
 
@@ -141,39 +140,39 @@ get-inside (y ∷ xs) (suc n) x e = let q = get-inside xs n x e in omega arith
 
 -- ======== whole calls ========
 -- a build of a meter that isn't there
-pub no_meter-fault : (resource : Resource) (meters : List InstrumentationScope) (instruments : List InstrumentState) (meter : Option ℕ) (f : Fault) → IsNoMeter meters meter f → IsFault (meter_refusal (shared_of resource meters instruments) meter) f
-no_meter-fault resource meters instruments meter f none =
-    let P : Fault → Type 0 = λ g. IsFault (meter_refusal (shared_of resource meters instruments) meter) g in
-    subst P (sym none.is) (none.unknown resource instruments)
+pub no_meter-fault : (shut : Bool) (resource : Resource) (identity : ℕ) (meters : List InstrumentationScope) (instruments : List InstrumentState) (meter : Option ℕ) (f : Fault) → IsNoMeter meters meter f → IsFault (meter_refusal (shared_of shut resource identity meters instruments) meter) f
+no_meter-fault shut resource identity meters instruments meter f none =
+    let P : Fault → Type 0 = λ g. IsFault (meter_refusal (shared_of shut resource identity meters instruments) meter) g in
+    subst P (sym none.is) (none.unknown shut resource identity instruments)
 
 -- a record that is accepted
-pub record-made : (resource : Resource) (meters : List InstrumentationScope) (instruments more : List InstrumentState) (ps : List Piped) (readers : List ReaderPart) (n : ℕ) (v : model.Number) (l : List KeyValue)
+pub record-made : (shut : Bool) (resource : Resource) (identity : ℕ) (meters : List InstrumentationScope) (instruments more : List InstrumentState) (ps : List Piped) (readers : List ReaderPart) (n : ℕ) (v : model.Number) (l : List KeyValue)
     → record_refusal (slice_get instruments n) v.signed ≡ None
     → more ≡ machine.changed_at n (machine.accepted v.amount) instruments
     → readers ≡ map (machine.part_sent 0 (model.Call.Record n v l)) (map part_of ps)
-    → (views : Views) → IsMade views (state_of resource meters instruments ps) (model.Call.Record n v l) model.Reply.Done (record { shared = shared_of resource meters more; readers = readers })
-record-made resource meters instruments more ps readers n v l fits accepted sent views = record {
+    → (views : Views) → IsMade views (state_of shut resource identity meters instruments ps) (model.Call.Record n v l) model.Reply.Done (record { shared = shared_of shut resource identity meters more; readers = readers })
+record-made shut resource identity meters instruments more ps readers n v l fits accepted sent views = record {
   answer = sym (ap (λ o. reply_by o model.Reply.Done) fits);
   state =
-      (λ i. record { shared = shared_of resource meters (accepted i); readers = sent i })
-      ∙ sym (ap (λ o. after_by o (state_of resource meters instruments ps) (machine.accepted_after views (state_of resource meters instruments ps) (model.Call.Record n v l))) fits);
+      (λ i. record { shared = shared_of shut resource identity meters (accepted i); readers = sent i })
+      ∙ sym (ap (λ o. after_by o (state_of shut resource identity meters instruments ps) (machine.accepted_after views (state_of shut resource identity meters instruments ps) (model.Call.Record n v l))) fits);
 }
 
 -- a build, of an instrument that may be bad
-pub build-made : (views : Views) (answered : List (Option StreamSpec)) (resource : Resource) (meters : List InstrumentationScope) (instruments more : List InstrumentState) (ps : List Piped) (readers : List ReaderPart) (meter : Option ℕ) (scope named : Option InstrumentationScope) (about : model.About) (now n : ℕ)
+pub build-made : (views : Views) (answered : List (Option StreamSpec)) (shut : Bool) (resource : Resource) (identity : ℕ) (meters : List InstrumentationScope) (instruments more : List InstrumentState) (ps : List Piped) (readers : List ReaderPart) (meter : Option ℕ) (scope named : Option InstrumentationScope) (about : model.About) (now n : ℕ)
     → IsScopeOf meters meter scope → named ≡ cond (is_good about) scope None → n ≡ length instruments → more ≡ instruments ++ machine.new_instrument about ∷ []
     → AreAsked views named about answered → readers ≡ map (machine.built (answering answered) named about now) (map part_of ps)
-    → IsMade views (state_of resource meters instruments ps) (model.Call.Build meter about now) (model.Reply.Instrument n) (record { shared = shared_of resource meters more; readers = readers })
-build-made views answered resource meters instruments more ps readers meter scope named about now n at named_is number made asked built =
-    let known : meter_refusal (shared_of resource meters instruments) meter ≡ None = at.known resource instruments in
+    → IsMade views (state_of shut resource identity meters instruments ps) (model.Call.Build meter about now) (model.Reply.Instrument n) (record { shared = shared_of shut resource identity meters more; readers = readers })
+build-made views answered shut resource identity meters instruments more ps readers meter scope named about now n at named_is number made asked built =
+    let known : meter_refusal (shared_of shut resource identity meters instruments) meter ≡ None = at.known shut resource identity instruments in
     record {
       answer = ap model.Reply.Instrument number ∙ sym (ap (λ o. reply_by o (model.Reply.Instrument (length instruments))) known);
       state =
           (λ i. record {
-            shared = shared_of resource meters (made i);
+            shared = shared_of shut resource identity meters (made i);
             readers = (built ∙ (all-asked views named about now answered asked (map part_of ps) ∙ (ap (λ s. map (machine.built views s about now) (map part_of ps)) named_is ∙ (all-alike views scope about now (is_good about) refl (map part_of ps) ∙ ap (λ s. map (machine.built views s about now) (map part_of ps)) at.is)))) i;
           })
-          ∙ sym (ap (λ o. after_by o (state_of resource meters instruments ps) (machine.accepted_after views (state_of resource meters instruments ps) (model.Call.Build meter about now))) known);
+          ∙ sym (ap (λ o. after_by o (state_of shut resource identity meters instruments ps) (machine.accepted_after views (state_of shut resource identity meters instruments ps) (model.Call.Build meter about now))) known);
     }
 
 position-first : {X : Type 0} (p : X → Bool) (xs : List X) (n : ℕ) → position p xs ≡ Some n → n ≡ position_or_len p xs
@@ -185,16 +184,29 @@ position-first p (x ∷ xs) n e = next (p x) (position p xs) (λ m q. position-f
     next false None rest q = absurd (cc)
     next false (Some m) rest q = let z : suc m ≡ n = cc in let y = rest m refl in omega arith
 
--- a meter that is known stays as it is
-pub meter-known : (resource : Resource) (meters : List InstrumentationScope) (instruments : List InstrumentState) (ps : List Piped) (scope : InstrumentationScope) (n : ℕ) → position (scope_eq scope) meters ≡ Some n
-    → (views : Views) → IsMade views (state_of resource meters instruments ps) (model.Call.Meter scope) (model.Reply.Meter (Some n)) (state_of resource meters instruments ps)
-meter-known resource meters instruments ps scope n at views =
+-- the meter of a scope, where the provider was not shut down
+pub meter-made : (shut : Bool) (resource : Resource) (identity : ℕ) (meters more : List InstrumentationScope) (instruments : List InstrumentState) (ps : List Piped) (scope : InstrumentationScope) (n : ℕ) → shut ≡ false → n ≡ position_or_len (scope_eq scope) meters → more ≡ machine.with_meter scope meters
+    → (views : Views) → IsMade views (state_of shut resource identity meters instruments ps) (model.Call.Meter scope) (model.Reply.Meter (Some n)) (state_of shut resource identity more instruments ps)
+meter-made shut resource identity meters more instruments ps scope n opened first made views = record {
+  answer = ap model.Reply.Meter (meter_number scope meters n first ∙ sym (ap (λ b. cond b None (number_from 0 scope (machine.with_meter scope meters))) opened));
+  state = ap (λ ms. state_of shut resource identity ms instruments ps) (made ∙ sym (ap (λ b. cond b meters (machine.with_meter scope meters)) opened));
+}
+
+-- there is none once it was shut down
+pub meter-none : (shut : Bool) (resource : Resource) (identity : ℕ) (meters : List InstrumentationScope) (instruments : List InstrumentState) (ps : List Piped) (scope : InstrumentationScope) → shut ≡ true
+    → (views : Views) → IsMade views (state_of shut resource identity meters instruments ps) (model.Call.Meter scope) (model.Reply.Meter None) (state_of shut resource identity meters instruments ps)
+meter-none shut resource identity meters instruments ps scope closed views = record {
+  answer = ap model.Reply.Meter (sym (ap (λ b. cond b None (number_from 0 scope (machine.with_meter scope meters))) closed));
+  state = ap (λ ms. state_of shut resource identity ms instruments ps) (sym (ap (λ b. cond b meters (machine.with_meter scope meters)) closed));
+}
+
+-- a meter that is known stays as it is, where the provider was not shut down
+pub meter-known : (shut : Bool) (resource : Resource) (identity : ℕ) (meters : List InstrumentationScope) (instruments : List InstrumentState) (ps : List Piped) (scope : InstrumentationScope) (n : ℕ) → shut ≡ false → position (scope_eq scope) meters ≡ Some n
+    → (views : Views) → IsMade views (state_of shut resource identity meters instruments ps) (model.Call.Meter scope) (model.Reply.Meter (Some n)) (state_of shut resource identity meters instruments ps)
+meter-known shut resource identity meters instruments ps scope n opened at views =
     let there : list_any (scope_eq scope) meters ≡ true = sym (any-position (scope_eq scope) meters) ∙ ap is_some at in
     let first : n ≡ position_or_len (scope_eq scope) meters = position-first (scope_eq scope) meters n at in
-    record {
-      answer = ap model.Reply.Meter (meter_number scope meters n first);
-      state = ap (λ ms. state_of resource ms instruments ps) (sym (ap (λ b. cond b meters (meters ++ scope ∷ [])) (has_scope-flip scope meters ∙ there)));
-    }
+    meter-made shut resource identity meters meters instruments ps scope n opened first (sym (ap (λ b. cond b meters (meters ++ scope ∷ [])) (has_scope-flip scope meters ∙ there))) views
 
 pub meter-unknown : (meters : List InstrumentationScope) (scope : InstrumentationScope) → position (scope_eq scope) meters ≡ None → has_scope scope meters ≡ false
 meter-unknown meters scope at = has_scope-flip scope meters ∙ (sym (any-position (scope_eq scope) meters) ∙ ap is_some at)

@@ -1,19 +1,21 @@
 -- What an instrument feeds has its number type, whatever is called.
 use Rattle.std.proofs.Common.{◌≡◌, ◌⊎◌, inl, inr, ⊎_elim, ℕ, zero, suc, Bool, true, false, cond, List, [], ◌∷◌, ◌++◌, map, length, set, Option, Some, None, slice_get, refl, sym, ◌∙◌, ap, subst, arith}
-use Rattle.std.specs.Prelude.{filter, fold, Result, Ok, Err, OnOk, OnErr}
+use Rattle.std.specs.Prelude.{All, filter, fold, Result, Ok, Err, OnOk, OnErr}
 use Rattle.std.proofs.lemmas.Bool.{false≢true}
 use Rattle.std.proofs.lemmas.List.{length-append}
+use Rattle.otel_callback.specs.declared.observation.Observed.{Observed as Observation}
 use Rattle.otel_common.specs.declared.scopes.InstrumentationScope.{InstrumentationScope}
 use Rattle.otel_model_stream.specs.Folds.{Amount}
-use Rattle.otel_model.specs.Calls.{About, Call, Collect, Number}
+use Rattle.otel_model.specs.Calls.{About, Call, Collect, Number, Observed}
 use Rattle.otel_model.specs.Demands.{Identity, Demand, ReaderAnswers, StreamSpec, Views, has_identity, instrument_of, add_answer, view_demands, demands_with, is_compatible, is_known, is_dropped, is_good, fed, own_demand, identity_eq}
 use Rattle.otel_model.specs.Machine.{changed_at, accepted, enter, new_instrument, demanded, build_demands, built, part_sent}
 use Rattle.otel_model.specs.Sent.{is_fed}
 use Rattle.otel_model.specs.State.{InstrumentState, ReaderPart}
 use Rattle.otel_model.proofs.Gather.{identity_eq_true}
 use Rattle.otel_model_laws.proofs.Feeding.{is_one, fed_demanded}
+use Rattle.otel_pipeline.specs.Observations.{AreTypedFor}
 use Rattle.otel_pipeline.specs.Pipelines.{Piped, part_of}
-use Rattle.otel_provider.specs.States.{IsTyped, AreTyped, FeedType}
+use Rattle.otel_provider.specs.States.{IsTaken, IsTyped, AreTyped, FeedType}
 
 some_is : {X : Type 0} (a b : X) → Some a ≡ Some b → a ≡ b
 some_is a b e = cc
@@ -148,6 +150,18 @@ typed-made views (Ok t) is more scope about now ps readers m e same same_readers
 typed-made views (Err t) is more scope about now ps readers m e same same_readers all = rw (same, same_readers) all
 
 -- what a collection or a failed call leaves of what feeds
-pub same_feeds-by : {T E : Type 0} (r : Result T E) (next now : ℕ) (new p : Piped) → OnOk r ((q : ℕ) → part_of new ≡ part_sent next (Collect q now []) (part_of p)) → OnErr r (part_of new ≡ part_of p) → (part_of new).feeds ≡ (part_of p).feeds
-same_feeds-by (Ok t) next now new p ok err = ap (λ (x : ReaderPart). x.feeds) (ok 0)
-same_feeds-by (Err t) next now new p ok err = ap (λ (x : ReaderPart). x.feeds) err
+pub same_feeds-by : {T E : Type 0} (r : Result T E) (next now : ℕ) (os : List Observed) (new p : Piped) → OnOk r ((q : ℕ) → part_of new ≡ part_sent next (Collect q now os) (part_of p)) → OnErr r (part_of new ≡ part_of p) → (part_of new).feeds ≡ (part_of p).feeds
+same_feeds-by (Ok t) next now os new p ok err = ap (λ (x : ReaderPart). x.feeds) (ok 0)
+same_feeds-by (Err t) next now os new p ok err = ap (λ (x : ReaderPart). x.feeds) err
+
+-- ======== observations ========
+typed-at : (is : List InstrumentState) (ps : List Piped) (r : ℕ) (p : Piped) → slice_get ps r ≡ Some p → AreTyped is (map part_of ps) → IsTyped is (part_of p)
+typed-at is [] r p at all = absurd (cc)
+typed-at is (q ∷ ps) zero p at all = subst (λ (x : Piped). IsTyped is (part_of x)) (some_is q p at) all.0
+typed-at is (q ∷ ps) (suc r) p at all = typed-at is ps r p at all.1
+
+-- what was observed of instruments that take it is of the number type of what they feed
+pub typed-observed : (is : List InstrumentState) (ps : List Piped) (os : List Observation) (r : ℕ) (p : Piped) → slice_get ps r ≡ Some p → AreTyped is (map part_of ps) → All (IsTaken is) os → AreTypedFor os (part_of p)
+typed-observed is ps os r p at all taken = λ k d inside x fed.
+    (let t = taken k d inside in
+    (typed-at is ps r p at all).types _ x t.instrument fed t.there ∙ sym t.typed)

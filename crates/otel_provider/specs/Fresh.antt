@@ -1,9 +1,10 @@
 -- A provider before its first call.
-use Rattle.std.specs.Prelude.{List}
+use Rattle.std.specs.Prelude.{ℕ, List}
 use Rattle.otel_model.specs.Demands.{ReaderAnswers}
 use Rattle.otel_model.specs.Resources.{Resource}
 
--- its resource, and what its readers answered for each kind
+-- its resource, its identity, and what its readers answered for each kind
 pub record Fresh : Type 0 where
   pub resource : Resource
+  pub identity : ℕ
   pub readers : List ReaderAnswers

@@ -1,15 +1,23 @@
 -- What a provider and its builder are in the words of the model. `P` is the bundle of their parts, `V` the type of
 -- their views, `R` that of their readers.
-use Rattle.std.specs.Prelude.{List, Option, map}
+use Rattle.std.specs.Prelude.{ℕ, List, Option, map}
+use Rattle.otel_common.specs.declared.metrics.Aggregation.{Aggregation}
+use Rattle.otel_common.specs.declared.metrics.Temporality.{Temporality}
 use Rattle.otel_model.specs.Demands.{Instrument, ReaderAnswers, StreamSpec, Views}
 use Rattle.otel_model.specs.Resources.{Resource}
 use Rattle.otel_model.specs.State.{State}
+use Rattle.otel_stream.specs.Requests.{Wanted, wanted_by}
+use Rattle.otel_stream.specs.declared.instrument.InstrumentKind.{InstrumentKind}
 use Rattle.otel_provider.specs.declared.provider.Provider.{Provider}
 use Rattle.otel_provider.specs.declared.provider.ProviderBuilder.{ProviderBuilder}
 
 -- the resource of a builder
 abbrev pub resource_of : {P V R : Type 0} → ProviderBuilder P V R → Resource
 resource_of b = b.core.resource
+
+-- and the identity of its provider
+abbrev pub identity_of_builder : {P V R : Type 0} → ProviderBuilder P V R → ℕ
+identity_of_builder b = b.core.identity
 
 -- what a builder's readers answered for each kind
 abbrev pub answers_of_readers : {P V R : Type 0} → ProviderBuilder P V R → List ReaderAnswers
@@ -19,6 +27,10 @@ answers_of_readers b = b.core.readers
 abbrev pub state_of : {P V R : Type 0} → Provider P V R → State
 state_of p = p.core
 
+-- and its identity
+abbrev pub identity_of : {P V R : Type 0} → Provider P V R → ℕ
+identity_of p = p.core.shared.identity
+
 -- the readers of a builder
 abbrev pub builder_readers : {P V R : Type 0} → ProviderBuilder P V R → List R
 builder_readers b = b.readers.items
@@ -26,6 +38,10 @@ builder_readers b = b.readers.items
 -- the readers of a provider
 abbrev pub provider_readers : {P V R : Type 0} → Provider P V R → List R
 provider_readers p = p.readers.items
+
+-- what they want for each kind, by what a reader wants
+abbrev pub wants_of : {P V R : Type 0} → (R → InstrumentKind → Temporality) → (R → InstrumentKind → Option ℕ) → (R → InstrumentKind → Option Aggregation) → Provider P V R → List Wanted
+wants_of preference limit aggregation p = map (wanted_by preference limit aggregation) p.readers.items
 
 -- the views of a builder, by what a view answers
 abbrev pub views_of_builder : {P V R : Type 0} → (V → Instrument → Option StreamSpec) → ProviderBuilder P V R → Views

@@ -1,8 +1,10 @@
 -- The state of a provider in the words of the model, and what a call does to it.
-use Rattle.std.specs.Prelude.{◌≡◌, ℕ, true, false, List, [], map, length, slice_get, Option, None, Some}
+use Rattle.std.specs.Prelude.{◌≡◌, ℕ, Bool, true, List, [], map, length, slice_get, Option, None, Some}
 use Rattle.std.specs.List.{AllByRecursion as EachOf}
+use Rattle.otel_callback.specs.declared.observation.Observed.{Observed}
 use Rattle.otel_common.specs.declared.faults.Fault.{Fault}
 use Rattle.otel_common.specs.declared.faults.Fault.TheVariants as fault
+use Rattle.otel_common.specs.declared.faults.InternalFault.TheVariants as inner
 use Rattle.otel_common.specs.declared.scopes.InstrumentationScope.{InstrumentationScope}
 use Rattle.otel_model.specs.Calls as model
 use Rattle.otel_model.specs.Demands.{Identity, StreamSpec, View, Views, instrument_of, is_good}
@@ -12,26 +14,31 @@ use Rattle.otel_model.specs.Refusals.{refusal, meter_refusal}
 use Rattle.otel_model.specs.Sent.{is_fed, scope_of}
 use Rattle.otel_model.specs.Steps.{reply_of, after}
 use Rattle.otel_pipeline.specs.Pipelines.{Piped, part_of, FeedsType}
+use Rattle.otel_provider.specs.Correspondence.{observed_of}
 
--- providers have no identity of their own and no handles yet, and can't be shut down
-abbrev pub shared_of : Resource → List InstrumentationScope → List InstrumentState → Shared
-shared_of resource meters instruments = record { resource = resource; identity = 0; meters = meters; instruments = instruments; live = []; next = 0; shut = false }
+-- providers have no handles yet
+abbrev pub shared_of : Bool → Resource → ℕ → List InstrumentationScope → List InstrumentState → Shared
+shared_of shut resource identity meters instruments = record { resource = resource; identity = identity; meters = meters; instruments = instruments; live = []; next = 0; shut = shut }
 
-abbrev pub state_of : Resource → List InstrumentationScope → List InstrumentState → List Piped → State
-state_of resource meters instruments pipelines = record { shared = shared_of resource meters instruments; readers = map part_of pipelines }
+abbrev pub state_of : Bool → Resource → ℕ → List InstrumentationScope → List InstrumentState → List Piped → State
+state_of shut resource identity meters instruments pipelines = record { shared = shared_of shut resource identity meters instruments; readers = map part_of pipelines }
 
 -- the call is answered and carried out as the model's machine does, with these views
 pub record IsMade (views : Views) (old : State) (call : model.Call) (reply : model.Reply) (new : State) : Type 0 where
   pub answer : reply ≡ reply_of old call
   pub state : new ≡ after views old call
 
--- the fault that a call is refused by: out of memory only where no other stands
+-- the fault that a call is refused by before readers are asked: out of memory only where no other stands
 abbrev pub IsFault : Option model.Fault → Fault → Type 0
 IsFault o fault.OutOfMemory = o ≡ None
 IsFault o fault.UnknownMeter = o ≡ Some model.Fault.UnknownMeter
 IsFault o fault.UnknownInstrument = o ≡ Some model.Fault.UnknownInstrument
 IsFault o fault.UnknownReader = o ≡ Some model.Fault.UnknownReader
 IsFault o fault.WrongNumber = o ≡ Some model.Fault.WrongNumber
+IsFault o fault.WrongKind = o ≡ Some model.Fault.WrongKind
+IsFault o fault.AlreadyShutdown = o ≡ Some model.Fault.AlreadyShutdown
+IsFault o (fault.InternalFailure inner.ReaderShutDown) = o ≡ Some model.Fault.ReaderShutDown
+IsFault o (fault.InternalFailure (inner.Readers failed first)) = ⊥
 
 abbrev pub IsFaultOf : State → model.Call → Fault → Type 0
 IsFaultOf st call f = IsFault (refusal st.shared (length st.readers) call) f
@@ -43,17 +50,20 @@ IsNamed fault.UnknownMeter = Unit {0}
 IsNamed fault.UnknownInstrument = Unit {0}
 IsNamed fault.UnknownReader = Unit {0}
 IsNamed fault.WrongNumber = Unit {0}
+IsNamed fault.WrongKind = Unit {0}
+IsNamed fault.AlreadyShutdown = Unit {0}
+IsNamed (fault.InternalFailure f) = Unit {0}
 
 -- ======== builds ========
 -- the scope that a build's meter has among these
 pub record IsScopeOf (meters : List InstrumentationScope) (meter : Option ℕ) (scope : Option InstrumentationScope) : Type 0 where
   pub is : scope ≡ scope_of meters meter
-  pub known : (resource : Resource) (instruments : List InstrumentState) → meter_refusal (shared_of resource meters instruments) meter ≡ None
+  pub known : (shut : Bool) (resource : Resource) (identity : ℕ) (instruments : List InstrumentState) → meter_refusal (shared_of shut resource identity meters instruments) meter ≡ None
 
 -- there is no such meter
 pub record IsNoMeter (meters : List InstrumentationScope) (meter : Option ℕ) (f : Fault) : Type 0 where
   pub is : f ≡ fault.UnknownMeter
-  pub unknown : (resource : Resource) (instruments : List InstrumentState) → meter_refusal (shared_of resource meters instruments) meter ≡ Some model.Fault.UnknownMeter
+  pub unknown : (shut : Bool) (resource : Resource) (identity : ℕ) (instruments : List InstrumentState) → meter_refusal (shared_of shut resource identity meters instruments) meter ≡ Some model.Fault.UnknownMeter
 
 -- an instrument without a scope ignores its records; with one its name, unit and bounds are good
 abbrev pub IsGoodIn : Option InstrumentationScope → model.About → Type 0
@@ -84,3 +94,7 @@ pub record IsTakenBy (instruments : List InstrumentState) (n : ℕ) (v : model.N
   pub instrument : InstrumentState
   pub there : slice_get instruments n ≡ Some instrument
   pub typed : v.signed ≡ instrument.signed
+
+-- what was observed is of an instrument that takes its value
+abbrev pub IsTaken : List InstrumentState → Observed → Type 0
+IsTaken instruments o = IsTakenBy instruments o.instrument (observed_of o).value

@@ -1,15 +1,31 @@
 //! The state of a provider with what no call can break.
 
-ghost use Rattle.std.specs.Prelude.{◌≡◌, map, IfOk, OnErr, IsOkUnless};
+ghost use Rattle.std.specs.Prelude.{◌≡◌, [], map, true, Err, IfOk, OnErr, IsOk, IsOkUnless};
+ghost use Rattle.otel_model.specs.Calls as model;
+ghost use Rattle.otel_model.specs.Demands.{Views};
+ghost use Rattle.otel_model.specs.Laws.{KeepsReaders};
 ghost use Rattle.otel_model.specs.Machine.{new_state};
+ghost use Rattle.otel_model.specs.Sent.{has_scope};
 ghost use Rattle.otel_model.specs.Steps.{Step, Run};
 ghost use Rattle.otel_model_laws.specs.Lawful.{Balances};
-ghost use Rattle.otel_provider.specs.Correspondence.{call_of, reply_of};
+ghost use Rattle.otel_provider.specs.Correspondence.{call_of, reply_of, reply_to, kind_of, is_signed, number_of, observed_of};
+ghost use Rattle.otel_provider.specs.Readers.{AreReached, ShutsDown, StepReaches, RunReaches};
+ghost use Rattle.otel_provider.specs.Typed.{reply_from};
+ghost use Rattle.otel_stream.specs.Requests.{wanted_by};
 
 use crate::calls::{Call, Reply};
 use crate::fresh::FreshCore;
+use crate::meters::Meter;
 use crate::provider_core::Core;
-use otel_common::faults::Fault;
+use crate::sorts::InstrumentSort;
+use otel_callback::observation::Observed;
+use otel_common::attributes::KeyValue;
+use otel_common::faults::{Fault, OTelSdkResult};
+use otel_common::scopes::InstrumentationScope;
+use otel_data::collections::ResourceMetrics;
+use otel_data::numbers::NumberValue;
+use otel_pipeline::about::About;
+use otel_stream::reader::MetricReader;
 use otel_stream::view::View;
 use std::alloc::Global;
 use std::marker::Model;
@@ -36,7 +52,7 @@ impl Model for BalancedCore {
 impl BalancedCore {
     /// The core before its first call.
     pub(crate) fn new(fresh: FreshCore) -> BalancedCore
-        ensures { result ≡ new_state fresh.resource 0 fresh.readers }
+        ensures { result ≡ new_state fresh.resource fresh.identity fresh.readers }
     {
         BalancedCore {
             core: fresh.into_core(),
@@ -44,17 +60,47 @@ impl BalancedCore {
     }
 
     /// One call.
-    pub(crate) fn step<V: View>(&mut self, views: &[V], call: &Call) -> Reply
+    pub(crate) fn step<V: View, R: MetricReader>(
+        &mut self,
+        views: &[V],
+        readers: &mut [R],
+        call: &Call,
+    ) -> Reply
         ensures step { Step (map V.answer views.now) self.old (call_of call.now) (reply_of result) self.new }
         ensures balances { Balances self.new }
+        ensures reached { StepReaches R.flushes R.shuts self.old.shared.shut (call_of call.now) readers.old (reply_of result) readers.new }
+        ensures wants { map (wanted_by R.preference R.limit R.aggregation) readers.new ≡ map (wanted_by R.preference R.limit R.aggregation) readers.old }
     {
-        self.core.step(views, call)
+        self.core.step(views, readers, call)
+    }
+
+    /// Asks each reader to flush, unless the provider was shut down.
+    pub(crate) fn force_flush<R: MetricReader>(&mut self, readers: &mut [R]) -> OTelSdkResult
+        ensures step { (views : Views) → Step views self.old model.Call.Flush (reply_to result) self.new }
+        ensures asked { AreReached R.flushes self.old.shared.shut readers.old readers.new result }
+        ensures shut { self.new.shared.shut ≡ self.old.shared.shut }
+        ensures balances { Balances self.new }
+        ensures wants { map (wanted_by R.preference R.limit R.aggregation) readers.new ≡ map (wanted_by R.preference R.limit R.aggregation) readers.old }
+    {
+        self.core.force_flush(readers)
+    }
+
+    /// Shuts the provider down and asks each reader to shut down, unless it was shut down before.
+    pub(crate) fn shutdown<R: MetricReader>(&mut self, readers: &mut [R]) -> OTelSdkResult
+        ensures step { (views : Views) → Step views self.old model.Call.Shutdown (reply_to result) self.new }
+        ensures asked { AreReached (ShutsDown R.shuts) self.old.shared.shut readers.old readers.new result }
+        ensures shut { self.new.shared.shut ≡ true }
+        ensures balances { Balances self.new }
+        ensures wants { map (wanted_by R.preference R.limit R.aggregation) readers.new ≡ map (wanted_by R.preference R.limit R.aggregation) readers.old }
+    {
+        self.core.shutdown(readers)
     }
 
     /// A list of calls, one after another, with the reply to each.
-    pub(crate) fn run<V: View>(
+    pub(crate) fn run<V: View, R: MetricReader>(
         &mut self,
         views: &[V],
+        readers: &mut [R],
         alloc: Global,
         calls: &[Call],
     ) -> Result<Vec<Reply>, Fault>
@@ -62,7 +108,94 @@ impl BalancedCore {
         ensures unmade { OnErr result (self.new ≡ self.old) }
         ensures only_memory { IsOkUnless result Fault.OutOfMemory }
         ensures balances { Balances self.new }
+        ensures reached { IfOk result (λ replies. RunReaches R.flushes R.shuts self.old.shared.shut (map call_of calls.now) readers.old (map reply_of replies.items) readers.new) }
+        ensures unreached { OnErr result (readers.new ≡ readers.old) }
+        ensures wants { map (wanted_by R.preference R.limit R.aggregation) readers.new ≡ map (wanted_by R.preference R.limit R.aggregation) readers.old }
     {
-        self.core.run(views, alloc, calls)
+        self.core.run(views, readers, alloc, calls)
+    }
+}
+
+/// Calls that answer a result. Where a meter or an instrument is of another identity they are refused before anything
+/// else is looked at.
+impl BalancedCore {
+    /// The allocator. Also before a call the streams balance.
+    pub(crate) fn allocator(&self) -> Global
+        ensures balances { Balances self.now }
+    {
+        self.core.allocator()
+    }
+
+    /// The identity.
+    pub(crate) fn identity(&self) -> u64
+        ensures { result ≡ self.now.shared.identity }
+    {
+        self.core.identity()
+    }
+
+    /// The number of the meter of a scope, which is new if there was none; none after a shutdown.
+    pub(crate) fn meter(&mut self, scope: &InstrumentationScope) -> Result<Option<usize>, Fault>
+        ensures step { (views : Views) → Step views self.old (model.Call.Meter scope.now) (reply_from (λ n. model.Reply.Meter n) result) self.new }
+        ensures known { has_scope scope.now self.old.shared.meters ≡ true → IsOk result }
+        ensures balances { Balances self.new }
+        ensures readers { KeepsReaders self.old self.new }
+    {
+        self.core.meter_unless_shut(scope)
+    }
+
+    /// Builds an instrument of a meter.
+    pub(crate) fn build<V: View>(
+        &mut self,
+        views: &[V],
+        meter: Meter,
+        sort: InstrumentSort,
+        about: &About<'_>,
+        now: u64,
+    ) -> Result<usize, Fault>
+        requires kind { about.now.kind ≡ kind_of sort }
+        requires signed { about.now.signed ≡ is_signed sort }
+        ensures step { meter.identity ≡ self.old.shared.identity → Step (map V.answer views.now) self.old (model.Call.Build meter.number about.now now) (reply_from model.Reply.Instrument result) self.new }
+        ensures foreign { ¬ (meter.identity ≡ self.old.shared.identity) → (result ≡ Err Fault.UnknownMeter) × (self.new ≡ self.old) }
+        ensures identity { self.new.shared.identity ≡ self.old.shared.identity }
+        ensures balances { Balances self.new }
+        ensures readers { KeepsReaders self.old self.new }
+    {
+        if meter.identity != self.core.identity() {
+            return Err(Fault::UnknownMeter);
+        }
+        self.core.build(views, meter.number, sort, about, now)
+    }
+
+    /// A collection of a reader at a moment, with what was observed.
+    pub(crate) fn collect(
+        &mut self,
+        reader: usize,
+        now: u64,
+        observations: &[Observed],
+    ) -> Result<ResourceMetrics, Fault>
+        ensures step { (views : Views) → Step views self.old (model.Call.Collect reader now (map observed_of observations.now)) (reply_from (λ c. model.Reply.Collected c) result) self.new }
+        ensures balances { Balances self.new }
+        ensures readers { KeepsReaders self.old self.new }
+    {
+        self.core.collect_unless_shut(reader, now, observations)
+    }
+
+    /// Records a value with attributes at an instrument of a provider of this identity.
+    pub(crate) fn record(
+        &mut self,
+        identity: u64,
+        instrument: usize,
+        value: NumberValue,
+        attributes: &[KeyValue],
+    ) -> Result<(), Fault>
+        ensures step { identity ≡ self.old.shared.identity → (views : Views) → Step views self.old (model.Call.Record instrument (number_of value) attributes.now) (reply_from (λ _. model.Reply.Done) result) self.new }
+        ensures foreign { ¬ (identity ≡ self.old.shared.identity) → (result ≡ Err Fault.UnknownInstrument) × (self.new ≡ self.old) }
+        ensures balances { Balances self.new }
+        ensures readers { KeepsReaders self.old self.new }
+    {
+        if identity != self.core.identity() {
+            return Err(Fault::UnknownInstrument);
+        }
+        self.core.record(instrument, value, attributes)
     }
 }

@@ -1,6 +1,7 @@
 //! What a provider is asked and what it answers, as values.
 
 use crate::sorts::InstrumentSort;
+use otel_callback::observation::Observed;
 use otel_common::attributes::KeyValue;
 use otel_common::faults::Fault;
 use otel_common::lists::Items;
@@ -33,33 +34,43 @@ pub enum Call {
         boundaries: Option<Items<i64>>,
         now: u64,
     },
-    /// Records a value with attributes, in any order, at an instrument, in the instrument's unit. A `U64` at an
-    /// instrument of `i64`, or the other way round, is refused.
+    /// Records a value with attributes, in any order, at an instrument, in the instrument's unit. A record at an
+    /// observable instrument is refused, and so is a `U64` at an instrument of `i64`, or the other way round.
     Record {
         instrument: usize,
         value: NumberValue,
         attributes: Items<KeyValue>,
     },
     /// Collects what a reader's streams have: sums, last values and histograms. `now` is the moment of the
-    /// collection, in nanoseconds since 1970.
+    /// collection, in nanoseconds since 1970. What was observed goes first, in order, to the streams of this reader
+    /// alone that the instruments feed. The first observation that is bad refuses the collection: of an instrument that
+    /// isn't there or isn't observable, or whose value is of the other number type.
     Collect {
         reader: usize,
         now: u64,
+        observations: Items<Observed>,
     },
+    /// Asks each reader to flush, in order, also after one that failed (Metrics SDK, "ForceFlush").
+    Flush,
+    /// Shuts the provider down and asks each reader to shut down, in order, also after one that failed (Metrics SDK,
+    /// "Shutdown"). From then on there are no new meters and no collections; the meters and instruments that are there
+    /// stay, and go on.
+    Shutdown,
 }
 
 /// What a call is answered.
 #[derive(Clone, Debug, Drop)]
 pub enum Reply {
-    /// The number of the meter; meters are numbered from 0, each as it is first asked for. There always is one
-    /// as long as a provider can't be shut down.
+    /// The number of the meter; meters are numbered from 0, each as it is first asked for. There is none after a
+    /// shutdown; what is built without a meter ignores its records.
     Meter(Option<usize>),
     /// The number of the new instrument: how many were built before it.
     Instrument(usize),
-    /// The record was made, or ignored where the instrument ignores its records.
+    /// The record was made, or ignored where the instrument ignores its records; or each reader did what it was asked to.
     Done,
     /// What was collected.
     Collected(ResourceMetrics),
-    /// The call was refused and changed nothing.
+    /// The call was refused. It changed nothing, but for a flush or a shutdown in which readers failed: each of them was
+    /// asked, and after the shutdown the provider is shut down.
     Refused(Fault),
 }

@@ -3,11 +3,12 @@
 ghost use Rattle.std.specs.Prelude.{◌≡◌, ◌++◌, ◌∷◌, [], IfOk, IsOkUnless};
 ghost use Rattle.otel_model.specs.Demands.{ReaderAnswers};
 ghost use Rattle.otel_model.specs.Machine.{new_state};
-ghost use Rattle.otel_model.specs.Resources.{empty_resource};
+ghost use Rattle.otel_model.specs.Resources.{empty_resource, merged};
 ghost use Rattle.otel_stream.specs.Answers.{IsAnsweredBy};
 
 use crate::provider_core::Core;
 use otel_common::faults::Fault;
+use otel_common::resource::Resource;
 use otel_stream::answers::Answers;
 use otel_stream::reader::MetricReader;
 use std::alloc::Global;
@@ -26,24 +27,34 @@ impl Model for FreshCore {
 
     ghost Value = { Fresh };
 
-    ghost view = { λ f. record { resource = f.core.shared.resource; readers = map (λ p. p.answers) f.core.readers } };
+    ghost view = { λ f. record { resource = f.core.shared.resource; identity = f.core.shared.identity; readers = map (λ p. p.answers) f.core.readers } };
 
-    ghost invariant = { λ f. f.core ≡ new_state f.core.shared.resource 0 (map (λ p. p.answers) f.core.readers) };
+    ghost invariant = { λ f. f.core ≡ new_state f.core.shared.resource f.core.shared.identity (map (λ p. p.answers) f.core.readers) };
 }
 
 impl FreshCore {
-    /// With the empty resource, and without readers. Takes no memory.
+    /// With the empty resource and the identity 0, and without readers. Takes no memory.
     pub(crate) fn new(alloc: Global) -> FreshCore
-        ensures { result ≡ record { resource = empty_resource; readers = [] } }
+        ensures { result ≡ record { resource = empty_resource; identity = 0; readers = [] } }
     {
         FreshCore {
             core: Core::new(alloc),
         }
     }
 
+    /// With the resource merged with another one, whose values win.
+    pub(crate) fn with_resource(self, resource: Resource) -> Result<FreshCore, Fault>
+        ensures resource { IfOk result (λ f. f ≡ record { resource = merged self.resource resource; identity = self.identity; readers = self.readers }) }
+        ensures only_memory { IsOkUnless result Fault.OutOfMemory }
+    {
+        let FreshCore { core } = self;
+        let core = core.with_resource(resource)?;
+        Ok(FreshCore { core })
+    }
+
     /// With a reader more, which is asked what it wants. Its answers are kept.
     pub(crate) fn with_reader<R: MetricReader>(self, reader: &R) -> Result<FreshCore, Fault>
-        ensures reader { IfOk result (λ f. (answers : ReaderAnswers) × IsAnsweredBy (R.preference reader.now) (R.limit reader.now) (R.aggregation reader.now) answers × (f ≡ record { resource = self.resource; readers = self.readers ++ answers ∷ [] })) }
+        ensures reader { IfOk result (λ f. (answers : ReaderAnswers) × IsAnsweredBy (R.preference reader.now) (R.limit reader.now) (R.aggregation reader.now) answers × (f ≡ record { resource = self.resource; identity = self.identity; readers = self.readers ++ answers ∷ [] })) }
         ensures only_memory { IsOkUnless result Fault.OutOfMemory }
     {
         let FreshCore { core } = self;
@@ -52,9 +63,19 @@ impl FreshCore {
         Ok(FreshCore { core })
     }
 
+    /// With this identity.
+    pub(crate) fn with_identity(self, identity: u64) -> FreshCore
+        ensures { result ≡ record self { identity = identity } }
+    {
+        let FreshCore { core } = self;
+        FreshCore {
+            core: core.with_identity(identity),
+        }
+    }
+
     /// The core of a provider with these readers.
     pub(crate) fn into_core(self) -> Core
-        ensures { result ≡ new_state self.resource 0 self.readers }
+        ensures { result ≡ new_state self.resource self.identity self.readers }
     {
         let FreshCore { core } = self;
         core

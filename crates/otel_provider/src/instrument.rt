@@ -1,8 +1,9 @@
 //! Instruments, as the provider keeps them.
 
 ghost use Rattle.std.specs.Prelude.{◌≡◌, Some, None, OnOk, IfErr};
+ghost use Rattle.otel_aggregate.specs.Any.{is_signed_value};
 ghost use Rattle.otel_model.specs.Machine.{accepted};
-ghost use Rattle.otel_model.specs.Refusals.{record_refusal};
+ghost use Rattle.otel_model.specs.Refusals.{record_refusal, number_refusal, observation_refusal};
 ghost use Rattle.otel_provider.specs.Instruments.{new_state};
 ghost use Rattle.otel_provider.specs.Correspondence.{number_of};
 ghost use Rattle.otel_provider.specs.States.{IsFault, IsNamed};
@@ -43,16 +44,42 @@ impl Instrument {
     }
 
     /// Whether a value has the instrument's number type.
-    pub(crate) fn check(&self, value: NumberValue) -> Result<(), Fault>
-        ensures typed { OnOk result ((number_of value).signed ≡ self.now.signed) }
-        ensures fits { OnOk result (record_refusal (Some self.now) (number_of value).signed ≡ None) }
-        ensures fault { IfErr result (IsFault (record_refusal (Some self.now) (number_of value).signed)) }
+    fn check_number(&self, value: NumberValue) -> Result<(), Fault>
+        ensures typed { OnOk result (is_signed_value value ≡ self.now.signed) }
+        ensures fits { OnOk result (number_refusal self.now.signed (is_signed_value value) ≡ None) }
+        ensures fault { IfErr result (IsFault (number_refusal self.now.signed (is_signed_value value))) }
         ensures named { IfErr result IsNamed }
     {
         if self.sort.is_signed() != is_signed(value) {
             return Err(Fault::WrongNumber);
         }
         Ok(())
+    }
+
+    /// Whether the instrument takes in records, and a value has its number type.
+    pub(crate) fn check(&self, value: NumberValue) -> Result<(), Fault>
+        ensures typed { OnOk result ((number_of value).signed ≡ self.now.signed) }
+        ensures fits { OnOk result (record_refusal (Some self.now) (number_of value).signed ≡ None) }
+        ensures fault { IfErr result (IsFault (record_refusal (Some self.now) (number_of value).signed)) }
+        ensures named { IfErr result IsNamed }
+    {
+        if self.sort.is_observable() {
+            return Err(Fault::WrongKind);
+        }
+        self.check_number(value)
+    }
+
+    /// Whether the instrument is observable, and a value that was observed has its number type.
+    pub(crate) fn check_observed(&self, value: NumberValue) -> Result<(), Fault>
+        ensures typed { OnOk result (is_signed_value value ≡ self.now.signed) }
+        ensures fits { OnOk result (observation_refusal (Some self.now) (is_signed_value value) ≡ None) }
+        ensures fault { IfErr result (IsFault (observation_refusal (Some self.now) (is_signed_value value))) }
+        ensures named { IfErr result IsNamed }
+    {
+        if !self.sort.is_observable() {
+            return Err(Fault::WrongKind);
+        }
+        self.check_number(value)
     }
 
     /// Counts a record.

@@ -1,16 +1,26 @@
-//! Laws: a copy of a call or of a reply equals its source.
+//! Laws: a copy of a call, of a reply, of a meter or of an instrument equals its source, and no call changes a provider's
+//! identity.
 //!
 //! These functions do nothing. A function whose contract needs the law of a copy calls the one of its
 //! type first.
 
-ghost use Rattle.std.specs.Prelude.{◌≡◌};
+ghost use Rattle.std.specs.Prelude.{◌≡◌, List};
 ghost use Rattle.otel_data.specs.declared.numbers.NumberValue.{NumberValue};
+ghost use Rattle.otel_model.specs.Calls as model;
+ghost use Rattle.otel_model.specs.Demands.{Views};
+ghost use Rattle.otel_model.specs.State.{State};
+ghost use Rattle.otel_model.specs.Steps.{Step, Run};
 ghost use Rattle.otel_provider.specs.declared.calls.Call.{Call};
 ghost use Rattle.otel_provider.specs.declared.calls.Reply.{Reply};
+ghost use Rattle.otel_provider.specs.declared.meters.Meter.{Meter};
 ghost use Rattle.otel_provider.specs.declared.sorts.InstrumentSort.{InstrumentSort};
+ghost use Rattle.otel_provider.specs.declared.synchronous.Synchronous.{Synchronous};
 
 use crate::calls::{Call, Reply};
+use crate::meters::Meter;
 use crate::sorts::InstrumentSort;
+use crate::synchronous::Synchronous;
+use otel_callback::laws::copied_observed;
 use otel_common::laws::{copied_attributes, copied_scope};
 use otel_data::copies::copied_collection;
 use otel_data::numbers::NumberValue;
@@ -28,6 +38,7 @@ pub fn copied_call()
     copied_attributes();
     copied_scope();
     copied_numbers();
+    copied_observed();
 }
 
 /// What a copy of a reply gives equals its source.
@@ -36,3 +47,20 @@ pub fn copied_reply()
 {
     copied_collection();
 }
+
+/// What a copy of a meter gives equals its source.
+pub fn copied_meter()
+    ensures { (x y : Meter) → ⟦<Meter as Clone>⟧.is_clone x y → y ≡ x }
+{}
+
+/// What a copy of an instrument gives equals its source.
+pub fn copied_instruments<K, T>()
+    ensures { (x y : Synchronous K T) → ⟦<Synchronous<K, T> as Clone>⟧.is_clone x y → y ≡ x }
+{}
+
+/// No call changes a provider's identity. So meters and instruments stay its own.
+#[tactic(auto, using(crate::proofs::Stepped::step_identity, crate::proofs::Stepped::run_identity))]
+pub fn keeps_identity()
+    ensures step { (views : Views) (old : State) (call : model.Call) (reply : model.Reply) (new : State) → Step views old call reply new → new.shared.identity ≡ old.shared.identity }
+    ensures run { (views : Views) (old : State) (calls : List model.Call) (replies : List model.Reply) (new : State) → Run views old calls replies new → new.shared.identity ≡ old.shared.identity }
+{}

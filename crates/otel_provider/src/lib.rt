@@ -3,13 +3,16 @@
 
 mod asking;
 mod balanced;
+pub mod builders;
 pub mod calls;
 mod fresh;
 mod instrument;
 pub mod laws;
 pub mod meter;
+pub mod meters;
 pub mod parts;
 mod pipelines;
 pub mod provider;
 mod provider_core;
 pub mod sorts;
+pub mod synchronous;

@@ -81,8 +81,7 @@ pub(crate) fn build_or_none(
     answered: &[Option<Stream>],
     now: u64,
 ) -> Result<(), Fault>
-    requires good { IsGoodIn (option_map (λ s. s.now) scope) about.now }
-    requires synchronous { model.is_observable about.now.kind ≡ false }
+    requires { IsGoodIn (option_map (λ s. s.now) scope) about.now }
     ensures ok { OnOk result (map part_of pipelines.new ≡ map (machine.built (answering answered.now) (option_map (λ s. s.now) scope.entry) about.now now) (map part_of pipelines.old)) }
     ensures err { OnErr result (map part_of pipelines.new ≡ map part_of pipelines.old) }
     ensures only_memory { IsOkUnless result Fault.OutOfMemory }

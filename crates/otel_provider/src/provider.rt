@@ -1,25 +1,32 @@
 //! The provider and its builder.
 
-ghost use Rattle.std.specs.Prelude.{◌≡◌, ◌++◌, ◌∷◌, [], map, IfOk, OnErr, IsOkAnd, IsOkUnless};
+ghost use Rattle.std.specs.Prelude.{◌≡◌, ◌++◌, ◌∷◌, [], false, true, map, IfOk, OnErr, IsOkAnd, IsOkUnless};
+ghost use Rattle.std.specs.List.{list_any};
 ghost use Rattle.otel_model.specs.Answered.{OfEachMetric, ShowsWindow, ShowsAll, HasFewPoints};
+ghost use Rattle.otel_model.specs.Calls as model;
 ghost use Rattle.otel_model.specs.Demands.{ReaderAnswers};
 ghost use Rattle.otel_model.specs.Laws.{HasStreamsOfBuilds, HasFeedsOfBuilds, HasPlacesOfHistories, HasCountedOfHistories, IsGivenCollections, IsAnsweredAsOnly, HasRecordedTotal, HasExportedTotal, HasPendingPoints, Conserves, HasAccepted, KeepsReaders};
 ghost use Rattle.otel_model.specs.Machine.{new_state};
-ghost use Rattle.otel_model.specs.Resources.{empty_resource};
-ghost use Rattle.otel_model.specs.Steps.{Step, Run};
+ghost use Rattle.otel_model.specs.Resources.{empty_resource, merged};
+ghost use Rattle.otel_model.specs.Steps.{Step, Run, asks_readers};
 ghost use Rattle.otel_model_laws.specs.Lawful.{Balances};
 ghost use Rattle.otel_provider.specs.Headline.{OfReaders, OfStreams, OfAnswers, InAnyOrder};
-ghost use Rattle.otel_provider.specs.Providers.{state_of, resource_of, answers_of_readers, views_of, builder_readers, builder_views, provider_readers, provider_views};
-ghost use Rattle.otel_provider.specs.Correspondence.{call_of, reply_of};
+ghost use Rattle.otel_provider.specs.Providers.{state_of, identity_of, resource_of, identity_of_builder, answers_of_readers, views_of, builder_readers, builder_views, provider_readers, provider_views, wants_of};
+ghost use Rattle.otel_provider.specs.Correspondence.{call_of, reply_of, reply_to};
+ghost use Rattle.otel_provider.specs.Readers.{AreReached, ShutsDown, StepReaches, RunReaches};
+ghost use Rattle.otel_provider.specs.Typed.{collect_reply};
 ghost use Rattle.otel_stream.specs.Answers.{IsAnsweredBy};
 
 use crate::balanced::BalancedCore;
 use crate::calls::{Call, Reply};
 use crate::fresh::FreshCore;
 use crate::parts::{Boxed, Parts};
-use otel_common::faults::Fault;
+use otel_common::faults::{Fault, OTelSdkResult};
+use otel_common::resource::Resource;
+use otel_data::collections::ResourceMetrics;
 use otel_stream::reader::MetricReader;
 use std::alloc::Global;
+use std::time::Duration;
 
 /// Makes a provider: it takes in the readers (Metrics SDK, "MeterProvider Creation").
 #[derive(Drop)]
@@ -33,8 +40,8 @@ pub struct ProviderBuilder<P: Parts> {
 /// (Metrics SDK, "MeterProvider").
 #[derive(Drop)]
 pub struct Provider<P: Parts> {
-    core: BalancedCore,
-    views: Vec<P::View>,
+    pub(crate) core: BalancedCore,
+    pub(crate) views: Vec<P::View>,
     readers: Vec<P::Reader>,
 }
 
@@ -45,14 +52,40 @@ pub type SdkMeterProvider = Provider<Boxed>;
 pub type MeterProviderBuilder = ProviderBuilder<Boxed>;
 
 impl<P: Parts> ProviderBuilder<P> {
-    /// What `SdkMeterProvider::builder` gives: the empty resource, and no readers. Takes no memory.
+    /// What `SdkMeterProvider::builder` gives: the empty resource, the identity 0, and no readers. Takes no memory.
     pub fn default(alloc: Global) -> ProviderBuilder<P>
         ensures answers { answers_of_readers result ≡ [] }
         ensures resource { resource_of result ≡ empty_resource }
+        ensures identity { identity_of_builder result ≡ 0 }
         ensures kept { builder_readers result ≡ [] }
         ensures views { builder_views result ≡ [] }
     {
         Provider::builder(alloc)
+    }
+
+    /// Merges the resource with another one, whose values win (Resource SDK, "Merge"; Metrics SDK, "MeterProvider
+    /// Creation"). Each collection has what came of it.
+    ///
+    /// Copies no attribute. Refused only for want of memory; then the builder is given up.
+    pub fn with_resource(self, resource: Resource) -> Result<Self, Fault>
+        ensures answers { IfOk result (λ b. answers_of_readers b ≡ answers_of_readers self) }
+        ensures resource { IfOk result (λ b. resource_of b ≡ merged (resource_of self) resource) }
+        ensures identity { IfOk result (λ b. identity_of_builder b ≡ identity_of_builder self) }
+        ensures kept { IfOk result (λ b. builder_readers b ≡ builder_readers self) }
+        ensures views { IfOk result (λ b. builder_views b ≡ builder_views self) }
+        ensures only_memory { IsOkUnless result Fault.OutOfMemory }
+    {
+        let ProviderBuilder {
+            core,
+            views,
+            readers,
+        } = self;
+        let core = core.with_resource(resource)?;
+        Ok(ProviderBuilder {
+            core,
+            views,
+            readers,
+        })
     }
 
     /// Adds the reader, and asks it once for the temporality, the limit and the aggregation that it wants for each kind
@@ -63,6 +96,7 @@ impl<P: Parts> ProviderBuilder<P> {
     pub fn with_reader(self, reader: P::Reader) -> Result<Self, Fault>
         ensures answers { IfOk result (λ b. (answers : ReaderAnswers) × IsAnsweredBy (P.Reader.preference reader) (P.Reader.limit reader) (P.Reader.aggregation reader) answers × (answers_of_readers b ≡ answers_of_readers self ++ answers ∷ [])) }
         ensures resource { IfOk result (λ b. resource_of b ≡ resource_of self) }
+        ensures identity { IfOk result (λ b. identity_of_builder b ≡ identity_of_builder self) }
         ensures kept { IfOk result (λ b. builder_readers b ≡ builder_readers self ++ reader ∷ []) }
         ensures views { IfOk result (λ b. builder_views b ≡ builder_views self) }
         ensures only_memory { IsOkUnless result Fault.OutOfMemory }
@@ -85,6 +119,7 @@ impl<P: Parts> ProviderBuilder<P> {
     pub fn with_view(self, view: P::View) -> Result<Self, Fault>
         ensures answers { IfOk result (λ b. answers_of_readers b ≡ answers_of_readers self) }
         ensures resource { IfOk result (λ b. resource_of b ≡ resource_of self) }
+        ensures identity { IfOk result (λ b. identity_of_builder b ≡ identity_of_builder self) }
         ensures kept { IfOk result (λ b. builder_readers b ≡ builder_readers self) }
         ensures views { IfOk result (λ b. builder_views b ≡ builder_views self ++ view ∷ []) }
         ensures only_memory { IsOkUnless result Fault.OutOfMemory }
@@ -102,10 +137,31 @@ impl<P: Parts> ProviderBuilder<P> {
         })
     }
 
-    /// The provider, without meters and instruments, and with the resource and the readers of the builder. It
-    /// always succeeds, and takes no memory.
+    /// The identity of the provider, by which it knows the meters and instruments that it handed out as values; 0 if
+    /// none is given. Two providers of one identity aren't told apart. Takes no memory.
+    pub fn with_identity(self, identity: u64) -> Self
+        ensures answers { answers_of_readers result ≡ answers_of_readers self }
+        ensures resource { resource_of result ≡ resource_of self }
+        ensures identity { identity_of_builder result ≡ identity }
+        ensures kept { builder_readers result ≡ builder_readers self }
+        ensures views { builder_views result ≡ builder_views self }
+    {
+        let ProviderBuilder {
+            core,
+            views,
+            readers,
+        } = self;
+        ProviderBuilder {
+            core: core.with_identity(identity),
+            views,
+            readers,
+        }
+    }
+
+    /// The provider, without meters and instruments, and with the resource, the identity and the readers of the
+    /// builder. It always succeeds, and takes no memory.
     pub fn build(self) -> Result<Provider<P>, Fault>
-        ensures state { IsOkAnd result (λ p. state_of p ≡ new_state (resource_of self) 0 (answers_of_readers self)) }
+        ensures state { IsOkAnd result (λ p. state_of p ≡ new_state (resource_of self) (identity_of_builder self) (answers_of_readers self)) }
         ensures kept { IfOk result (λ p. provider_readers p ≡ builder_readers self) }
         ensures views { IfOk result (λ p. provider_views p ≡ builder_views self) }
     {
@@ -124,10 +180,11 @@ impl<P: Parts> ProviderBuilder<P> {
 }
 
 impl<P: Parts> Provider<P> {
-    /// A builder of a provider with the empty resource and without readers. Takes no memory.
+    /// A builder of a provider with the empty resource and the identity 0, and without readers. Takes no memory.
     pub fn builder(alloc: Global) -> ProviderBuilder<P>
         ensures answers { answers_of_readers result ≡ [] }
         ensures resource { resource_of result ≡ empty_resource }
+        ensures identity { identity_of_builder result ≡ 0 }
         ensures kept { builder_readers result ≡ [] }
         ensures views { builder_views result ≡ [] }
     {
@@ -138,7 +195,7 @@ impl<P: Parts> Provider<P> {
         }
     }
 
-    /// A provider with the empty resource and without readers. Takes no memory.
+    /// A provider with the empty resource and the identity 0, and without readers. Takes no memory.
     pub fn default(alloc: Global) -> Provider<P>
         ensures state { state_of result ≡ new_state empty_resource 0 [] }
         ensures kept { provider_readers result ≡ [] }
@@ -157,10 +214,11 @@ impl<P: Parts> Provider<P> {
         }
     }
 
-    /// One call, and its reply. A call that is refused changes nothing; `OutOfMemory` only comes where no
-    /// other fault stands.
+    /// One call, and its reply. A call that is refused changes nothing, but for a flush and a shutdown in which readers
+    /// failed; `OutOfMemory` only comes where no other fault stands.
     ///
-    /// - `Meter` looks the scope up. A new one is copied and added; one that is known takes no memory.
+    /// - `Meter` looks the scope up. A new one is copied and added; one that is known takes no memory. After a shutdown
+    ///   there is no meter.
     /// - `Build` goes over name, unit and bounds once to check them. It asks each view once, for which it copies scope
     ///   and texts. At each reader it copies scope, texts and bounds for each stream that is demanded, and looks up its
     ///   identity. It is made at all readers or at none.
@@ -169,17 +227,100 @@ impl<P: Parts> Provider<P> {
     ///   copy and looks that up, and a new set takes memory besides. Without attributes there is no look-up, and
     ///   the call is never refused for memory. A histogram finds the value's bucket by halving its bounds. A
     ///   record is made in all streams or in none.
-    /// - `Collect` goes once over the reader's streams, their points and the meters. It copies the resource, and of
-    ///   what is shown scopes, texts and sets, and a histogram's bounds and counts. Then the streams whose reader wants
-    ///   `Delta` start again, which takes no memory; nothing else changes, and other readers' streams never.
+    /// - `Collect` looks at each observation, in order, before it changes anything. Each goes to the streams of this
+    ///   reader that its instrument feeds, as a record does; for want of memory all are undone. Then it goes once over the
+    ///   reader's streams, their points and the meters. It copies the resource, and of what is shown scopes, texts and
+    ///   sets, and a histogram's bounds and counts. Then the streams whose reader wants `Delta` start again, which takes
+    ///   no memory; nothing else changes, and other readers' streams never. After a shutdown it is refused.
+    /// - `Flush` and `Shutdown` ask each reader once, in order, also after one that failed. Where readers failed they are
+    ///   refused with how many did and the first of them; such a shutdown has shut the provider down too. After a
+    ///   shutdown they are refused, and ask none. They take no memory beside what readers take.
+    ///
+    /// `reached` says what became of the readers: a flush and a shutdown ask them, any other call leaves them.
     pub fn step(&mut self, call: &Call) -> Reply
         ensures step { Step (views_of P.View.answer self.old) (state_of self.old) (call_of call.now) (reply_of result) (state_of self.new) }
+        ensures balances { Balances (state_of self.new) }
+        ensures readers { KeepsReaders (state_of self.old) (state_of self.new) }
+        ensures reached { StepReaches P.Reader.flushes P.Reader.shuts (state_of self.old).shared.shut (call_of call.now) (provider_readers self.old) (reply_of result) (provider_readers self.new) }
+        ensures wants { wants_of P.Reader.preference P.Reader.limit P.Reader.aggregation self.new ≡ wants_of P.Reader.preference P.Reader.limit P.Reader.aggregation self.old }
+        ensures views { provider_views self.new ≡ provider_views self.old }
+    {
+        self.core.step(&self.views, &mut self.readers, call)
+    }
+
+    /// Makes a collection of a reader at a moment, in nanoseconds since 1970, and puts it in the place of whatever
+    /// `metrics` held (Metrics SDK, "Collect"). The same as a step by `Call::Collect` without observations.
+    ///
+    /// Refused where no reader has this number, where the provider was shut down, and for want of memory. Then nothing
+    /// changed, and `metrics` holds what it held.
+    pub fn collect(
+        &mut self,
+        reader: usize,
+        now: u64,
+        metrics: &mut ResourceMetrics,
+    ) -> Result<(), Fault>
+        ensures step { Step (views_of P.View.answer self.old) (state_of self.old) (model.Call.Collect reader now []) (collect_reply result metrics.new) (state_of self.new) }
+        ensures held { OnErr result (metrics.new ≡ metrics.old) }
         ensures balances { Balances (state_of self.new) }
         ensures readers { KeepsReaders (state_of self.old) (state_of self.new) }
         ensures kept { provider_readers self.new ≡ provider_readers self.old }
         ensures views { provider_views self.new ≡ provider_views self.old }
     {
-        self.core.step(&self.views, call)
+        match self.core.collect(reader, now, &[]) {
+            Ok(collected) => {
+                *metrics = collected;
+                Ok(())
+            }
+            Err(fault) => Err(fault),
+        }
+    }
+
+    /// Asks each reader to flush, in order, also after one that failed (Metrics SDK, "ForceFlush"). The same as a step
+    /// by `Call::Flush`.
+    ///
+    /// Refused where the provider was shut down, and then no reader is asked; and where readers failed, with how many did
+    /// and the number of the first. Takes no memory beside what readers take.
+    pub fn force_flush(&mut self) -> OTelSdkResult
+        ensures step { Step (views_of P.View.answer self.old) (state_of self.old) model.Call.Flush (reply_to result) (state_of self.new) }
+        ensures asked { AreReached P.Reader.flushes (state_of self.old).shared.shut (provider_readers self.old) (provider_readers self.new) result }
+        ensures shut { (state_of self.new).shared.shut ≡ (state_of self.old).shared.shut }
+        ensures balances { Balances (state_of self.new) }
+        ensures readers { KeepsReaders (state_of self.old) (state_of self.new) }
+        ensures wants { wants_of P.Reader.preference P.Reader.limit P.Reader.aggregation self.new ≡ wants_of P.Reader.preference P.Reader.limit P.Reader.aggregation self.old }
+        ensures views { provider_views self.new ≡ provider_views self.old }
+    {
+        self.core.force_flush(&mut self.readers)
+    }
+
+    /// Shuts the provider down and asks each reader to shut down, in order, also after one that failed (Metrics SDK,
+    /// "Shutdown"). The same as a step by `Call::Shutdown`.
+    ///
+    /// Refused where the provider was shut down before, and then no reader is asked; and where readers failed, with how
+    /// many did and the number of the first: then too the provider is shut down. Takes no memory beside what readers take.
+    pub fn shutdown(&mut self) -> OTelSdkResult
+        ensures step { Step (views_of P.View.answer self.old) (state_of self.old) model.Call.Shutdown (reply_to result) (state_of self.new) }
+        ensures asked { AreReached (ShutsDown P.Reader.shuts) (state_of self.old).shared.shut (provider_readers self.old) (provider_readers self.new) result }
+        ensures shut { (state_of self.new).shared.shut ≡ true }
+        ensures balances { Balances (state_of self.new) }
+        ensures readers { KeepsReaders (state_of self.old) (state_of self.new) }
+        ensures wants { wants_of P.Reader.preference P.Reader.limit P.Reader.aggregation self.new ≡ wants_of P.Reader.preference P.Reader.limit P.Reader.aggregation self.old }
+        ensures views { provider_views self.new ≡ provider_views self.old }
+    {
+        self.core.shutdown(&mut self.readers)
+    }
+
+    /// The same as `shutdown`: the timeout is ignored, and each reader is asked to shut down with its own.
+    pub fn shutdown_with_timeout(&mut self, timeout: Duration) -> OTelSdkResult
+        ensures step { Step (views_of P.View.answer self.old) (state_of self.old) model.Call.Shutdown (reply_to result) (state_of self.new) }
+        ensures asked { AreReached (ShutsDown P.Reader.shuts) (state_of self.old).shared.shut (provider_readers self.old) (provider_readers self.new) result }
+        ensures shut { (state_of self.new).shared.shut ≡ true }
+        ensures balances { Balances (state_of self.new) }
+        ensures readers { KeepsReaders (state_of self.old) (state_of self.new) }
+        ensures wants { wants_of P.Reader.preference P.Reader.limit P.Reader.aggregation self.new ≡ wants_of P.Reader.preference P.Reader.limit P.Reader.aggregation self.old }
+        ensures views { provider_views self.new ≡ provider_views self.old }
+    {
+        let _ = timeout;
+        self.shutdown()
     }
 
     /// A list of calls, one after another, with the reply to each. It costs what its calls do as steps.
@@ -187,7 +328,8 @@ impl<P: Parts> Provider<P> {
     /// Room for the replies is made first, in one piece. So where this answers `OutOfMemory` no call was
     /// made, and else each call has its reply, also where it was refused.
     ///
-    /// `run` says what is done, call by call. `order` says, for any provider, that with another order of a
+    /// `run` says what is done, call by call, and `reached` what becomes of the readers; where no call asks them they are
+    /// as before (`unasked`). `order` says, for any provider, that with another order of a
     /// record's attributes the same replies and state are right. The clauses from `streams` on say, for a
     /// provider as `build` gave it, what can be read off the calls and replies alone.
     pub fn run(&mut self, alloc: Global, calls: &[Call]) -> Result<Vec<Reply>, Fault>
@@ -196,7 +338,10 @@ impl<P: Parts> Provider<P> {
         ensures only_memory { IsOkUnless result Fault.OutOfMemory }
         ensures balances { Balances (state_of self.new) }
         ensures readers { KeepsReaders (state_of self.old) (state_of self.new) }
-        ensures kept { provider_readers self.new ≡ provider_readers self.old }
+        ensures reached { IfOk result (λ replies. RunReaches P.Reader.flushes P.Reader.shuts (state_of self.old).shared.shut (map call_of calls.now) (provider_readers self.old) (map reply_of replies.items) (provider_readers self.new)) }
+        ensures unreached { OnErr result (provider_readers self.new ≡ provider_readers self.old) }
+        ensures unasked { list_any asks_readers (map call_of calls.now) ≡ false → provider_readers self.new ≡ provider_readers self.old }
+        ensures wants { wants_of P.Reader.preference P.Reader.limit P.Reader.aggregation self.new ≡ wants_of P.Reader.preference P.Reader.limit P.Reader.aggregation self.old }
         ensures views { provider_views self.new ≡ provider_views self.old }
         ensures order { IfOk result (λ replies. InAnyOrder (views_of P.View.answer self.old) (state_of self.old) calls.now replies.items (state_of self.new)) }
         ensures streams { IfOk result (λ replies. OfReaders HasStreamsOfBuilds (views_of P.View.answer self.old) (state_of self.old) calls.now replies.items (state_of self.new)) }
@@ -214,6 +359,6 @@ impl<P: Parts> Provider<P> {
         ensures all_shown { IfOk result (λ replies. OfAnswers (OfEachMetric ShowsAll) (views_of P.View.answer self.old) (state_of self.old) calls.now replies.items) }
         ensures few { IfOk result (λ replies. OfAnswers (OfEachMetric HasFewPoints) (views_of P.View.answer self.old) (state_of self.old) calls.now replies.items) }
     {
-        self.core.run(&self.views, alloc, calls)
+        self.core.run(&self.views, &mut self.readers, alloc, calls)
     }
 }

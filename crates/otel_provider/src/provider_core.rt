@@ -1,18 +1,21 @@
 //! The state of a provider: all of it that is no boxed object.
 
-ghost use Rattle.std.specs.Prelude.{◌≡◌, ◌∷◌, ◌++◌, [], Option, cond, length, map, slice_get, Some, None, true, OnOk, OnErr, IfOk, IfErr, IsOk, IsOkUnless, MatchResult};
+ghost use Rattle.std.specs.Prelude.{◌≡◌, ◌∷◌, ◌++◌, [], Option, All, cond, length, map, slice_get, Some, None, true, false, OnOk, OnErr, IfOk, IfErr, IsOk, IsOkUnless, MatchResult};
 ghost use Rattle.std.specs.Option.{option_map};
+ghost use Rattle.otel_aggregate.specs.Any.{is_signed_value};
 ghost use Rattle.otel_model.specs.Calls as model;
 ghost use Rattle.otel_model.specs.Demands.{Views, is_good, are_good_bounds};
 ghost use Rattle.otel_model.specs.Machine.{new_state, new_part, new_instrument, built};
-ghost use Rattle.otel_model.specs.Refusals.{record_refusal};
-ghost use Rattle.otel_model.specs.Resources.{empty_resource};
+ghost use Rattle.otel_model.specs.Refusals.{record_refusal, observation_refusal, observations_refusal};
+ghost use Rattle.otel_model.specs.Resources.{empty_resource, merged};
 ghost use Rattle.otel_model.specs.Sent.{has_scope};
 ghost use Rattle.otel_model.specs.Steps.{Step, Run};
 ghost use Rattle.otel_pipeline.specs.Pipelines.{part_of};
 ghost use Rattle.otel_pipeline.specs.Views.{answering};
-ghost use Rattle.otel_provider.specs.Correspondence.{about, kind_of, is_signed, number_of, call_of, reply_of};
-ghost use Rattle.otel_provider.specs.States.{IsMade, IsFault, IsFaultOf, IsNamed, IsScopeOf, IsNoMeter, IsGoodIn, IsTakenBy};
+ghost use Rattle.otel_provider.specs.Correspondence.{about, kind_of, is_signed, number_of, observed_of, call_of, reply_of, reply_to};
+ghost use Rattle.otel_provider.specs.Readers.{AreReached, AreReachedBy, ShutsDown, StepReaches, RunReaches};
+ghost use Rattle.otel_provider.specs.States.{IsMade, IsFault, IsFaultOf, IsNamed, IsScopeOf, IsNoMeter, IsGoodIn, IsTakenBy, IsTaken};
+ghost use Rattle.otel_stream.specs.Requests.{wanted_by};
 ghost use Rattle.otel_provider.specs.declared.sorts.InstrumentSort.{InstrumentSort};
 
 use crate::asking::ask_in;
@@ -24,8 +27,9 @@ use crate::meter::{
 use crate::pipelines::{build_or_none, record_or_none};
 use crate::sorts::InstrumentSort;
 use indexmap::IndexSet;
+use otel_callback::observation::Observed;
 use otel_common::attributes::KeyValue;
-use otel_common::faults::Fault;
+use otel_common::faults::{Fault, InternalFault, OTelSdkResult};
 use otel_common::laws::copied_scope;
 use otel_common::lists::Items;
 use otel_common::resource::Resource;
@@ -37,16 +41,21 @@ use otel_pipeline::about::About;
 use otel_pipeline::pipeline::Pipeline;
 use otel_stream::answers::Answers;
 use otel_stream::instrument::InstrumentKind;
+use otel_stream::reader::MetricReader;
+use otel_stream::readers::{flush_all, shut_all};
 use otel_stream::stream::Stream;
 use otel_stream::view::View;
 use std::alloc::Global;
 use std::marker::Model;
 
-/// The resource, the meters, the instruments, and the streams of each reader.
+/// Whether the provider was shut down, the resource, the identity, the meters, the instruments, and the streams of each
+/// reader.
 #[derive(Drop)]
 pub struct Core {
     alloc: Global,
+    shut: bool,
     resource: Resource,
+    identity: u64,
     meters: IndexSet<InstrumentationScope>,
     instruments: Vec<Instrument>,
     pipelines: Vec<Pipeline>,
@@ -60,7 +69,7 @@ impl Model for Core {
 
     ghost Value = { State };
 
-    ghost view = { λ c. state_of c.resource c.meters.keys c.instruments.items c.pipelines.items };
+    ghost view = { λ c. state_of c.shut c.resource c.identity c.meters.keys c.instruments.items c.pipelines.items };
 
     ghost invariant = { λ c. AreTyped c.instruments.items (map part_of c.pipelines.items) };
 }
@@ -125,7 +134,7 @@ fn good_scope<'a>(
     if is_good(about) { scope } else { None }
 }
 
-/// Whether there is an instrument of this number, and a value has its number type.
+/// Whether there is an instrument of this number that takes in records, and a value has its number type.
 fn check_value(
     instruments: &[Instrument],
     instrument: usize,
@@ -140,6 +149,34 @@ fn check_value(
         Some(found) => found.check(value),
         None => Err(Fault::UnknownInstrument),
     }
+}
+
+/// Whether there is an observable instrument of the number that is said, and the value has its number type.
+fn check_observation(instruments: &[Instrument], observed: &Observed) -> Result<(), Fault>
+    ensures taken { OnOk result (IsTaken instruments.now observed.now) }
+    ensures fits { OnOk result (observation_refusal (slice_get instruments.now observed.now.instrument) (is_signed_value observed.now.value) ≡ None) }
+    ensures fault { IfErr result (IsFault (observation_refusal (slice_get instruments.now observed.now.instrument) (is_signed_value observed.now.value))) }
+    ensures named { IfErr result IsNamed }
+{
+    match instruments.get(observed.instrument) {
+        Some(found) => found.check_observed(observed.value),
+        None => Err(Fault::UnknownInstrument),
+    }
+}
+
+/// Whether all observations are good; else the fault of the first bad one. Takes no memory.
+fn check_observations(instruments: &[Instrument], observations: &[Observed]) -> Result<(), Fault>
+    ensures taken { OnOk result (All (IsTaken instruments.now) observations.now) }
+    ensures fits { OnOk result (observations_refusal instruments.now (map observed_of observations.now) ≡ None) }
+    ensures fault { IfErr result (IsFault (observations_refusal instruments.now (map observed_of observations.now))) }
+    ensures named { IfErr result IsNamed }
+{
+    for observed in observations {
+        if let Err(fault) = check_observation(instruments, observed) {
+            return Err(fault);
+        }
+    }
+    Ok(())
 }
 
 /// Makes an instrument, of which each view answered this, at all readers or at none. Without a scope it demands nothing.
@@ -169,14 +206,26 @@ fn make(
     Ok(number)
 }
 
+/// The reply to a flush or a shutdown that is answered like this.
+fn replied(answer: OTelSdkResult) -> Reply
+    ensures { reply_of result ≡ reply_to answer }
+{
+    match answer {
+        Ok(()) => Reply::Done,
+        Err(fault) => Reply::Refused(fault),
+    }
+}
+
 impl Core {
-    /// The empty resource, no meters, no instruments and no readers. Takes no memory.
+    /// The empty resource, the identity 0, no meters, no instruments and no readers. Takes no memory.
     pub(crate) fn new(alloc: Global) -> Core
         ensures { result ≡ new_state empty_resource 0 [] }
     {
         Core {
             alloc,
+            shut: false,
             resource: Resource::builder_empty(alloc).build(),
+            identity: 0,
             meters: IndexSet::new(alloc),
             instruments: Vec::new(alloc),
             pipelines: Vec::new(alloc),
@@ -186,6 +235,48 @@ impl Core {
     /// The allocator.
     pub(crate) fn allocator(&self) -> Global {
         self.alloc
+    }
+
+    /// The resource merged with another one, whose values win.
+    pub(crate) fn with_resource(self, resource: Resource) -> Result<Core, Fault>
+        ensures resource { IfOk result (λ core. core ≡ record { shared = record self.shared { resource = merged self.shared.resource resource }; readers = self.readers }) }
+        ensures only_memory { IsOkUnless result Fault.OutOfMemory }
+    {
+        let Core {
+            alloc,
+            shut,
+            resource: old,
+            identity,
+            meters,
+            instruments,
+            pipelines,
+        } = self;
+        let resource = old.merged_with(resource)?;
+        Ok(Core {
+            alloc,
+            shut,
+            resource,
+            identity,
+            meters,
+            instruments,
+            pipelines,
+        })
+    }
+
+    /// The identity.
+    pub(crate) fn identity(&self) -> u64
+        ensures { result ≡ self.now.shared.identity }
+    {
+        self.identity
+    }
+
+    /// With this identity.
+    pub(crate) fn with_identity(self, identity: u64) -> Core
+        ensures { result ≡ record { shared = record self.shared { identity = identity }; readers = self.readers } }
+    {
+        let mut core = self;
+        core.identity = identity;
+        core
     }
 
     /// A reader more, without streams, which answered this.
@@ -200,8 +291,9 @@ impl Core {
         Ok(core)
     }
 
-    /// The number of the meter of a scope, which is new if there was none.
+    /// The number of the meter of a scope, which is new if there was none, while the provider is not shut down.
     fn meter(&mut self, scope: &InstrumentationScope) -> Result<usize, Fault>
+        requires { self.old.shared.shut ≡ false }
         ensures ok { IfOk result (λ n. (views : Views) → IsMade views self.old (model.Call.Meter scope.now) (model.Reply.Meter (Some n)) self.new) }
         ensures err { OnErr result (self.new ≡ self.old) }
         ensures known { has_scope scope.now self.old.shared.meters ≡ true → IsOk result }
@@ -215,7 +307,7 @@ impl Core {
     }
 
     /// Builds an instrument. Each view is asked once, before anything is changed.
-    fn build<V: View>(
+    pub(crate) fn build<V: View>(
         &mut self,
         views: &[V],
         meter: Option<usize>,
@@ -247,7 +339,7 @@ impl Core {
     }
 
     /// Records a value with attributes at an instrument, in all the streams that it feeds or in none.
-    fn record(
+    pub(crate) fn record(
         &mut self,
         instrument: usize,
         value: NumberValue,
@@ -266,23 +358,78 @@ impl Core {
         Ok(())
     }
 
-    /// Makes a collection of a reader at a moment.
-    fn collect(&mut self, reader: usize, now: u64) -> Result<ResourceMetrics, Fault>
-        ensures ok { IfOk result (λ c. (views : Views) → IsMade views self.old (model.Call.Collect reader now []) (model.Reply.Collected c) self.new) }
+    /// Makes a collection of a reader at a moment, with what was observed, while the provider is not shut down.
+    fn collect(
+        &mut self,
+        reader: usize,
+        now: u64,
+        observations: &[Observed],
+    ) -> Result<ResourceMetrics, Fault>
+        requires { self.old.shared.shut ≡ false }
+        ensures ok { IfOk result (λ c. (views : Views) → IsMade views self.old (model.Call.Collect reader now (map observed_of observations.now)) (model.Reply.Collected c) self.new) }
         ensures err { OnErr result (self.new ≡ self.old) }
-        ensures fault { IfErr result (IsFaultOf self.old (model.Call.Collect reader now [])) }
+        ensures fault { IfErr result (IsFaultOf self.old (model.Call.Collect reader now (map observed_of observations.now))) }
     {
-        let Some(pipeline) = self.pipelines.get_mut(reader) else {
+        if reader >= self.pipelines.len() {
             return Err(Fault::UnknownReader);
-        };
-        pipeline.collect(&self.resource, &self.meters, now)
+        }
+        if let Err(fault) = check_observations(&self.instruments, observations) {
+            return Err(fault);
+        }
+        self.pipelines[reader].collect(&self.resource, &self.meters, observations, now)
+    }
+
+    /// Asks each reader to flush, unless the provider was shut down.
+    pub(crate) fn force_flush<R: MetricReader>(&mut self, readers: &mut [R]) -> OTelSdkResult
+        ensures step { (views : Views) → Step views self.old model.Call.Flush (reply_to result) self.new }
+        ensures asked { AreReached R.flushes self.old.shared.shut readers.old readers.new result }
+        ensures shut { self.new.shared.shut ≡ self.old.shared.shut }
+        ensures wants { map (wanted_by R.preference R.limit R.aggregation) readers.new ≡ map (wanted_by R.preference R.limit R.aggregation) readers.old }
+    {
+        if self.shut {
+            return Err(Fault::AlreadyShutdown);
+        }
+        flush_all(readers)
+    }
+
+    /// Shuts the provider down and asks each reader to shut down, unless it was shut down before.
+    pub(crate) fn shutdown<R: MetricReader>(&mut self, readers: &mut [R]) -> OTelSdkResult
+        ensures step { (views : Views) → Step views self.old model.Call.Shutdown (reply_to result) self.new }
+        ensures asked { AreReached (ShutsDown R.shuts) self.old.shared.shut readers.old readers.new result }
+        ensures shut { self.new.shared.shut ≡ true }
+        ensures wants { map (wanted_by R.preference R.limit R.aggregation) readers.new ≡ map (wanted_by R.preference R.limit R.aggregation) readers.old }
+    {
+        if self.shut {
+            return Err(Fault::AlreadyShutdown);
+        }
+        self.shut = true;
+        shut_all(readers)
+    }
+
+    /// The number of the meter of a scope, which is new if there was none; none after a shutdown.
+    pub(crate) fn meter_unless_shut(
+        &mut self,
+        scope: &InstrumentationScope,
+    ) -> Result<Option<usize>, Fault>
+        ensures ok { IfOk result (λ n. (views : Views) → IsMade views self.old (model.Call.Meter scope.now) (model.Reply.Meter n) self.new) }
+        ensures err { OnErr result (self.new ≡ self.old) }
+        ensures known { has_scope scope.now self.old.shared.meters ≡ true → IsOk result }
+        ensures only_memory { IsOkUnless result Fault.OutOfMemory }
+    {
+        if self.shut {
+            return Ok(None);
+        }
+        match self.meter(scope) {
+            Ok(number) => Ok(Some(number)),
+            Err(fault) => Err(fault),
+        }
     }
 
     fn step_meter(&mut self, scope: &InstrumentationScope) -> Reply
         ensures { (views : Views) → Step views self.old (model.Call.Meter scope.now) (reply_of result) self.new }
     {
-        match self.meter(scope) {
-            Ok(number) => Reply::Meter(Some(number)),
+        match self.meter_unless_shut(scope) {
+            Ok(number) => Reply::Meter(number),
             Err(fault) => Reply::Refused(fault),
         }
     }
@@ -319,18 +466,61 @@ impl Core {
         }
     }
 
-    fn step_collect(&mut self, reader: usize, now: u64) -> Reply
-        ensures { (views : Views) → Step views self.old (model.Call.Collect reader now []) (reply_of result) self.new }
+    /// Makes a collection of a reader at a moment, with what was observed, unless the provider was shut down.
+    pub(crate) fn collect_unless_shut(
+        &mut self,
+        reader: usize,
+        now: u64,
+        observations: &[Observed],
+    ) -> Result<ResourceMetrics, Fault>
+        ensures ok { IfOk result (λ c. (views : Views) → IsMade views self.old (model.Call.Collect reader now (map observed_of observations.now)) (model.Reply.Collected c) self.new) }
+        ensures err { OnErr result (self.new ≡ self.old) }
+        ensures fault { IfErr result (IsFaultOf self.old (model.Call.Collect reader now (map observed_of observations.now))) }
     {
-        match self.collect(reader, now) {
+        if self.shut {
+            if reader < self.pipelines.len() {
+                return Err(Fault::InternalFailure(InternalFault::ReaderShutDown));
+            }
+            return Err(Fault::UnknownReader);
+        }
+        self.collect(reader, now, observations)
+    }
+
+    fn step_collect(&mut self, reader: usize, now: u64, observations: &[Observed]) -> Reply
+        ensures { (views : Views) → Step views self.old (model.Call.Collect reader now (map observed_of observations.now)) (reply_of result) self.new }
+    {
+        match self.collect_unless_shut(reader, now, observations) {
             Ok(metrics) => Reply::Collected(metrics),
             Err(fault) => Reply::Refused(fault),
         }
     }
 
+    fn step_flush<R: MetricReader>(&mut self, readers: &mut [R]) -> Reply
+        ensures step { (views : Views) → Step views self.old model.Call.Flush (reply_of result) self.new }
+        ensures reached { AreReachedBy R.flushes self.old.shared.shut readers.old (reply_of result) readers.new }
+        ensures wants { map (wanted_by R.preference R.limit R.aggregation) readers.new ≡ map (wanted_by R.preference R.limit R.aggregation) readers.old }
+    {
+        replied(self.force_flush(readers))
+    }
+
+    fn step_shutdown<R: MetricReader>(&mut self, readers: &mut [R]) -> Reply
+        ensures step { (views : Views) → Step views self.old model.Call.Shutdown (reply_of result) self.new }
+        ensures reached { AreReachedBy (ShutsDown R.shuts) self.old.shared.shut readers.old (reply_of result) readers.new }
+        ensures wants { map (wanted_by R.preference R.limit R.aggregation) readers.new ≡ map (wanted_by R.preference R.limit R.aggregation) readers.old }
+    {
+        replied(self.shutdown(readers))
+    }
+
     /// One call.
-    pub(crate) fn step<V: View>(&mut self, views: &[V], call: &Call) -> Reply
-        ensures { Step (map V.answer views.now) self.old (call_of call.now) (reply_of result) self.new }
+    pub(crate) fn step<V: View, R: MetricReader>(
+        &mut self,
+        views: &[V],
+        readers: &mut [R],
+        call: &Call,
+    ) -> Reply
+        ensures step { Step (map V.answer views.now) self.old (call_of call.now) (reply_of result) self.new }
+        ensures reached { StepReaches R.flushes R.shuts self.old.shared.shut (call_of call.now) readers.old (reply_of result) readers.new }
+        ensures wants { map (wanted_by R.preference R.limit R.aggregation) readers.new ≡ map (wanted_by R.preference R.limit R.aggregation) readers.old }
     {
         match call {
             Call::Meter { scope } => self.step_meter(scope),
@@ -358,24 +548,34 @@ impl Core {
                 value,
                 attributes,
             } => { self.step_record(*instrument, *value, attributes.as_slice()) }
-            Call::Collect { reader, now } => self.step_collect(*reader, *now),
+            Call::Collect {
+                reader,
+                now,
+                observations,
+            } => self.step_collect(*reader, *now, observations.as_slice()),
+            Call::Flush => self.step_flush(readers),
+            Call::Shutdown => self.step_shutdown(readers),
         }
     }
 
     /// A list of calls, one after another, with the reply to each.
-    pub(crate) fn run<V: View>(
+    pub(crate) fn run<V: View, R: MetricReader>(
         &mut self,
         views: &[V],
+        readers: &mut [R],
         alloc: Global,
         calls: &[Call],
     ) -> Result<Vec<Reply>, Fault>
         ensures run { IfOk result (λ replies. Run (map V.answer views.now) self.old (map call_of calls.now) (map reply_of replies.items) self.new) }
         ensures unmade { OnErr result (self.new ≡ self.old) }
         ensures only_memory { IsOkUnless result Fault.OutOfMemory }
+        ensures reached { IfOk result (λ replies. RunReaches R.flushes R.shuts self.old.shared.shut (map call_of calls.now) readers.old (map reply_of replies.items) readers.new) }
+        ensures unreached { OnErr result (readers.new ≡ readers.old) }
+        ensures wants { map (wanted_by R.preference R.limit R.aggregation) readers.new ≡ map (wanted_by R.preference R.limit R.aggregation) readers.old }
     {
         let mut replies = Vec::with_capacity(alloc, calls.len())?;
         for call in calls {
-            let reply = self.step(views, call);
+            let reply = self.step(views, readers, call);
             replies.push_reserved(reply);
         }
         Ok(replies)

@@ -1,6 +1,7 @@
 //! What builds make.
 
 ghost use Rattle.std.specs.Prelude.{◌≡◌};
+ghost use Rattle.otel_model.specs.Calls.{is_observable};
 ghost use Rattle.otel_provider.specs.Correspondence.{kind_of, is_signed};
 
 use otel_stream::instrument::InstrumentKind;
@@ -10,12 +11,20 @@ use otel_stream::instrument::InstrumentKind;
 pub enum InstrumentSort {
     /// A counter of `u64`: it adds values that are never negative.
     U64Counter,
+    /// An observable counter of `u64`: it is observed what was summed, which never falls.
+    U64ObservableCounter,
     /// A counter of `i64`: it adds values of either sign.
     I64UpDownCounter,
+    /// An observable counter of `i64`: it is observed what was summed, of either sign.
+    I64ObservableUpDownCounter,
     /// A gauge of `u64`: it keeps the last value.
     U64Gauge,
     /// A gauge of `i64`: it keeps the last value.
     I64Gauge,
+    /// An observable gauge of `u64`: it keeps the last value that was observed.
+    U64ObservableGauge,
+    /// An observable gauge of `i64`: it keeps the last value that was observed.
+    I64ObservableGauge,
     /// A histogram of `u64`: it tells how values spread.
     U64Histogram,
 }
@@ -27,9 +36,13 @@ impl InstrumentSort {
     {
         match self {
             InstrumentSort::U64Counter => InstrumentKind::Counter,
+            InstrumentSort::U64ObservableCounter => InstrumentKind::ObservableCounter,
             InstrumentSort::I64UpDownCounter => InstrumentKind::UpDownCounter,
+            InstrumentSort::I64ObservableUpDownCounter => InstrumentKind::ObservableUpDownCounter,
             InstrumentSort::U64Gauge => InstrumentKind::Gauge,
             InstrumentSort::I64Gauge => InstrumentKind::Gauge,
+            InstrumentSort::U64ObservableGauge => InstrumentKind::ObservableGauge,
+            InstrumentSort::I64ObservableGauge => InstrumentKind::ObservableGauge,
             InstrumentSort::U64Histogram => InstrumentKind::Histogram,
         }
     }
@@ -40,9 +53,30 @@ impl InstrumentSort {
     {
         match self {
             InstrumentSort::U64Counter => false,
+            InstrumentSort::U64ObservableCounter => false,
             InstrumentSort::I64UpDownCounter => true,
+            InstrumentSort::I64ObservableUpDownCounter => true,
             InstrumentSort::U64Gauge => false,
             InstrumentSort::I64Gauge => true,
+            InstrumentSort::U64ObservableGauge => false,
+            InstrumentSort::I64ObservableGauge => true,
+            InstrumentSort::U64Histogram => false,
+        }
+    }
+
+    /// Whether it is observed at collections; else it takes in records.
+    pub fn is_observable(self) -> bool
+        ensures { result ≡ is_observable (kind_of self) }
+    {
+        match self {
+            InstrumentSort::U64Counter => false,
+            InstrumentSort::U64ObservableCounter => true,
+            InstrumentSort::I64UpDownCounter => false,
+            InstrumentSort::I64ObservableUpDownCounter => true,
+            InstrumentSort::U64Gauge => false,
+            InstrumentSort::I64Gauge => false,
+            InstrumentSort::U64ObservableGauge => true,
+            InstrumentSort::I64ObservableGauge => true,
             InstrumentSort::U64Histogram => false,
         }
     }

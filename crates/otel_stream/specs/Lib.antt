@@ -1,7 +1,10 @@
 pub mod Answers
+pub mod Boxes
 pub mod ByKind
 pub mod Compatible
 pub mod Preferences
+pub mod Questions
+pub mod Requests
 pub mod Settings
 pub mod Units
 pub mod Wants

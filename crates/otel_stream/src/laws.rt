@@ -1,16 +1,18 @@
 //! Laws: two kinds of instruments are equal exactly if they are the same, two instruments exactly if their parts
-//! are; a box of a reader wants what the reader in it wants, and one of a view answers what the view in it does;
-//! what a reader answers that wants no limits and no aggregations.
+//! are; a box of a reader wants and does what the reader in it wants and does, and one of a view answers what the view
+//! in it does; what a reader answers that wants no limits and no aggregations.
 //!
 //! `kind_laws`, `equal_instruments`, `boxed_reader`, `boxed_view` and `plain_answers` do nothing. A function whose
 //! contract needs the law calls it first.
 
-ghost use Rattle.std.specs.Prelude.{◌≡◌, ℕ, Option, None, IfOk};
+ghost use Rattle.std.specs.Prelude.{◌≡◌, ◌↔◌, ℕ, Option, None, IfOk};
 ghost use Rattle.std.specs.Bool.{Decides};
 ghost use Rattle.otel_common.specs.declared.metrics.Aggregation.{Aggregation};
 ghost use Rattle.otel_common.specs.declared.metrics.Temporality.{Temporality};
 ghost use Rattle.otel_stream.specs.Answers.{ReaderAnswers, IsAnsweredBy, answers_by, preferring};
+ghost use Rattle.otel_stream.specs.Boxes.{Becomes};
 ghost use Rattle.otel_stream.specs.Preferences.{temporality_preference};
+ghost use Rattle.otel_stream.specs.Requests.{Outcome};
 ghost use Rattle.otel_stream.specs.Wants.{temporality_alone, limit_of, aggregation_of};
 ghost use Rattle.otel_stream.specs.declared.instrument.Instrument.{Instrument};
 ghost use Rattle.otel_stream.specs.declared.instrument.InstrumentKind.{InstrumentKind};
@@ -37,11 +39,14 @@ pub fn equal_instruments()
     kind_laws();
 }
 
-/// A box wants for each kind of instrument what the reader in it wants, whatever its type is.
+/// A box wants for each kind of instrument what the reader in it wants, whatever its type is; and a flush or a shutdown
+/// makes of the box one that holds what it makes of the reader in it.
 pub fn boxed_reader(reader: &Box<dyn MetricReader>)
     ensures temporality { ⟦<Box<dyn MetricReader> as MetricReader>⟧.preference reader.now ≡ (⟦<dyn MetricReader as MetricReader>⟧ reader.now.vtable).preference reader.now.value }
     ensures limit { ⟦<Box<dyn MetricReader> as MetricReader>⟧.limit reader.now ≡ (⟦<dyn MetricReader as MetricReader>⟧ reader.now.vtable).limit reader.now.value }
     ensures aggregation { ⟦<Box<dyn MetricReader> as MetricReader>⟧.aggregation reader.now ≡ (⟦<dyn MetricReader as MetricReader>⟧ reader.now.vtable).aggregation reader.now.value }
+    ensures flushes { (after : _) (outcome : Outcome) → ⟦<Box<dyn MetricReader> as MetricReader>⟧.flushes reader.now after outcome ↔ Becomes reader.now after (λ object. (⟦<dyn MetricReader as MetricReader>⟧ reader.now.vtable).flushes reader.now.value object outcome) }
+    ensures shuts { (timeout : ℕ) (after : _) (outcome : Outcome) → ⟦<Box<dyn MetricReader> as MetricReader>⟧.shuts reader.now timeout after outcome ↔ Becomes reader.now after (λ object. (⟦<dyn MetricReader as MetricReader>⟧ reader.now.vtable).shuts reader.now.value timeout object outcome) }
 {}
 
 /// A box answers for each instrument what the view in it answers, whatever its type is.

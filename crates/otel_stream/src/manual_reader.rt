@@ -1,6 +1,6 @@
 //! The reader that collects when it is asked to.
 
-ghost use Rattle.std.specs.Prelude.{◌≡◌, Some, false, IfSome, option_copied};
+ghost use Rattle.std.specs.Prelude.{◌≡◌, Ok, Some, false, IfSome, option_copied};
 ghost use Rattle.otel_common.specs.declared.metrics.Temporality.TheVariants.{Cumulative};
 ghost use Rattle.otel_stream.specs.Answers.{kind_eq};
 ghost use Rattle.otel_stream.specs.Preferences.{temporality_preference};
@@ -11,9 +11,11 @@ use crate::instrument::InstrumentKind;
 use crate::limit::CardinalityLimit;
 use crate::reader::MetricReader;
 use crate::wants::Wants;
+use otel_common::faults::OTelSdkResult;
 use otel_common::metrics::{Aggregation, Temporality};
 use std::fmt::{self, Debug, Formatter, Write};
 use std::marker::Model;
+use std::time::Duration;
 
 /// A reader whose collections its owner asks for (Metrics SDK, "MetricReader"). It has one temporality,
 /// and wants for each kind of instrument what `InstrumentKind::temporality_preference` says of it. For each
@@ -78,6 +80,10 @@ impl MetricReader for ManualReader {
 
     ghost aggregation = { aggregation_of };
 
+    ghost flushes = { λ before after outcome. (after ≡ before) × (outcome ≡ Ok tt) };
+
+    ghost shuts = { λ before timeout after outcome. (after ≡ before) × (outcome ≡ Ok tt) };
+
     fn temporality(&self, kind: InstrumentKind) -> Temporality {
         kind.temporality_preference(self.wants.temporality)
     }
@@ -92,6 +98,17 @@ impl MetricReader for ManualReader {
         ensures { option_copied result ≡ aggregation_of self.now kind }
     {
         self.wants.aggregations.get(kind).as_ref()
+    }
+
+    /// Does nothing: what is pending stays with the provider until it is collected.
+    fn force_flush(&mut self) -> OTelSdkResult {
+        Ok(())
+    }
+
+    /// Does nothing.
+    fn shutdown_with_timeout(&mut self, timeout: Duration) -> OTelSdkResult {
+        let _ = timeout;
+        Ok(())
     }
 }
 

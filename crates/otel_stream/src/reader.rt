@@ -1,18 +1,26 @@
 //! The interface of readers.
 
+ghost use Rattle.std.specs.Duration.{as_nanos};
 ghost use Rattle.std.specs.Prelude.{◌≡◌, ℕ, Option, Some, None, IfSome};
 ghost use Rattle.otel_common.specs.declared.metrics.Aggregation.{Aggregation};
 ghost use Rattle.otel_common.specs.declared.metrics.Temporality.{Temporality};
+ghost use Rattle.otel_stream.specs.Requests.{Outcome, default_timeout};
 ghost use Rattle.otel_stream.specs.declared.instrument.InstrumentKind.{InstrumentKind};
 
 use crate::instrument::InstrumentKind;
 use crate::limit::CardinalityLimit;
+use otel_common::faults::OTelSdkResult;
 use otel_common::metrics::{Aggregation, Temporality};
+use std::time::Duration;
+
+/// The timeout of a shutdown for which none is given, in seconds.
+const SHUTDOWN_SECONDS: u64 = 5;
 
 /// Whom a provider collects for (Metrics SDK, "MetricReader").
 ///
 /// A provider asks a reader once for each kind of instrument, when it is handed in, and keeps the
-/// answers.
+/// answers. It asks all its readers at a flush and at a shutdown; what a reader does then is its own matter, but for
+/// what it wants, which no call changes.
 pub trait MetricReader: Drop + Send {
     /// The temporality that the reader wants for each kind of instrument.
     ghost preference: { Self → InstrumentKind → Temporality };
@@ -22,6 +30,13 @@ pub trait MetricReader: Drop + Send {
 
     /// The aggregation that the reader wants for each kind of instrument, if it wants one.
     ghost aggregation: { Self → InstrumentKind → Option Aggregation } = { λ _ _. None };
+
+    /// What a flush makes of the reader: the reader before, the one after, and the answer.
+    ghost flushes: { Self → Self → Outcome → Type 0 };
+
+    /// What a shutdown makes of the reader: the reader before, the timeout in nanoseconds, the reader after, and the
+    /// answer.
+    ghost shuts: { Self → ℕ → Self → Outcome → Type 0 };
 
     /// The temporality that the reader wants for a kind of instrument.
     fn temporality(&self, kind: InstrumentKind) -> Temporality
@@ -49,5 +64,31 @@ pub trait MetricReader: Drop + Send {
     {
         let _ = kind;
         None
+    }
+
+    /// Passes on what is pending (Metrics SDK, "ForceFlush"). A reader that fails answers a fault of its own, which a
+    /// provider counts.
+    fn force_flush(&mut self) -> OTelSdkResult
+        ensures flushed { flushes self.old self.new result }
+        ensures temporality { preference self.new ≡ preference self.old }
+        ensures limit { limit self.new ≡ limit self.old }
+        ensures aggregation { aggregation self.new ≡ aggregation self.old };
+
+    /// Passes on what is pending and ends, if it can within the timeout (Metrics SDK, "Shutdown"). A reader that fails
+    /// answers a fault of its own.
+    fn shutdown_with_timeout(&mut self, timeout: Duration) -> OTelSdkResult
+        ensures shut { shuts self.old (as_nanos timeout) self.new result }
+        ensures temporality { preference self.new ≡ preference self.old }
+        ensures limit { limit self.new ≡ limit self.old }
+        ensures aggregation { aggregation self.new ≡ aggregation self.old };
+
+    /// A shutdown with a timeout of 5 seconds. A provider asks its readers for this one.
+    fn shutdown(&mut self) -> OTelSdkResult
+        ensures shut { shuts self.old default_timeout self.new result }
+        ensures temporality { preference self.new ≡ preference self.old }
+        ensures limit { limit self.new ≡ limit self.old }
+        ensures aggregation { aggregation self.new ≡ aggregation self.old }
+    {
+        self.shutdown_with_timeout(Duration::from_secs(SHUTDOWN_SECONDS))
     }
 }

@@ -1,5 +1,6 @@
 //! What no contract says: texts; and each preference once.
 
+mod asked;
 mod instruments;
 mod streams;
 mod wants;

@@ -6,3 +6,5 @@ pub mod PlaceLemmas
 pub mod PendingLemmas
 pub mod WeightLemmas
 pub mod KeptLemmas
+pub mod ShownLemmas
+pub mod SavedLemmas

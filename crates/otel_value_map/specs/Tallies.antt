@@ -5,7 +5,7 @@ use Rattle.otel_common.specs.Canonical.{canon}
 use Rattle.otel_common.specs.Equality.{set_eq}
 use Rattle.otel_model_stream.specs.Sets.{AttributeSet, none_set}
 use Rattle.otel_model_stream.specs.Folds.{Fold}
-use Rattle.otel_model_stream.specs.Entries.{Entry, Point, is_of, has}
+use Rattle.otel_model_stream.specs.Entries.{Entry, Point, Table, is_of, has}
 use Rattle.otel_model_stream.specs.Maps.{MapState}
 use Rattle.otel_value_map.specs.declared.table.Pending.{Pending}
 use Rattle.otel_value_map.specs.declared.table.Pending.TheVariants.{Nothing, Empty, Known, New}
@@ -22,6 +22,14 @@ module _ {A : Type 0} (meaning : A → Fold) where
   abbrev pub tally_entry : AttributeSet → Tally A → Entry
   tally_entry s t = record { set = s; counted = t.counted; updated = t.updated; fold = meaning t.aggregator; handles = 0 }
 
+  -- the entry of the empty set, which the limit never counts
+  abbrev pub none_entry : Tally A → Entry
+  none_entry t = record { set = none_set; counted = false; updated = t.updated; fold = meaning t.aggregator; handles = 0 }
+
+  -- the entry of the empty set is that of a tally
+  abbrev pub HasTally : Table → Type 0
+  HasTally table = (t : Tally A) × (table.none ≡ none_entry t)
+
   abbrev pub entry_of : AttributeSet × Tally A → Entry
   entry_of e = tally_entry e.0 e.1
 
@@ -32,9 +40,13 @@ module _ {A : Type 0} (meaning : A → Fold) where
   abbrev pub copies : List (AttributeSet × A) → List Point
   copies ps = map (λ p. (p.0, meaning p.1)) ps
 
+  -- the table of the empty set's tally and of these
+  abbrev pub table_of : Tally A → List (AttributeSet × Tally A) → Table
+  table_of none es = record { none = none_entry none; entries = entries_of es }
+
   -- the state of a map of this limit, whose aggregators begin as `empty`
   abbrev pub state_of : ℕ → Fold → Tally A → List (AttributeSet × Tally A) → MapState
-  state_of limit empty none es = record { limit = limit; empty = empty; table = record { none = tally_entry none_set none; entries = entries_of es } }
+  state_of limit empty none es = record { limit = limit; empty = empty; table = table_of none es }
 
 -- where the entry of a set stands among the entries
 abbrev pub index_of : AttributeSet → List Entry → Option ℕ

@@ -7,6 +7,7 @@ pub mod bounds;
 pub mod buckets;
 pub mod internal;
 pub mod number;
+pub mod saved;
 mod set_key;
 pub mod sets;
 mod signed;

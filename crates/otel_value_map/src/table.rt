@@ -1,15 +1,16 @@
 //! Tallies by set, in order of making.
 
-ghost use Rattle.std.specs.Prelude.{◌≡◌, IfOk, IsOk, is_some, true, false, IsOkUnless, ◌<◌, ◌∷◌, [], ◌++◌, OnOk, IfSome, map, filter, ◌||◌};
+ghost use Rattle.std.specs.Prelude.{◌≡◌, IfOk, IsOk, is_some, Some, None, slice_get, cond, true, false, IsOkUnless, ◌<◌, ◌∷◌, [], ◌++◌, OnOk, IfSome, map, filter, ◌||◌};
+ghost use Rattle.std.specs.Option.{option_map};
 ghost use Rattle.std.specs.List.{IsDistinct, count_by};
 ghost use Rattle.indexmap.specs.IndexMap.{index_map_len, spare, values};
 ghost use Rattle.otel_common.specs.Equality.{set_eq};
 ghost use Rattle.otel_model_stream.specs.Folds.{wrapped};
-ghost use Rattle.otel_model_stream.specs.Sets.{AttributeSet, none_set, over_set};
+ghost use Rattle.otel_model_stream.specs.Sets.{AttributeSet, over_set};
 ghost use Rattle.otel_model_stream.specs.Totals.{points_total};
 ghost use Rattle.otel_model_stream.specs.Entries.{fresh, has, write, shown, reset, stays, number_counted};
 ghost use Rattle.otel_model_stream.specs.Lists.{changed_at};
-ghost use Rattle.otel_value_map.specs.Tallies.{entries_of, entry_of, tally_entry, copies, index_of, sets};
+ghost use Rattle.otel_value_map.specs.Tallies.{entries_of, entry_of, tally_entry, none_entry, copies, index_of, sets};
 
 use crate::aggregator::Aggregator;
 use crate::set_key::SetKey;
@@ -27,6 +28,19 @@ pub struct Tally<A> {
     pub aggregator: A,
     pub counted: bool,
     pub updated: bool,
+}
+
+impl<A: Aggregator> Tally<A> {
+    /// The aggregator, if it was updated.
+    pub fn shown(&self) -> Option<&A>
+        ensures { option_map (λ found. A.meaning found.now) result ≡ cond self.now.updated (Some (A.meaning self.now.aggregator)) None }
+    {
+        if self.updated {
+            Some(&self.aggregator)
+        } else {
+            None
+        }
+    }
 }
 
 /// A record that was prepared.
@@ -89,6 +103,18 @@ pub fn find<'s, A: Aggregator>(
     tallies.get_index_of(set)
 }
 
+/// The aggregator at an index.
+pub fn aggregator_at<'s, A: Aggregator>(
+    tallies: &'s IndexMap<SetKey<'static>, Tally<A>>,
+    at: usize,
+) -> &'s A
+    requires { at < index_map_len tallies.now }
+    ensures { option_map (λ entry. entry.fold) (slice_get (entries_of A.meaning tallies.now.entries) at) ≡ Some (A.meaning result.now) }
+{
+    let (_, tally) = tallies.get_index(at).unwrap();
+    &tally.aggregator
+}
+
 /// Makes an aggregator in advance, where there is none.
 pub fn make_unused<A: Aggregator>(
     unused: &mut Option<A>,
@@ -128,7 +154,7 @@ pub fn first_points<A: Aggregator>(
     alloc: Global,
     none: &Tally<A>,
 ) -> Result<Vec<(Items<KeyValue>, A)>, Fault>
-    ensures points { IfOk result (λ given. copies A.meaning given.items ≡ map shown (filter (λ entry. entry.updated) (tally_entry A.meaning none_set none.now ∷ []))) }
+    ensures points { IfOk result (λ given. copies A.meaning given.items ≡ map shown (filter (λ entry. entry.updated) (none_entry A.meaning none.now ∷ []))) }
     ensures only_memory { IsOkUnless result Fault.OutOfMemory }
 {
     let mut points = Vec::new(alloc);

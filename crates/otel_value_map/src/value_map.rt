@@ -1,20 +1,23 @@
 //! A bounded map from sets of attributes to aggregators.
 
 ghost use Rattle.std.specs.Prelude.{◌≡◌, true, false, is_some, None, Some, IsSome, OnOk, OnErr, IfOk, IsOkUnless};
+ghost use Rattle.std.specs.Option.{option_map};
 ghost use Rattle.otel_common.specs.Canonical.{canon};
 ghost use Rattle.otel_model_stream.specs.Entries.{entry_for, points};
-ghost use Rattle.otel_model_stream.specs.Maps.{new_map, with_place, measured, evicted_map, readonly_points, resetting_points, without_lists, SucceedsIfKnown};
+ghost use Rattle.otel_model_stream.specs.Maps.{new_map, with_place, measured, evicted_map, drained_map, readonly_points, resetting_points, draining_points, without_lists, SucceedsIfKnown};
+ghost use Rattle.otel_model_stream.specs.Observed.{fold_in};
 ghost use Rattle.otel_model_stream.specs.Folds.{wrapped};
 ghost use Rattle.otel_model_stream.specs.Sets.{AttributeSet, kept, set_of};
 ghost use Rattle.otel_model_stream.specs.Totals.{points_total};
-ghost use Rattle.otel_value_map.specs.Tallies.{IsPlace, copies};
+ghost use Rattle.otel_value_map.specs.Tallies.{IsPlace, HasTally, copies};
 
 use crate::aggregator::Aggregator;
+use crate::saved::Saved;
 use crate::set_key::SetKey;
 use crate::sets::overflow_set;
 use crate::table::{
-    Pending, Tally, add, copy_out, count_counted, evict, find, first_points, make_key, make_unused,
-    total_of, touch,
+    Pending, Tally, add, aggregator_at, copy_out, count_counted, evict, find, first_points,
+    make_key, make_unused, total_of, touch,
 };
 use indexmap::IndexMap;
 use otel_common::attributes::KeyValue;
@@ -285,6 +288,51 @@ impl<A: Aggregator> ValueMap<A> {
         self.count = count_counted(&self.tallies);
     }
 
+    /// Forgets all records and all entries. A record that was prepared is given up. What the map took
+    /// for entries stays with it for later ones.
+    pub fn drain(&mut self)
+        ensures state { self.new.state ≡ drained_map self.old.state }
+        ensures unprepared { self.new.pending ≡ None }
+    {
+        self.pending = Pending::Nothing;
+        self.none.updated = false;
+        self.none.aggregator.reset();
+        self.tallies.clear();
+        self.count = 0;
+    }
+
+    /// A copy of the entries, to be restored later. A map without entries takes no memory for them.
+    pub fn save(&self, alloc: Global) -> Result<Saved<A>, Fault>
+        ensures saved { IfOk result (λ saved. saved ≡ self.now.state.table) }
+        ensures only_memory { IsOkUnless result Fault.OutOfMemory }
+    {
+        Saved::copy_of(alloc, &self.none, &self.tallies, self.count)
+    }
+
+    /// Puts saved entries in the place of its own, and gives up a record that was prepared. It takes no
+    /// memory.
+    pub fn restore(&mut self, saved: Saved<A>)
+        ensures state { self.new.state ≡ record self.old.state { table = saved } }
+        ensures unprepared { self.new.pending ≡ None }
+        ensures was_tally { HasTally A.meaning self.old.state.table }
+        ensures is_tally { HasTally A.meaning saved }
+    {
+        self.pending = Pending::Nothing;
+        self.count = saved.put_into(&mut self.none, &mut self.tallies);
+    }
+
+    /// The aggregator of a set, as a collection that drains would show it; none where it would show no
+    /// point of the set. The attributes are looked up as they stand, without a copy.
+    pub fn get(&self, attributes: &[KeyValue]) -> Option<&A>
+        ensures { option_map (λ found. A.meaning found.now) result ≡ fold_in (draining_points self.now.state) attributes.now }
+    {
+        if attributes.is_empty() {
+            return self.none.shown();
+        }
+        let at = find(&self.tallies, &SetKey::given(attributes))?;
+        Some(aggregator_at(&self.tallies, at))
+    }
+
     /// The points of a collection that changes nothing: of the empty set if it was updated, and of
     /// every entry.
     pub fn collect_readonly(&self, alloc: Global) -> Result<Vec<(Items<KeyValue>, A)>, Fault>
@@ -307,6 +355,22 @@ impl<A: Aggregator> ValueMap<A> {
     {
         let points = self.points(alloc, false)?;
         self.reset_and_evict();
+        Ok(points)
+    }
+
+    /// The points of a collection that drains: of the empty set if it was updated, and of every entry.
+    /// Then the map forgets all records and all entries, and gives up a record that was prepared. Where
+    /// it is refused, all stays as it was.
+    pub fn drain_and_reset(&mut self, alloc: Global) -> Result<Vec<(Items<KeyValue>, A)>, Fault>
+        ensures points { IfOk result (λ given. copies A.meaning given.items ≡ draining_points self.old.state) }
+        ensures ok { OnOk result (self.new.state ≡ drained_map self.old.state) }
+        ensures err { OnErr result (self.new.state ≡ self.old.state) }
+        ensures spent { OnOk result (self.new.pending ≡ None) }
+        ensures refused { OnErr result (self.new.pending ≡ self.old.pending) }
+        ensures only_memory { IsOkUnless result Fault.OutOfMemory }
+    {
+        let points = self.points(alloc, true)?;
+        self.drain();
         Ok(points)
     }
 }

@@ -51,7 +51,8 @@ fn commands(rt: HostRuntime) -> Result<(), Fail> {
         "record 0 u:1 - -",
         "collect 0",
         "collect 0 -1",
-        "flush",
+        "flush 0",
+        "shutdown 1",
         "meter %ff",
     ];
     for line in lines {

@@ -25,6 +25,61 @@ fn script_s1(rt: HostRuntime) -> Result<(), Fail> {
     )
 }
 
+/// A histogram behind a view, with refusals of each kind; a shutdown, and a collection after it.
+#[test]
+fn script_s2(rt: HostRuntime) -> Result<(), Fail> {
+    assert_prints(
+        &rt,
+        rt.alloc(),
+        b"reader delta\n\
+          view lat limit=1 agg=hist:10\n\
+          go\n\
+          meter app 1.0\n\
+          build 0 u64_histogram lat 5\n\
+          record 0 u:10 x=b:true\n\
+          record 0 u:11 y=s:\n\
+          record 0 i:1 -\n\
+          collect 0 9\n\
+          collect 1 9\n\
+          shutdown\n\
+          collect 0 10\n",
+        "meter 0\n\
+         instrument 0\n\
+         ok\n\
+         ok\n\
+         refused 6 wrong number type\n\
+         collected 2\n\
+         point app lat histogram delta 5 9 x=b:true 1 10 10 10 1,0\n\
+         point app lat histogram delta 5 9 otel.metric.overflow=b:true 1 11 11 11 0,1\n\
+         refused 5 unknown reader\n\
+         ok\n\
+         refused 9 reader is shut down or not registered\n",
+    )
+}
+
+/// What is asked after a shutdown.
+#[test]
+fn shutdowns(rt: HostRuntime) -> Result<(), Fail> {
+    assert_prints(
+        &rt,
+        rt.alloc(),
+        b"reader delta\n\
+          go\n\
+          flush\n\
+          shutdown\n\
+          shutdown\n\
+          flush\n\
+          meter app\n\
+          build none u64_counter hits 5\n",
+        "ok\n\
+         ok\n\
+         refused 8 already shut down\n\
+         refused 8 already shut down\n\
+         meter none\n\
+         instrument 0\n",
+    )
+}
+
 /// The script of `examples/requests.script`, and what the README says that it prints.
 #[test]
 fn example(rt: HostRuntime) -> Result<(), Fail> {

@@ -1,5 +1,7 @@
 //! The provider, what it is asked and what it answers.
 
+pub use otel_callback::laws::copied_observed;
+pub use otel_callback::observation::Observed;
 pub use otel_data::numbers::NumberValue;
 pub use otel_provider::calls::{Call, Reply};
 pub use otel_provider::laws::{copied_call, copied_numbers, copied_reply};

@@ -4,12 +4,16 @@ use crate::common::{Array, InstrumentationScope, Items, Key, KeyValue, StringVal
 use crate::metrics::data::{
     AggregatedMetrics, Metric, MetricData, ResourceMetrics, ScopeMetrics, Sum,
 };
-use crate::metrics::provider::{Call, InstrumentSort, NumberValue, Reply};
+use crate::metrics::provider::{Call, InstrumentSort, NumberValue, Observed, Reply};
 use crate::metrics::{ManualReader, MeterProviderBuilder, SdkMeterProvider, Temporality};
 use std::alloc::Global;
 use std::process::Abort;
 use std::slice::Iter;
 use std::test::Fail;
+
+/// An observation of this instrument, with these attributes.
+#[derive(Clone, Copy)]
+pub struct Seen<'a>(pub usize, pub NumberValue, pub &'a [(&'a str, i64)]);
 
 /// A call, written short.
 #[derive(Drop)]
@@ -22,8 +26,12 @@ pub enum Step<'a> {
     Make(InstrumentSort, &'a str, Option<&'a str>, Option<&'a [i64]>),
     /// A record at this instrument, with these attributes.
     Record(usize, NumberValue, &'a [(&'a str, i64)]),
-    /// A collection of this reader at this moment.
+    /// A collection of this reader at this moment, of which nothing was observed.
     Collect(usize, u64),
+    /// The same with what was observed.
+    Observe(usize, u64, &'a [Seen<'a>]),
+    Flush,
+    Shutdown,
 }
 
 /// A text as a value.
@@ -107,6 +115,28 @@ fn made(
     })
 }
 
+/// A collection of this reader at this moment, of which nothing was observed.
+pub fn collection(alloc: Global, reader: usize, now: u64) -> Call {
+    Call::Collect {
+        reader,
+        now,
+        observations: Items::from(Vec::new(alloc)),
+    }
+}
+
+/// What was observed.
+fn observations(alloc: Global, seen: &[Seen<'_>]) -> Result<Vec<Observed>, Fail> {
+    let mut observations = Vec::new(alloc);
+    for Seen(instrument, value, pairs) in seen {
+        observations.push(Observed {
+            instrument: *instrument,
+            value: *value,
+            attributes: Items::from(attributes(alloc, pairs)?),
+        })?;
+    }
+    Ok(observations)
+}
+
 /// The call that a step stands for.
 pub fn call_of(alloc: Global, step: &Step<'_>) -> Result<Call, Fail> {
     match step {
@@ -128,10 +158,14 @@ pub fn call_of(alloc: Global, step: &Step<'_>) -> Result<Call, Fail> {
             value: *value,
             attributes: Items::from(attributes(alloc, pairs)?),
         }),
-        Step::Collect(reader, now) => Ok(Call::Collect {
+        Step::Collect(reader, now) => Ok(collection(alloc, *reader, *now)),
+        Step::Observe(reader, now, seen) => Ok(Call::Collect {
             reader: *reader,
             now: *now,
+            observations: Items::from(observations(alloc, seen)?),
         }),
+        Step::Flush => Ok(Call::Flush),
+        Step::Shutdown => Ok(Call::Shutdown),
     }
 }
 

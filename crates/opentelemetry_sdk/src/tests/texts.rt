@@ -1,6 +1,6 @@
 //! The texts and numbers of faults, and which names, units and bounds are good.
 
-use crate::common::Fault;
+use crate::common::{Fault, InternalFault};
 use crate::metrics::MetricError;
 use crate::metrics::meter::{
     validate_bucket_boundaries, validate_instrument_name, validate_instrument_unit,
@@ -47,6 +47,21 @@ fn faults(rt: HostRuntime) -> Result<(), Fail> {
         (Fault::UnknownInstrument, 3, "unknown instrument"),
         (Fault::UnknownReader, 5, "unknown reader"),
         (Fault::WrongNumber, 6, "wrong number type"),
+        (Fault::WrongKind, 7, "wrong instrument kind"),
+        (Fault::AlreadyShutdown, 8, "already shut down"),
+        (
+            Fault::InternalFailure(InternalFault::ReaderShutDown),
+            9,
+            "reader is shut down or not registered",
+        ),
+        (
+            Fault::InternalFailure(InternalFault::Readers {
+                failed: 2,
+                first: 10,
+            }),
+            10,
+            "2 readers failed, the first is 10",
+        ),
     ] {
         let printed = format!(in rt.alloc(); "{fault}")?;
         assert_eq!(rt; printed.as_str(), text);

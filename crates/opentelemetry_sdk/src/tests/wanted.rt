@@ -127,7 +127,7 @@ fn metric_of(alloc: Global, wanted: &Wanted<'_>) -> Result<Metric, Fail> {
 }
 
 /// These metrics of the scope `app`, of the empty resource. Without metrics there is no scope.
-fn collection_of(alloc: Global, wanted: &[Wanted<'_>]) -> Result<ResourceMetrics, Fail> {
+pub fn collection_of(alloc: Global, wanted: &[Wanted<'_>]) -> Result<ResourceMetrics, Fail> {
     let mut metrics = Vec::new(alloc);
     for metric in wanted {
         metrics.push(metric_of(alloc, metric)?)?;

@@ -1,10 +1,12 @@
 //! Whole collections: each heading, moment and point that there is, and nothing else.
 
-ghost use Rattle.std.specs.Prelude.{cond};
+ghost use Rattle.std.specs.Prelude.{◌≡◌, Ok, cond};
 ghost use Rattle.otel_stream.specs.declared.instrument.InstrumentKind.TheVariants.{Counter};
 
-use super::replies::{attributes, builder_of, text};
-use crate::common::{InstrumentationScope, Items, Key, KeyValue, StringValue, Value};
+use super::replies::{attributes, builder_of, collection, text};
+use crate::common::{
+    InstrumentationScope, Items, Key, KeyValue, OTelSdkResult, StringValue, Value,
+};
 use crate::metrics::data::{
     AggregatedMetrics, Metric, MetricData, ResourceMetrics, ScopeMetrics, Sum, SumDataPoint,
 };
@@ -15,6 +17,7 @@ use crate::resource::Resource;
 use std::alloc::Global;
 use std::process::Abort;
 use std::test::Fail;
+use std::time::Duration;
 
 /// A reader that wants one temporality for counters and another for all other kinds.
 #[derive(Drop)]
@@ -26,12 +29,25 @@ struct Choosy {
 impl MetricReader for Choosy {
     ghost preference = { λ r kind. cond (⟦<InstrumentKind as PartialEq>⟧.eq kind Counter) r.counters r.others };
 
+    ghost flushes = { λ before after outcome. (after ≡ before) × (outcome ≡ Ok tt) };
+
+    ghost shuts = { λ before timeout after outcome. (after ≡ before) × (outcome ≡ Ok tt) };
+
     fn temporality(&self, kind: InstrumentKind) -> Temporality {
         if kind == InstrumentKind::Counter {
             self.counters
         } else {
             self.others
         }
+    }
+
+    fn force_flush(&mut self) -> OTelSdkResult {
+        Ok(())
+    }
+
+    fn shutdown_with_timeout(&mut self, timeout: Duration) -> OTelSdkResult {
+        let _ = timeout;
+        Ok(())
     }
 }
 
@@ -230,7 +246,7 @@ fn assert_collected(
     now: u64,
     wanted: &ResourceMetrics,
 ) -> Result<(), Fail> {
-    let replies = provider.run(alloc, &[Call::Collect { reader, now }])?;
+    let replies = provider.run(alloc, &[collection(alloc, reader, now)])?;
     assert_eq!(rt; replies.len(), 1);
     for reply in &replies {
         let Reply::Collected(collected) = reply else {

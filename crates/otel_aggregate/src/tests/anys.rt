@@ -3,7 +3,7 @@
 use super::histograms::{Spread, is_spread, rising};
 use super::last_values::are_last_values;
 use super::sums::are_sums;
-use super::{Set, X, attributes};
+use super::{B, Set, X, attributes};
 use crate::any::AnyAggregate;
 use crate::settings::{AnySettings, HistogramSettings};
 use otel_common::attributes::KeyValue;

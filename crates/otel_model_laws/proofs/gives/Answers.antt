@@ -1,4 +1,4 @@
-use Rattle.otel_model_laws.proofs.Merging.{given_law, own_law, one_by_one_law}
+use Rattle.otel_common.proofs.Merging.{given_law, own_law, one_by_one_law}
 use Rattle.otel_model_laws.proofs.gives.Goals as goal
 
 pub returns-clause-given : goal.returns-clause-given

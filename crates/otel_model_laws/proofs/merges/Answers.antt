@@ -1,4 +1,4 @@
-use Rattle.otel_model_laws.proofs.Merging.{values_law, canonical_law, left_law, right_law}
+use Rattle.otel_common.proofs.Merging.{values_law, canonical_law, left_law, right_law}
 use Rattle.otel_model_laws.proofs.merges.Goals as goal
 
 pub returns-clause-values : goal.returns-clause-values

@@ -1,5 +1,6 @@
 //! Limits and aggregations that readers want for a kind of instrument.
 
+ghost use Rattle.std.specs.Prelude.{◌≡◌, Ok};
 ghost use Rattle.otel_common.specs.declared.metrics.Temporality.TheVariants.{Delta};
 
 use super::{DELTA, KINDS, prefers};
@@ -9,10 +10,12 @@ use crate::laws::{boxed_reader, plain_answers};
 use crate::limit::CardinalityLimit;
 use crate::manual_reader::ManualReader;
 use crate::reader::MetricReader;
+use otel_common::faults::OTelSdkResult;
 use otel_common::lists::Items;
 use otel_common::metrics::{Aggregation, Temporality};
 use std::alloc::Global;
 use std::test::Fail;
+use std::time::Duration;
 
 /// A reader that wants delta, and leaves limits and aggregations to the provider.
 #[derive(Drop)]
@@ -21,9 +24,22 @@ struct Old;
 impl MetricReader for Old {
     ghost preference = { λ r kind. Delta };
 
+    ghost flushes = { λ before after outcome. (after ≡ before) × (outcome ≡ Ok tt) };
+
+    ghost shuts = { λ before timeout after outcome. (after ≡ before) × (outcome ≡ Ok tt) };
+
     fn temporality(&self, kind: InstrumentKind) -> Temporality {
         let _ = kind;
         Temporality::Delta
+    }
+
+    fn force_flush(&mut self) -> OTelSdkResult {
+        Ok(())
+    }
+
+    fn shutdown_with_timeout(&mut self, timeout: Duration) -> OTelSdkResult {
+        let _ = timeout;
+        Ok(())
     }
 }
 

@@ -101,6 +101,69 @@ fn gives<T: Number + Drop + PartialEq>(
     are_sums(alloc, &given, wanted)
 }
 
+/// Whether the map finds this sum for the set.
+fn finds(
+    alloc: Global,
+    map: &ValueMap<Increment<u64>>,
+    set: Set,
+    want: u64,
+) -> Result<bool, Fault> {
+    let set = attributes(alloc, set)?;
+    Ok(map.get(&set).is_some_and(|sum| sum.value == want))
+}
+
+/// Whether a collection that drains gives these sums, and leaves none.
+fn drains(
+    alloc: Global,
+    map: &mut ValueMap<Increment<u64>>,
+    wanted: &[(Set, u64)],
+) -> Result<bool, Fault> {
+    let given = map.drain_and_reset(alloc)?;
+    Ok(are_sums(alloc, &given, wanted)? && shows(alloc, map, &[], 0)?)
+}
+
+#[test]
+fn a_map_drains(rt: HostRuntime) -> Result<(), Fail> {
+    let alloc = rt.alloc();
+    let mut map: ValueMap<Increment<u64>> = ValueMap::new(alloc, (), 2)?;
+    assert!(rt; record(alloc, &mut map, TURNED, 1).is_ok());
+    assert!(rt; finds(alloc, &map, BOTH, 1).unwrap_or(false));
+    assert!(rt; gives(alloc, &mut map, &[(BOTH, 1)]).unwrap_or(false));
+    assert!(rt; record(alloc, &mut map, NONE, 4).is_ok());
+    assert!(rt; drains(alloc, &mut map, &[(NONE, 4), (BOTH, 0)]).unwrap_or(false));
+    Ok(())
+}
+
+/// Takes in a record and restores the map, and tells whether it shows these sums as before.
+fn restores(
+    alloc: Global,
+    map: &mut ValueMap<Increment<u64>>,
+    set: Set,
+    wanted: &[(Set, u64)],
+    total: u64,
+) -> Result<bool, Fault> {
+    let saved = map.save(alloc)?;
+    record(alloc, map, set, 8)?;
+    let is_changed = !shows(alloc, map, wanted, total)?;
+    map.restore(saved);
+    Ok(is_changed && shows(alloc, map, wanted, total)?)
+}
+
+#[test]
+fn a_map_is_restored(rt: HostRuntime) -> Result<(), Fail> {
+    let alloc = rt.alloc();
+    let mut map: ValueMap<Increment<u64>> = ValueMap::new(alloc, (), 1)?;
+    assert!(rt; restores(alloc, &mut map, NONE, &[], 0).unwrap_or(false));
+    assert!(rt; restores(alloc, &mut map, BOTH, &[], 0).unwrap_or(false));
+    assert!(rt; record(alloc, &mut map, NONE, 4).is_ok());
+    assert!(rt; record(alloc, &mut map, OTHER, 1).is_ok());
+    assert!(rt; restores(alloc, &mut map, OTHER, &[(NONE, 4), (OTHER, 1)], 5).unwrap_or(false));
+    assert!(rt; restores(alloc, &mut map, BOTH, &[(NONE, 4), (OTHER, 1)], 5).unwrap_or(false));
+    assert!(rt; record(alloc, &mut map, OTHER, 2).is_ok());
+    assert!(rt; gives(alloc, &mut map, &[(NONE, 4), (OTHER, 3)]).unwrap_or(false));
+    Ok(())
+}
+
 #[test]
 fn a_map_gives_its_sets_in_order(rt: HostRuntime) -> Result<(), Fail> {
     let alloc = rt.alloc();

@@ -5,12 +5,15 @@ use Rattle.std.specs.Cmp.{signed_Decides, unsigned_Decides}
 use Rattle.std.specs.Option.{option_eq}
 use Rattle.std.specs.Cmp.Lexicographic.{pointwise_decides}
 use Rattle.otel_common.specs.Equality.{set_eq-Decides, both_decide}
-use Rattle.otel_data.specs.declared.points.Exemplar.{Exemplar}
+use Rattle.otel_data.specs.declared.exemplars.Exemplar.{Exemplar}
+use Rattle.otel_data.proofs.EqualExemplars.{exemplar_eq, exemplar_eq-Decides}
 use Rattle.otel_data.proofs.copies.equal_points.Goals as goal
 
-exemplar_decides : (x y : Exemplar ℕ) → Decides (x.value == y.value) (x ≡ y)
-exemplar_decides x y =
-    (λ h i. record { value = (unsigned_Decides x.value y.value).0 h i }, λ e. (unsigned_Decides x.value y.value).1 (ap (λ s. s.value) e))
+exemplar_decides : (x y : Exemplar ℕ) → Decides (exemplar_eq ◌==◌ x y) (x ≡ y)
+exemplar_decides = exemplar_eq-Decides unsigned_Decides
+
+pub returns-clause-exemplar : goal.returns-clause-exemplar
+returns-clause-exemplar c = exemplar_decides
 
 pub returns-clause-point : goal.returns-clause-point
 returns-clause-point c = λ x y.

@@ -6,12 +6,15 @@ use Rattle.std.specs.Option.{option_eq}
 use Rattle.std.specs.Ordering.{int_eq}
 use Rattle.std.specs.Cmp.Lexicographic.{pointwise_decides}
 use Rattle.otel_common.specs.Equality.{set_eq-Decides, both_decide}
-use Rattle.otel_data.specs.declared.points.Exemplar.{Exemplar}
+use Rattle.otel_data.specs.declared.exemplars.Exemplar.{Exemplar}
+use Rattle.otel_data.proofs.EqualExemplars.{exemplar_eq, exemplar_eq-Decides}
 use Rattle.otel_data.proofs.copies.equal_signed_points.Goals as goal
 
-exemplar_decides : (x y : Exemplar ℤ) → Decides (int_eq x.value y.value) (x ≡ y)
-exemplar_decides x y =
-    (λ h i. record { value = (signed_Decides x.value y.value).0 h i }, λ e. (signed_Decides x.value y.value).1 (ap (λ s. s.value) e))
+exemplar_decides : (x y : Exemplar ℤ) → Decides (exemplar_eq int_eq x y) (x ≡ y)
+exemplar_decides = exemplar_eq-Decides signed_Decides
+
+pub returns-clause-exemplar : goal.returns-clause-exemplar
+returns-clause-exemplar c = exemplar_decides
 
 pub returns-clause-point : goal.returns-clause-point
 returns-clause-point c = λ x y.

@@ -6,7 +6,7 @@ use Rattle.otel_provider.proofs.StepLemmas.{buildable-in, good-or-none}
 use Rattle.otel_provider.proofs.pipelines.build_or_none.Goals as goal
 
 pub plan_all-requires : goal.plan_all-requires
-plan_all-requires c = buildable-in _ c.args.about.now c.requires.good c.requires.synchronous
+plan_all-requires c = buildable-in _ c.args.about.now c.requires
 
 pub build_all-requires : goal.build_all-requires
 build_all-requires c = λ k d h. ready-planned (answering c.args.answered.now) _ c.args.about.now c.args.now _ (c.in_ok-plan_all.ensures.ready k d h)
@@ -14,5 +14,5 @@ build_all-requires c = λ k d h. ready-planned (answering c.args.answered.now) _
 pub returns-clause-ok : goal.returns-clause-ok
 returns-clause-ok c =
     c.build_all.ensures
-    ∙ (all_built (answering c.args.answered.now) _ c.args.about.now c.args.now c.plan_all.new.pipelines (good-or-none _ c.args.about.now c.requires.good) c.in_ok-plan_all.ensures.ready
+    ∙ (all_built (answering c.args.answered.now) _ c.args.about.now c.args.now c.plan_all.new.pipelines (good-or-none _ c.args.about.now c.requires) c.in_ok-plan_all.ensures.ready
     ∙ ap (map (model_built (answering c.args.answered.now) _ c.args.about.now c.args.now)) c.plan_all.ensures.same)

@@ -1,10 +1,9 @@
-use Rattle.std.proofs.Common.{◌≡◌, ◌≤◌, ◌+◌, ◌∙◌, ap, sym, subst, arith, length, Some, List, [], ◌∷◌, ◌++◌, false}
+use Rattle.std.proofs.Common.{◌≡◌, ◌≤◌, ◌+◌, ◌∙◌, ap, sym, subst, arith, length, Some, List, [], ◌∷◌, ◌++◌}
 use Rattle.std.specs.Prelude.{vec_len, vec_capacity}
 use Rattle.std.proofs.Math.Dec.{leb, ltb}
 use Rattle.std.proofs.lemmas.Bool.{leb-true, ltb-true}
 use Rattle.std.proofs.lemmas.List.{length-map}
 use Rattle.indexmap.specs.IndexSet.{spare}
-use Rattle.otel_model.specs.Calls.{is_observable}
 use Rattle.otel_model.specs.Streams.{is_delta}
 use Rattle.otel_pipeline.specs.Pipelines.{Planned, IsPlanOf, identity_of, many_added, stream_identities}
 use Rattle.otel_pipeline.specs.Streams.{Held}
@@ -48,7 +47,6 @@ invariant_of-self-2 c =
       keys,
       numbers-built ks ms c.self.inside.feeds.items c.plan.inside.feeds.items c.self.invariant.1 meets.numbers,
       each-append (λ resets d. resets ≡ is_delta answers d) ks ms c.self.invariant.2 meets.answered,
-      each-append (λ resets d. is_observable d.identity.kind ≡ false) ks ms c.self.invariant.3 meets.synchronous,
     )
 
 -- what is carried out is what was planned

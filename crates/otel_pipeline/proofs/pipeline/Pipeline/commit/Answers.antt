@@ -1,7 +1,6 @@
-use Rattle.std.proofs.Common.{◌≡◌, ◌∙◌, ap, sym, subst, false}
-use Rattle.otel_model.specs.Calls.{is_observable}
+use Rattle.std.proofs.Common.{◌≡◌, ◌∙◌, ap, sym, subst}
 use Rattle.otel_model.specs.Streams.{is_delta}
-use Rattle.otel_pipeline.specs.Pipelines.{stream_identities, AreAnswered, AreSynchronous}
+use Rattle.otel_pipeline.specs.Pipelines.{stream_identities, AreAnswered}
 use Rattle.otel_pipeline.proofs.Answered.{answered-committed}
 use Rattle.otel_pipeline.proofs.PipelineLemmas.{demands-committed, identities-same, length-from, numbers-kept}
 use Rattle.otel_pipeline.proofs.pipeline.Pipeline.commit.Goals as goal
@@ -17,5 +16,4 @@ invariant_of-self c =
       c.self.invariant.0 ∙ same,
       numbers-kept old new c.self.inside.feeds.items (length-from old new same) c.self.invariant.1,
       subst (AreAnswered answers) (sym c.commit_each.ensures) (answered-committed (λ resets d. resets ≡ is_delta answers d) c.args.value fed old c.self.invariant.2),
-      subst AreSynchronous (sym c.commit_each.ensures) (answered-committed (λ resets d. is_observable d.identity.kind ≡ false) c.args.value fed old c.self.invariant.3),
     )

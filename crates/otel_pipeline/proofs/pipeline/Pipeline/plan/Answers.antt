@@ -5,7 +5,7 @@ use Rattle.std.specs.Option.{option_map}
 use Rattle.std.specs.Prelude.{vec_len, vec_capacity}
 use Rattle.indexmap.specs.IndexSet.{spare}
 use Rattle.otel_model.specs.Demands.{Identity, identity_eq}
-use Rattle.otel_pipeline.specs.Pipelines.{Planned, IsPlanOf, stream_identities, AreSynchronous, demands_in, dropped_with}
+use Rattle.otel_pipeline.specs.Pipelines.{Planned, IsPlanOf, stream_identities, demands_in, dropped_with}
 use Rattle.otel_pipeline.proofs.Identities.{distinct-same}
 use Rattle.otel_pipeline.proofs.PipelineLemmas.{part-same, all_true, numbers-kept}
 use Rattle.otel_pipeline.specs.Views.{answering}
@@ -28,7 +28,6 @@ returns-clause-ready c =
       lawful = record {
         apart = subst (IsDistinct identity_eq) (kept ∙ are) unique;
         numbers = rw c.in_ok-reserve-3.ensures.items (numbers-kept c.self.inside.streams.items c.reserve-2.new.self.items c.self.inside.feeds.items (ap length (sym same)) c.self.invariant.1);
-        synchronous = subst AreSynchronous (sym same) c.self.invariant.3;
       };
       planned = c.in_ok-plan.plan;
       plan = refl;

@@ -3,7 +3,7 @@ use Rattle.std.proofs.lemmas.List.{append-nil}
 use Rattle.std.specs.Option.{option_map}
 use denote.Bor.{Bor}
 use Rattle.otel_common.specs.declared.scopes.InstrumentationScope.{InstrumentationScope}
-use Rattle.otel_model.specs.Calls.{About, is_observable}
+use Rattle.otel_model.specs.Calls.{About}
 use Rattle.otel_model.specs.Demands.{Demand, own_demand}
 use Rattle.otel_pipeline.specs.Pipelines.{IsPlanOf, IsBuildable, IsBuildableIn, Piped}
 use Rattle.otel_pipeline.specs.Views.{demands_own, usable_demands}
@@ -20,7 +20,6 @@ pub plan_demand-requires : goal.plan_demand-requires
 plan_demand-requires c =
     let is : IsBuildable c.args.about.now = subst (λ o. IsBuildableIn (scope_in o) c.args.about.now) c.in-Some.is c.requires in
     record {
-      synchronous = ap (λ (d : Demand). is_observable d.identity.kind) c.in_ok-demand.ensures.demand ∙ is.synchronous;
       valid = c.in_ok-demand.ensures.valid is.bounds;
     }
 

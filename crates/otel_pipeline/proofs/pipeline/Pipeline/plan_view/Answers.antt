@@ -1,5 +1,5 @@
 use Rattle.std.proofs.Common.{◌≡◌, ◌∙◌, ap, sym, subst, ◌∷◌, [], ◌++◌, List}
-use Rattle.otel_model.specs.Calls.{About, is_observable}
+use Rattle.otel_model.specs.Calls.{About}
 use Rattle.otel_model.specs.Demands.{Demand, demand_of}
 use Rattle.otel_pipeline.specs.Pipelines.{IsPlanOf, Piped}
 use Rattle.otel_pipeline.specs.Views.{can_keep}
@@ -9,7 +9,6 @@ use Rattle.otel_pipeline.proofs.pipeline.Pipeline.plan_view.Goals as goal
 
 pub plan_demand-requires : goal.plan_demand-requires
 plan_demand-requires c = record {
-  synchronous = ap (λ (d : Demand). is_observable d.identity.kind) c.in_ok-demand.ensures.demand ∙ c.requires.synchronous;
   valid = c.in_ok-demand.ensures.valid c.requires.bounds;
 }
 

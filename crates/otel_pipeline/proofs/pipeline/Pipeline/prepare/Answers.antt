@@ -1,6 +1,6 @@
-use Rattle.std.proofs.Common.{◌≡◌, ◌∙◌, ap, sym, subst, [], false, slice_get}
+use Rattle.std.proofs.Common.{◌≡◌, ◌∙◌, ap, sym, subst, [], slice_get}
 use Rattle.std.specs.List.{IsDistinct}
-use Rattle.otel_model.specs.Calls.{is_observable, or_else}
+use Rattle.otel_model.specs.Calls.{or_else}
 use Rattle.otel_model.specs.Demands.{identity_eq}
 use Rattle.otel_model.specs.Streams.{is_delta}
 use Rattle.otel_pipeline.specs.Pipelines.{stream_identities, ArePrepared, part_by}
@@ -21,7 +21,6 @@ invariant_of-self c =
       c.self.invariant.0 ∙ same,
       numbers-kept old new c.self.inside.feeds.items (length-from old new same) c.self.invariant.1,
       answered-settled (λ resets d. resets ≡ is_delta answers d) new old c.prepare_each.ensures.same c.self.invariant.2,
-      answered-settled (λ resets d. is_observable d.identity.kind ≡ false) new old c.prepare_each.ensures.same c.self.invariant.3,
     )
 
 -- the keys are the identities of the streams, also afterwards
@@ -29,7 +28,7 @@ pub returns-clause-prepared : goal.returns-clause-prepared
 returns-clause-prepared c =
     let unique : IsDistinct identity_eq c.self.inside.identities.keys = distinct-same _ c.kind_laws.ensures.equal c.self.inside.identities.keys c.len.ensures.unique in
     OnOk-weaker c.prepare_each.result (λ prepared. record {
-      lawful = record { apart = subst (IsDistinct identity_eq) (invariant_of-self c).0 unique; numbers = (invariant_of-self c).1; synchronous = (invariant_of-self c).3 };
+      lawful = record { apart = subst (IsDistinct identity_eq) (invariant_of-self c).0 unique; numbers = (invariant_of-self c).1 };
       prepared = subst (ArePrepared c.args.attributes.now c.prepare_each.new.streams.items) (c.streams_fed.ensures ∙ ap (λ f. or_else (slice_get f c.args.instrument) []) c.deref.ensures.value) prepared;
     }) c.prepare_each.ensures.prepared
 

@@ -1,6 +1,5 @@
-use Rattle.std.proofs.Common.{◌≡◌, ◌∙◌, ap, sym, ◌+◌, ◌++◌, arith, length, Some, ℕ, Bool, Option}
+use Rattle.std.proofs.Common.{◌≡◌, ◌∙◌, ap, sym, refl, ◌+◌, ◌++◌, arith, length, Some, ℕ, Bool, Option}
 use Rattle.otel_pipeline.specs.Pipelines.{Planned, found_at, fed_once}
-use Rattle.otel_pipeline.proofs.Answered.{resets-is}
 use Rattle.otel_pipeline.proofs.Outcomes.{OnOk-weaker}
 use Rattle.otel_pipeline.proofs.Plans.{demanded-found, demanded-added, absent-added}
 use Rattle.otel_pipeline.proofs.plan.Plan.demand.Goals as goal
@@ -18,7 +17,7 @@ returns-clause-meets c =
     let many : c.len.result ≡ length c.args.self.now.added = there ∙ ap (λ (p : Planned). length p.added) c.self.view_is in
     OnOk-weaker c.feed-2.result
     (λ is. demanded-added c.args.answers.now c.args.made.now c.args.now c.args.demand c.args.self.now c.feed-2.new.self _ c.is_drop-drops.result _ none (ap (λ n. length c.args.made.now + n) many) c.is_drop-drops.ensures
-    (resets-is c.args.answers.now c.args.demand c.requires.makeable.synchronous) c.requires.makeable.synchronous
+    refl
     (is ∙ λ i. record { feeds = fed_once c.is_drop-drops.result (length c.args.made.now + c.len.result) (c.in_ok-add.ensures.added i).feeds; added = (c.in_ok-add.ensures.added i).added }))
     c.feed-2.ensures.fed
 

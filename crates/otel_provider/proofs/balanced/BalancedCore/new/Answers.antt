@@ -5,4 +5,4 @@ use Rattle.otel_provider.proofs.balanced.BalancedCore.new.Goals as goal
 
 -- a provider is lawful as it is built
 pub invariant_of-result : goal.invariant_of-result
-invariant_of-result c = subst IsLawful (sym c.into_core.ensures) (first_lawful c.args.fresh.resource 0 c.args.fresh.readers)
+invariant_of-result c = subst IsLawful (sym c.into_core.ensures) (first_lawful c.args.fresh.resource c.args.fresh.identity c.args.fresh.readers)

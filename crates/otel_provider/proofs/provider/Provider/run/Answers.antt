@@ -1,7 +1,12 @@
 use Rattle.std.specs.Prelude.{map, IfOk}
-use Rattle.std.proofs.Common.{subst}
+use Rattle.std.proofs.Common.{◌∙◌, ap, arith, subst, sym}
 use Rattle.std.specs.Global.{Vec}
 use Rattle.std.proofs.lemmas.Result.{IfOk-weaker}
+use Rattle.otel_stream.specs.Requests.{wanted_by}
+use Rattle.otel_provider.specs.Readers.{RunReaches}
+use Rattle.otel_provider.proofs.Outcomes.{OnErr-weaker}
+use Rattle.otel_provider.proofs.Reached.{unasked}
+use Rattle.otel_provider.proofs.StepLemmas.{lent_back}
 use Rattle.otel_model.proofs.Runs.{streams_law, feeds_law, places_law, counted_law, collections_law}
 use Rattle.otel_model.proofs.Answered.{few_answered_law, totals_answered_law, all_answered_law}
 use Rattle.otel_model.proofs.Shown.{recorded_law, exported_law, pending_law, conserved_law}
@@ -18,7 +23,7 @@ use Rattle.otel_provider.proofs.provider.Provider.run.Given as given
 use Rattle.otel_provider.proofs.provider.Provider.run.Goals as goal
 
 -- the core's run, with the provider's own views
-as-run : (g : given.Over) (c : goal.After-run g) → IfOk c.run.result (λ replies. IsRunOf (views_of g.P.View.View.answer c.args.self.now) c.args.self.now.core c.args.calls.now replies.items c.run.new.self)
+as-run : (g : given.Over) (c : goal.After-self-1 g) → IfOk c.run.result (λ replies. IsRunOf (views_of g.P.View.View.answer c.args.self.now) c.args.self.now.core c.args.calls.now replies.items c.run.new.self)
 as-run g c = subst (λ vs. IfOk c.run.result (λ replies. IsRunOf (map g.P.View.View.answer vs) c.args.self.now.core c.args.calls.now replies.items c.run.new.self)) c.deref.ensures.value c.run.ensures.run
 
 pub returns-clause-streams : goal.returns-clause-streams
@@ -68,3 +73,25 @@ returns-clause-few g c = IfOk-weaker c.run.result _ _ (λ replies is. of_answers
 
 pub returns-clause-readers : goal.returns-clause-readers
 returns-clause-readers g c = kept_run (views_of g.P.View.View.answer c.args.self.now) c.run.result (map call_of c.args.calls.now) (λ (replies : Vec Reply). map reply_of replies.items) c.args.self.now.core c.run.new.self (as-run g c) c.run.ensures.unmade
+
+-- the readers come back as they were lent
+pub returns-clause-reached : goal.returns-clause-reached
+returns-clause-reached g c =
+    let lent = lent_back c.args.self.now.readers.len c.run.new.readers _ (omega arith) in
+    subst (λ rs. IfOk c.run.result (λ (replies : Vec Reply). RunReaches g.P.Reader.MetricReader.flushes g.P.Reader.MetricReader.shuts c.args.self.now.core.shared.shut (map call_of c.args.calls.now) c.args.self.now.readers.items (map reply_of replies.items) rs)) (sym lent)
+    (subst (λ rs. IfOk c.run.result (λ (replies : Vec Reply). RunReaches g.P.Reader.MetricReader.flushes g.P.Reader.MetricReader.shuts c.args.self.now.core.shared.shut (map call_of c.args.calls.now) rs (map reply_of replies.items) c.run.new.readers)) c.deref_mut.ensures.value c.run.ensures.reached)
+
+pub returns-clause-unreached : goal.returns-clause-unreached
+returns-clause-unreached g c =
+    let lent = lent_back c.args.self.now.readers.len c.run.new.readers _ (omega arith) in
+    OnErr-weaker c.run.result (λ same. lent ∙ (same ∙ c.deref_mut.ensures.value)) c.run.ensures.unreached
+
+pub returns-clause-unasked : goal.returns-clause-unasked
+returns-clause-unasked g c = λ none.
+    (let lent = lent_back c.args.self.now.readers.len c.run.new.readers _ (omega arith) in
+    lent ∙ (unasked g.P.Reader.MetricReader.flushes g.P.Reader.MetricReader.shuts c.args.self.now.core.shared.shut c.run.result (map call_of c.args.calls.now) (λ (replies : Vec Reply). map reply_of replies.items) c.deref_mut.result.now c.run.new.readers c.run.ensures.reached c.run.ensures.unreached none ∙ c.deref_mut.ensures.value))
+
+pub returns-clause-wants : goal.returns-clause-wants
+returns-clause-wants g c =
+    let lent = lent_back c.args.self.now.readers.len c.run.new.readers _ (omega arith) in
+    ap (map (wanted_by g.P.Reader.MetricReader.preference g.P.Reader.MetricReader.limit g.P.Reader.MetricReader.aggregation)) lent ∙ (c.run.ensures.wants ∙ ap (map (wanted_by g.P.Reader.MetricReader.preference g.P.Reader.MetricReader.limit g.P.Reader.MetricReader.aggregation)) c.deref_mut.ensures.value)

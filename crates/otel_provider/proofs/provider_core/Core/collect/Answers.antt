@@ -1,27 +1,45 @@
-use Rattle.std.proofs.Common.{◌≡◌, refl, Some, slice_get, arith}
+use Rattle.std.proofs.Common.{◌≡◌, ◌<◌, ◌∙◌, ap, sym, map, length, None, Some, slice_get, subst, arith}
+use Rattle.std.specs.Prelude.{All}
+use Rattle.otel_model.specs.Refusals.{observations_refusal}
+use Rattle.otel_model.specs.State.{State}
+use Rattle.otel_provider.specs.Correspondence.{observed_of}
+use Rattle.otel_provider.specs.States.{shared_of, IsTaken}
 use Rattle.otel_provider.proofs.Outcomes.{IfOk-both, OnErr-weaker}
 use Rattle.otel_provider.proofs.Collects.{get-at, collection-made, set-seen, set-unseen}
-use Rattle.otel_provider.specs.States.{shared_of}
-use Rattle.otel_provider.proofs.Typed.{typed-set, same_feeds-by}
+use Rattle.otel_provider.proofs.Typed.{typed-set, same_feeds-by, typed-observed}
 use Rattle.otel_provider.proofs.provider_core.Core.collect.Goals as goal
+
+-- the observations are of instruments that take them, so they are of the number type of what these feed
+pub collect-requires : goal.collect-requires
+collect-requires c =
+    let ps = c.self.inside.pipelines.items in
+    let inside : c.args.reader < length ps = omega (arith, c.if-reader-len.false, c.len.ensures, c.self.inside.pipelines.ok.0) in
+    typed-observed c.self.inside.instruments.items ps c.args.observations.now c.args.reader c.index_mut.result.now (get-at ps c.args.reader c.index_mut.result.now inside c.index_mut.ensures.value) c.self.invariant
+    (subst (λ is. All (IsTaken is) c.args.observations.now) c.deref.ensures.value c.in_default.ensures.taken)
+
+pub invariant_of-self : goal.invariant_of-self
+invariant_of-self c =
+    let ps = c.self.inside.pipelines.items in
+    let inside : c.args.reader < length ps = omega (arith, c.if-reader-len.false, c.len.ensures, c.self.inside.pipelines.ok.0) in
+    let at : slice_get ps c.args.reader ≡ Some c.index_mut.result.now = get-at ps c.args.reader c.index_mut.result.now inside c.index_mut.ensures.value in
+    typed-set c.self.inside.instruments.items ps c.args.reader c.index_mut.result.now c.collect.new.self at
+    (same_feeds-by c.collect.result 0 c.args.now (map observed_of c.args.observations.now) c.collect.new.self c.index_mut.result.now c.collect.ensures.ok c.collect.ensures.err) c.self.invariant
 
 pub returns-clause-ok : goal.returns-clause-ok
 returns-clause-ok c =
     let ps = c.self.inside.pipelines.items in
-    let at : slice_get ps c.args.reader ≡ Some c.in-Some.pipeline.now = get-at ps c.args.reader c.in-Some.pipeline.now (omega (arith, c.in-Some.ensures.variant.0 refl, c.self.inside.pipelines.ok.0)) c.in-Some.ensures.value in
+    let os = map observed_of c.args.observations.now in
+    let inside : c.args.reader < length ps = omega (arith, c.if-reader-len.false, c.len.ensures, c.self.inside.pipelines.ok.0) in
+    let at : slice_get ps c.args.reader ≡ Some c.index_mut.result.now = get-at ps c.args.reader c.index_mut.result.now inside c.index_mut.ensures.value in
+    let good : observations_refusal c.self.inside.instruments.items os ≡ None = ap (λ is. observations_refusal is os) (sym c.deref.ensures.value) ∙ c.in_default.ensures.fits in
     rw (← c.self.view_is)
-    (IfOk-both c.collect.result (λ x given left. collection-made c.self.inside.resource c.self.inside.meters.keys c.self.inside.instruments.items ps _ c.args.reader c.args.now c.in-Some.pipeline.now x at given (set-seen _ ps c.args.reader c.in-Some.pipeline.now c.collect.new.self at (left c.args.reader)))
+    (IfOk-both c.collect.result (λ x given left. collection-made c.self.inside.shut c.self.inside.resource c.self.inside.identity c.self.inside.meters.keys c.self.inside.instruments.items ps _ c.args.reader c.args.now os c.index_mut.result.now x (ap (λ (st : State). st.shared.shut) c.self.view_is ∙ c.requires) at good given (set-seen _ ps c.args.reader c.index_mut.result.now c.collect.new.self at (left c.args.reader)))
     c.collect.ensures.collection c.collect.ensures.ok)
 
 pub returns-clause-err : goal.returns-clause-err
 returns-clause-err c =
     let ps = c.self.inside.pipelines.items in
-    let at : slice_get ps c.args.reader ≡ Some c.in-Some.pipeline.now = get-at ps c.args.reader c.in-Some.pipeline.now (omega (arith, c.in-Some.ensures.variant.0 refl, c.self.inside.pipelines.ok.0)) c.in-Some.ensures.value in
+    let inside : c.args.reader < length ps = omega (arith, c.if-reader-len.false, c.len.ensures, c.self.inside.pipelines.ok.0) in
+    let at : slice_get ps c.args.reader ≡ Some c.index_mut.result.now = get-at ps c.args.reader c.index_mut.result.now inside c.index_mut.ensures.value in
     rw (← c.self.view_is)
-    (OnErr-weaker c.collect.result (λ same. λ i. record { shared = shared_of c.self.inside.resource c.self.inside.meters.keys c.self.inside.instruments.items; readers = set-unseen ps c.args.reader c.in-Some.pipeline.now c.collect.new.self at same i }) c.collect.ensures.err)
-
-pub invariant_of-self-2 : goal.invariant_of-self-2
-invariant_of-self-2 c =
-    let ps = c.self.inside.pipelines.items in
-    let at : slice_get ps c.args.reader ≡ Some c.in-Some.pipeline.now = get-at ps c.args.reader c.in-Some.pipeline.now (omega (arith, c.in-Some.ensures.variant.0 refl, c.self.inside.pipelines.ok.0)) c.in-Some.ensures.value in
-    typed-set c.self.inside.instruments.items ps c.args.reader c.in-Some.pipeline.now c.collect.new.self at (same_feeds-by c.collect.result 0 c.args.now c.collect.new.self c.in-Some.pipeline.now c.collect.ensures.ok c.collect.ensures.err) c.self.invariant
+    (OnErr-weaker c.collect.result (λ same. λ i. record { shared = shared_of c.self.inside.shut c.self.inside.resource c.self.inside.identity c.self.inside.meters.keys c.self.inside.instruments.items; readers = set-unseen ps c.args.reader c.index_mut.result.now c.collect.new.self at same i }) c.collect.ensures.err)

@@ -2,9 +2,8 @@ use Rattle.std.proofs.Common.{◌≡◌, ◌∙◌, ap, sym, true≢false, cond,
 use Rattle.std.specs.List.{list_any, position_or_len}
 use Rattle.otel_common.specs.Scopes.{scope_eq}
 use Rattle.otel_common.specs.declared.scopes.InstrumentationScope.{InstrumentationScope}
-use Rattle.otel_model.specs.Calls as model
-use Rattle.otel_provider.specs.States.{state_of}
-use Rattle.otel_provider.proofs.StepLemmas.{meter_number, meter-known, meter-unknown, has_scope-flip}
+use Rattle.otel_model.specs.State.{State}
+use Rattle.otel_provider.proofs.StepLemmas.{meter-made, meter-known, meter-unknown, has_scope-flip}
 use Rattle.otel_provider.proofs.provider_core.Core.meter.Goals as goal
 
 -- a new scope is added at the end
@@ -14,15 +13,16 @@ returns-clause-ok c =
     let scope : InstrumentationScope = c.args.scope.now in
     let copy : c.in_ok-copy_scope.field-0 ≡ scope = c.in_ok-copy_scope.ensures.copy in
     let first : c.in_ok-number.number ≡ position_or_len (scope_eq scope) keys = c.in_ok-number.ensures.index ∙ ap (λ s. position_or_len (scope_eq s) keys) copy in
-    rw (← c.self.view_is) (λ views. record {
-      answer = ap model.Reply.Meter (meter_number scope keys c.in_ok-number.number first);
-      state = ap (λ ks. state_of c.self.inside.resource ks c.self.inside.instruments.items c.self.inside.pipelines.items) (c.in_ok-number.ensures.keys ∙ (ap (λ s. cond (list_any (scope_eq s) keys) keys (keys ++ s ∷ [])) copy ∙ ap (λ b. cond b keys (keys ++ scope ∷ [])) (sym (has_scope-flip scope keys))));
-    })
+    rw (← c.self.view_is)
+    (meter-made c.self.inside.shut c.self.inside.resource c.self.inside.identity keys _ c.self.inside.instruments.items c.self.inside.pipelines.items scope c.in_ok-number.number
+    (ap (λ (st : State). st.shared.shut) c.self.view_is ∙ c.requires) first
+    (c.in_ok-number.ensures.keys ∙ (ap (λ s. cond (list_any (scope_eq s) keys) keys (keys ++ s ∷ [])) copy ∙ ap (λ b. cond b keys (keys ++ scope ∷ [])) (sym (has_scope-flip scope keys)))))
 
 -- a known one is found
 pub returns-in-Some-clause-ok : goal.returns-in-Some-clause-ok
 returns-in-Some-clause-ok c =
-    rw (← c.self.view_is) (meter-known c.self.inside.resource c.self.inside.meters.keys c.self.inside.instruments.items c.self.inside.pipelines.items c.args.scope.now c.in-Some.number (sym c.get_index_of.ensures.index ∙ c.in-Some.is))
+    rw (← c.self.view_is) (meter-known c.self.inside.shut c.self.inside.resource c.self.inside.identity c.self.inside.meters.keys c.self.inside.instruments.items c.self.inside.pipelines.items c.args.scope.now c.in-Some.number
+    (ap (λ (st : State). st.shared.shut) c.self.view_is ∙ c.requires) (sym c.get_index_of.ensures.index ∙ c.in-Some.is))
 
 -- one that is known was found
 pub returns-in_err-copy_scope-clause-known : goal.returns-in_err-copy_scope-clause-known

@@ -1,0 +1,251 @@
+//! Observable instruments, and the lines that say what was observed.
+
+use super::{assert_is_bad, assert_prints};
+use std::test::Fail;
+
+/// A delta reader is told how much an observed sum rose since the collection before.
+#[test]
+fn row_5(rt: HostRuntime) -> Result<(), Fail> {
+    assert_prints(
+        &rt,
+        rt.alloc(),
+        b"reader delta\n\
+          go\n\
+          meter app\n\
+          build 0 u64_observable_counter c 100\n\
+          observe 0 u:10 k=s:v\n\
+          collect 0 200\n\
+          observe 0 u:15 k=s:v\n\
+          collect 0 300\n\
+          collect 0 400\n\
+          observe 0 u:20 k=s:v\n\
+          collect 0 500\n",
+        "meter 0\n\
+         instrument 0\n\
+         collected 1\n\
+         point app c sum delta monotonic 100 200 k=s:v 10\n\
+         collected 1\n\
+         point app c sum delta monotonic 200 300 k=s:v 5\n\
+         collected 0\n\
+         collected 1\n\
+         point app c sum delta monotonic 400 500 k=s:v 20\n",
+    )
+}
+
+/// Observations past the limit of a view.
+#[test]
+fn row_21(rt: HostRuntime) -> Result<(), Fail> {
+    assert_prints(
+        &rt,
+        rt.alloc(),
+        b"reader delta\n\
+          view c limit=1\n\
+          go\n\
+          meter app\n\
+          build 0 u64_observable_counter c 100\n\
+          observe 0 u:10 x=i:1\n\
+          observe 0 u:20 y=i:1\n\
+          observe 0 u:30 z=i:1\n\
+          collect 0 200\n\
+          observe 0 u:10 x=i:1\n\
+          observe 0 u:20 y=i:1\n\
+          observe 0 u:30 z=i:1\n\
+          collect 0 300\n",
+        "meter 0\n\
+         instrument 0\n\
+         collected 2\n\
+         point app c sum delta monotonic 100 200 x=i:1 10\n\
+         point app c sum delta monotonic 100 200 otel.metric.overflow=b:true 30\n\
+         collected 2\n\
+         point app c sum delta monotonic 200 300 x=i:1 0\n\
+         point app c sum delta monotonic 200 300 otel.metric.overflow=b:true 0\n",
+    )
+}
+
+/// What one reader observes the other does not see.
+#[test]
+fn row_25(rt: HostRuntime) -> Result<(), Fail> {
+    assert_prints(
+        &rt,
+        rt.alloc(),
+        b"reader delta\n\
+          reader delta\n\
+          go\n\
+          meter app\n\
+          build 0 u64_observable_counter c 100\n\
+          observe 0 u:5 k=s:v\n\
+          collect 1 200\n\
+          observe 0 u:8 k=s:v\n\
+          collect 0 300\n\
+          observe 0 u:9 k=s:v\n\
+          collect 1 400\n\
+          collect 0 500\n",
+        "meter 0\n\
+         instrument 0\n\
+         collected 1\n\
+         point app c sum delta monotonic 100 200 k=s:v 5\n\
+         collected 1\n\
+         point app c sum delta monotonic 100 300 k=s:v 8\n\
+         collected 1\n\
+         point app c sum delta monotonic 200 400 k=s:v 4\n\
+         collected 0\n",
+    )
+}
+
+/// One of two readers drops what observable counters observe.
+#[test]
+fn row_51(rt: HostRuntime) -> Result<(), Fail> {
+    assert_prints(
+        &rt,
+        rt.alloc(),
+        b"reader delta agg:observablecounter=drop\n\
+          reader delta\n\
+          go\n\
+          meter app\n\
+          build 0 u64_observable_counter c 100\n\
+          observe 0 u:7 k=s:v\n\
+          collect 0 200\n\
+          observe 0 u:9 k=s:v\n\
+          collect 1 300\n\
+          observe 0 u:12 k=s:v\n\
+          collect 1 400\n",
+        "meter 0\n\
+         instrument 0\n\
+         collected 0\n\
+         collected 1\n\
+         point app c sum delta monotonic 100 300 k=s:v 9\n\
+         collected 1\n\
+         point app c sum delta monotonic 300 400 k=s:v 3\n",
+    )
+}
+
+/// Each sort of observable instruments, at a cumulative reader.
+#[test]
+fn sorts(rt: HostRuntime) -> Result<(), Fail> {
+    assert_prints(
+        &rt,
+        rt.alloc(),
+        b"reader cumulative\n\
+          go\n\
+          meter app\n\
+          build 0 u64_observable_counter c 1\n\
+          build 0 i64_observable_up_down_counter u 1\n\
+          build 0 u64_observable_gauge g 1\n\
+          build 0 i64_observable_gauge h 1\n\
+          observe 0 u:3 -\n\
+          observe 1 i:-4 a=i:1\n\
+          # a comment\n\
+          \n\
+          observe 2 u:5 -\n\
+          observe 2 u:6 -\n\
+          observe 3 i:-7 -\n\
+          collect 0 2\n\
+          observe 3 i:8 -\n\
+          observe 0 u:9 -\n\
+          collect 0 3\n",
+        "meter 0\n\
+         instrument 0\n\
+         instrument 1\n\
+         instrument 2\n\
+         instrument 3\n\
+         collected 4\n\
+         point app c sum cumulative monotonic 1 2 - 3\n\
+         point app u sum cumulative plain 1 2 a=i:1 -4\n\
+         point app g gauge 1 2 - 6\n\
+         point app h gauge 1 2 - -7\n\
+         collected 2\n\
+         point app c sum cumulative monotonic 1 3 - 9\n\
+         point app h gauge 2 3 - 8\n",
+    )
+}
+
+/// Records at observable instruments, observations of others, and others that are refused.
+#[test]
+fn refusals(rt: HostRuntime) -> Result<(), Fail> {
+    assert_prints(
+        &rt,
+        rt.alloc(),
+        b"reader cumulative\n\
+          go\n\
+          meter app\n\
+          build 0 u64_observable_counter c 1\n\
+          build 0 u64_counter d 1\n\
+          record 0 u:1 -\n\
+          record 0 i:1 -\n\
+          observe 1 u:1 -\n\
+          collect 0 2\n\
+          observe 0 i:1 -\n\
+          observe 7 u:1 -\n\
+          collect 0 2\n\
+          observe 18446744073709551615 u:1 -\n\
+          collect 0 2\n\
+          observe 7 u:1 -\n\
+          collect 1 2\n\
+          collect 0 2\n\
+          shutdown\n\
+          observe 7 u:1 -\n\
+          collect 0 3\n",
+        "meter 0\n\
+         instrument 0\n\
+         instrument 1\n\
+         refused 7 wrong instrument kind\n\
+         refused 7 wrong instrument kind\n\
+         refused 7 wrong instrument kind\n\
+         refused 6 wrong number type\n\
+         refused 3 unknown instrument\n\
+         refused 5 unknown reader\n\
+         collected 0\n\
+         ok\n\
+         refused 9 reader is shut down or not registered\n",
+    )
+}
+
+/// Between observations and their collection only further ones and skipped lines may stand.
+#[test]
+fn between(rt: HostRuntime) -> Result<(), Fail> {
+    let scripts: [(&[u8], u64); 10] = [
+        (b"observe 0 u:1 -\ngo\ncollect 0 1\n", 1),
+        (b"go\nobserve 0 u:1 -\n", 3),
+        (b"go\nobserve 0 u:1 -", 3),
+        (b"go\nobserve 0 u:1 -\n#\n \n", 5),
+        (b"go\nobserve 0 u:1 -\nflush\ncollect 0 1\n", 3),
+        (b"go\nobserve 0 u:1 -\nrecord 0 u:1 -\n", 3),
+        (b"go\nobserve 0 u:1 -\nmeter a\n", 3),
+        (b"go\nobserve 0 u:1 -\ngo\n", 3),
+        (b"go\nobserve 0 u:1 -\ncollect 0\n", 3),
+        (
+            b"go\nobserve 0 u:1 -\ncollect 0 1\nflush\nobserve 0 u:1 -\nshutdown\n",
+            6,
+        ),
+    ];
+    for (script, line) in scripts {
+        assert_is_bad(&rt, rt.alloc(), script, line)?;
+    }
+    Ok(())
+}
+
+/// Observations with too few or too many words, or with words that say nothing.
+#[test]
+fn bad_words(rt: HostRuntime) -> Result<(), Fail> {
+    let lines = [
+        "observe",
+        "observe 0",
+        "observe 0 u:1",
+        "observe 0 u:1 - -",
+        "observe - u:1 -",
+        "observe -1 u:1 -",
+        "observe 18446744073709551616 u:1 -",
+        "observe 0 1 -",
+        "observe 0 u:-1 -",
+        "observe 0 u:18446744073709551616 -",
+        "observe 0 i:9223372036854775808 -",
+        "observe 0 u:1 a",
+        "observe 0 u:1 a=1",
+        "Observe 0 u:1 -",
+    ];
+    for line in lines {
+        let script = format!(in rt.alloc(); "go\n{line}\ncollect 0 1\n")?;
+        assert_is_bad(&rt, rt.alloc(), script.as_bytes(), 2)?;
+    }
+    Ok(())
+}

@@ -1,0 +1,13 @@
+//! Meters, builders of instruments, synchronous instruments, and the checks of names, units and bounds.
+
+pub use otel_data::numbers::NumberType;
+pub use otel_provider::builders::{HistogramBuilder, InstrumentBuilder};
+pub use otel_provider::laws::{copied_instruments, copied_meter, keeps_identity};
+pub use otel_provider::meter::{
+    validate_bucket_boundaries, validate_instrument_name, validate_instrument_unit,
+};
+pub use otel_provider::meters::Meter;
+pub use otel_provider::synchronous::{
+    Adds, Counter, CounterKind, Gauge, GaugeKind, Histogram, HistogramKind, Records, Synchronous,
+    UpDownCounter, UpDownCounterKind,
+};

@@ -1,0 +1,192 @@
+//! Merges of resources, their builders, and the resource of a collection.
+
+use super::replies::{collection, text};
+use crate::common::{Key, KeyValue, Value};
+use crate::metrics::data::ResourceMetrics;
+use crate::metrics::provider::Reply;
+use crate::metrics::{ManualReader, SdkMeterProvider};
+use crate::resource::{Resource, ResourceBuilder};
+use std::alloc::Global;
+use std::fmt::Write;
+use std::process::Abort;
+use std::test::Fail;
+
+/// Attributes whose values are texts, and a schema URL; the empty one is none.
+type Parts<'a> = (&'a [(&'a str, &'a str)], &'a str);
+
+fn list(alloc: Global, pairs: &[(&str, &str)]) -> Result<Vec<KeyValue>, Fail> {
+    let mut list = Vec::new(alloc);
+    for (key, value) in pairs {
+        let value = Value::String(text(alloc, value)?);
+        list.push(KeyValue::new(Key::new(alloc, key)?, value))?;
+    }
+    Ok(list)
+}
+
+fn builder(alloc: Global, parts: Parts<'_>) -> Result<ResourceBuilder, Fail> {
+    let (pairs, url) = parts;
+    let list = list(alloc, pairs)?;
+    let url = String::from_str(alloc, url)?;
+    Ok(Resource::builder_empty(alloc).with_schema_url(list, url)?)
+}
+
+fn resource(alloc: Global, parts: Parts<'_>) -> Result<Resource, Fail> {
+    Ok(builder(alloc, parts)?.build())
+}
+
+/// The attributes and the URL, as in `a=b c=d u`; `-` stands for no URL.
+fn shown(alloc: Global, resource: &Resource) -> Result<String, Fail> {
+    let mut shown = String::new(alloc);
+    for (key, value) in resource {
+        let Value::String(value) = value else {
+            return Err("no text".into());
+        };
+        write!(shown, "{}={} ", key.as_str(), value.as_str())?;
+    }
+    shown.push_str(resource.schema_url().unwrap_or("-"))?;
+    Ok(shown)
+}
+
+fn assert_merged(
+    rt: &impl Abort,
+    alloc: Global,
+    one: Parts<'_>,
+    other: Parts<'_>,
+    wanted: &str,
+) -> Result<(), Fail> {
+    let merged = resource(alloc, one)?.merge(&resource(alloc, other)?)?;
+    assert_eq!(rt; shown(alloc, &merged)?.as_str(), wanted);
+    Ok(())
+}
+
+#[test]
+fn merge_resource_key_value_pairs(rt: HostRuntime) -> Result<(), Fail> {
+    let one: &[(&str, &str)] = &[("a", ""), ("b", "b-value"), ("d", "d-value")];
+    let other: &[(&str, &str)] = &[("a", "a-value"), ("c", "c-value"), ("d", "")];
+    assert_merged(
+        &rt,
+        rt.alloc(),
+        (one, ""),
+        (other, ""),
+        "a=a-value b=b-value c=c-value d= -",
+    )
+}
+
+#[test]
+fn row_20(rt: HostRuntime) -> Result<(), Fail> {
+    let one: &[(&str, &str)] = &[("a", ""), ("b", "b-value"), ("d", "d-value")];
+    let other: &[(&str, &str)] = &[("a", "a-value"), ("c", "c-value"), ("d", "")];
+    for (own, given, wanted) in [
+        ("u1", "u2", "a=a-value b=b-value c=c-value d= -"),
+        ("", "u2", "a=a-value b=b-value c=c-value d= u2"),
+        ("u1", "", "a=a-value b=b-value c=c-value d= u1"),
+    ] {
+        assert_merged(&rt, rt.alloc(), (one, own), (other, given), wanted)?;
+    }
+    Ok(())
+}
+
+#[test]
+fn merge_resource_schema_url(rt: HostRuntime) -> Result<(), Fail> {
+    for (own, given, wanted) in [
+        ("u1", "", "key= u1"),
+        ("u1", "u2", "key= -"),
+        ("", "u2", "key= u2"),
+        ("u1", "u1", "key= u1"),
+        ("", "", "key= -"),
+    ] {
+        assert_merged(
+            &rt,
+            rt.alloc(),
+            (&[("key", "")], own),
+            (&[("key", "")], given),
+            wanted,
+        )?;
+    }
+    Ok(())
+}
+
+#[test]
+fn merge_resource_with_missing_attributes(rt: HostRuntime) -> Result<(), Fail> {
+    assert_merged(
+        &rt,
+        rt.alloc(),
+        (&[], "u1"),
+        (&[("key", "b")], ""),
+        "key=b u1",
+    )?;
+    for (own, given, wanted) in [
+        ("u1", "", "key=b u1"),
+        ("u1", "u2", "key=b -"),
+        ("", "u2", "key=b u2"),
+    ] {
+        assert_merged(
+            &rt,
+            rt.alloc(),
+            (&[("key", "a")], own),
+            (&[("key", "b")], given),
+            wanted,
+        )?;
+    }
+    Ok(())
+}
+
+/// Of the URLs `u1`, `u2` and `u2` the last stays, merged from the left; merged from the right, none.
+#[test]
+fn urls_merge_from_left_and_right(rt: HostRuntime) -> Result<(), Fail> {
+    let one = resource(rt.alloc(), (&[], "u1"))?;
+    let two = resource(rt.alloc(), (&[], "u2"))?;
+    assert_eq!(rt; one.merge(&two)?.merge(&two)?.schema_url(), Some("u2"));
+    assert_eq!(rt; one.merge(&two.merge(&two)?)?.schema_url(), None);
+    Ok(())
+}
+
+/// Of doubled keys in one list the last stays.
+#[test]
+fn new_resource(rt: HostRuntime) -> Result<(), Fail> {
+    for (pairs, wanted) in [
+        ([("a", ""), ("a", "final")], "a=final -"),
+        ([("a", "final"), ("a", "")], "a= -"),
+    ] {
+        let list = list(rt.alloc(), pairs.as_slice())?;
+        let built = Resource::builder_empty(rt.alloc()).with_attributes(list)?;
+        assert_eq!(rt; shown(rt.alloc(), &built.build())?.as_str(), wanted);
+    }
+    Ok(())
+}
+
+#[test]
+fn builder_with_schema_url(rt: HostRuntime) -> Result<(), Fail> {
+    for (own, given, wanted) in [("u1", "u2", "-"), ("", "u2", "u2"), ("u1", "u1", "u1")] {
+        let url = String::from_str(rt.alloc(), given)?;
+        let none = Vec::new(rt.alloc());
+        let built = builder(rt.alloc(), (&[], own))?.with_schema_url(none, url)?;
+        assert_eq!(rt; shown(rt.alloc(), &built.build())?.as_str(), wanted);
+    }
+    Ok(())
+}
+
+/// A collection of a provider whose resource is a service of this name.
+fn collected(alloc: Global, name: &str) -> Result<ResourceMetrics, Fail> {
+    let reader = Box::new(alloc, ManualReader::default())?;
+    let name = Value::String(text(alloc, name)?);
+    let service = Resource::builder_empty(alloc).with_service_name(name)?;
+    let mut provider = SdkMeterProvider::builder(alloc)
+        .with_resource(service.build())?
+        .with_reader(reader)?
+        .build()?;
+    match provider.step(&collection(alloc, 0, 200)) {
+        Reply::Collected(collected) => Ok(collected),
+        _ => Err("no collection".into()),
+    }
+}
+
+#[test]
+fn test_meter_provider_resource(rt: HostRuntime) -> Result<(), Fail> {
+    let collected = collected(rt.alloc(), "test_service")?;
+    let key = Key::new(rt.alloc(), "service.name")?;
+    let wanted = Value::String(text(rt.alloc(), "test_service")?);
+    assert_eq!(rt; collected.resource().get(&key)?, Some(wanted));
+    assert_eq!(rt; collected.resource().len(), 1);
+    Ok(())
+}

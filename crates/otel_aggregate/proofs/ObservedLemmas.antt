@@ -1,0 +1,100 @@
+-- What draining leaves, and what a stream of observed sums shows.
+use Rattle.std.proofs.Common.{ℕ, ◌≡◌, ◌∙◌, List, [], ◌∷◌, map, Bool, true, false, cond, Option, Some, None, length, refl, ap, sym, true≢false}
+use Rattle.std.specs.Prelude.{ℤ, IsSome}
+use Rattle.otel_common.specs.Equality.{set_eq}
+use Rattle.otel_common.specs.declared.metrics.Temporality.{Temporality}
+use Rattle.otel_data.specs.declared.points.SumDataPoint.{SumDataPoint}
+use Rattle.otel_model_stream.specs.Sets.{AttributeSet, none_set}
+use Rattle.otel_model_stream.specs.Folds.{Amount, Sample, Fold, Total, Last, Spreads, cleared, cleared_no_spread, sample_of}
+use Rattle.otel_model_stream.specs.Entries.{Entry, Point, Table, is_of, on, write, reset, entry_for, placed}
+use Rattle.otel_model_stream.specs.Maps.{MapState, measured, drained_map}
+use Rattle.otel_model_stream.specs.Observed.{fold_in, value_before, difference}
+use Rattle.otel_model_stream.specs.Totals.{value_of}
+use Rattle.otel_model_stream.specs.Data.{sum_point}
+use Rattle.otel_model_stream.proofs.Clearing.{cleared-recorded}
+use Rattle.otel_value_map.specs.Tallies.{HasTally}
+use Rattle.otel_aggregate.specs.Streams.{StreamState, HeldStream, recorded_set, taken, taken_from}
+use Rattle.otel_aggregate.specs.Data.{temporality_of}
+use Rattle.otel_aggregate.specs.Observed.{ObservedState, values_now, since_reported, sums_now, observed_data}
+
+-- ======== draining ========
+cleared-cleared : (f : Fold) → cleared (cleared f) ≡ cleared f
+cleared-cleared (Total n) = refl
+cleared-cleared (Last n) = refl
+cleared-cleared (Spreads s) = cleared_no_spread s.has_min_max s.has_sum (length s.counts)
+
+reset-on : (g : AttributeSet) (v : Sample) (e : Entry) → reset (on g (write v) e) ≡ reset e
+reset-on g v e = by (is_of g e)
+  where
+    by : (b : Bool) → reset (cond b (write v e) e) ≡ reset e
+    by true = ap (λ f. record e { updated = false; fold = f }) (cleared-recorded e.fold v)
+    by false = refl
+
+-- a map is drained to the same with a record more
+pub drained-measured : (s : AttributeSet) (v : Sample) (m : MapState) → drained_map (measured s v m) ≡ drained_map m
+drained-measured s v m = ap (λ (none : Entry). record m { table = record { none = none; entries = [] } }) (reset-on (entry_for s (placed m.limit m.empty s m.table.entries)) v m.table.none)
+
+-- and when it was drained already
+pub drained-drained : (m : MapState) → drained_map (drained_map m) ≡ drained_map m
+drained-drained m = ap (λ f. record m { table = record { none = record m.table.none { updated = false; fold = f }; entries = [] } }) (cleared-cleared m.table.none.fold)
+
+-- after a record that was prepared
+pub drained-set : (old new : HeldStream) (v : Amount) (o : Option AttributeSet) → old.pending ≡ o → IsSome o → ((s : AttributeSet) → old.pending ≡ Some s → new.state ≡ recorded_set s v old.state)
+    → drained_map new.state.map_state ≡ drained_map old.state.map_state
+drained-set old new v None e some measured = absurd (true≢false (sym some))
+drained-set old new v (Some s) e some measured = ap (λ (st : StreamState). drained_map st.map_state) (measured s e) ∙ drained-measured s (sample_of old.state.aggregate v) old.state.map_state
+
+-- and if there was one
+pub drained-taken : (v : Amount) (h : HeldStream) → drained_map (taken v h).state.map_state ≡ drained_map h.state.map_state
+drained-taken v h = by h.pending
+  where
+    by : (o : Option AttributeSet) → drained_map (taken_from o v h).state.map_state ≡ drained_map h.state.map_state
+    by None = refl
+    by (Some s) = drained-measured s (sample_of h.state.aggregate v) h.state.map_state
+
+-- the entry of the empty set, forgotten, where no records come to a last value of 0
+reset-tally : {A : Type 0} (meaning : A → Fold) → ((a : A) → cleared (meaning a) ≡ Last 0) → (t : Table) → HasTally meaning t
+    → reset t.none ≡ record { set = none_set; counted = false; updated = false; fold = Last 0; handles = 0 }
+reset-tally meaning forgets t h = ap reset h.1 ∙ ap (λ f. record { set = none_set; counted = false; updated = false; fold = f; handles = 0 }) (forgets h.0.aggregator)
+
+-- a map is drained to the same with another table
+pub drained-restored : {A : Type 0} (meaning : A → Fold) → ((a : A) → cleared (meaning a) ≡ Last 0) → (m : MapState) (t : Table) → HasTally meaning m.table → HasTally meaning t
+    → drained_map (record m { table = t }) ≡ drained_map m
+drained-restored meaning forgets m t was is =
+    ap (λ (none : Entry). record m { table = record { none = none; entries = [] } }) (reset-tally meaning forgets t is ∙ sym (reset-tally meaning forgets m.table was))
+
+-- ======== points ========
+pub value_before-none : (ps : List Point) (x : AttributeSet) → fold_in ps x ≡ None → value_before ps x ≡ 0
+value_before-none [] x e = refl
+value_before-none (p ∷ ps) x e = by (set_eq p.0 x) e (value_before-none ps x)
+  where
+    by : (b : Bool) → cond b (Some p.1) (fold_in ps x) ≡ None → (fold_in ps x ≡ None → value_before ps x ≡ 0) → cond b (value_of p.1) (value_before ps x) ≡ 0
+    by true e ih = absurd (cc)
+    by false e ih = ih e
+
+pub value_before-some : (ps : List Point) (x : AttributeSet) (f : Fold) → fold_in ps x ≡ Some f → value_before ps x ≡ value_of f
+value_before-some [] x f e = absurd (cc)
+value_before-some (p ∷ ps) x f e = by (set_eq p.0 x) e (value_before-some ps x f)
+  where
+    by : (b : Bool) → cond b (Some p.1) (fold_in ps x) ≡ Some f → (fold_in ps x ≡ Some f → value_before ps x ≡ value_of f) → cond b (value_of p.1) (value_before ps x) ≡ value_of f
+    by true e ih = let same : p.1 ≡ f = cc in ap value_of same
+    by false e ih = ih e
+
+-- each point by itself, or all of them
+pub since_reported-all : {X : Type 0} (f : Point → X) (resets : Bool) (before ps : List Point)
+    → map (λ p. f (since_reported (cond resets (Some before) None) p)) ps ≡ map f (cond resets (map (difference before) ps) ps)
+since_reported-all f true before [] = refl
+since_reported-all f true before (p ∷ ps) = ap (λ xs. f (difference before p) ∷ xs) (since_reported-all f true before ps)
+since_reported-all f false before ps = refl
+
+-- what a collection gives, from its parts
+pub shown-data : {T : Type 0} (of_bits : ℕ → T) (of_whole : ℤ → T) (now : ℕ) (a : ObservedState) (reported : Option (List Point)) (given : List Point) (points : List (SumDataPoint T)) (start : ℕ) (temporality : Temporality) (is_monotonic : Bool)
+    → points ≡ map (λ p. sum_point of_bits of_whole (since_reported reported p)) given → reported ≡ cond a.stream.resets (Some a.reported) None → given ≡ values_now a
+    → start ≡ a.stream.start → temporality ≡ temporality_of a.stream → is_monotonic ≡ a.stream.is_monotonic
+    → record { data_points = points; start_time = start; time = now; temporality = temporality; is_monotonic = is_monotonic } ≡ observed_data of_bits of_whole now a
+shown-data of_bits of_whole now a reported given points start temporality is_monotonic is before all since kind rises =
+    let same : points ≡ map (sum_point of_bits of_whole) (sums_now a) =
+    is ∙ ap (λ r. map (λ p. sum_point of_bits of_whole (since_reported r p)) given) before
+    ∙ since_reported-all (sum_point of_bits of_whole) a.stream.resets a.reported given
+    ∙ ap (λ ps. map (sum_point of_bits of_whole) (cond a.stream.resets (map (difference a.reported) ps) ps)) all in
+    λ i. record { data_points = same i; start_time = since i; time = now; temporality = kind i; is_monotonic = rises i }

@@ -1,0 +1,73 @@
+-- A stream of sums that are observed, which are values that were summed before (Metrics SDK, "Asynchronous
+-- Counter" and "MetricReader").
+use Rattle.std.specs.Prelude.{ℕ, ℤ, Bool, cond, List, [], map, Option, None, Some}
+use Rattle.otel_common.specs.declared.attributes.KeyValue.{KeyValue}
+use Rattle.otel_data.specs.declared.sums.Sum.{Sum}
+use Rattle.otel_model_stream.specs.Sets.{AttributeSet, AllowList}
+use Rattle.otel_model_stream.specs.Folds.{LastValue, Amount}
+use Rattle.otel_model_stream.specs.Entries.{Point}
+use Rattle.otel_model_stream.specs.Maps.{draining_points, drained_map}
+use Rattle.otel_model_stream.specs.Observed.{difference}
+use Rattle.otel_model_stream.specs.Data.{sum}
+use Rattle.otel_aggregate.specs.Streams.{StreamState, HeldStream, new_stream, recorded_set, recorded_attributes, taken}
+use Rattle.otel_aggregate.specs.Data.{temporality_of}
+
+-- what was observed since the last collection, and the values that a delta stream reported in that one
+pub record ObservedState : Type 0 where
+  pub stream : StreamState
+  pub reported : List Point
+
+-- that, and the set of the observation that is prepared
+pub record HeldObserved : Type 0 where
+  pub state : ObservedState
+  pub pending : Option AttributeSet
+
+-- a stream without observations, of this limit, made at this moment
+abbrev pub new_observed : Bool → AllowList → Bool → ℕ → ℕ → ObservedState
+new_observed is_monotonic allow resets limit start = record { stream = new_stream LastValue is_monotonic allow resets limit start; reported = [] }
+
+-- ======== observations ========
+-- after an observation of an amount under a set
+abbrev pub observed_set : AttributeSet → Amount → ObservedState → ObservedState
+observed_set s v a = record { stream = recorded_set s v a.stream; reported = a.reported }
+
+-- after an observation of an amount with these attributes
+abbrev pub observed_attributes : List KeyValue → Amount → ObservedState → ObservedState
+observed_attributes l v a = record { stream = recorded_attributes l v a.stream; reported = a.reported }
+
+-- without the values that were reported
+abbrev pub stream_in : HeldObserved → HeldStream
+stream_in s = record { state = s.state.stream; pending = s.pending }
+
+-- with these
+abbrev pub with_reported : List Point → HeldStream → HeldObserved
+with_reported ps s = record { state = record { stream = s.state; reported = ps }; pending = s.pending }
+
+-- after the observation that is prepared, if there is one
+abbrev pub observed : Amount → HeldObserved → HeldObserved
+observed v s = with_reported s.state.reported (taken v (stream_in s))
+
+-- ======== collections ========
+-- the values that were observed
+abbrev pub values_now : ObservedState → List Point
+values_now a = draining_points a.stream.map_state
+
+-- a value, or what it is more than the one that was reported before
+abbrev pub since_reported : Option (List Point) → Point → Point
+since_reported None p = p
+since_reported (Some before) p = difference before p
+
+-- what a collection gives: the values; in a delta stream what each is more than the one reported before
+abbrev pub sums_now : ObservedState → List Point
+sums_now a = cond a.stream.resets (map (difference a.reported) (values_now a)) (values_now a)
+
+-- after a collection at a moment: nothing that was observed is left, and a delta stream has reported it
+abbrev pub drained_at : ℕ → ObservedState → ObservedState
+drained_at now a = record {
+  stream = record a.stream { map_state = drained_map a.stream.map_state; start = cond a.stream.resets now a.stream.start };
+  reported = cond a.stream.resets (values_now a) a.reported;
+}
+
+-- collected at a moment, as data
+abbrev pub observed_data : {T : Type 0} → (ℕ → T) → (ℤ → T) → ℕ → ObservedState → Sum T
+observed_data of_bits of_whole now a = sum of_bits of_whole (temporality_of a.stream) a.stream.is_monotonic a.stream.start now (sums_now a)

@@ -1,0 +1,140 @@
+//! What a stream of any aggregate is made of.
+
+ghost use Rattle.std.specs.Prelude.{◌≡◌, IfOk, IsOkUnless};
+ghost use Rattle.otel_common.specs.Temporalities.{resets};
+ghost use Rattle.otel_aggregate.specs.Any.{new_any, form_of};
+ghost use Rattle.otel_aggregate.specs.Inner.{any_of, form_in};
+ghost use Rattle.otel_aggregate.specs.declared.settings.AnySettings.TheVariants as spec;
+
+use crate::any::Inner;
+use crate::histogram::Histogram;
+use crate::last_value::LastValue;
+use crate::precomputed_sum::PrecomputedSum;
+use crate::settings::HistogramSettings;
+use crate::sum::Sum;
+use otel_common::faults::Fault;
+use otel_common::keys::Key;
+use otel_common::lists::Items;
+use otel_common::metrics::Temporality;
+use std::alloc::Global;
+
+/// Sums of unsigned or signed numbers.
+pub fn new_sum(
+    alloc: Global,
+    is_signed: bool,
+    temporality: Temporality,
+    allow: Option<Items<Key>>,
+    limit: usize,
+    now: u64,
+    is_monotonic: bool,
+) -> Result<Inner, Fault>
+    ensures made { IfOk result (λ made. any_of made ≡ new_any (spec.Sum is_monotonic) is_signed allow (resets temporality) limit now) }
+    ensures only_memory { IsOkUnless result Fault.OutOfMemory }
+{
+    if is_signed {
+        let made = Sum::new(alloc, temporality, allow, limit, now, is_monotonic)?;
+        Ok(Inner::SumI64(made))
+    } else {
+        let made = Sum::new(alloc, temporality, allow, limit, now, is_monotonic)?;
+        Ok(Inner::SumU64(made))
+    }
+}
+
+/// Observed sums of unsigned or signed numbers.
+pub fn new_precomputed_sum(
+    alloc: Global,
+    is_signed: bool,
+    temporality: Temporality,
+    allow: Option<Items<Key>>,
+    limit: usize,
+    now: u64,
+    is_monotonic: bool,
+) -> Result<Inner, Fault>
+    ensures made { IfOk result (λ made. any_of made ≡ new_any (spec.PrecomputedSum is_monotonic) is_signed allow (resets temporality) limit now) }
+    ensures only_memory { IsOkUnless result Fault.OutOfMemory }
+{
+    if is_signed {
+        let made = PrecomputedSum::new(alloc, temporality, allow, limit, now, is_monotonic)?;
+        Ok(Inner::PrecomputedSumI64(made))
+    } else {
+        let made = PrecomputedSum::new(alloc, temporality, allow, limit, now, is_monotonic)?;
+        Ok(Inner::PrecomputedSumU64(made))
+    }
+}
+
+/// Last values of unsigned or signed numbers.
+pub fn new_last_value(
+    alloc: Global,
+    is_signed: bool,
+    temporality: Temporality,
+    allow: Option<Items<Key>>,
+    limit: usize,
+    now: u64,
+) -> Result<Inner, Fault>
+    ensures made { IfOk result (λ made. any_of made ≡ new_any spec.LastValue is_signed allow (resets temporality) limit now) }
+    ensures only_memory { IsOkUnless result Fault.OutOfMemory }
+{
+    if is_signed {
+        let made = LastValue::new(alloc, temporality, allow, limit, now)?;
+        Ok(Inner::LastValueI64(made))
+    } else {
+        let made = LastValue::new(alloc, temporality, allow, limit, now)?;
+        Ok(Inner::LastValueU64(made))
+    }
+}
+
+/// Histograms of unsigned or signed numbers.
+pub fn new_histogram(
+    alloc: Global,
+    is_signed: bool,
+    temporality: Temporality,
+    allow: Option<Items<Key>>,
+    limit: usize,
+    now: u64,
+    settings: HistogramSettings,
+) -> Result<Inner, Fault>
+    ensures made { IfOk result (λ made. any_of made ≡ new_any (spec.Histogram settings) is_signed allow (resets temporality) limit now) }
+    ensures only_memory { IsOkUnless result Fault.OutOfMemory }
+{
+    if is_signed {
+        let made = Histogram::new(
+            alloc,
+            temporality,
+            allow,
+            limit,
+            now,
+            settings.bounds,
+            settings.has_min_max,
+            settings.has_sum,
+        )?;
+        Ok(Inner::HistogramI64(made))
+    } else {
+        let made = Histogram::new(
+            alloc,
+            temporality,
+            allow,
+            limit,
+            now,
+            settings.bounds,
+            settings.has_min_max,
+            settings.has_sum,
+        )?;
+        Ok(Inner::HistogramU64(made))
+    }
+}
+
+/// The law that a stream keeps of each set what its variant says.
+pub fn told_form(inner: &Inner)
+    ensures { form_of (any_of inner.now).state.aggregate ≡ form_in inner.now }
+{
+    match inner {
+        Inner::SumU64(stream) => stream.told_aggregate(),
+        Inner::SumI64(stream) => stream.told_aggregate(),
+        Inner::PrecomputedSumU64(stream) => stream.told_aggregate(),
+        Inner::PrecomputedSumI64(stream) => stream.told_aggregate(),
+        Inner::LastValueU64(stream) => stream.told_aggregate(),
+        Inner::LastValueI64(stream) => stream.told_aggregate(),
+        Inner::HistogramU64(stream) => stream.told_aggregate(),
+        Inner::HistogramI64(stream) => stream.told_aggregate(),
+    }
+}

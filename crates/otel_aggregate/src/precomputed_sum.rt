@@ -1,0 +1,306 @@
+//! Sums that are observed.
+
+ghost use Rattle.std.specs.Prelude.{◌≡◌, cond, map, is_some, None, Some, IsTrue, IsSome, OnOk, OnErr, IfOk, IsOk, IsOkUnless};
+ghost use Rattle.std.specs.Option.{option_map};
+ghost use Rattle.otel_common.specs.Temporalities.{resets};
+ghost use Rattle.otel_model_stream.specs.Sets.{AttributeSet, set_of};
+ghost use Rattle.otel_model_stream.specs.Folds.{Last, LastValue, wrapped};
+ghost use Rattle.otel_model_stream.specs.Totals.{points_total};
+ghost use Rattle.otel_model_stream.specs.Maps.{draining_points};
+ghost use Rattle.otel_model_stream.specs.Observed.{value_before, less};
+ghost use Rattle.otel_model_stream.specs.Data.{sum_point};
+ghost use Rattle.otel_value_map.specs.Tallies.{copies};
+ghost use Rattle.otel_aggregate.specs.Streams.{is_known};
+ghost use Rattle.otel_aggregate.specs.Observed.{new_observed, observed_set, observed_attributes, observed, values_now, since_reported, drained_at, observed_data};
+
+use crate::stream::{Stream, shown_temporality};
+use otel_common::attributes::KeyValue;
+use otel_common::faults::Fault;
+use otel_common::keys::Key;
+use otel_common::lists::Items;
+use otel_common::metrics::Temporality;
+use otel_data::points::SumDataPoint;
+use otel_data::sums::Sum as SumData;
+use otel_value_map::assign::Assign;
+use otel_value_map::number::Number;
+use otel_value_map::saved::Saved;
+use otel_value_map::value_map::ValueMap;
+use std::alloc::Global;
+use std::marker::Model;
+
+/// One number less another, modulo 2^64.
+fn difference_of<T: Number>(value: T, before: T) -> T
+    ensures { T.bits result ≡ less (T.bits value) (T.bits before) }
+{
+    // Tells the prover that the bits are below 2^64.
+    let _ = before.bits();
+    value.subtract(before)
+}
+
+/// The value that was reported of a set, 0 if it had no point.
+fn value_in<T: Number + Drop>(reported: &ValueMap<Assign<T>>, attributes: &[KeyValue]) -> T
+    ensures { T.bits result ≡ value_before (draining_points reported.now.state) attributes.now }
+{
+    match reported.get(attributes) {
+        None => T::zero(),
+        Some(last) => last.value,
+    }
+}
+
+/// A value that was observed of a set, or what it is more than the one that was reported before.
+fn shown_value<T: Number + Drop>(
+    reported: Option<&ValueMap<Assign<T>>>,
+    attributes: &[KeyValue],
+    value: T,
+) -> T
+    ensures { (attributes.now, Last (T.bits result)) ≡ since_reported (option_map (λ before. draining_points before.now.state) reported.entry) (attributes.now, Last (T.bits value)) }
+{
+    match reported {
+        None => value,
+        Some(reported) => difference_of(value, value_in(reported, attributes)),
+    }
+}
+
+/// The point of a set.
+fn shown_point<T: Number + Drop>(
+    alloc: Global,
+    reported: Option<&ValueMap<Assign<T>>>,
+    attributes: Items<KeyValue>,
+    value: T,
+) -> SumDataPoint<T>
+    ensures { result ≡ sum_point T.of_bits T.of_wide (since_reported (option_map (λ before. draining_points before.now.state) reported.entry) (attributes, Last (T.bits value))) }
+{
+    let value = shown_value(reported, attributes.as_slice(), value);
+    value.told_by_bits();
+    SumDataPoint::new(attributes, Items::from(Vec::new(alloc)), value)
+}
+
+/// The points of values that were observed.
+fn shown_points<T: Number + Drop>(
+    alloc: Global,
+    reported: Option<&ValueMap<Assign<T>>>,
+    given: Vec<(Items<KeyValue>, Assign<T>)>,
+) -> Result<Items<SumDataPoint<T>>, Fault>
+    ensures points { IfOk result (λ made. made ≡ map (λ p. sum_point T.of_bits T.of_wide (since_reported (option_map (λ before. draining_points before.now.state) reported.entry) p)) (copies (λ last. Last (T.bits last.value)) given.items)) }
+    ensures only_memory { IsOkUnless result Fault.OutOfMemory }
+{
+    let mut points = Vec::with_capacity(alloc, given.len())?;
+    for (attributes, last) in given {
+        points.push(shown_point(alloc, reported, attributes, last.value))?;
+    }
+    Ok(Items::from(points))
+}
+
+/// The sums that a stream's asynchronous counters observe, by set: values that were summed before
+/// (Metrics SDK, "Asynchronous Counter"). Of several observations of a set between two collections
+/// the last one stands.
+///
+/// Each collection empties it, so a set that was not observed since the last one has no point. Where
+/// the reader's answer is `Delta`, a point is what the value is more than the one that the set had in
+/// the collection before, modulo 2^64; a set that had no point there counts from 0.
+///
+/// It has two maps, for what is observed and for what was reported, and a collection swaps them: no
+/// value is copied to be kept.
+#[derive(Drop)]
+pub struct PrecomputedSum<T: Number + Drop> {
+    stream: Stream<Assign<T>>,
+    /// What the last collection reported. A stream that doesn't reset keeps it empty.
+    reported: ValueMap<Assign<T>>,
+    is_monotonic: bool,
+}
+
+impl<T: Number + Drop> Model for PrecomputedSum<T> {
+    ghost use Rattle.std.specs.Prelude.{◌≡◌};
+    ghost use Rattle.otel_model_stream.specs.Maps.{draining_points, drained_map};
+    ghost use Rattle.otel_aggregate.specs.Observed.{HeldObserved};
+
+    ghost Value = { HeldObserved };
+
+    ghost view = { λ s. record {
+      state = record {
+        stream = record s.stream.state { is_monotonic = s.is_monotonic };
+        reported = draining_points s.reported.state;
+      };
+      pending = s.stream.pending;
+    } };
+
+    ghost invariant = { λ s. drained_map s.reported.state ≡ drained_map s.stream.state.map_state };
+}
+
+impl<T: Number + Drop> PrecomputedSum<T> {
+    /// Sums without observations. `temporality` is the reader's answer: with `Delta` a collection gives
+    /// what was added since the one before, with any other the values themselves. The moment of the
+    /// making is `now`, in nanoseconds since 1970. Any limit is taken: with 0 every set but the empty one
+    /// goes to the overflow point.
+    pub fn new(
+        alloc: Global,
+        temporality: Temporality,
+        allow: Option<Items<Key>>,
+        limit: usize,
+        now: u64,
+        is_monotonic: bool,
+    ) -> Result<Self, Fault>
+        ensures made { IfOk result (λ made. made.state ≡ new_observed is_monotonic allow (resets temporality) limit now) }
+        ensures unprepared { IfOk result (λ made. made.pending ≡ None) }
+        ensures only_memory { IsOkUnless result Fault.OutOfMemory }
+    {
+        let reported = ValueMap::new(alloc, (), limit)?;
+        let stream = Stream::new(alloc, (), temporality, allow, limit, now)?;
+        Ok(PrecomputedSum {
+            stream,
+            reported,
+            is_monotonic,
+        })
+    }
+
+    /// Prepares an observation of these attributes, in the place of one that was prepared before. The
+    /// sums stay as they were.
+    ///
+    /// The first of two phases: the observations of a collection are all prepared before any is taken
+    /// in. It looks what is kept of the attributes up where they stand, and takes no memory where that
+    /// is nothing, or, in their order, the set of an entry: sorted by key, no key twice. Else it copies
+    /// and sorts it.
+    pub fn prepare(&mut self, attributes: &[KeyValue]) -> Result<(), Fault>
+        ensures same { self.new.state ≡ self.old.state }
+        ensures ready { OnOk result (self.new.pending ≡ Some (set_of self.old.state.stream.allow attributes.now)) }
+        ensures refused { OnErr result (self.new.pending ≡ None) }
+        ensures known { IsTrue (is_known self.old.state.stream.allow attributes.now self.old.state.stream.map_state) → IsOk result }
+        ensures only_memory { IsOkUnless result Fault.OutOfMemory }
+    {
+        self.stream.prepare(attributes)
+    }
+
+    /// Whether an observation is prepared.
+    pub fn is_prepared(&self) -> bool
+        ensures { result ≡ is_some self.now.pending }
+    {
+        self.stream.is_prepared()
+    }
+
+    /// Takes in the observation that was prepared. The second phase.
+    pub fn measure_ready(&mut self, value: T)
+        requires { IsSome self.old.pending }
+        ensures measured { (s : AttributeSet) → self.old.pending ≡ Some s → self.new.state ≡ observed_set s (record { bits = T.bits value; wide = T.wide value }) self.old.state }
+        ensures spent { self.new.pending ≡ None }
+    {
+        self.stream.measure_ready(value);
+    }
+
+    /// Takes in the observation that was prepared, if there is one, and answers whether there was.
+    pub fn commit(&mut self, value: T) -> bool
+        ensures taken { self.new ≡ observed (record { bits = T.bits value; wide = T.wide value }) self.old }
+        ensures told { result ≡ is_some self.old.pending }
+    {
+        self.stream.commit(value)
+    }
+
+    /// Takes in an observation of these attributes. It takes no memory where `prepare` takes none.
+    pub fn measure(&mut self, value: T, attributes: &[KeyValue]) -> Result<(), Fault>
+        ensures ok { OnOk result (self.new.state ≡ observed_attributes attributes.now (record { bits = T.bits value; wide = T.wide value }) self.old.state) }
+        ensures err { OnErr result (self.new.state ≡ self.old.state) }
+        ensures spent { self.new.pending ≡ None }
+        ensures known { IsTrue (is_known self.old.state.stream.allow attributes.now self.old.state.stream.map_state) → IsOk result }
+        ensures only_memory { IsOkUnless result Fault.OutOfMemory }
+    {
+        self.prepare(attributes)?;
+        self.measure_ready(value);
+        Ok(())
+    }
+
+    /// What the last collection reported, where differences to it are shown.
+    fn reported(&self) -> Option<&ValueMap<Assign<T>>>
+        ensures { option_map (λ before. draining_points before.now.state) result ≡ cond self.now.state.stream.resets (Some self.now.state.reported) None }
+    {
+        if self.stream.resets() {
+            Some(&self.reported)
+        } else {
+            None
+        }
+    }
+
+    /// What a collection at a moment, in nanoseconds since 1970, gives: the start, the sums and `now`. The
+    /// sums stay as they were. It copies each set that is shown, and with `Delta` looks each up.
+    pub fn points(&self, alloc: Global, now: u64) -> Result<SumData<T>, Fault>
+        ensures data { IfOk result (λ given. given ≡ observed_data T.of_bits T.of_wide now self.now.state) }
+        ensures only_memory { IsOkUnless result Fault.OutOfMemory }
+    {
+        let given = self.stream.every_set(alloc)?;
+        let points = shown_points(alloc, self.reported(), given)?;
+        let temporality = shown_temporality(self.stream.resets());
+        Ok(SumData::new(
+            points,
+            self.stream.start(),
+            now,
+            temporality,
+            self.is_monotonic,
+        ))
+    }
+
+    /// Whether collections give what was added since the one before.
+    pub fn resets(&self) -> bool
+        ensures { result ≡ self.now.state.stream.resets }
+    {
+        self.stream.resets()
+    }
+
+    /// What was observed since the last collection adds up to nothing, as last values do.
+    pub fn total(&self) -> u64
+        ensures { result ≡ wrapped (points_total (values_now self.now.state)) }
+    {
+        self.stream.total_of_every()
+    }
+
+    /// Ends a collection whose points were taken, at a moment in nanoseconds since 1970: what was observed is
+    /// forgotten, and an observation that was prepared is given up. With `Delta` the values are what was
+    /// reported from now on, and the next start is `now`.
+    pub fn finish(&mut self, now: u64)
+        ensures state { self.new.state ≡ drained_at now self.old.state }
+        ensures unprepared { self.new.pending ≡ None }
+    {
+        if self.stream.resets() {
+            self.stream.drain_into(&mut self.reported, now);
+        } else {
+            self.stream.drain();
+        }
+    }
+
+    /// A copy of what was observed, to be restored later. A stream without observations takes no memory
+    /// for them.
+    pub fn save(&self, alloc: Global) -> Result<Saved<Assign<T>>, Fault>
+        ensures saved { IfOk result (λ saved. saved ≡ self.now.state.stream.map_state.table) }
+        ensures only_memory { IsOkUnless result Fault.OutOfMemory }
+    {
+        self.stream.save(alloc)
+    }
+
+    /// Puts saved observations in the place of its own, and gives up one that was prepared. What was
+    /// reported stays as it was. It takes no memory.
+    pub fn restore(&mut self, saved: Saved<Assign<T>>)
+        ensures state { self.new.state ≡ record self.old.state { stream = record self.old.state.stream { map_state = record self.old.state.stream.map_state { table = saved } } } }
+        ensures unprepared { self.new.pending ≡ None }
+    {
+        self.stream.restore(saved);
+    }
+
+    /// The law that it is a stream of last values.
+    pub fn told_aggregate(&self)
+        ensures { self.now.state.stream.aggregate ≡ LastValue }
+    {
+        let _ = self.stream.settings();
+    }
+
+    /// A collection at a moment, in nanoseconds since 1970: `points`, and then `finish`. Where it is
+    /// refused, an observation that was prepared stays prepared.
+    pub fn collect(&mut self, alloc: Global, now: u64) -> Result<SumData<T>, Fault>
+        ensures data { IfOk result (λ given. given ≡ observed_data T.of_bits T.of_wide now self.old.state) }
+        ensures ok { OnOk result (self.new.state ≡ drained_at now self.old.state) }
+        ensures err { OnErr result (self.new.state ≡ self.old.state) }
+        ensures unprepared { OnOk result (self.new.pending ≡ None) }
+        ensures refused { OnErr result (self.new.pending ≡ self.old.pending) }
+        ensures only_memory { IsOkUnless result Fault.OutOfMemory }
+    {
+        let given = self.points(alloc, now)?;
+        self.finish(now);
+        Ok(given)
+    }
+}

@@ -1,0 +1,35 @@
+//! The interfaces of callbacks.
+
+ghost use Rattle.std.specs.Prelude.{◌≡◌, ℕ, ℤ, List, [], Result};
+ghost use Rattle.otel_common.specs.declared.faults.Fault.{Fault};
+ghost use Rattle.otel_callback.specs.declared.observation.Observation.{Observation};
+
+use crate::observation::Observation;
+use otel_common::faults::Fault;
+
+/// What observes values of `u64` (Metrics API, "Asynchronous Instrument API").
+///
+/// A collection runs each callback once, in the order in which their instruments were built, on an empty list. What
+/// it leaves there is what was observed. A callback may change itself: what becomes of it, what it leaves and what it
+/// answers are told by `observes`, which its own code is held to. An `Err` refuses the collection with that fault, and
+/// the callbacks after it don't run. A callback has no way to reach the provider.
+pub trait ObserveU64: Drop + Send {
+    /// The callback before and after, the list that it leaves, and its answer.
+    ghost observes: { Self → Self → List (Observation ℕ) → Result (Unit {0}) Fault → Type 0 };
+
+    /// Adds what is observed now to the list, which is handed in empty.
+    fn observe(&mut self, out: &mut Vec<Observation<u64>>) -> Result<(), Fault>
+        requires { out.old.items ≡ [] }
+        ensures { observes self.old self.new out.new.items result };
+}
+
+/// What observes values of `i64`; else as [`ObserveU64`].
+pub trait ObserveI64: Drop + Send {
+    /// The callback before and after, the list that it leaves, and its answer.
+    ghost observes: { Self → Self → List (Observation ℤ) → Result (Unit {0}) Fault → Type 0 };
+
+    /// Adds what is observed now to the list, which is handed in empty.
+    fn observe(&mut self, out: &mut Vec<Observation<i64>>) -> Result<(), Fault>
+        requires { out.old.items ≡ [] }
+        ensures { observes self.old self.new out.new.items result };
+}

@@ -1,0 +1,44 @@
+use Rattle.std.proofs.Common.{◌∙◌, ap, sym, subst, refl, arith, length}
+use Rattle.std.proofs.lemmas.List.{length-replicate, take_all}
+use Rattle.std.specs.Prelude.{All}
+use Rattle.otel_pipeline.specs.Observations.{AreSavedOf, IsSaved, observing, restored_all}
+use Rattle.otel_pipeline.proofs.Taken.{all-more, observing-within}
+use Rattle.otel_pipeline.proofs.Undone.{none-same, none-kept}
+use Rattle.otel_pipeline.proofs.observing.save_observing.Goals as goal
+
+pub loop-observation-init : goal.loop-observation-init
+loop-observation-init c =
+    let e = c.in_ok-saved.ensures.saved in
+    let ks = c.args.streams.now in
+    record {
+      long = ap length e ∙ length-replicate _ _;
+      same = ap (λ ss. restored_all ss ks) e ∙ none-same (length ks) ks refl;
+      kept = subst (λ ss. AreSavedOf ss ks) (sym e) (none-kept (length ks) ks);
+      all = λ i d h. absurd (omega arith);
+    }
+
+pub save_each-requires-clause-numbers : goal.save_each-requires-clause-numbers
+save_each-requires-clause-numbers c = observing-within c.args.streams.now c.args.feeds.now c.observation-item.result.instrument c.streams_fed-numbers.result.now c.streams_fed-numbers.ensures c.requires
+
+pub loop-observation-preserved : goal.loop-observation-preserved
+loop-observation-preserved c =
+    let now = c.save_each.new.saved.items in
+    let made = c.in_ok-save_each.ensures in
+    record {
+      long = made.long;
+      same = made.same;
+      kept = made.kept;
+      all = all-more (λ o. All (IsSaved now) (observing c.args.feeds.now o)) c.args.observations.now c.loop-observation.observation-index c.observation-item.result c.loop-observation-test.true c.observation-item.is
+          (λ i d h j e g. made.before _ (c.loop-observation.invariant.all i d h j e g))
+          (subst (All (IsSaved now)) c.streams_fed-numbers.ensures made.all);
+    }
+
+pub returns-clause-saved : goal.returns-clause-saved
+returns-clause-saved c = record {
+  many = omega (arith, c.loop-observation.invariant.long);
+  same = c.loop-observation.invariant.same;
+  kept = c.loop-observation.invariant.kept;
+  all = subst (λ l. All (λ o. All (IsSaved c.loop-observation.saved.items) (observing c.args.feeds.now o)) l)
+      (take_all c.loop-observation.observation-index c.args.observations.now (omega (arith, c.loop-observation-test.false)))
+      c.loop-observation.invariant.all;
+}

@@ -1,0 +1,117 @@
+-- What a collection takes in of what was observed, and what is kept to undo that (Metrics SDK, "Observations inside
+-- asynchronous callbacks").
+use Rattle.std.specs.Prelude.{◌≡◌, ◌≤◌, ℕ, suc, Bool, cond, List, [], ◌∷◌, fold, length, All, Option, None, Some, slice_get}
+use Rattle.std.specs.Bool.{beq}
+use Rattle.otel_callback.specs.declared.observation.Observed.{Observed}
+use Rattle.otel_model_stream.specs.Entries.{Table}
+use Rattle.otel_model_stream.specs.Totals.{has_number}
+use Rattle.otel_aggregate.specs.Any.{Form, form_of, is_signed_value, amount_of}
+use Rattle.otel_model.specs.Calls as model
+use Rattle.otel_model.specs.Calls.{or_else}
+use Rattle.otel_model.specs.Sent.{set_for}
+use Rattle.otel_model.specs.State.{ReaderPart}
+use Rattle.otel_model.specs.Streams.{aggregate_of}
+use Rattle.otel_pipeline.specs.Pipelines.{FeedsType, all_settled}
+use Rattle.otel_pipeline.specs.Streams.{Held, with_record, settled}
+
+-- an observation, as the model's
+abbrev pub observed_of : Observed → model.Observed
+observed_of o = record { instrument = o.instrument; value = record { signed = is_signed_value o.value; amount = amount_of o.value }; attributes = o.attributes }
+
+-- each observation is of the number type of the streams that its instrument feeds
+abbrev pub AreTypedFor : List Observed → ReaderPart → Type 0
+AreTypedFor os p = All (λ o. FeedsType o.instrument (is_signed_value o.value) p) os
+
+-- ======== taken in ========
+-- a stream of the observation's number type takes it in
+abbrev pub observed_one : Observed → Held → Held
+observed_one o h = cond (beq (is_signed_value o.value) h.stream.demand.identity.signed) (with_record (set_for h.stream.demand o.attributes) (amount_of o.value) h) h
+
+-- f at the elements with these numbers, the first one having number i
+abbrev pub changed_in : {X : Type 0} → List ℕ → (X → X) → ℕ → List X → List X
+changed_in ns f i [] = []
+changed_in ns f i (x ∷ xs) = cond (has_number i ns) (f x) x ∷ changed_in ns f (suc i) xs
+
+-- the numbers of the streams that take an observation in
+abbrev pub observing : List (List ℕ) → Observed → List ℕ
+observing feeds o = or_else (slice_get feeds o.instrument) []
+
+-- the streams that its instrument feeds take it in
+abbrev pub observed_in : List (List ℕ) → List Held → Observed → List Held
+observed_in feeds streams o = changed_in (observing feeds o) (observed_one o) 0 streams
+
+-- one observation after another
+abbrev pub observed_all : List (List ℕ) → List Observed → List Held → List Held
+observed_all feeds os streams = fold (observed_in feeds) streams os
+
+-- ======== undone ========
+-- what is kept of a stream: its entries, and the total of its records
+pub record SavedHeld : Type 0 where
+  pub is_signed : Bool
+  pub form : Form
+  pub table : Table
+  pub recorded : ℕ
+
+-- what is kept of this one
+abbrev pub saved_by : Held → SavedHeld
+saved_by h = record { is_signed = h.stream.demand.identity.signed; form = form_of (aggregate_of h.stream.demand); table = h.stream.machine.table; recorded = h.stream.recorded }
+
+-- what was kept before stands
+abbrev pub kept_or : Option SavedHeld → SavedHeld → Option SavedHeld
+kept_or None new = Some new
+kept_or (Some old) new = Some old
+
+-- it was kept of a stream of the same number type and aggregate
+pub record IsSavedOf (saved : SavedHeld) (h : Held) : Type 0 where
+  pub number : saved.is_signed ≡ h.stream.demand.identity.signed
+  pub form : saved.form ≡ form_of (aggregate_of h.stream.demand)
+
+-- the stream with what was kept
+abbrev pub restored : SavedHeld → Held → Held
+restored saved h = record {
+  stream = record {
+    demand = h.stream.demand;
+    machine = record { table = saved.table; live = h.stream.machine.live };
+    since = h.stream.since;
+    reported = h.stream.reported;
+    recorded = saved.recorded;
+    exported = h.stream.exported;
+  };
+  resets = h.resets;
+  pending = None;
+}
+
+-- if something was kept
+abbrev pub restored_if : Option SavedHeld → Held → Held
+restored_if None h = settled h
+restored_if (Some saved) h = restored saved h
+
+-- the same of a list of streams
+abbrev pub restored_all : List (Option SavedHeld) → List Held → List Held
+restored_all [] hs = all_settled hs
+restored_all (s ∷ ss) [] = []
+restored_all (s ∷ ss) (h ∷ hs) = restored_if s h ∷ restored_all ss hs
+
+-- and what was kept was kept of these
+abbrev pub AreSavedOf : List (Option SavedHeld) → List Held → Type 0
+AreSavedOf [] hs = Unit {0}
+AreSavedOf (s ∷ ss) [] = Unit {0}
+AreSavedOf (None ∷ ss) (h ∷ hs) = AreSavedOf ss hs
+AreSavedOf (Some s ∷ ss) (h ∷ hs) = IsSavedOf s h × AreSavedOf ss hs
+
+-- something was kept of the stream of this number
+abbrev pub IsSaved : List (Option SavedHeld) → ℕ → Type 0
+IsSaved ss n = (s : SavedHeld) × (slice_get ss n ≡ Some (Some s))
+
+-- what was kept of these streams is as they are, and enough to undo these observations
+pub record CanUndo (feeds : List (List ℕ)) (os : List Observed) (streams : List Held) (ss : List (Option SavedHeld)) : Type 0 where
+  pub many : length ss ≤ length streams
+  pub same : restored_all ss streams ≡ all_settled streams
+  pub kept : AreSavedOf ss streams
+  pub all : All (λ o. All (IsSaved ss) (observing feeds o)) os
+
+-- with what was kept the new streams are as the old ones
+pub record IsUndone (ss : List (Option SavedHeld)) (old new : List Held) : Type 0 where
+  pub many : length new ≡ length old
+  pub same : restored_all ss new ≡ restored_all ss old
+  pub kept : AreSavedOf ss old → AreSavedOf ss new

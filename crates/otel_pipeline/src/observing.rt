@@ -1,0 +1,189 @@
+//! What a collection takes in of what was observed, and how that is undone.
+
+ghost use Rattle.std.specs.Prelude.{◌≡◌, ◌≤◌, ℕ, All, List, Option, None, length, map, replicate, IfOk, OnOk, OnErr, IsOkUnless};
+ghost use Rattle.otel_pipeline.specs.Collections.{scopes_shown};
+ghost use Rattle.otel_pipeline.specs.Observations.{AreSavedOf, CanUndo, IsSaved, IsUndone, SavedHeld, changed_in, kept_or, saved_by, observed_all, observed_one, restored_all};
+ghost use Rattle.otel_pipeline.specs.Pipelines.{AreNumbers, all_settled, finished_all};
+
+use crate::collecting::scopes_of;
+use crate::saved::SavedStream;
+use crate::stream::Stream;
+use crate::streams::{commit_each, finish_each, prepare_each, streams_fed};
+use indexmap::IndexSet;
+use otel_callback::observation::Observed;
+use otel_common::faults::Fault;
+use otel_common::laws::resource_laws;
+use otel_common::lists::Items;
+use otel_common::resource::Resource;
+use otel_common::scopes::InstrumentationScope;
+use otel_data::collections::ResourceMetrics;
+use std::alloc::Global;
+
+/// Room for what is kept of this many streams.
+fn nothing_saved(alloc: Global, many: usize) -> Result<Vec<Option<SavedStream>>, Fault>
+    ensures saved { IfOk result (λ saved. saved.items ≡ replicate many None) }
+    ensures only_memory { IsOkUnless result Fault.OutOfMemory }
+{
+    let mut saved = Vec::with_capacity(alloc, many)?;
+    for _ in 0..many {
+        saved.push(None)?;
+    }
+    Ok(saved)
+}
+
+/// Keeps what there is of a stream, if nothing was kept of it yet.
+fn save_once(alloc: Global, saved: &mut Option<SavedStream>, stream: &Stream) -> Result<(), Fault>
+    ensures kept { OnOk result (saved.new ≡ kept_or saved.old (saved_by stream.now)) }
+    ensures only_memory { IsOkUnless result Fault.OutOfMemory }
+{
+    if saved.is_none() {
+        *saved = Some(stream.save(alloc)?);
+    }
+    Ok(())
+}
+
+/// Keeps what there is of the streams of these numbers, each once.
+fn save_each(
+    alloc: Global,
+    saved: &mut Vec<Option<SavedStream>>,
+    streams: &[Stream],
+    numbers: &[usize],
+) -> Result<(), Fault>
+    requires long { length saved.old.items ≡ length streams.now }
+    requires numbers { AreNumbers streams.now numbers.now }
+    requires same { restored_all saved.old.items streams.now ≡ all_settled streams.now }
+    requires kept { AreSavedOf saved.old.items streams.now }
+    ensures long { OnOk result (length saved.new.items ≡ length streams.now) }
+    ensures same { OnOk result (restored_all saved.new.items streams.now ≡ all_settled streams.now) }
+    ensures kept { OnOk result (AreSavedOf saved.new.items streams.now) }
+    ensures all { OnOk result (All (IsSaved saved.new.items) numbers.now) }
+    ensures before { OnOk result ((n : ℕ) → IsSaved saved.old.items n → IsSaved saved.new.items n) }
+    ensures only_memory { IsOkUnless result Fault.OutOfMemory }
+{
+    for k in numbers {
+        save_once(alloc, &mut saved[*k], &streams[*k])?;
+    }
+    Ok(())
+}
+
+/// Keeps what there is of all streams that are going to take in one of these observations, each once.
+fn save_observing(
+    alloc: Global,
+    streams: &[Stream],
+    feeds: &[Items<usize>],
+    observations: &[Observed],
+) -> Result<Vec<Option<SavedStream>>, Fault>
+    requires { All (AreNumbers streams.now) feeds.now }
+    ensures saved { IfOk result (λ saved. CanUndo feeds.now observations.now streams.now saved.items) }
+    ensures only_memory { IsOkUnless result Fault.OutOfMemory }
+{
+    if observations.is_empty() {
+        return Ok(Vec::new(alloc));
+    }
+    let mut saved = nothing_saved(alloc, streams.len())?;
+    for observation in observations {
+        let numbers = streams_fed(feeds, observation.instrument);
+        save_each(alloc, &mut saved, streams, numbers)?;
+    }
+    Ok(saved)
+}
+
+/// Takes an observation in at the streams of these numbers.
+fn observe_in(
+    streams: &mut Vec<Stream>,
+    numbers: &[usize],
+    observation: &Observed,
+) -> Result<(), Fault>
+    requires { AreNumbers (all_settled streams.old.items) numbers.now }
+    ensures observed { OnOk result (all_settled streams.new.items ≡ all_settled (changed_in numbers.now (observed_one observation.now) 0 streams.old.items)) }
+    ensures undone { (saved : List (Option SavedHeld)) → All (IsSaved saved) numbers.now → IsUndone saved streams.old.items streams.new.items }
+    ensures many { length streams.new.items ≡ length streams.old.items }
+    ensures only_memory { IsOkUnless result Fault.OutOfMemory }
+{
+    prepare_each(streams, numbers, observation.attributes.as_slice())?;
+    commit_each(streams, numbers, observation.value);
+    Ok(())
+}
+
+/// Takes observations in, one after another.
+fn observe_each(
+    streams: &mut Vec<Stream>,
+    feeds: &[Items<usize>],
+    observations: &[Observed],
+) -> Result<(), Fault>
+    requires { All (AreNumbers streams.old.items) feeds.now }
+    ensures observed { OnOk result (all_settled streams.new.items ≡ all_settled (observed_all feeds.now observations.now streams.old.items)) }
+    ensures undone { (saved : List (Option SavedHeld)) → CanUndo feeds.now observations.now streams.old.items saved → IsUndone saved streams.old.items streams.new.items }
+    ensures only_memory { IsOkUnless result Fault.OutOfMemory }
+{
+    for observation in observations {
+        let numbers = streams_fed(feeds, observation.instrument);
+        observe_in(streams, numbers, observation)?;
+    }
+    Ok(())
+}
+
+/// Puts back what was kept.
+fn restore_each(streams: &mut Vec<Stream>, saved: Vec<Option<SavedStream>>)
+    requires many { length saved.items ≤ length streams.old.items }
+    requires kept { AreSavedOf saved.items streams.old.items }
+    ensures { all_settled streams.new.items ≡ restored_all saved.items streams.old.items }
+{
+    let mut number = 0;
+    for kept in saved {
+        if let Some(kept) = kept {
+            streams[number].restore(kept);
+        }
+        number += 1;
+    }
+}
+
+/// Takes observations in and makes a collection.
+fn observe_and_collect(
+    alloc: Global,
+    streams: &mut Vec<Stream>,
+    feeds: &[Items<usize>],
+    resource: &Resource,
+    meters: &IndexSet<InstrumentationScope>,
+    observations: &[Observed],
+    now: u64,
+) -> Result<ResourceMetrics, Fault>
+    requires { All (AreNumbers streams.old.items) feeds.now }
+    ensures resource { IfOk result (λ c. c.resource ≡ resource.now) }
+    ensures scopes { IfOk result (λ c. c.scope_metrics ≡ scopes_shown now (observed_all feeds.now observations.now streams.old.items) meters.now.keys) }
+    ensures streams { OnOk result (all_settled streams.new.items ≡ all_settled (finished_all now (observed_all feeds.now observations.now streams.old.items))) }
+    ensures undone { OnErr result ((saved : List (Option SavedHeld)) → CanUndo feeds.now observations.now streams.old.items saved → IsUndone saved streams.old.items streams.new.items) }
+    ensures only_memory { IsOkUnless result Fault.OutOfMemory }
+{
+    resource_laws();
+    observe_each(streams, feeds, observations)?;
+    let scopes = scopes_of(alloc, streams, meters, now)?;
+    let resource = resource.clone()?;
+    finish_each(streams, now);
+    Ok(ResourceMetrics::new(resource, scopes))
+}
+
+/// Takes observations in and makes a collection. Where that is refused, the streams are as they were.
+pub(crate) fn collect_observed(
+    alloc: Global,
+    streams: &mut Vec<Stream>,
+    feeds: &[Items<usize>],
+    resource: &Resource,
+    meters: &IndexSet<InstrumentationScope>,
+    observations: &[Observed],
+    now: u64,
+) -> Result<ResourceMetrics, Fault>
+    requires { All (AreNumbers streams.old.items) feeds.now }
+    ensures resource { IfOk result (λ c. c.resource ≡ resource.now) }
+    ensures scopes { IfOk result (λ c. c.scope_metrics ≡ scopes_shown now (observed_all feeds.now observations.now streams.old.items) meters.now.keys) }
+    ensures streams { OnOk result (all_settled streams.new.items ≡ all_settled (finished_all now (observed_all feeds.now observations.now streams.old.items))) }
+    ensures undone { OnErr result (all_settled streams.new.items ≡ all_settled streams.old.items) }
+    ensures only_memory { IsOkUnless result Fault.OutOfMemory }
+{
+    let saved = save_observing(alloc, streams, feeds, observations)?;
+    let collected = observe_and_collect(alloc, streams, feeds, resource, meters, observations, now);
+    if collected.is_err() {
+        restore_each(streams, saved);
+    }
+    collected
+}

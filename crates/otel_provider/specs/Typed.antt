@@ -1,0 +1,62 @@
+-- Meters, instruments and their builders as values. `K` marks a kind of instrument, `T` is the type of its values; `P`
+-- is the bundle of a provider's parts, `V` the type of its views, `R` that of its readers.
+use Rattle.std.specs.Prelude.{◌≡◌, ℕ, List, [], Option, None, Result, Ok, Err}
+use Rattle.otel_common.specs.declared.faults.Fault.{Fault}
+use Rattle.otel_common.specs.declared.scopes.InstrumentationScope.{InstrumentationScope}
+use Rattle.otel_data.specs.declared.collections.ResourceMetrics.{ResourceMetrics}
+use Rattle.otel_model.specs.Calls as model
+use Rattle.otel_provider.specs.Correspondence.{about, fault_of}
+use Rattle.otel_provider.specs.Providers.{identity_of}
+use Rattle.otel_provider.specs.declared.builders.InstrumentBuilder.{InstrumentBuilder}
+use Rattle.otel_provider.specs.declared.meters.Meter.{Meter}
+use Rattle.otel_provider.specs.declared.provider.Provider.{Provider}
+use Rattle.otel_provider.specs.declared.synchronous.Synchronous.{Synchronous}
+
+-- ======== meters ========
+-- the number of a meter: none where the provider was shut down
+abbrev pub meter_number : Meter → Option ℕ
+meter_number m = m.number
+
+-- it has the provider's identity
+abbrev pub IsMeterOf : {P V R : Type 0} → Meter → Provider P V R → Type 0
+IsMeterOf m p = m.identity ≡ identity_of p
+
+-- the scope of a name, with nothing else
+abbrev pub named_scope : List ℕ → InstrumentationScope
+named_scope name = record { name = name; version = None; schema_url = None; attributes = [] }
+
+-- ======== builders ========
+-- the meter of a builder, and what it says of its instrument
+abbrev pub meter_of : {K T : Type 0} → InstrumentBuilder K T → Meter
+meter_of b = b.meter
+
+abbrev pub about_of : {K T : Type 0} → InstrumentBuilder K T → model.About
+about_of b = about b.sort b.name b.description b.unit b.boundaries
+
+-- ======== instruments ========
+abbrev pub instrument_number : {K T : Type 0} → Synchronous K T → ℕ
+instrument_number i = i.number
+
+-- it has the provider's identity
+abbrev pub IsInstrumentOf : {K T P V R : Type 0} → Synchronous K T → Provider P V R → Type 0
+IsInstrumentOf i p = i.identity ≡ identity_of p
+
+-- ======== replies ========
+-- the reply that says what was given, or by which fault the call was refused
+abbrev pub reply_from : {X : Type 0} → (X → model.Reply) → Result X Fault → model.Reply
+reply_from f (Ok x) = f x
+reply_from f (Err e) = model.Reply.Refused (fault_of e)
+
+-- of a call for a meter, a build, a record
+abbrev pub meter_reply : Result Meter Fault → model.Reply
+meter_reply r = reply_from (λ m. model.Reply.Meter m.number) r
+
+abbrev pub build_reply : {K T : Type 0} → Result (Synchronous K T) Fault → model.Reply
+build_reply r = reply_from (λ i. model.Reply.Instrument i.number) r
+
+abbrev pub record_reply : Result (Unit {0}) Fault → model.Reply
+record_reply r = reply_from (λ _. model.Reply.Done) r
+
+-- of a collection that is handed back in this value
+abbrev pub collect_reply : Result (Unit {0}) Fault → ResourceMetrics → model.Reply
+collect_reply r c = reply_from (λ _. model.Reply.Collected c) r

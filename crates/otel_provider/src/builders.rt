@@ -1,0 +1,129 @@
+//! Builders of instruments.
+
+ghost use Rattle.std.specs.Prelude.{◌≡◌, Some, None, Err, IfOk};
+ghost use Rattle.std.specs.String.{string_bytes};
+ghost use Rattle.otel_model.specs.Calls as model;
+ghost use Rattle.otel_model.specs.Laws.{KeepsReaders};
+ghost use Rattle.otel_model.specs.Steps.{Step};
+ghost use Rattle.otel_model_laws.specs.Lawful.{Balances};
+ghost use Rattle.otel_provider.specs.Correspondence.{about};
+ghost use Rattle.otel_provider.specs.Providers.{state_of, views_of, provider_readers, provider_views};
+ghost use Rattle.otel_provider.specs.Typed.{IsMeterOf, IsInstrumentOf, meter_number, meter_of, about_of, build_reply};
+
+use crate::meters::Meter;
+use crate::parts::Parts;
+use crate::provider::Provider;
+use crate::sorts::InstrumentSort;
+use crate::synchronous::{HistogramKind, Synchronous};
+use otel_common::faults::Fault;
+use otel_common::lists::Items;
+use otel_common::strings::StringValue;
+use otel_pipeline::about::About;
+use std::marker::PhantomData;
+
+/// Builds an instrument of a kind that `K` marks, with values of type `T` (Metrics API, "Instrument").
+#[derive(Drop)]
+#[derive_where(Debug)]
+pub struct InstrumentBuilder<K, T> {
+    meter: Meter,
+    sort: InstrumentSort,
+    name: StringValue,
+    description: Option<StringValue>,
+    unit: Option<StringValue>,
+    boundaries: Option<Items<i64>>,
+    of: PhantomData<(K, T)>,
+}
+
+/// Builds a histogram.
+pub type HistogramBuilder<T> = InstrumentBuilder<HistogramKind, T>;
+
+impl<K, T> InstrumentBuilder<K, T> {
+    /// A builder that says a name alone.
+    pub(crate) fn new(meter: Meter, sort: InstrumentSort, name: String) -> InstrumentBuilder<K, T>
+        ensures meter { meter_of result ≡ meter }
+        ensures about { about_of result ≡ about sort (string_bytes name) None None None }
+    {
+        InstrumentBuilder {
+            meter,
+            sort,
+            name: name.into(),
+            description: None,
+            unit: None,
+            boundaries: None,
+            of: PhantomData,
+        }
+    }
+
+    /// The instrument's description, in place of one given before. Takes no memory.
+    pub fn with_description(self, description: String) -> Self
+        ensures meter { meter_of result ≡ meter_of self }
+        ensures about { about_of result ≡ record (about_of self) { description = Some (string_bytes description) } }
+    {
+        let mut builder = self;
+        builder.description = Some(description.into());
+        builder
+    }
+
+    /// The instrument's unit, in place of one given before: at most 63 ASCII characters, else the instrument ignores its
+    /// records. Takes no memory.
+    pub fn with_unit(self, unit: String) -> Self
+        ensures meter { meter_of result ≡ meter_of self }
+        ensures about { about_of result ≡ record (about_of self) { unit = Some (string_bytes unit) } }
+    {
+        let mut builder = self;
+        builder.unit = Some(unit.into());
+        builder
+    }
+
+    /// The instrument, made at the moment `now`, in nanoseconds since 1970. It is what `step` does with `Call::Build`,
+    /// and costs the same.
+    ///
+    /// Refused with `UnknownMeter` where the meter is of a provider of another identity, before anything else is looked
+    /// at, or where the provider has no such meter; else only for want of memory. Then nothing changed.
+    pub fn build<P: Parts>(
+        self,
+        provider: &mut Provider<P>,
+        now: u64,
+    ) -> Result<Synchronous<K, T>, Fault>
+        ensures step { IsMeterOf (meter_of self) provider.old → Step (views_of P.View.answer provider.old) (state_of provider.old) (model.Call.Build (meter_number (meter_of self)) (about_of self) now) (build_reply result) (state_of provider.new) }
+        ensures foreign { ¬ IsMeterOf (meter_of self) provider.old → (result ≡ Err Fault.UnknownMeter) × (state_of provider.new ≡ state_of provider.old) }
+        ensures own { IfOk result (λ i. IsInstrumentOf i provider.new) }
+        ensures balances { Balances (state_of provider.new) }
+        ensures readers { KeepsReaders (state_of provider.old) (state_of provider.new) }
+        ensures kept { provider_readers provider.new ≡ provider_readers provider.old }
+        ensures views { provider_views provider.new ≡ provider_views provider.old }
+    {
+        let about = About {
+            kind: self.sort.kind(),
+            signed: self.sort.is_signed(),
+            name: &self.name,
+            description: &self.description,
+            unit: &self.unit,
+            bounds: &self.boundaries,
+        };
+        match provider
+            .core
+            .build(&provider.views, self.meter, self.sort, &about, now)
+        {
+            Ok(number) => Ok(Synchronous {
+                identity: self.meter.identity,
+                number,
+                of: PhantomData,
+            }),
+            Err(fault) => Err(fault),
+        }
+    }
+}
+
+impl<T> InstrumentBuilder<HistogramKind, T> {
+    /// The bounds of the histogram's buckets, in place of those given before and of the default ones: each greater than
+    /// the one before it, else the histogram ignores its records. Takes no memory.
+    pub fn with_boundaries(self, boundaries: Vec<i64>) -> Self
+        ensures meter { meter_of result ≡ meter_of self }
+        ensures about { about_of result ≡ record (about_of self) { bounds = Some boundaries.items } }
+    {
+        let mut builder = self;
+        builder.boundaries = Some(Items::from(boundaries));
+        builder
+    }
+}

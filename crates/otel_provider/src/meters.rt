@@ -1,0 +1,122 @@
+//! Meters, and how a provider hands them out.
+
+ghost use Rattle.std.specs.Prelude.{◌≡◌, None, true, IfOk, IsOk, IsOkUnless};
+ghost use Rattle.std.specs.String.{string_bytes};
+ghost use Rattle.otel_model.specs.Calls as model;
+ghost use Rattle.otel_model.specs.Laws.{KeepsReaders};
+ghost use Rattle.otel_model.specs.Sent.{has_scope};
+ghost use Rattle.otel_model.specs.Steps.{Step};
+ghost use Rattle.otel_model_laws.specs.Lawful.{Balances};
+ghost use Rattle.otel_provider.specs.Correspondence.{about};
+ghost use Rattle.otel_provider.specs.Providers.{state_of, views_of, provider_readers, provider_views};
+ghost use Rattle.otel_provider.specs.Typed.{IsMeterOf, named_scope, meter_of, about_of, meter_reply};
+ghost use Rattle.otel_provider.specs.declared.sorts.InstrumentSort.{InstrumentSort};
+
+use crate::builders::{HistogramBuilder, InstrumentBuilder};
+use crate::parts::Parts;
+use crate::provider::Provider;
+use crate::sorts::InstrumentSort;
+use crate::synchronous::{CounterKind, GaugeKind, UpDownCounterKind};
+use otel_common::faults::Fault;
+use otel_common::scopes::InstrumentationScope;
+use std::alloc::Global;
+
+/// Makes the instruments of a scope (Metrics API, "Meter"). It is the number of a meter and the identity of its
+/// provider, and so small plain data: a copy is the same meter. A meter that a provider gives once it was shut down has
+/// no number, and its instruments ignore their records.
+#[derive(Clone, Copy, Debug)]
+pub struct Meter {
+    pub(crate) identity: u64,
+    pub(crate) number: Option<usize>,
+}
+
+/// The scope of a name, with nothing else.
+fn scope_named(alloc: Global, name: String) -> Result<InstrumentationScope, Fault>
+    ensures scope { IfOk result (λ s. s ≡ named_scope (string_bytes name)) }
+    ensures only_memory { IsOkUnless result Fault.OutOfMemory }
+{
+    InstrumentationScope::builder(alloc, name).build()
+}
+
+impl Meter {
+    /// A builder of a counter of `u64`: it adds values that are never negative. Takes no memory.
+    pub fn u64_counter(&self, name: String) -> InstrumentBuilder<CounterKind, u64>
+        ensures meter { meter_of result ≡ self.now }
+        ensures about { about_of result ≡ about InstrumentSort.U64Counter (string_bytes name) None None None }
+    {
+        InstrumentBuilder::new(*self, InstrumentSort::U64Counter, name)
+    }
+
+    /// A builder of a counter of `i64`: it adds values of either sign. Takes no memory.
+    pub fn i64_up_down_counter(&self, name: String) -> InstrumentBuilder<UpDownCounterKind, i64>
+        ensures meter { meter_of result ≡ self.now }
+        ensures about { about_of result ≡ about InstrumentSort.I64UpDownCounter (string_bytes name) None None None }
+    {
+        InstrumentBuilder::new(*self, InstrumentSort::I64UpDownCounter, name)
+    }
+
+    /// A builder of a gauge of `u64`: it keeps the last value. Takes no memory.
+    pub fn u64_gauge(&self, name: String) -> InstrumentBuilder<GaugeKind, u64>
+        ensures meter { meter_of result ≡ self.now }
+        ensures about { about_of result ≡ about InstrumentSort.U64Gauge (string_bytes name) None None None }
+    {
+        InstrumentBuilder::new(*self, InstrumentSort::U64Gauge, name)
+    }
+
+    /// A builder of a gauge of `i64`: it keeps the last value. Takes no memory.
+    pub fn i64_gauge(&self, name: String) -> InstrumentBuilder<GaugeKind, i64>
+        ensures meter { meter_of result ≡ self.now }
+        ensures about { about_of result ≡ about InstrumentSort.I64Gauge (string_bytes name) None None None }
+    {
+        InstrumentBuilder::new(*self, InstrumentSort::I64Gauge, name)
+    }
+
+    /// A builder of a histogram of `u64`: it tells how values spread. Takes no memory.
+    pub fn u64_histogram(&self, name: String) -> HistogramBuilder<u64>
+        ensures meter { meter_of result ≡ self.now }
+        ensures about { about_of result ≡ about InstrumentSort.U64Histogram (string_bytes name) None None None }
+    {
+        InstrumentBuilder::new(*self, InstrumentSort::U64Histogram, name)
+    }
+}
+
+impl<P: Parts> Provider<P> {
+    /// The meter of a scope (Metrics API, "Get a Meter"). Equal scopes have one meter. It is what `step` does with
+    /// `Call::Meter`.
+    ///
+    /// Looks the scope up. A new one is copied and added; one that is known takes no memory. Refused only for want of
+    /// memory; then nothing changed.
+    pub fn meter_with_scope(&mut self, scope: InstrumentationScope) -> Result<Meter, Fault>
+        ensures step { Step (views_of P.View.answer self.old) (state_of self.old) (model.Call.Meter scope) (meter_reply result) (state_of self.new) }
+        ensures own { IfOk result (λ m. IsMeterOf m self.new) }
+        ensures known { has_scope scope (state_of self.old).shared.meters ≡ true → IsOk result }
+        ensures balances { Balances (state_of self.new) }
+        ensures readers { KeepsReaders (state_of self.old) (state_of self.new) }
+        ensures kept { provider_readers self.new ≡ provider_readers self.old }
+        ensures views { provider_views self.new ≡ provider_views self.old }
+    {
+        match self.core.meter(&scope) {
+            Ok(number) => Ok(Meter {
+                identity: self.core.identity(),
+                number,
+            }),
+            Err(fault) => Err(fault),
+        }
+    }
+
+    /// The meter of the scope of a name, which has no version, no schema URL and no attributes. An empty name is one
+    /// as any other. As `meter_with_scope`, but that it takes memory for the scope.
+    pub fn meter(&mut self, name: &str) -> Result<Meter, Fault>
+        ensures step { Step (views_of P.View.answer self.old) (state_of self.old) (model.Call.Meter (named_scope name.now)) (meter_reply result) (state_of self.new) }
+        ensures own { IfOk result (λ m. IsMeterOf m self.new) }
+        ensures balances { Balances (state_of self.new) }
+        ensures readers { KeepsReaders (state_of self.old) (state_of self.new) }
+        ensures kept { provider_readers self.new ≡ provider_readers self.old }
+        ensures views { provider_views self.new ≡ provider_views self.old }
+    {
+        let alloc = self.core.allocator();
+        let name = String::from_str(alloc, name)?;
+        let scope = scope_named(alloc, name)?;
+        self.meter_with_scope(scope)
+    }
+}

@@ -1,0 +1,6 @@
+use Rattle.std.proofs.Common.{◌≡◌}
+use Rattle.otel_stream.proofs.Boxes.{carried_at}
+use Rattle.otel_stream.proofs.boxed.BoxDynMetricReaderMetricReader.temporality.Goals as goal
+
+pub returns : goal.returns
+returns g c = carried_at (λ v a. c.temporality.result ≡ (goal.MetricReader-dyn g (v, a)).preference a c.args.kind) _ _ c.as_ref.ensures.1 c.temporality.ensures

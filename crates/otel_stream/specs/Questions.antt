@@ -1,0 +1,10 @@
+-- The two things that all readers of a provider are asked to do.
+use Rattle.std.specs.Prelude.{ℕ}
+use Rattle.otel_stream.specs.Requests.{Outcome, default_timeout}
+use Rattle.otel_stream.specs.declared.readers.Question.{Question}
+use Rattle.otel_stream.specs.declared.readers.Question.TheVariants.{Flush, Shutdown}
+
+-- what it makes of a reader that flushes and shuts down like this
+abbrev pub does : {R : Type 0} → (R → R → Outcome → Type 0) → (R → ℕ → R → Outcome → Type 0) → Question → R → R → Outcome → Type 0
+does flushes shuts Flush before after outcome = flushes before after outcome
+does flushes shuts Shutdown before after outcome = shuts before default_timeout after outcome

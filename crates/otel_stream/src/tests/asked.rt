@@ -1,0 +1,73 @@
+//! Readers that are asked to flush and to shut down.
+
+ghost use Rattle.std.specs.Prelude.{◌≡◌, Ok, true, not, is_ok};
+ghost use Rattle.otel_common.specs.declared.metrics.Temporality.TheVariants.{Cumulative};
+
+use crate::instrument::InstrumentKind;
+use crate::manual_reader::ManualReader;
+use crate::reader::MetricReader;
+use crate::readers::{flush_all, shut_all};
+use otel_common::faults::{Fault, InternalFault, OTelSdkResult};
+use otel_common::metrics::Temporality;
+use std::test::Fail;
+use std::time::Duration;
+
+/// A reader that can flush once, and fails from then on.
+#[derive(Drop)]
+struct Once {
+    has_flushed: bool,
+}
+
+impl MetricReader for Once {
+    ghost preference = { λ r kind. Cumulative };
+
+    ghost flushes = { λ before after outcome. (after ≡ record { has_flushed = true }) × (is_ok outcome ≡ not before.has_flushed) };
+
+    ghost shuts = { λ before timeout after outcome. (after ≡ before) × (outcome ≡ Ok tt) };
+
+    fn temporality(&self, kind: InstrumentKind) -> Temporality {
+        let _ = kind;
+        Temporality::Cumulative
+    }
+
+    fn force_flush(&mut self) -> OTelSdkResult {
+        if self.has_flushed {
+            return Err(Fault::OutOfMemory);
+        }
+        self.has_flushed = true;
+        Ok(())
+    }
+
+    fn shutdown_with_timeout(&mut self, timeout: Duration) -> OTelSdkResult {
+        let _ = timeout;
+        Ok(())
+    }
+}
+
+/// Whether so many readers failed, of which this was the first.
+fn is_failure(answer: OTelSdkResult, wanted: (usize, usize)) -> bool {
+    match answer {
+        Err(Fault::InternalFailure(InternalFault::Readers { failed, first })) => {
+            (failed, first) == wanted
+        }
+        _ => false,
+    }
+}
+
+/// Whether all readers can flush once, and two of three no more; and all can shut down.
+fn can_flush_once(readers: &mut [Box<dyn MetricReader>]) -> bool {
+    flush_all(readers).is_ok()
+        && is_failure(flush_all(readers), (2, 1))
+        && is_failure(flush_all(readers), (2, 1))
+        && shut_all(readers).is_ok()
+}
+
+#[test]
+fn boxes_hold_what_a_flush_left(rt: HostRuntime) -> Result<(), Fail> {
+    let mut readers: Vec<Box<dyn MetricReader>> = Vec::new(rt.alloc());
+    readers.push(Box::new(rt.alloc(), ManualReader::default())?)?;
+    readers.push(Box::new(rt.alloc(), Once { has_flushed: false })?)?;
+    readers.push(Box::new(rt.alloc(), Once { has_flushed: false })?)?;
+    assert!(rt; can_flush_once(&mut readers));
+    Ok(())
+}
