@@ -76,7 +76,6 @@ fn attributes(alloc: Global, set: Set) -> Result<Vec<KeyValue>, Fault> {
     Ok(made)
 }
 
-mod anys;
 mod histograms;
 mod last_values;
 mod precomputed_sums;
