@@ -1,5 +1,6 @@
 //! The provider of meters and what belongs to it.
 
+pub mod callback;
 pub mod instrument;
 pub mod meter;
 pub mod provider;

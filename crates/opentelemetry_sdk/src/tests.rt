@@ -1,5 +1,6 @@
 //! Tests that cross the crates.
 
+mod callbacks;
 mod calls;
 mod kinds;
 mod observed;

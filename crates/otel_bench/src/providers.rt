@@ -5,6 +5,7 @@ ghost use Rattle.std.specs.Prelude.{Some};
 use crate::attributes::first_keys;
 use anyhow::Error;
 use opentelemetry_sdk::common::Fault;
+use opentelemetry_sdk::metrics::callback::NoCallback;
 use opentelemetry_sdk::metrics::instrument::{Instrument, Stream};
 use opentelemetry_sdk::metrics::provider::{Parts, Provider, ProviderBuilder};
 use opentelemetry_sdk::metrics::{ManualReader, Temporality, View};
@@ -32,6 +33,10 @@ impl Parts for Plain {
     type View = OfAll;
 
     type Reader = ManualReader;
+
+    type ObserveU64 = NoCallback;
+
+    type ObserveI64 = NoCallback;
 }
 
 /// A view that keeps this many keys of attributes.

@@ -4,6 +4,7 @@
 pub mod boxed;
 pub mod callback;
 pub mod laws;
+pub mod no_callback;
 pub mod observation;
 pub mod registered;
 #[cfg(test)]

@@ -1,8 +1,8 @@
 //! What the parts of the program share: a collection of a reader, and attributes whose value is a text.
 
-use opentelemetry_sdk::common::{Fault, Items, Key, KeyValue, StringValue, Value};
+use opentelemetry_sdk::common::{Fault, Key, KeyValue, StringValue, Value};
 use opentelemetry_sdk::metrics::data::ResourceMetrics;
-use opentelemetry_sdk::metrics::provider::{Call, Parts, Provider, Reply};
+use opentelemetry_sdk::metrics::provider::{Parts, Provider};
 use std::alloc::Global;
 
 /// An attribute whose value is a text.
@@ -18,14 +18,7 @@ pub fn collect<P: Parts>(
     reader: usize,
     now: u64,
 ) -> Result<ResourceMetrics, Fault> {
-    let call = Call::Collect {
-        reader,
-        now,
-        observations: Items::from(Vec::new(alloc)),
-    };
-    match provider.step(&call) {
-        Reply::Collected(collected) => Ok(collected),
-        Reply::Refused(fault) => Err(fault),
-        _ => Err(Fault::UnknownReader),
-    }
+    let mut collected = ResourceMetrics::default(alloc);
+    provider.collect(reader, now, &mut collected)?;
+    Ok(collected)
 }

@@ -1,8 +1,11 @@
-//! A counter and a histogram of a service.
+//! A counter, a histogram and an observable gauge of a service.
+
+ghost use Rattle.std.specs.Prelude.{◌≡◌, ◌∷◌, [], map, IfOk};
 
 use crate::calls::text;
 use opentelemetry_sdk::Resource;
-use opentelemetry_sdk::common::{Fault, StringValue, Value};
+use opentelemetry_sdk::common::{Fault, Items, StringValue, Value};
+use opentelemetry_sdk::metrics::callback::{Observation, ObserveU64};
 use opentelemetry_sdk::metrics::provider::{Parts, Provider};
 use std::alloc::Global;
 
@@ -14,6 +17,47 @@ pub fn service(alloc: Global) -> Result<Resource, Fault> {
             .with_service_name(name)?
             .build(),
     )
+}
+
+/// Observes how many requests wait.
+#[derive(Drop)]
+pub struct Waiting {
+    alloc: Global,
+    requests: u64,
+}
+
+impl Waiting {
+    /// So many requests wait.
+    pub fn new(alloc: Global, requests: u64) -> Waiting {
+        Waiting { alloc, requests }
+    }
+}
+
+impl ObserveU64 for Waiting {
+    ghost observes = { λ before after left answer. (after ≡ before) × IfOk answer (λ _. map (λ o. o.value) left ≡ before.requests ∷ []) };
+
+    fn observe(&mut self, out: &mut Vec<Observation<u64>>) -> Result<(), Fault> {
+        let attributes = Items::from(Vec::new(self.alloc));
+        out.push(Observation {
+            value: self.requests,
+            attributes,
+        })?;
+        Ok(())
+    }
+}
+
+/// Has a collection observe how many requests wait.
+pub fn watch_queue<P: Parts>(
+    alloc: Global,
+    provider: &mut Provider<P>,
+    waiting: P::ObserveU64,
+) -> Result<(), Fault> {
+    let meter = provider.meter("shop")?;
+    meter
+        .u64_observable_gauge(String::from_str(alloc, "waiting")?)
+        .with_callback(waiting)?
+        .build(provider, 100)?;
+    Ok(())
 }
 
 /// Serves two requests of a path: counts them, and how long each took.

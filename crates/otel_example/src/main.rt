@@ -11,7 +11,7 @@ mod views;
 
 use anyhow::Error;
 use calls::collect;
-use first::{serve_two, service};
+use first::{Waiting, serve_two, service, watch_queue};
 use opentelemetry_sdk::metrics::provider::{Provider, SdkMeterProvider};
 use opentelemetry_sdk::metrics::{ManualReader, Temporality};
 use parts::{OnlyManual, boxed_provider};
@@ -23,11 +23,13 @@ use std::alloc::Global;
 /// A service that serves two requests.
 fn first_program(rt: &impl Print, alloc: Global) -> Result<(), Error> {
     let reader = Box::new(alloc, ManualReader::default())?;
+    let waiting = Box::new(alloc, Waiting::new(alloc, 3))?;
     let mut provider = SdkMeterProvider::builder(alloc)
         .with_resource(service(alloc)?)?
         .with_reader(reader)?
         .build()?;
     serve_two(alloc, &mut provider)?;
+    watch_queue(alloc, &mut provider, waiting)?;
     print_points(rt, &collect(alloc, &mut provider, 0, 200)?)?;
     Ok(())
 }

@@ -1,18 +1,23 @@
-//! The views and readers that the program uses.
+//! The views, readers and callbacks that the program uses.
 
 use opentelemetry_sdk::common::Fault;
+use opentelemetry_sdk::metrics::callback::NoCallback;
 use opentelemetry_sdk::metrics::provider::{Parts, SdkMeterProvider};
 use opentelemetry_sdk::metrics::reader::MetricReader;
 use opentelemetry_sdk::metrics::{ManualReader, View};
 use std::alloc::Global;
 
-/// Views in boxes, and readers that are all a `ManualReader`.
+/// Views in boxes, readers that are all a `ManualReader`, and no callbacks.
 pub struct OnlyManual;
 
 impl Parts for OnlyManual {
     type View = Box<dyn View>;
 
     type Reader = ManualReader;
+
+    type ObserveU64 = NoCallback;
+
+    type ObserveI64 = NoCallback;
 }
 
 /// A provider with one reader in a box.

@@ -47,7 +47,13 @@ fn print_data(rt: &impl Print, name: &str, data: &MetricData<u64>) -> io::Result
                 print_buckets(rt, point)?;
             }
         }
-        MetricData::Gauge(_) => {}
+        MetricData::Gauge(gauge) => {
+            for point in gauge.data_points() {
+                print_place(rt, name, point.attributes())?;
+                let value = point.value();
+                println!(rt; ": {value}")?;
+            }
+        }
     }
     Ok(())
 }

@@ -6,6 +6,7 @@ pub mod Commits
 pub mod Identities
 pub mod Observes
 pub mod Outcomes
+pub mod Feeds
 pub mod DemandLemmas
 pub mod PipelineLemmas
 pub mod PipelinesLemmas

@@ -77,6 +77,15 @@ part_by answers streams feeds = record {
 abbrev pub part_of : Piped → ReaderPart
 part_of p = part_by p.answers p.streams p.feeds
 
+-- whether these are any
+abbrev pub some_stream : {X : Type 0} → List X → Bool
+some_stream [] = false
+some_stream (x ∷ xs) = true
+
+-- whether an instrument feeds a stream of a reader
+abbrev pub has_stream_at : ℕ → ReaderPart → Bool
+has_stream_at n part = some_stream (or_else (slice_get part.feeds n) [])
+
 -- ======== what holds of the streams ========
 -- each of these numbers is that of a stream
 abbrev pub AreNumbers : List Held → List ℕ → Type 0

@@ -6,7 +6,7 @@ ghost use Rattle.otel_model.specs.Machine.{part_sent};
 ghost use Rattle.std.specs.Option.{option_map};
 ghost use Rattle.otel_pipeline.specs.Collections.{IsCollectedFrom};
 ghost use Rattle.otel_pipeline.specs.Observations.{AreTypedFor, observed_of};
-ghost use Rattle.otel_pipeline.specs.Pipelines.{part_of, built, recorded, IsBuildableIn, IsPlanned, IsReadyFor, IsPreparedFor};
+ghost use Rattle.otel_pipeline.specs.Pipelines.{part_of, has_stream_at, built, recorded, IsBuildableIn, IsPlanned, IsReadyFor, IsPreparedFor};
 ghost use Rattle.otel_pipeline.specs.Views.{answering};
 
 use crate::about::About;
@@ -122,6 +122,13 @@ impl Pipeline {
         self.identities.append(&mut identities).unwrap();
         self.streams.append(&mut added).unwrap();
         self.feeds.push_reserved(Items::from(feeds));
+    }
+
+    /// Whether an instrument feeds a stream of this reader.
+    pub fn has_stream(&self, instrument: usize) -> bool
+        ensures { result ≡ has_stream_at instrument (part_of self.now) }
+    {
+        !streams_fed(&self.feeds, instrument).is_empty()
     }
 
     /// Prepares a record of these attributes in the streams that the instrument feeds. What the reader has

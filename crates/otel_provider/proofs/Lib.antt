@@ -1,4 +1,5 @@
 pub mod Asked
+pub mod Callbacks
 pub mod Collects
 pub mod Headlines
 pub mod Lawful

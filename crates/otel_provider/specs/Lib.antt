@@ -1,3 +1,4 @@
+pub mod Callbacks
 pub mod Correspondence
 pub mod Fresh
 pub mod Headline

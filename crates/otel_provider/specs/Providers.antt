@@ -1,6 +1,7 @@
 -- What a provider and its builder are in the words of the model. `P` is the bundle of their parts, `V` the type of
--- their views, `R` that of their readers.
+-- their views, `R` that of their readers, `U` and `I` those of their callbacks of unsigned and of signed values.
 use Rattle.std.specs.Prelude.{ℕ, List, Option, map}
+use Rattle.otel_callback.specs.declared.registered.Registered.{Registered}
 use Rattle.otel_common.specs.declared.metrics.Aggregation.{Aggregation}
 use Rattle.otel_common.specs.declared.metrics.Temporality.{Temporality}
 use Rattle.otel_model.specs.Demands.{Instrument, ReaderAnswers, StreamSpec, Views}
@@ -12,48 +13,52 @@ use Rattle.otel_provider.specs.declared.provider.Provider.{Provider}
 use Rattle.otel_provider.specs.declared.provider.ProviderBuilder.{ProviderBuilder}
 
 -- the resource of a builder
-abbrev pub resource_of : {P V R : Type 0} → ProviderBuilder P V R → Resource
+abbrev pub resource_of : {P V R U I : Type 0} → ProviderBuilder P V R U I → Resource
 resource_of b = b.core.resource
 
 -- and the identity of its provider
-abbrev pub identity_of_builder : {P V R : Type 0} → ProviderBuilder P V R → ℕ
+abbrev pub identity_of_builder : {P V R U I : Type 0} → ProviderBuilder P V R U I → ℕ
 identity_of_builder b = b.core.identity
 
 -- what a builder's readers answered for each kind
-abbrev pub answers_of_readers : {P V R : Type 0} → ProviderBuilder P V R → List ReaderAnswers
+abbrev pub answers_of_readers : {P V R U I : Type 0} → ProviderBuilder P V R U I → List ReaderAnswers
 answers_of_readers b = b.core.readers
 
 -- a provider's state: all of it but the readers themselves
-abbrev pub state_of : {P V R : Type 0} → Provider P V R → State
+abbrev pub state_of : {P V R U I : Type 0} → Provider P V R U I → State
 state_of p = p.core
 
 -- and its identity
-abbrev pub identity_of : {P V R : Type 0} → Provider P V R → ℕ
+abbrev pub identity_of : {P V R U I : Type 0} → Provider P V R U I → ℕ
 identity_of p = p.core.shared.identity
 
 -- the readers of a builder
-abbrev pub builder_readers : {P V R : Type 0} → ProviderBuilder P V R → List R
+abbrev pub builder_readers : {P V R U I : Type 0} → ProviderBuilder P V R U I → List R
 builder_readers b = b.readers.items
 
 -- the readers of a provider
-abbrev pub provider_readers : {P V R : Type 0} → Provider P V R → List R
+abbrev pub provider_readers : {P V R U I : Type 0} → Provider P V R U I → List R
 provider_readers p = p.readers.items
 
 -- what they want for each kind, by what a reader wants
-abbrev pub wants_of : {P V R : Type 0} → (R → InstrumentKind → Temporality) → (R → InstrumentKind → Option ℕ) → (R → InstrumentKind → Option Aggregation) → Provider P V R → List Wanted
+abbrev pub wants_of : {P V R U I : Type 0} → (R → InstrumentKind → Temporality) → (R → InstrumentKind → Option ℕ) → (R → InstrumentKind → Option Aggregation) → Provider P V R U I → List Wanted
 wants_of preference limit aggregation p = map (wanted_by preference limit aggregation) p.readers.items
 
 -- the views of a builder, by what a view answers
-abbrev pub views_of_builder : {P V R : Type 0} → (V → Instrument → Option StreamSpec) → ProviderBuilder P V R → Views
+abbrev pub views_of_builder : {P V R U I : Type 0} → (V → Instrument → Option StreamSpec) → ProviderBuilder P V R U I → Views
 views_of_builder answer b = map answer b.views.items
 
 -- the views of a provider
-abbrev pub views_of : {P V R : Type 0} → (V → Instrument → Option StreamSpec) → Provider P V R → Views
+abbrev pub views_of : {P V R U I : Type 0} → (V → Instrument → Option StreamSpec) → Provider P V R U I → Views
 views_of answer p = map answer p.views.items
 
 -- the views themselves
-abbrev pub builder_views : {P V R : Type 0} → ProviderBuilder P V R → List V
+abbrev pub builder_views : {P V R U I : Type 0} → ProviderBuilder P V R U I → List V
 builder_views b = b.views.items
 
-abbrev pub provider_views : {P V R : Type 0} → Provider P V R → List V
+abbrev pub provider_views : {P V R U I : Type 0} → Provider P V R U I → List V
 provider_views p = p.views.items
+
+-- the callbacks of a provider, in the order of being registered
+abbrev pub callbacks_of : {P V R U I : Type 0} → Provider P V R U I → List (Registered U I)
+callbacks_of p = p.callbacks.items

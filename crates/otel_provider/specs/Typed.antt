@@ -1,12 +1,16 @@
 -- Meters, instruments and their builders as values. `K` marks a kind of instrument, `T` is the type of its values; `P`
--- is the bundle of a provider's parts, `V` the type of its views, `R` that of its readers.
+-- is the bundle of a provider's parts, `V` the type of its views, `R` that of its readers, `U` and `I` those of its
+-- callbacks.
 use Rattle.std.specs.Prelude.{◌≡◌, ℕ, List, [], Option, None, Result, Ok, Err}
+use Rattle.otel_callback.specs.declared.registered.Callback.{Callback}
 use Rattle.otel_common.specs.declared.faults.Fault.{Fault}
 use Rattle.otel_common.specs.declared.scopes.InstrumentationScope.{InstrumentationScope}
 use Rattle.otel_data.specs.declared.collections.ResourceMetrics.{ResourceMetrics}
 use Rattle.otel_model.specs.Calls as model
 use Rattle.otel_provider.specs.Correspondence.{about, fault_of}
 use Rattle.otel_provider.specs.Providers.{identity_of}
+use Rattle.otel_provider.specs.declared.async_builders.AsyncInstrumentBuilder.{AsyncInstrumentBuilder}
+use Rattle.otel_provider.specs.declared.asynchronous.Asynchronous.{Asynchronous}
 use Rattle.otel_provider.specs.declared.builders.InstrumentBuilder.{InstrumentBuilder}
 use Rattle.otel_provider.specs.declared.meters.Meter.{Meter}
 use Rattle.otel_provider.specs.declared.provider.Provider.{Provider}
@@ -18,7 +22,7 @@ abbrev pub meter_number : Meter → Option ℕ
 meter_number m = m.number
 
 -- it has the provider's identity
-abbrev pub IsMeterOf : {P V R : Type 0} → Meter → Provider P V R → Type 0
+abbrev pub IsMeterOf : {P V R U I : Type 0} → Meter → Provider P V R U I → Type 0
 IsMeterOf m p = m.identity ≡ identity_of p
 
 -- the scope of a name, with nothing else
@@ -33,13 +37,30 @@ meter_of b = b.meter
 abbrev pub about_of : {K T : Type 0} → InstrumentBuilder K T → model.About
 about_of b = about b.sort b.name b.description b.unit b.boundaries
 
+-- the same of a builder of an observable instrument, and the callbacks that it was given
+abbrev pub meter_observed : {K T P V R U I : Type 0} → AsyncInstrumentBuilder K T P V R U I → Meter
+meter_observed b = meter_of b.builder
+
+abbrev pub about_observed : {K T P V R U I : Type 0} → AsyncInstrumentBuilder K T P V R U I → model.About
+about_observed b = about_of b.builder
+
+abbrev pub builder_callbacks : {K T P V R U I : Type 0} → AsyncInstrumentBuilder K T P V R U I → List (Callback U I)
+builder_callbacks b = b.callbacks.items
+
 -- ======== instruments ========
 abbrev pub instrument_number : {K T : Type 0} → Synchronous K T → ℕ
 instrument_number i = i.number
 
 -- it has the provider's identity
-abbrev pub IsInstrumentOf : {K T P V R : Type 0} → Synchronous K T → Provider P V R → Type 0
+abbrev pub IsInstrumentOf : {K T P V R U I : Type 0} → Synchronous K T → Provider P V R U I → Type 0
 IsInstrumentOf i p = i.identity ≡ identity_of p
+
+-- of an observable instrument
+abbrev pub observable_number : {K T : Type 0} → Asynchronous K T → ℕ
+observable_number i = i.number
+
+abbrev pub IsObservableOf : {K T P V R U I : Type 0} → Asynchronous K T → Provider P V R U I → Type 0
+IsObservableOf i p = i.identity ≡ identity_of p
 
 -- ======== replies ========
 -- the reply that says what was given, or by which fault the call was refused
@@ -53,6 +74,9 @@ meter_reply r = reply_from (λ m. model.Reply.Meter m.number) r
 
 abbrev pub build_reply : {K T : Type 0} → Result (Synchronous K T) Fault → model.Reply
 build_reply r = reply_from (λ i. model.Reply.Instrument i.number) r
+
+abbrev pub observed_reply : {K T : Type 0} → Result (Asynchronous K T) Fault → model.Reply
+observed_reply r = reply_from (λ i. model.Reply.Instrument i.number) r
 
 abbrev pub record_reply : Result (Unit {0}) Fault → model.Reply
 record_reply r = reply_from (λ _. model.Reply.Done) r

@@ -1,14 +1,16 @@
 //! The state of a provider with what no call can break.
 
-ghost use Rattle.std.specs.Prelude.{◌≡◌, [], map, true, Err, IfOk, OnErr, IsOk, IsOkUnless};
+ghost use Rattle.std.specs.Prelude.{◌≡◌, [], map, true, None, Some, Err, IfOk, IfErr, OnOk, OnErr, IsOk, IsOkUnless};
 ghost use Rattle.otel_model.specs.Calls as model;
 ghost use Rattle.otel_model.specs.Demands.{Views};
 ghost use Rattle.otel_model.specs.Laws.{KeepsReaders};
 ghost use Rattle.otel_model.specs.Machine.{new_state};
+ghost use Rattle.otel_model.specs.Refusals.{meter_refusal};
 ghost use Rattle.otel_model.specs.Sent.{has_scope};
 ghost use Rattle.otel_model.specs.Steps.{Step, Run};
 ghost use Rattle.otel_model_laws.specs.Lawful.{Balances};
-ghost use Rattle.otel_provider.specs.Correspondence.{call_of, reply_of, reply_to, kind_of, is_signed, number_of, observed_of};
+ghost use Rattle.otel_provider.specs.Callbacks.{has_stream, collect_refusal};
+ghost use Rattle.otel_provider.specs.Correspondence.{fault_of, call_of, reply_of, reply_to, kind_of, is_signed, number_of, observed_of};
 ghost use Rattle.otel_provider.specs.Readers.{AreReached, ShutsDown, StepReaches, RunReaches};
 ghost use Rattle.otel_provider.specs.Typed.{reply_from};
 ghost use Rattle.otel_stream.specs.Requests.{wanted_by};
@@ -141,6 +143,38 @@ impl BalancedCore {
         ensures readers { KeepsReaders self.old self.new }
     {
         self.core.meter_unless_shut(scope)
+    }
+
+    /// Tells whether a build of this meter is refused before memory is asked for. Also before a call the streams balance.
+    pub(crate) fn check_meter(&self, meter: Meter) -> Result<(), Fault>
+        ensures own { OnOk result (meter.identity ≡ self.now.shared.identity) }
+        ensures known { OnOk result (meter_refusal self.now.shared meter.number ≡ None) }
+        ensures foreign { ¬ (meter.identity ≡ self.now.shared.identity) → result ≡ Err Fault.UnknownMeter }
+        ensures fault { IfErr result (λ f. (f ≡ Fault.UnknownMeter) × (meter.identity ≡ self.now.shared.identity → meter_refusal self.now.shared meter.number ≡ Some model.Fault.UnknownMeter)) }
+        ensures balances { Balances self.now }
+    {
+        if meter.identity == self.core.identity() {
+            self.core.check_meter(meter.number)
+        } else {
+            Err(Fault::UnknownMeter)
+        }
+    }
+
+    /// Whether an instrument feeds a stream of some reader.
+    pub(crate) fn has_stream(&self, instrument: usize) -> bool
+        ensures { result ≡ has_stream instrument self.now }
+    {
+        self.core.has_stream(instrument)
+    }
+
+    /// Tells whether a collection of this reader is refused before its callbacks run. Also before a call the streams
+    /// balance.
+    pub(crate) fn check_collection(&self, reader: usize) -> Result<(), Fault>
+        ensures ok { OnOk result (collect_refusal self.now reader ≡ None) }
+        ensures fault { IfErr result (λ f. collect_refusal self.now reader ≡ Some (fault_of f)) }
+        ensures balances { Balances self.now }
+    {
+        self.core.check_collection(reader)
     }
 
     /// Builds an instrument of a meter.

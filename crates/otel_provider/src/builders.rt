@@ -1,15 +1,16 @@
 //! Builders of instruments.
 
-ghost use Rattle.std.specs.Prelude.{◌≡◌, Some, None, Err, IfOk};
+ghost use Rattle.std.specs.Prelude.{◌≡◌, Some, None, Err, IfOk, map};
 ghost use Rattle.std.specs.String.{string_bytes};
 ghost use Rattle.otel_model.specs.Calls as model;
 ghost use Rattle.otel_model.specs.Laws.{KeepsReaders};
 ghost use Rattle.otel_model.specs.Steps.{Step};
 ghost use Rattle.otel_model_laws.specs.Lawful.{Balances};
 ghost use Rattle.otel_provider.specs.Correspondence.{about};
-ghost use Rattle.otel_provider.specs.Providers.{state_of, views_of, provider_readers, provider_views};
-ghost use Rattle.otel_provider.specs.Typed.{IsMeterOf, IsInstrumentOf, meter_number, meter_of, about_of, build_reply};
+ghost use Rattle.otel_provider.specs.Providers.{state_of, views_of, provider_readers, provider_views, callbacks_of};
+ghost use Rattle.otel_provider.specs.Typed.{IsMeterOf, IsInstrumentOf, meter_number, meter_of, about_of, build_reply, reply_from};
 
+use crate::balanced::BalancedCore;
 use crate::meters::Meter;
 use crate::parts::Parts;
 use crate::provider::Provider;
@@ -19,6 +20,7 @@ use otel_common::faults::Fault;
 use otel_common::lists::Items;
 use otel_common::strings::StringValue;
 use otel_pipeline::about::About;
+use otel_stream::view::View;
 use std::marker::PhantomData;
 
 /// Builds an instrument of a kind that `K` marks, with values of type `T` (Metrics API, "Instrument").
@@ -52,6 +54,13 @@ impl<K, T> InstrumentBuilder<K, T> {
             boundaries: None,
             of: PhantomData,
         }
+    }
+
+    /// The meter.
+    pub(crate) fn meter(&self) -> Meter
+        ensures { result ≡ meter_of self.now }
+    {
+        self.meter
     }
 
     /// The instrument's description, in place of one given before. Takes no memory.
@@ -92,6 +101,30 @@ impl<K, T> InstrumentBuilder<K, T> {
         ensures readers { KeepsReaders (state_of provider.old) (state_of provider.new) }
         ensures kept { provider_readers provider.new ≡ provider_readers provider.old }
         ensures views { provider_views provider.new ≡ provider_views provider.old }
+        ensures callbacks { callbacks_of provider.new ≡ callbacks_of provider.old }
+    {
+        match self.make(&mut provider.core, &provider.views, now) {
+            Ok(number) => Ok(Synchronous {
+                identity: self.meter.identity,
+                number,
+                of: PhantomData,
+            }),
+            Err(fault) => Err(fault),
+        }
+    }
+
+    /// Makes the instrument, and gives its number.
+    pub(crate) fn make<V: View>(
+        &self,
+        core: &mut BalancedCore,
+        views: &[V],
+        now: u64,
+    ) -> Result<usize, Fault>
+        ensures step { (meter_of self.now).identity ≡ core.old.shared.identity → Step (map V.answer views.now) core.old (model.Call.Build (meter_number (meter_of self.now)) (about_of self.now) now) (reply_from model.Reply.Instrument result) core.new }
+        ensures foreign { ¬ ((meter_of self.now).identity ≡ core.old.shared.identity) → (result ≡ Err Fault.UnknownMeter) × (core.new ≡ core.old) }
+        ensures identity { core.new.shared.identity ≡ core.old.shared.identity }
+        ensures balances { Balances core.new }
+        ensures readers { KeepsReaders core.old core.new }
     {
         let about = About {
             kind: self.sort.kind(),
@@ -101,17 +134,7 @@ impl<K, T> InstrumentBuilder<K, T> {
             unit: &self.unit,
             bounds: &self.boundaries,
         };
-        match provider
-            .core
-            .build(&provider.views, self.meter, self.sort, &about, now)
-        {
-            Ok(number) => Ok(Synchronous {
-                identity: self.meter.identity,
-                number,
-                of: PhantomData,
-            }),
-            Err(fault) => Err(fault),
-        }
+        core.build(views, self.meter, self.sort, &about, now)
     }
 }
 

@@ -10,12 +10,14 @@ ghost use Rattle.otel_model.specs.Calls as model;
 ghost use Rattle.otel_model.specs.Demands.{Views};
 ghost use Rattle.otel_model.specs.State.{State};
 ghost use Rattle.otel_model.specs.Steps.{Step, Run};
+ghost use Rattle.otel_provider.specs.declared.asynchronous.Asynchronous.{Asynchronous};
 ghost use Rattle.otel_provider.specs.declared.calls.Call.{Call};
 ghost use Rattle.otel_provider.specs.declared.calls.Reply.{Reply};
 ghost use Rattle.otel_provider.specs.declared.meters.Meter.{Meter};
 ghost use Rattle.otel_provider.specs.declared.sorts.InstrumentSort.{InstrumentSort};
 ghost use Rattle.otel_provider.specs.declared.synchronous.Synchronous.{Synchronous};
 
+use crate::asynchronous::Asynchronous;
 use crate::calls::{Call, Reply};
 use crate::meters::Meter;
 use crate::sorts::InstrumentSort;
@@ -56,6 +58,11 @@ pub fn copied_meter()
 /// What a copy of an instrument gives equals its source.
 pub fn copied_instruments<K, T>()
     ensures { (x y : Synchronous K T) → ⟦<Synchronous<K, T> as Clone>⟧.is_clone x y → y ≡ x }
+{}
+
+/// What a copy of an observable instrument gives equals its source.
+pub fn copied_observables<K, T>()
+    ensures { (x y : Asynchronous K T) → ⟦<Asynchronous<K, T> as Clone>⟧.is_clone x y → y ≡ x }
 {}
 
 /// No call changes a provider's identity. So meters and instruments stay its own.

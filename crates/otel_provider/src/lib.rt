@@ -2,6 +2,8 @@
 #![tactic(auto)]
 
 mod asking;
+pub mod async_builders;
+pub mod asynchronous;
 mod balanced;
 pub mod builders;
 pub mod calls;

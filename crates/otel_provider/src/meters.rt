@@ -1,6 +1,6 @@
 //! Meters, and how a provider hands them out.
 
-ghost use Rattle.std.specs.Prelude.{◌≡◌, None, true, IfOk, IsOk, IsOkUnless};
+ghost use Rattle.std.specs.Prelude.{◌≡◌, [], None, true, IfOk, IsOk, IsOkUnless};
 ghost use Rattle.std.specs.String.{string_bytes};
 ghost use Rattle.otel_model.specs.Calls as model;
 ghost use Rattle.otel_model.specs.Laws.{KeepsReaders};
@@ -8,10 +8,14 @@ ghost use Rattle.otel_model.specs.Sent.{has_scope};
 ghost use Rattle.otel_model.specs.Steps.{Step};
 ghost use Rattle.otel_model_laws.specs.Lawful.{Balances};
 ghost use Rattle.otel_provider.specs.Correspondence.{about};
-ghost use Rattle.otel_provider.specs.Providers.{state_of, views_of, provider_readers, provider_views};
-ghost use Rattle.otel_provider.specs.Typed.{IsMeterOf, named_scope, meter_of, about_of, meter_reply};
+ghost use Rattle.otel_provider.specs.Providers.{state_of, views_of, provider_readers, provider_views, callbacks_of};
+ghost use Rattle.otel_provider.specs.Typed.{IsMeterOf, named_scope, meter_of, about_of, meter_observed, about_observed, builder_callbacks, meter_reply};
 ghost use Rattle.otel_provider.specs.declared.sorts.InstrumentSort.{InstrumentSort};
 
+use crate::async_builders::AsyncInstrumentBuilder;
+use crate::asynchronous::{
+    ObservableCounterKind, ObservableGaugeKind, ObservableUpDownCounterKind,
+};
 use crate::builders::{HistogramBuilder, InstrumentBuilder};
 use crate::parts::Parts;
 use crate::provider::Provider;
@@ -78,6 +82,54 @@ impl Meter {
     {
         InstrumentBuilder::new(*self, InstrumentSort::U64Histogram, name)
     }
+
+    /// A builder of an observable counter of `u64`: callbacks observe totals that never fall. Takes no memory.
+    pub fn u64_observable_counter<P: Parts>(
+        &self,
+        name: String,
+    ) -> AsyncInstrumentBuilder<ObservableCounterKind, u64, P>
+        ensures meter { meter_observed result ≡ self.now }
+        ensures about { about_observed result ≡ about InstrumentSort.U64ObservableCounter (string_bytes name) None None None }
+        ensures callbacks { builder_callbacks result ≡ [] }
+    {
+        AsyncInstrumentBuilder::new(*self, InstrumentSort::U64ObservableCounter, name)
+    }
+
+    /// A builder of an observable counter of `i64`: callbacks observe totals. Takes no memory.
+    pub fn i64_observable_up_down_counter<P: Parts>(
+        &self,
+        name: String,
+    ) -> AsyncInstrumentBuilder<ObservableUpDownCounterKind, i64, P>
+        ensures meter { meter_observed result ≡ self.now }
+        ensures about { about_observed result ≡ about InstrumentSort.I64ObservableUpDownCounter (string_bytes name) None None None }
+        ensures callbacks { builder_callbacks result ≡ [] }
+    {
+        AsyncInstrumentBuilder::new(*self, InstrumentSort::I64ObservableUpDownCounter, name)
+    }
+
+    /// A builder of an observable gauge of `u64`: callbacks observe values that don't add up. Takes no memory.
+    pub fn u64_observable_gauge<P: Parts>(
+        &self,
+        name: String,
+    ) -> AsyncInstrumentBuilder<ObservableGaugeKind, u64, P>
+        ensures meter { meter_observed result ≡ self.now }
+        ensures about { about_observed result ≡ about InstrumentSort.U64ObservableGauge (string_bytes name) None None None }
+        ensures callbacks { builder_callbacks result ≡ [] }
+    {
+        AsyncInstrumentBuilder::new(*self, InstrumentSort::U64ObservableGauge, name)
+    }
+
+    /// A builder of an observable gauge of `i64`: callbacks observe values that don't add up. Takes no memory.
+    pub fn i64_observable_gauge<P: Parts>(
+        &self,
+        name: String,
+    ) -> AsyncInstrumentBuilder<ObservableGaugeKind, i64, P>
+        ensures meter { meter_observed result ≡ self.now }
+        ensures about { about_observed result ≡ about InstrumentSort.I64ObservableGauge (string_bytes name) None None None }
+        ensures callbacks { builder_callbacks result ≡ [] }
+    {
+        AsyncInstrumentBuilder::new(*self, InstrumentSort::I64ObservableGauge, name)
+    }
 }
 
 impl<P: Parts> Provider<P> {
@@ -94,6 +146,7 @@ impl<P: Parts> Provider<P> {
         ensures readers { KeepsReaders (state_of self.old) (state_of self.new) }
         ensures kept { provider_readers self.new ≡ provider_readers self.old }
         ensures views { provider_views self.new ≡ provider_views self.old }
+        ensures callbacks { callbacks_of self.new ≡ callbacks_of self.old }
     {
         match self.core.meter(&scope) {
             Ok(number) => Ok(Meter {
@@ -113,6 +166,7 @@ impl<P: Parts> Provider<P> {
         ensures readers { KeepsReaders (state_of self.old) (state_of self.new) }
         ensures kept { provider_readers self.new ≡ provider_readers self.old }
         ensures views { provider_views self.new ≡ provider_views self.old }
+        ensures callbacks { callbacks_of self.new ≡ callbacks_of self.old }
     {
         let alloc = self.core.allocator();
         let name = String::from_str(alloc, name)?;

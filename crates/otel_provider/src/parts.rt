@@ -1,18 +1,25 @@
-//! What a provider is made of beside its own state: the types of its views and readers.
+//! What a provider is made of beside its own state: the types of its views, readers and callbacks.
 //!
 //! A provider is generic over one bundle of such types, so that functions of other crates can take it, return it and
-//! keep it. With `Boxed` views and readers are boxes, and may differ in type.
+//! keep it. With `Boxed` views, readers and callbacks are boxes, and may differ in type.
 
+use otel_callback::callback::{ObserveI64, ObserveU64};
 use otel_stream::reader::MetricReader;
 use otel_stream::view::View;
 
-/// The types of a provider's parts. Whatever has a `ViewPart` and a `ReaderPart` has it.
+/// The types of a provider's parts. Whatever has one of each of the four parts has it.
 pub trait Parts {
     /// The views of the provider.
     type View: View;
 
     /// The readers of the provider.
     type Reader: MetricReader;
+
+    /// The callbacks of instruments with unsigned values.
+    type ObserveU64: ObserveU64;
+
+    /// The callbacks of instruments with signed values.
+    type ObserveI64: ObserveI64;
 }
 
 /// The type of a provider's views.
@@ -27,10 +34,26 @@ pub trait ReaderPart {
     type Reader: MetricReader;
 }
 
-impl<B: ViewPart + ReaderPart> Parts for B {
+/// The type of a provider's callbacks of unsigned values.
+pub trait ObserveU64Part {
+    /// The callbacks of instruments with unsigned values.
+    type ObserveU64: ObserveU64;
+}
+
+/// The type of a provider's callbacks of signed values.
+pub trait ObserveI64Part {
+    /// The callbacks of instruments with signed values.
+    type ObserveI64: ObserveI64;
+}
+
+impl<B: ViewPart + ReaderPart + ObserveU64Part + ObserveI64Part> Parts for B {
     type View = <B as ViewPart>::View;
 
     type Reader = <B as ReaderPart>::Reader;
+
+    type ObserveU64 = <B as ObserveU64Part>::ObserveU64;
+
+    type ObserveI64 = <B as ObserveI64Part>::ObserveI64;
 }
 
 /// Parts in boxes.
@@ -42,4 +65,12 @@ impl ViewPart for Boxed {
 
 impl ReaderPart for Boxed {
     type Reader = Box<dyn MetricReader>;
+}
+
+impl ObserveU64Part for Boxed {
+    type ObserveU64 = Box<dyn ObserveU64>;
+}
+
+impl ObserveI64Part for Boxed {
+    type ObserveI64 = Box<dyn ObserveI64>;
 }

@@ -1,11 +1,12 @@
 //! What is done to the streams of all readers, one reader after another.
 
 ghost use Rattle.std.specs.Prelude.{◌≡◌, [], false, All, map, IsOk, OnOk, OnErr, IsOkUnless};
+ghost use Rattle.std.specs.List.{list_any};
 ghost use Rattle.std.specs.Option.{option_map};
 ghost use Rattle.otel_model.specs.Calls as model;
 ghost use Rattle.otel_model.specs.Machine as machine;
 ghost use Rattle.otel_model.specs.Machine.{part_sent};
-ghost use Rattle.otel_pipeline.specs.Pipelines.{part_of, built, recorded, IsBuildableIn, IsPlanned, IsReadyFor, IsPreparedFor};
+ghost use Rattle.otel_pipeline.specs.Pipelines.{part_of, has_stream_at, built, recorded, IsBuildableIn, IsPlanned, IsReadyFor, IsPreparedFor};
 ghost use Rattle.otel_pipeline.specs.Views.{answering};
 ghost use Rattle.otel_provider.specs.Correspondence.{number_of};
 ghost use Rattle.otel_provider.specs.States.{IsGoodIn, FeedType};
@@ -71,6 +72,15 @@ fn commit_all(pipelines: &mut [Pipeline], instrument: usize, value: NumberValue)
     for i in 0..pipelines.len() {
         pipelines[i].commit(instrument, value);
     }
+}
+
+/// Whether an instrument feeds a stream of some reader.
+pub(crate) fn any_stream(pipelines: &[Pipeline], instrument: usize) -> bool
+    ensures { result ≡ list_any (λ p. has_stream_at instrument (part_of p)) pipelines.now }
+{
+    pipelines
+        .iter()
+        .any(|pipeline| pipeline.has_stream(instrument))
 }
 
 /// Builds an instrument, of which each view answered this, at all readers or at none. Without a scope it demands nothing.

@@ -1,7 +1,10 @@
 //! The provider and its builder.
 
-ghost use Rattle.std.specs.Prelude.{◌≡◌, ◌++◌, ◌∷◌, [], false, true, map, IfOk, OnErr, IsOkAnd, IsOkUnless};
+ghost use Rattle.std.specs.Prelude.{◌≡◌, ◌++◌, ◌∷◌, [], false, true, List, Option, None, Some, Result, map, IfOk, OnErr, IsOkAnd, IsOkUnless};
 ghost use Rattle.std.specs.List.{list_any};
+ghost use Rattle.otel_callback.specs.Runs.{Ran, RanAll};
+ghost use Rattle.otel_callback.specs.declared.observation.Observed.{Observed};
+ghost use Rattle.otel_common.specs.declared.faults.Fault.{Fault};
 ghost use Rattle.otel_model.specs.Answered.{OfEachMetric, ShowsWindow, ShowsAll, HasFewPoints};
 ghost use Rattle.otel_model.specs.Calls as model;
 ghost use Rattle.otel_model.specs.Demands.{ReaderAnswers};
@@ -10,8 +13,9 @@ ghost use Rattle.otel_model.specs.Machine.{new_state};
 ghost use Rattle.otel_model.specs.Resources.{empty_resource, merged};
 ghost use Rattle.otel_model.specs.Steps.{Step, Run, asks_readers};
 ghost use Rattle.otel_model_laws.specs.Lawful.{Balances};
+ghost use Rattle.otel_provider.specs.Callbacks.{collect_refusal, IsCollectionOf};
 ghost use Rattle.otel_provider.specs.Headline.{OfReaders, OfStreams, OfAnswers, InAnyOrder};
-ghost use Rattle.otel_provider.specs.Providers.{state_of, identity_of, resource_of, identity_of_builder, answers_of_readers, views_of, builder_readers, builder_views, provider_readers, provider_views, wants_of};
+ghost use Rattle.otel_provider.specs.Providers.{state_of, identity_of, resource_of, identity_of_builder, answers_of_readers, views_of, builder_readers, builder_views, provider_readers, provider_views, callbacks_of, wants_of};
 ghost use Rattle.otel_provider.specs.Correspondence.{call_of, reply_of, reply_to};
 ghost use Rattle.otel_provider.specs.Readers.{AreReached, ShutsDown, StepReaches, RunReaches};
 ghost use Rattle.otel_provider.specs.Typed.{collect_reply};
@@ -21,6 +25,7 @@ use crate::balanced::BalancedCore;
 use crate::calls::{Call, Reply};
 use crate::fresh::FreshCore;
 use crate::parts::{Boxed, Parts};
+use otel_callback::registered::{Registered, run_callbacks};
 use otel_common::faults::{Fault, OTelSdkResult};
 use otel_common::resource::Resource;
 use otel_data::collections::ResourceMetrics;
@@ -43,6 +48,7 @@ pub struct Provider<P: Parts> {
     pub(crate) core: BalancedCore,
     pub(crate) views: Vec<P::View>,
     readers: Vec<P::Reader>,
+    pub(crate) callbacks: Vec<Registered<P::ObserveU64, P::ObserveI64>>,
 }
 
 /// A provider whose readers are boxes.
@@ -164,6 +170,7 @@ impl<P: Parts> ProviderBuilder<P> {
         ensures state { IsOkAnd result (λ p. state_of p ≡ new_state (resource_of self) (identity_of_builder self) (answers_of_readers self)) }
         ensures kept { IfOk result (λ p. provider_readers p ≡ builder_readers self) }
         ensures views { IfOk result (λ p. provider_views p ≡ builder_views self) }
+        ensures callbacks { IfOk result (λ p. callbacks_of p ≡ []) }
     {
         let ProviderBuilder {
             core,
@@ -171,10 +178,12 @@ impl<P: Parts> ProviderBuilder<P> {
             readers,
         } = self;
         let core = BalancedCore::new(core);
+        let callbacks = Vec::new(core.allocator());
         Ok(Provider {
             core,
             views,
             readers,
+            callbacks,
         })
     }
 }
@@ -200,6 +209,7 @@ impl<P: Parts> Provider<P> {
         ensures state { state_of result ≡ new_state empty_resource 0 [] }
         ensures kept { provider_readers result ≡ [] }
         ensures views { provider_views result ≡ [] }
+        ensures callbacks { callbacks_of result ≡ [] }
     {
         let builder: ProviderBuilder<P> = Provider::builder(alloc);
         let ProviderBuilder {
@@ -211,6 +221,7 @@ impl<P: Parts> Provider<P> {
             core: BalancedCore::new(core),
             views,
             readers,
+            callbacks: Vec::new(alloc),
         }
     }
 
@@ -244,29 +255,42 @@ impl<P: Parts> Provider<P> {
         ensures reached { StepReaches P.Reader.flushes P.Reader.shuts (state_of self.old).shared.shut (call_of call.now) (provider_readers self.old) (reply_of result) (provider_readers self.new) }
         ensures wants { wants_of P.Reader.preference P.Reader.limit P.Reader.aggregation self.new ≡ wants_of P.Reader.preference P.Reader.limit P.Reader.aggregation self.old }
         ensures views { provider_views self.new ≡ provider_views self.old }
+        ensures callbacks { callbacks_of self.new ≡ callbacks_of self.old }
     {
         self.core.step(&self.views, &mut self.readers, call)
     }
 
     /// Makes a collection of a reader at a moment, in nanoseconds since 1970, and puts it in the place of whatever
-    /// `metrics` held (Metrics SDK, "Collect"). The same as a step by `Call::Collect` without observations.
+    /// `metrics` held (Metrics SDK, "Collect").
     ///
-    /// Refused where no reader has this number, where the provider was shut down, and for want of memory. Then nothing
-    /// changed, and `metrics` holds what it held.
+    /// Runs each callback once, on an empty list, in the order in which their instruments were built, up to the first that
+    /// answers a fault. Then it is the same as a step by `Call::Collect` with all that was observed: that goes to the
+    /// streams of this reader alone. Costs what the step and the callbacks do.
+    ///
+    /// Refused where no reader has this number and where the provider was shut down, and then no callback runs; with the
+    /// fault of a callback; where a callback observed another instrument's number type; and for want of memory. Then
+    /// nothing changed but what callbacks did to themselves, and `metrics` holds what it held.
     pub fn collect(
         &mut self,
         reader: usize,
         now: u64,
         metrics: &mut ResourceMetrics,
     ) -> Result<(), Fault>
-        ensures step { Step (views_of P.View.answer self.old) (state_of self.old) (model.Call.Collect reader now []) (collect_reply result metrics.new) (state_of self.new) }
+        ensures unrun { (fault : model.Fault) → collect_refusal (state_of self.old) reader ≡ Some fault → (collect_reply result metrics.new ≡ model.Reply.Refused fault) × (state_of self.new ≡ state_of self.old) × (callbacks_of self.new ≡ callbacks_of self.old) }
+        ensures ran { collect_refusal (state_of self.old) reader ≡ None → (given : Result (List Observed) Fault) × RanAll (Ran P.ObserveU64.observes P.ObserveI64.observes) (callbacks_of self.old) (callbacks_of self.new) given × IsCollectionOf (views_of P.View.answer self.old) (state_of self.old) reader now given result metrics.new (state_of self.new) }
         ensures held { OnErr result (metrics.new ≡ metrics.old) }
         ensures balances { Balances (state_of self.new) }
         ensures readers { KeepsReaders (state_of self.old) (state_of self.new) }
         ensures kept { provider_readers self.new ≡ provider_readers self.old }
         ensures views { provider_views self.new ≡ provider_views self.old }
     {
-        match self.core.collect(reader, now, &[]) {
+        self.core.check_collection(reader)?;
+        let alloc = self.core.allocator();
+        let observations = match run_callbacks(alloc, &mut self.callbacks) {
+            Ok(observations) => observations,
+            Err(fault) => return Err(fault),
+        };
+        match self.core.collect(reader, now, &observations) {
             Ok(collected) => {
                 *metrics = collected;
                 Ok(())
@@ -288,6 +312,7 @@ impl<P: Parts> Provider<P> {
         ensures readers { KeepsReaders (state_of self.old) (state_of self.new) }
         ensures wants { wants_of P.Reader.preference P.Reader.limit P.Reader.aggregation self.new ≡ wants_of P.Reader.preference P.Reader.limit P.Reader.aggregation self.old }
         ensures views { provider_views self.new ≡ provider_views self.old }
+        ensures callbacks { callbacks_of self.new ≡ callbacks_of self.old }
     {
         self.core.force_flush(&mut self.readers)
     }
@@ -305,6 +330,7 @@ impl<P: Parts> Provider<P> {
         ensures readers { KeepsReaders (state_of self.old) (state_of self.new) }
         ensures wants { wants_of P.Reader.preference P.Reader.limit P.Reader.aggregation self.new ≡ wants_of P.Reader.preference P.Reader.limit P.Reader.aggregation self.old }
         ensures views { provider_views self.new ≡ provider_views self.old }
+        ensures callbacks { callbacks_of self.new ≡ callbacks_of self.old }
     {
         self.core.shutdown(&mut self.readers)
     }
@@ -318,6 +344,7 @@ impl<P: Parts> Provider<P> {
         ensures readers { KeepsReaders (state_of self.old) (state_of self.new) }
         ensures wants { wants_of P.Reader.preference P.Reader.limit P.Reader.aggregation self.new ≡ wants_of P.Reader.preference P.Reader.limit P.Reader.aggregation self.old }
         ensures views { provider_views self.new ≡ provider_views self.old }
+        ensures callbacks { callbacks_of self.new ≡ callbacks_of self.old }
     {
         let _ = timeout;
         self.shutdown()
@@ -343,6 +370,7 @@ impl<P: Parts> Provider<P> {
         ensures unasked { list_any asks_readers (map call_of calls.now) ≡ false → provider_readers self.new ≡ provider_readers self.old }
         ensures wants { wants_of P.Reader.preference P.Reader.limit P.Reader.aggregation self.new ≡ wants_of P.Reader.preference P.Reader.limit P.Reader.aggregation self.old }
         ensures views { provider_views self.new ≡ provider_views self.old }
+        ensures callbacks { callbacks_of self.new ≡ callbacks_of self.old }
         ensures order { IfOk result (λ replies. InAnyOrder (views_of P.View.answer self.old) (state_of self.old) calls.now replies.items (state_of self.new)) }
         ensures streams { IfOk result (λ replies. OfReaders HasStreamsOfBuilds (views_of P.View.answer self.old) (state_of self.old) calls.now replies.items (state_of self.new)) }
         ensures feeds { IfOk result (λ replies. OfReaders HasFeedsOfBuilds (views_of P.View.answer self.old) (state_of self.old) calls.now replies.items (state_of self.new)) }

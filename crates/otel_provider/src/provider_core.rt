@@ -6,13 +6,14 @@ ghost use Rattle.otel_aggregate.specs.Any.{is_signed_value};
 ghost use Rattle.otel_model.specs.Calls as model;
 ghost use Rattle.otel_model.specs.Demands.{Views, is_good, are_good_bounds};
 ghost use Rattle.otel_model.specs.Machine.{new_state, new_part, new_instrument, built};
-ghost use Rattle.otel_model.specs.Refusals.{record_refusal, observation_refusal, observations_refusal};
+ghost use Rattle.otel_model.specs.Refusals.{meter_refusal, record_refusal, observation_refusal, observations_refusal};
 ghost use Rattle.otel_model.specs.Resources.{empty_resource, merged};
 ghost use Rattle.otel_model.specs.Sent.{has_scope};
 ghost use Rattle.otel_model.specs.Steps.{Step, Run};
 ghost use Rattle.otel_pipeline.specs.Pipelines.{part_of};
 ghost use Rattle.otel_pipeline.specs.Views.{answering};
-ghost use Rattle.otel_provider.specs.Correspondence.{about, kind_of, is_signed, number_of, observed_of, call_of, reply_of, reply_to};
+ghost use Rattle.otel_provider.specs.Callbacks.{has_stream, collect_refusal};
+ghost use Rattle.otel_provider.specs.Correspondence.{fault_of, about, kind_of, is_signed, number_of, observed_of, call_of, reply_of, reply_to};
 ghost use Rattle.otel_provider.specs.Readers.{AreReached, AreReachedBy, ShutsDown, StepReaches, RunReaches};
 ghost use Rattle.otel_provider.specs.States.{IsMade, IsFault, IsFaultOf, IsNamed, IsScopeOf, IsNoMeter, IsGoodIn, IsTakenBy, IsTaken};
 ghost use Rattle.otel_stream.specs.Requests.{wanted_by};
@@ -24,7 +25,7 @@ use crate::instrument::Instrument;
 use crate::meter::{
     validate_bucket_boundaries, validate_instrument_name, validate_instrument_unit,
 };
-use crate::pipelines::{build_or_none, record_or_none};
+use crate::pipelines::{any_stream, build_or_none, record_or_none};
 use crate::sorts::InstrumentSort;
 use indexmap::IndexSet;
 use otel_callback::observation::Observed;
@@ -304,6 +305,38 @@ impl Core {
         }
         let (number, _) = self.meters.insert_full(copy_scope(scope)?)?;
         Ok(number)
+    }
+
+    /// Tells whether a build of a meter of this number is refused but for memory.
+    pub(crate) fn check_meter(&self, meter: Option<usize>) -> Result<(), Fault>
+        ensures ok { OnOk result (meter_refusal self.now.shared meter ≡ None) }
+        ensures fault { IfErr result (λ f. (f ≡ Fault.UnknownMeter) × (meter_refusal self.now.shared meter ≡ Some model.Fault.UnknownMeter)) }
+    {
+        match meter {
+            Some(number) if number >= self.meters.len() => Err(Fault::UnknownMeter),
+            _ => Ok(()),
+        }
+    }
+
+    /// Whether an instrument feeds a stream of some reader.
+    pub(crate) fn has_stream(&self, instrument: usize) -> bool
+        ensures { result ≡ has_stream instrument self.now }
+    {
+        any_stream(&self.pipelines, instrument)
+    }
+
+    /// Tells whether a collection of this reader is refused before anything observed is looked at.
+    pub(crate) fn check_collection(&self, reader: usize) -> Result<(), Fault>
+        ensures ok { OnOk result (collect_refusal self.now reader ≡ None) }
+        ensures fault { IfErr result (λ f. collect_refusal self.now reader ≡ Some (fault_of f)) }
+    {
+        if reader >= self.pipelines.len() {
+            return Err(Fault::UnknownReader);
+        }
+        if self.shut {
+            return Err(Fault::InternalFailure(InternalFault::ReaderShutDown));
+        }
+        Ok(())
     }
 
     /// Builds an instrument. Each view is asked once, before anything is changed.

@@ -6,7 +6,7 @@ ghost use Rattle.otel_model.specs.Laws.{KeepsReaders};
 ghost use Rattle.otel_model.specs.Steps.{Step};
 ghost use Rattle.otel_model_laws.specs.Lawful.{Balances};
 ghost use Rattle.otel_provider.specs.Correspondence.{number_of};
-ghost use Rattle.otel_provider.specs.Providers.{state_of, views_of, provider_readers, provider_views};
+ghost use Rattle.otel_provider.specs.Providers.{state_of, views_of, provider_readers, provider_views, callbacks_of};
 ghost use Rattle.otel_provider.specs.Typed.{IsInstrumentOf, instrument_number, record_reply};
 
 use crate::parts::Parts;
@@ -83,6 +83,7 @@ impl<K: Adds, T: NumberType> Synchronous<K, T> {
         ensures readers { KeepsReaders (state_of provider.old) (state_of provider.new) }
         ensures kept { provider_readers provider.new ≡ provider_readers provider.old }
         ensures views { provider_views provider.new ≡ provider_views provider.old }
+        ensures callbacks { callbacks_of provider.new ≡ callbacks_of provider.old }
     {
         provider
             .core
@@ -104,6 +105,7 @@ impl<K: Records, T: NumberType> Synchronous<K, T> {
         ensures readers { KeepsReaders (state_of provider.old) (state_of provider.new) }
         ensures kept { provider_readers provider.new ≡ provider_readers provider.old }
         ensures views { provider_views provider.new ≡ provider_views provider.old }
+        ensures callbacks { callbacks_of provider.new ≡ callbacks_of provider.old }
     {
         provider
             .core

@@ -5,7 +5,9 @@ pub use otel_callback::observation::Observed;
 pub use otel_data::numbers::NumberValue;
 pub use otel_provider::calls::{Call, Reply};
 pub use otel_provider::laws::{copied_call, copied_numbers, copied_reply};
-pub use otel_provider::parts::{Boxed, Parts, ReaderPart, ViewPart};
+pub use otel_provider::parts::{
+    Boxed, ObserveI64Part, ObserveU64Part, Parts, ReaderPart, ViewPart,
+};
 pub use otel_provider::provider::{
     MeterProviderBuilder, Provider, ProviderBuilder, SdkMeterProvider,
 };

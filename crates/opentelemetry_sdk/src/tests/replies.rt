@@ -4,9 +4,11 @@ use crate::common::{Array, InstrumentationScope, Items, Key, KeyValue, StringVal
 use crate::metrics::data::{
     AggregatedMetrics, Metric, MetricData, ResourceMetrics, ScopeMetrics, Sum,
 };
+use crate::metrics::meter::NumberType;
 use crate::metrics::provider::{Call, InstrumentSort, NumberValue, Observed, Reply};
 use crate::metrics::{ManualReader, MeterProviderBuilder, SdkMeterProvider, Temporality};
 use std::alloc::Global;
+use std::fmt::Display;
 use std::process::Abort;
 use std::slice::Iter;
 use std::test::Fail;
@@ -190,11 +192,11 @@ pub fn write_attributes(text: &mut String, attributes: Iter<'_, KeyValue>) -> Re
 }
 
 /// Adds a text for each point of a sum: this start, and its moments, attributes and value.
-fn push_points(
+fn push_points<T: NumberType + Display>(
     alloc: Global,
     points: &mut Vec<String>,
     start: &str,
-    sum: &Sum<u64>,
+    sum: &Sum<T>,
 ) -> Result<(), Fail> {
     for point in sum.data_points() {
         let mut text = String::from_str(alloc, start)?;
@@ -213,11 +215,16 @@ fn push_metric(
     scope: &InstrumentationScope,
     metric: &Metric,
 ) -> Result<(), Fail> {
-    let AggregatedMetrics::U64(MetricData::Sum(sum)) = metric.data() else {
-        return Err("no sum of unsigned numbers".into());
-    };
     let start = format!(in alloc; "{} {} ", scope.name(), metric.name())?;
-    push_points(alloc, points, start.as_str(), sum)
+    match metric.data() {
+        AggregatedMetrics::U64(MetricData::Sum(sum)) => {
+            push_points(alloc, points, start.as_str(), sum)
+        }
+        AggregatedMetrics::I64(MetricData::Sum(sum)) => {
+            push_points(alloc, points, start.as_str(), sum)
+        }
+        _ => Err("no sum".into()),
+    }
 }
 
 /// Adds a text for each point of a scope.

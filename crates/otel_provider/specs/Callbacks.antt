@@ -1,0 +1,40 @@
+-- Callbacks of observable instruments: which are registered, and what a collection does with them (Metrics SDK,
+-- "Collect"; Metrics API, "Asynchronous Instrument API").
+use Rattle.std.specs.Prelude.{◌≡◌, ℕ, Bool, cond, List, [], map, length, Option, Result, Ok, Err}
+use Rattle.std.specs.List.{list_any}
+use Rattle.otel_callback.specs.declared.observation.Observed.{Observed}
+use Rattle.otel_callback.specs.declared.registered.Callback.{Callback}
+use Rattle.otel_callback.specs.declared.registered.Registered.{Registered}
+use Rattle.otel_common.specs.declared.faults.Fault.{Fault}
+use Rattle.otel_data.specs.declared.collections.ResourceMetrics.{ResourceMetrics}
+use Rattle.otel_model.specs.Calls as model
+use Rattle.otel_model.specs.Demands.{Views}
+use Rattle.otel_model.specs.Refusals.{refusal}
+use Rattle.otel_model.specs.State.{State}
+use Rattle.otel_model.specs.Steps.{Step}
+use Rattle.otel_pipeline.specs.Pipelines.{has_stream_at}
+use Rattle.otel_provider.specs.Correspondence.{observed_of}
+use Rattle.otel_provider.specs.Typed.{collect_reply}
+
+-- ======== registering ========
+-- whether an instrument feeds a stream of some reader
+abbrev pub has_stream : ℕ → State → Bool
+has_stream n st = list_any (has_stream_at n) st.readers
+
+-- a callback of an instrument
+abbrev pub registered : {U I : Type 0} → ℕ → Callback U I → Registered U I
+registered n c = record { instrument = n; callback = c }
+
+-- what is registered of an instrument that was built: its callbacks, if it feeds a stream
+abbrev pub added : {U I : Type 0} → ℕ → State → List (Callback U I) → List (Registered U I)
+added n st cs = cond (has_stream n st) (map (registered n) cs) []
+
+-- ======== collecting ========
+-- why a collection of a reader runs no callback, if there is a reason
+abbrev pub collect_refusal : State → ℕ → Option model.Fault
+collect_refusal st r = refusal st.shared (length st.readers) (model.Call.Collect r 0 [])
+
+-- once callbacks gave this: the collection of what was observed; or their fault, and nothing changed
+abbrev pub IsCollectionOf : Views → State → ℕ → ℕ → Result (List Observed) Fault → Result (Unit {0}) Fault → ResourceMetrics → State → Type 0
+IsCollectionOf views old r now (Ok observed) result metrics new = Step views old (model.Call.Collect r now (map observed_of observed)) (collect_reply result metrics) new
+IsCollectionOf views old r now (Err f) result metrics new = (result ≡ Err f) × (new ≡ old)
