@@ -6,6 +6,7 @@ use std::process::Abort;
 use std::test::Fail;
 
 mod failing;
+mod guide;
 mod lines;
 mod observed;
 mod points;

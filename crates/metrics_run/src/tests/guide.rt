@@ -1,0 +1,202 @@
+//! The scripts of `examples/` that show a part of the guide, and what they print.
+
+use super::assert_prints;
+use std::test::Fail;
+
+/// A histogram with bounds of its own.
+#[test]
+fn histogram(rt: HostRuntime) -> Result<(), Fail> {
+    assert_prints(
+        &rt,
+        rt.alloc(),
+        b"# How long requests took, in milliseconds, in buckets of the shop's own.\n\
+          reader cumulative\n\
+          go\n\
+          meter shop\n\
+          build 0 u64_histogram latency 100 unit=ms bounds=10,100\n\
+          record 0 u:7 path=s:/cart\n\
+          record 0 u:10 path=s:/cart\n\
+          record 0 u:250 path=s:/cart\n\
+          collect 0 200\n",
+        "meter 0\n\
+         instrument 0\n\
+         ok\n\
+         ok\n\
+         ok\n\
+         collected 1\n\
+         point shop latency histogram cumulative 100 200 path=s:/cart 3 267 7 250 2,0,1\n",
+    )
+}
+
+/// Two readers, of which one is delta.
+#[test]
+fn readers(rt: HostRuntime) -> Result<(), Fail> {
+    assert_prints(
+        &rt,
+        rt.alloc(),
+        b"# Two readers of one counter: all that was counted, and what is new.\n\
+          reader cumulative\n\
+          reader delta\n\
+          go\n\
+          meter shop\n\
+          build 0 u64_counter visits 100\n\
+          record 0 u:3 -\n\
+          collect 0 200\n\
+          collect 1 300\n\
+          record 0 u:4 -\n\
+          collect 0 400\n\
+          collect 1 500\n",
+        "meter 0\n\
+         instrument 0\n\
+         ok\n\
+         collected 1\n\
+         point shop visits sum cumulative monotonic 100 200 - 3\n\
+         collected 1\n\
+         point shop visits sum delta monotonic 100 300 - 3\n\
+         ok\n\
+         collected 1\n\
+         point shop visits sum cumulative monotonic 100 400 - 7\n\
+         collected 1\n\
+         point shop visits sum delta monotonic 300 500 - 4\n",
+    )
+}
+
+/// What views can say of a stream.
+#[test]
+fn views(rt: HostRuntime) -> Result<(), Fail> {
+    assert_prints(
+        &rt,
+        rt.alloc(),
+        b"# Views rename a stream, drop one, keep two attributes of five, and set a limit.\n\
+          reader cumulative\n\
+          view requests name=shop.requests\n\
+          view debug agg=drop\n\
+          view orders keys=country,paid\n\
+          view users limit=1\n\
+          go\n\
+          meter shop\n\
+          build 0 u64_counter requests 100\n\
+          build 0 u64_counter debug 100\n\
+          build 0 u64_counter orders 100\n\
+          build 0 u64_counter users 100\n\
+          record 0 u:1 -\n\
+          record 1 u:1 -\n\
+          record 2 u:1 cart=i:7,country=s:fr,item=s:pen,paid=b:true,user=i:1\n\
+          record 2 u:2 cart=i:8,country=s:fr,item=s:cup,paid=b:true,user=i:2\n\
+          record 3 u:1 user=i:1\n\
+          record 3 u:2 user=i:2\n\
+          record 3 u:3 user=i:3\n\
+          collect 0 200\n",
+        "meter 0\n\
+         instrument 0\n\
+         instrument 1\n\
+         instrument 2\n\
+         instrument 3\n\
+         ok\n\
+         ok\n\
+         ok\n\
+         ok\n\
+         ok\n\
+         ok\n\
+         ok\n\
+         collected 4\n\
+         point shop shop.requests sum cumulative monotonic 100 200 - 1\n\
+         point shop orders sum cumulative monotonic 100 200 country=s:fr,paid=b:true 3\n\
+         point shop users sum cumulative monotonic 100 200 user=i:1 1\n\
+         point shop users sum cumulative monotonic 100 200 otel.metric.overflow=b:true 5\n",
+    )
+}
+
+/// A reader's own limit and aggregation; what a delta collection frees.
+#[test]
+fn limits(rt: HostRuntime) -> Result<(), Fail> {
+    assert_prints(
+        &rt,
+        rt.alloc(),
+        b"# A reader with a limit for counters, and buckets of its own for histograms. A delta\n\
+          # collection frees the places of sets that had no record since the one before.\n\
+          reader delta limit:counter=1 agg:histogram=hist:100\n\
+          go\n\
+          meter shop\n\
+          build 0 u64_counter users 100\n\
+          build 0 u64_histogram latency 100\n\
+          record 0 u:1 user=i:1\n\
+          record 0 u:2 user=i:2\n\
+          record 1 u:250 -\n\
+          collect 0 200\n\
+          record 0 u:4 user=i:2\n\
+          collect 0 300\n\
+          record 0 u:5 user=i:2\n\
+          collect 0 400\n",
+        "meter 0\n\
+         instrument 0\n\
+         instrument 1\n\
+         ok\n\
+         ok\n\
+         ok\n\
+         collected 3\n\
+         point shop users sum delta monotonic 100 200 user=i:1 1\n\
+         point shop users sum delta monotonic 100 200 otel.metric.overflow=b:true 2\n\
+         point shop latency histogram delta 100 200 - 1 250 250 250 0,1\n\
+         ok\n\
+         collected 1\n\
+         point shop users sum delta monotonic 200 300 otel.metric.overflow=b:true 4\n\
+         ok\n\
+         collected 1\n\
+         point shop users sum delta monotonic 300 400 user=i:2 5\n",
+    )
+}
+
+/// Calls after a shutdown.
+#[test]
+fn shutdown(rt: HostRuntime) -> Result<(), Fail> {
+    assert_prints(
+        &rt,
+        rt.alloc(),
+        b"# What a provider answers once it was shut down.\n\
+          reader cumulative\n\
+          go\n\
+          meter shop\n\
+          build 0 u64_counter visits 100\n\
+          flush\n\
+          shutdown\n\
+          record 0 u:1 -\n\
+          meter shop\n\
+          collect 0 200\n\
+          flush\n",
+        "meter 0\n\
+         instrument 0\n\
+         ok\n\
+         ok\n\
+         ok\n\
+         meter none\n\
+         refused 9 reader is shut down or not registered\n\
+         refused 8 already shut down\n",
+    )
+}
+
+/// What is observed before each collection of a delta reader.
+#[test]
+fn observed(rt: HostRuntime) -> Result<(), Fail> {
+    assert_prints(
+        &rt,
+        rt.alloc(),
+        b"# The bytes that a disk has written so far, observed before each collection of a delta reader.\n\
+          reader delta\n\
+          go\n\
+          meter disk\n\
+          build 0 u64_observable_counter written 100 unit=By\n\
+          observe 0 u:500 disk=s:a\n\
+          observe 0 u:70 disk=s:b\n\
+          collect 0 200\n\
+          observe 0 u:900 disk=s:a\n\
+          collect 0 300\n",
+        "meter 0\n\
+         instrument 0\n\
+         collected 2\n\
+         point disk written sum delta monotonic 100 200 disk=s:a 500\n\
+         point disk written sum delta monotonic 100 200 disk=s:b 70\n\
+         collected 1\n\
+         point disk written sum delta monotonic 200 300 disk=s:a 400\n",
+    )
+}
