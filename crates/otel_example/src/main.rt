@@ -2,6 +2,7 @@
 #![tactic(auto)]
 
 mod calls;
+mod counted;
 mod first;
 mod parts;
 mod printing;
@@ -11,8 +12,10 @@ mod views;
 
 use anyhow::Error;
 use calls::collect;
+use counted::count_batch;
 use first::{Waiting, serve_two, service, watch_queue};
-use opentelemetry_sdk::metrics::provider::{Provider, SdkMeterProvider};
+use opentelemetry_sdk::common::Fault;
+use opentelemetry_sdk::metrics::provider::{Parts, Provider, SdkMeterProvider};
 use opentelemetry_sdk::metrics::{ManualReader, Temporality};
 use parts::{OnlyManual, boxed_provider};
 use printing::print_points;
@@ -70,9 +73,28 @@ fn with_views(rt: &impl Print, alloc: Global) -> Result<(), Error> {
     Ok(())
 }
 
+/// Makes a counter, and counts two batches of requests.
+fn count_two<P: Parts>(alloc: Global, provider: &mut Provider<P>) -> Result<(), Fault> {
+    let name = String::from_str(alloc, "requests")?;
+    let meter = provider.meter("shop")?;
+    let requests = meter.u64_counter(name).build(provider, 100)?;
+    count_batch(provider, requests, 40, &[])?;
+    count_batch(provider, requests, 2, &[])
+}
+
+/// Requests that are counted by the batch.
+fn in_batches(rt: &impl Print, alloc: Global) -> Result<(), Error> {
+    let reader = ManualReader::default();
+    let mut provider: Provider<OnlyManual> = Provider::builder(alloc).with_reader(reader)?.build()?;
+    count_two(alloc, &mut provider)?;
+    print_points(rt, &collect(alloc, &mut provider, 0, 200)?)?;
+    Ok(())
+}
+
 fn main(rt: HostRuntime) -> Result<(), Error> {
     first_program(&rt, rt.alloc())?;
     with_boxes(&rt, rt.alloc())?;
     without_boxes(&rt, rt.alloc())?;
-    with_views(&rt, rt.alloc())
+    with_views(&rt, rt.alloc())?;
+    in_batches(&rt, rt.alloc())
 }

@@ -28,7 +28,7 @@ pub record IsMade (views : Views) (old : State) (call : model.Call) (reply : mod
   pub answer : reply ≡ reply_of old call
   pub state : new ≡ after views old call
 
--- the fault that a call is refused by before readers are asked: out of memory only where no other fault holds
+-- the fault that a call is refused by before readers are asked: out of memory only where no other stands
 abbrev pub IsFault : Option model.Fault → Fault → Type 0
 IsFault o fault.OutOfMemory = o ≡ None
 IsFault o fault.UnknownMeter = o ≡ Some model.Fault.UnknownMeter

@@ -52,7 +52,7 @@ impl FreshCore {
         Ok(FreshCore { core })
     }
 
-    /// With one more reader, which is asked what it wants. Its answers are kept.
+    /// With a reader more, which is asked what it wants. Its answers are kept.
     pub(crate) fn with_reader<R: MetricReader>(self, reader: &R) -> Result<FreshCore, Fault>
         ensures reader { IfOk result (λ f. (answers : ReaderAnswers) × IsAnsweredBy (R.preference reader.now) (R.limit reader.now) (R.aggregation reader.now) answers × (f ≡ record { resource = self.resource; identity = self.identity; readers = self.readers ++ answers ∷ [] })) }
         ensures only_memory { IsOkUnless result Fault.OutOfMemory }
