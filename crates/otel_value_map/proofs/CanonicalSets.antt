@@ -1,5 +1,6 @@
 -- Which canonical sets are empty, and that the overflow entry's is canonical.
-use Rattle.std.proofs.Common.{List, [], ◌∷◌, ◌≡◌, ◌∙◌, false, cond, ap, refl, sym, arith, length, Some, None, true≢false, ◌==◌}
+use Rattle.std.proofs.lemmas.Bool.Decides.{nat_tests}
+use Rattle.std.proofs.Common.{ℕ, suc, List, [], ◌∷◌, ◌≡◌, ◌∙◌, true, false, cond, ap, refl, sym, arith, length, Some, None, true≢false, ◌==◌}
 use Rattle.std.specs.Cmp.Lexicographic.{texts_ties, bytes_decides}
 use Rattle.otel_common.specs.Canonical.{canon}
 use Rattle.otel_common.specs.Equality.{set_eq}
@@ -32,3 +33,11 @@ some-canon (p ∷ l) h = by (canon (p ∷ l)) refl
         let here : value_at p.key (p ∷ l) ≡ Some p.value = ap (λ b. cond b (Some p.value) (value_at p.key l)) (sym (texts_ties p.key p.key) ∙ (bytes_decides p.key p.key).1 refl) in
         let gone : value_at p.key (p ∷ l) ≡ None = sym (value_at-canon (p ∷ l) p.key) ∙ ap (value_at p.key) e in
         absurd (cc)
+
+-- no attributes are the empty set
+pub is_nil : (l : List KeyValue) → (length l == 0) ≡ true → set_eq l none_set ≡ true
+is_nil [] e = refl
+is_nil (p ∷ l) e = absurd (true≢false (sym e ∙ some (length l)))
+  where
+    some : (n : ℕ) → (suc n == 0) ≡ false
+    some n = grind (arith, nat_tests)

@@ -1,10 +1,12 @@
 pub mod CanonicalSets
+pub mod SlotLemmas
+pub mod TableLemmas
+pub mod KeyedLemmas
+pub mod TouchLemmas
+pub mod AddLemmas
+pub mod LeftLemmas
+pub mod ShownLemmas
 pub mod BoundLemmas
 pub mod FoldLaws
-pub mod TallyLemmas
-pub mod PlaceLemmas
-pub mod PendingLemmas
 pub mod WeightLemmas
 pub mod KeptLemmas
-pub mod ShownLemmas
-pub mod SavedLemmas

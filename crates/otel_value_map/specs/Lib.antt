@@ -1,2 +1,4 @@
+pub mod Keyed
 pub mod Keys
-pub mod Tallies
+pub mod Numbers
+pub mod Slots

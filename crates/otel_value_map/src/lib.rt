@@ -7,11 +7,8 @@ pub mod bounds;
 pub mod buckets;
 pub mod internal;
 pub mod number;
-pub mod saved;
 mod set_key;
+mod slots;
 pub mod sets;
 mod signed;
 mod table;
-#[cfg(test)]
-mod tests;
-pub mod value_map;

@@ -1,245 +1,442 @@
-//! Tallies by set, in order of making.
+//! Entries in slots, found by their sets and by the lists that admitted them.
 
-ghost use Rattle.std.specs.Prelude.{◌≡◌, IfOk, IsOk, is_some, Some, None, slice_get, cond, true, false, IsOkUnless, ◌<◌, ◌∷◌, [], ◌++◌, OnOk, IfSome, map, filter, ◌||◌};
+ghost use Rattle.std.specs.Prelude.{◌≡◌, ◌<◌, ◌-◌, ◌^◌, ◌∷◌, [], ◌++◌, ◌||◌, None, Some, IfOk, IsOk, OnOk, IsOkUnless, IfSome, map, filter, is_some, length, cond, nat_eq, false, true, ℕ};
 ghost use Rattle.std.specs.Option.{option_map};
-ghost use Rattle.std.specs.List.{IsDistinct, count_by};
-ghost use Rattle.indexmap.specs.IndexMap.{index_map_len, spare, values};
+ghost use Rattle.std.specs.Map.{lookup, keys_of};
+ghost use Rattle.indexmap.specs.IndexMap.{spare};
+ghost use Rattle.otel_common.specs.Canonical.{canon};
 ghost use Rattle.otel_common.specs.Equality.{set_eq};
 ghost use Rattle.otel_model_stream.specs.Folds.{wrapped};
-ghost use Rattle.otel_model_stream.specs.Sets.{AttributeSet, over_set};
+ghost use Rattle.otel_model_stream.specs.Sets.{AttributeSet, none_set, over_set};
+ghost use Rattle.otel_model_stream.specs.Observed.{fold_in};
 ghost use Rattle.otel_model_stream.specs.Totals.{points_total};
-ghost use Rattle.otel_model_stream.specs.Entries.{fresh, has, write, shown, reset, stays, number_counted};
-ghost use Rattle.otel_model_stream.specs.Lists.{changed_at};
-ghost use Rattle.otel_value_map.specs.Tallies.{entries_of, entry_of, tally_entry, none_entry, copies, index_of, sets};
+ghost use Rattle.otel_model_stream.specs.Entries.{shown, fresh, has, write, take_handle, drop_handle, at_entry, new_table, evicted, drained, points, number_counted};
+ghost use Rattle.std.specs.List.{AllByRecursion};
+ghost use Rattle.otel_value_map.specs.Keyed.{Fits, found, IsNew, IsSpelling, with_spelling};
+ghost use Rattle.otel_value_map.specs.Numbers.{number_of, handles_at, KeepLeft};
+ghost use Rattle.otel_value_map.specs.Slots.{look_in, kept_of, forgotten, entry_of, entry_at, copies};
 
 use crate::aggregator::Aggregator;
 use crate::set_key::SetKey;
-use crate::sets::overflow_set;
+use crate::slots::{Slot, evict, fill, hold, release, touch};
 use indexmap::IndexMap;
 use otel_common::attributes::KeyValue;
 use otel_common::faults::Fault;
 use otel_common::lists::Items;
-use std::alloc::Global;
+use slab::Slab;
+use std::alloc::{AllocError, Global};
+use std::marker::Model;
 
-/// What is kept for a set: its aggregator, whether the limit counts it, and whether it was updated
-/// since its making.
+/// Keys with the numbers of the slots to which they lead, in order of making.
+type Numbered = IndexMap<SetKey<'static>, usize>;
+
+/// The entries of a map. Each stands in a slot, whose number stays as long as the entry does; a slot that is
+/// freed is used again.
 #[derive(Drop)]
-pub struct Tally<A> {
-    pub aggregator: A,
-    pub counted: bool,
-    pub updated: bool,
+pub struct Table<A: Aggregator> {
+    slots: Slab<Slot<A>>,
+    /// The slot of the empty set, which has no key.
+    none: usize,
+    /// By canonical sets, so that a list that is one as it stands is found without a copy.
+    sets: Numbered,
+    /// By the lists as they were given that admitted a set in another form.
+    given: Numbered,
 }
 
-impl<A: Aggregator> Tally<A> {
-    /// The aggregator, if it was updated.
-    pub fn shown(&self) -> Option<&A>
-        ensures { option_map (λ found. A.meaning found.now) result ≡ cond self.now.updated (Some (A.meaning self.now.aggregator)) None }
-    {
-        if self.updated {
-            Some(&self.aggregator)
-        } else {
-            None
-        }
-    }
+impl<A: Aggregator> Model for Table<A> {
+    ghost use Rattle.std.specs.Prelude.{◌+◌, ◌&&◌, nat_lt, nat_le};
+    ghost use Rattle.slab.specs.Slab.{slab_len};
+    ghost use Rattle.indexmap.specs.IndexMap.{spare};
+    ghost use Rattle.otel_value_map.specs.Slots.{look_in};
+    ghost use Rattle.otel_value_map.specs.Keyed.{Slotted, slotted, IsKept};
+
+    ghost Value = { Slotted };
+
+    ghost view = { λ t. slotted (look_in A.meaning t.slots) t.none t.sets.entries t.given.entries (nat_le (slab_len t.slots + 1) t.slots.capacity && (nat_lt 0 (spare t.sets) && nat_lt 0 (spare t.given))) };
+
+    ghost invariant = { λ t. IsKept (look_in A.meaning t.slots) t.none t.sets.entries t.given.entries };
 }
 
-/// A record that was prepared.
-#[derive(Drop)]
-pub enum Pending {
-    /// None was prepared.
-    Nothing,
-    /// One without attributes.
-    Empty,
-    /// One of the set whose tally stands at this index.
-    Known(usize),
-    /// One of this set, which has no tally.
-    New(SetKey<'static>),
-}
-
-/// Takes a record into the tally at an index.
-pub fn touch<A: Aggregator>(
-    tallies: &mut IndexMap<SetKey<'static>, Tally<A>>,
-    at: usize,
-    value: A::PreComputedValue,
-)
-    requires { at < index_map_len tallies.old }
-    ensures entries { entries_of A.meaning tallies.new.entries ≡ changed_at at (write (A.sample value)) (entries_of A.meaning tallies.old.entries) }
-    ensures room { spare tallies.new ≡ spare tallies.old }
-    ensures unique { IsDistinct set_eq (sets (entries_of A.meaning tallies.old.entries)) }
-{
-    // Tells the prover that no set stands twice.
-    let _ = tallies.len();
-    let (_, tally) = tallies.pair_mut(at);
-    tally.aggregator.update(value);
-    tally.updated = true;
-}
-
-/// Adds the tally of a set that has none.
-pub fn add<A: Aggregator>(
-    tallies: &mut IndexMap<SetKey<'static>, Tally<A>>,
-    set: SetKey<'static>,
-    counted: bool,
-    aggregator: A,
-)
-    requires absent { has set (entries_of A.meaning tallies.old.entries) ≡ false }
-    requires room { 0 < spare tallies.old }
-    ensures entries { entries_of A.meaning tallies.new.entries ≡ entries_of A.meaning tallies.old.entries ++ fresh (A.meaning aggregator) set.entry counted ∷ [] }
-{
-    let tally = Tally {
-        aggregator,
-        counted,
-        updated: false,
-    };
-    tallies.insert(set, tally).unwrap();
-}
-
-/// Where the tally of a set stands. It copies nothing.
-pub fn find<'s, A: Aggregator>(
-    tallies: &'s IndexMap<SetKey<'s>, Tally<A>>,
-    set: &'s SetKey<'s>,
+/// The number to which a key leads.
+fn number_in<'s>(
+    map: &'s IndexMap<SetKey<'s>, usize>,
+    key: &'s SetKey<'s>,
 ) -> Option<usize>
-    ensures { result ≡ index_of set.now (entries_of A.meaning tallies.now.entries) }
+    ensures { result ≡ lookup (set_eq key.now) map.now.entries }
 {
-    tallies.get_index_of(set)
+    map.get(key).copied()
 }
 
-/// The aggregator at an index.
-pub fn aggregator_at<'s, A: Aggregator>(
-    tallies: &'s IndexMap<SetKey<'static>, Tally<A>>,
-    at: usize,
-) -> &'s A
-    requires { at < index_map_len tallies.now }
-    ensures { option_map (λ entry. entry.fold) (slice_get (entries_of A.meaning tallies.now.entries) at) ≡ Some (A.meaning result.now) }
+/// Adds a key.
+fn add_key(map: &mut Numbered, key: SetKey<'static>, number: usize)
+    requires absent { lookup (set_eq key) map.old.entries ≡ None }
+    requires room { 0 < spare map.old }
+    ensures keys { map.new.entries ≡ map.old.entries ++ (key.entry, number) ∷ [] }
 {
-    let (_, tally) = tallies.get_index(at).unwrap();
-    &tally.aggregator
+    map.insert(key, number).unwrap();
 }
 
-/// Makes an aggregator in advance, where there is none.
-pub fn make_unused<A: Aggregator>(
-    unused: &mut Option<A>,
+/// Takes out the keys that lead to free slots.
+fn keep_filled<A: Aggregator>(map: &mut Numbered, slots: &Slab<Slot<A>>)
+    ensures { map.new.entries ≡ filter (λ e. is_some (look_in A.meaning slots.now e.1)) map.old.entries }
+{
+    map.retain(|_key, number| slots.contains(*number));
+}
+
+/// The point of the empty set, whose slot has this number, if it was updated.
+fn first_points<A: Aggregator>(
     alloc: Global,
-    config: &A::InitConfig,
-) -> Result<(), Fault>
-    requires { IfSome unused.old (λ made. A.meaning made ≡ A.empty config.now) }
-    ensures empty { IfSome unused.new (λ made. A.meaning made ≡ A.empty config.now) }
-    ensures made { OnOk result (is_some unused.new ≡ true) }
-    ensures succeeds { is_some unused.old ≡ true → IsOk result }
-    ensures only_memory { IsOkUnless result Fault.OutOfMemory }
-{
-    if unused.is_some() {
-        return Ok(());
-    }
-    *unused = Some(A::create(alloc, config)?);
-    Ok(())
-}
-
-/// Makes the set of the overflow entry in advance, where there is none.
-pub fn make_key(key: &mut Option<SetKey<'static>>, alloc: Global) -> Result<(), Fault>
-    requires { IfSome key.old (λ made. made ≡ over_set) }
-    ensures over { IfSome key.new (λ made. made ≡ over_set) }
-    ensures made { OnOk result (is_some key.new ≡ true) }
-    ensures succeeds { is_some key.old ≡ true → IsOk result }
-    ensures only_memory { IsOkUnless result Fault.OutOfMemory }
-{
-    if key.is_some() {
-        return Ok(());
-    }
-    *key = Some(SetKey::owned(overflow_set(alloc)?));
-    Ok(())
-}
-
-/// The point of the empty set, if it was updated.
-pub fn first_points<A: Aggregator>(
-    alloc: Global,
-    none: &Tally<A>,
+    slots: &Slab<Slot<A>>,
+    none: usize,
 ) -> Result<Vec<(Items<KeyValue>, A)>, Fault>
-    ensures points { IfOk result (λ given. copies A.meaning given.items ≡ map shown (filter (λ entry. entry.updated) (none_entry A.meaning none.now ∷ []))) }
+    ensures points { IfOk result (λ given. copies A.meaning given.items ≡ map shown (filter (λ entry. entry.updated) (entry_at (look_in A.meaning slots.now) (none_set, none) ∷ []))) }
     ensures only_memory { IsOkUnless result Fault.OutOfMemory }
 {
     let mut points = Vec::new(alloc);
-    if !none.updated {
-        return Ok(points);
+    if let Some(slot) = slots.get(none) {
+        if slot.updated {
+            let set = Items::from(Vec::new(alloc));
+            points.push((set, slot.aggregator.copy(alloc)?))?;
+        }
     }
-    let set = Items::from(Vec::new(alloc));
-    points.push((set, none.aggregator.copy(alloc)?))?;
     Ok(points)
 }
 
-/// Adds the points of the tallies, in order: of every one, or of those that were updated.
-pub fn copy_out<A: Aggregator>(
+/// Adds the points of the sets, in order: of every one, or of those that were updated.
+fn copy_out<A: Aggregator>(
     alloc: Global,
-    tallies: &IndexMap<SetKey<'static>, Tally<A>>,
+    slots: &Slab<Slot<A>>,
+    sets: &Numbered,
     every: bool,
     points: &mut Vec<(Items<KeyValue>, A)>,
 ) -> Result<(), Fault>
-    ensures points { OnOk result (copies A.meaning points.new.items ≡ copies A.meaning points.old.items ++ map shown (filter (λ entry. every || entry.updated) (entries_of A.meaning tallies.now.entries))) }
+    requires { AllByRecursion (Fits (look_in A.meaning slots.now)) sets.now.entries }
+    ensures points { OnOk result (copies A.meaning points.new.items ≡ copies A.meaning points.old.items ++ map shown (filter (λ entry. every || entry.updated) (map (entry_at (look_in A.meaning slots.now)) sets.now.entries))) }
     ensures only_memory { IsOkUnless result Fault.OutOfMemory }
 {
     if every {
-        points.reserve(tallies.len())?;
+        points.reserve(sets.len())?;
     }
-    for (set, tally) in tallies.iter() {
-        let is_shown = every || tally.updated;
-        if is_shown {
-            points.push((set.copy(alloc)?, tally.aggregator.copy(alloc)?))?;
+    for (set, number) in sets.iter() {
+        if let Some(slot) = slots.get(*number) {
+            let is_shown = every || slot.updated;
+            if is_shown {
+                points.push((set.copy(alloc)?, slot.aggregator.copy(alloc)?))?;
+            }
         }
     }
     Ok(())
 }
 
-/// What the records of a tally add up to, if its point is shown.
-fn weight_shown<A: Aggregator>(tally: &Tally<A>, every: bool) -> u64
-    ensures { (s : AttributeSet) → result ≡ points_total (map shown (filter (λ entry. every || entry.updated) (tally_entry A.meaning s tally.now ∷ []))) }
+/// What the records in the slot of this number add up to, if its point is shown.
+fn weight_shown<A: Aggregator>(slots: &Slab<Slot<A>>, number: usize, every: bool) -> u64
+    ensures { (s : AttributeSet) → result ≡ points_total (map shown (filter (λ entry. every || entry.updated) (entry_at (look_in A.meaning slots.now) (s, number) ∷ []))) }
 {
-    if every || tally.updated {
-        tally.aggregator.weight()
-    } else {
-        0
+    match slots.get(number) {
+        None => 0,
+        Some(slot) => {
+            let is_shown = every || slot.updated;
+            if is_shown { slot.aggregator.weight() } else { 0 }
+        }
     }
 }
 
-/// What the records add up to that the points of the tallies show, modulo 2^64.
-pub fn total_of<A: Aggregator>(tallies: &IndexMap<SetKey<'static>, Tally<A>>, every: bool) -> u64
-    ensures { result ≡ wrapped (points_total (map shown (filter (λ entry. every || entry.updated) (entries_of A.meaning tallies.now.entries)))) }
+/// What the records add up to that the points of the sets show, modulo 2^64.
+fn total_of<A: Aggregator>(slots: &Slab<Slot<A>>, sets: &Numbered, every: bool) -> u64
+    ensures { result ≡ wrapped (points_total (map shown (filter (λ entry. every || entry.updated) (map (entry_at (look_in A.meaning slots.now)) sets.now.entries)))) }
 {
     let mut total: u64 = 0;
-    for (_, tally) in tallies.iter() {
-        total = total.wrapping_add(weight_shown(tally, every));
+    for (_, number) in sets.iter() {
+        total = total.wrapping_add(weight_shown(slots, *number, every));
     }
     total
 }
 
-/// Forgets all records, and the tallies that had none since the last time, but that of the overflow set.
-pub fn evict<A: Aggregator>(
-    tallies: &mut IndexMap<SetKey<'static>, Tally<A>>,
-    overflow: &SetKey<'static>,
-)
-    requires { overflow.now ≡ over_set }
-    ensures { entries_of A.meaning tallies.new.entries ≡ map reset (filter stays (entries_of A.meaning tallies.old.entries)) }
+/// Whether the limit counts the slot of this number.
+fn is_counted<A: Aggregator>(slots: &Slab<Slot<A>>, number: usize) -> bool
+    ensures { (s : AttributeSet) → result ≡ (entry_at (look_in A.meaning slots.now) (s, number)).counted }
 {
-    tallies.retain(
-        |set: &SetKey, tally: &mut Tally<A>| -> bool
-            ensures { (result ≡ (tally.old.updated || set_eq set.now overflow.entry.now)) × (entry_of A.meaning (set.now, tally.new) ≡ reset (entry_of A.meaning (set.now, tally.old))) }
+    match slots.get(number) {
+        None => false,
+        Some(slot) => slot.counted,
+    }
+}
+
+/// How many of the sets the limit counts.
+#[tactic(auto, using(crate::proofs::TableLemmas::counted_cons, crate::proofs::TableLemmas::counted_few))]
+fn count_counted<A: Aggregator>(slots: &Slab<Slot<A>>, sets: &Numbered) -> usize
+    ensures { result ≡ number_counted (map (entry_at (look_in A.meaning slots.now)) sets.now.entries) }
+{
+    let mut count = 0;
+    for (_, number) in sets.iter() {
+        if is_counted(slots, *number) {
+            count += 1;
+        }
+    }
+    count
+}
+
+/// Forgets all records, and frees all slots but this one.
+fn clear_but<A: Aggregator>(slots: &mut Slab<Slot<A>>, number: usize)
+    ensures { look_in A.meaning slots.new number ≡ option_map forgotten (look_in A.meaning slots.old number) }
+{
+    slots.retain(
+        |other: usize, slot: &mut Slot<A>| -> bool
+            ensures { (result ≡ nat_eq other number) × (kept_of A.meaning slot.new ≡ forgotten (kept_of A.meaning slot.old)) }
         {
-            let stays = tally.updated || set == overflow;
-            tally.updated = false;
-            tally.aggregator.reset();
-            stays
+            slot.updated = false;
+            slot.aggregator.reset();
+            other == number
         },
     );
 }
 
-/// How many of the tallies are counted.
-fn count_tallies<A>(tallies: &IndexMap<SetKey<'static>, Tally<A>>) -> usize
-    ensures { result ≡ count_by (λ tally. tally.counted) (values tallies.now) }
+/// The aggregator in the slot of this number, if it was updated.
+fn shown_in<A: Aggregator>(slots: &Slab<Slot<A>>, number: usize) -> Option<&A>
+    ensures { (s : AttributeSet) → option_map (λ found. A.meaning found.now) result ≡ cond (entry_at (look_in A.meaning slots.now) (s, number)).updated (Some (entry_at (look_in A.meaning slots.now) (s, number)).fold) None }
 {
-    tallies.values().filter(|tally| tally.counted).count()
+    let slot = slots.get(number)?;
+    if slot.updated {
+        Some(&slot.aggregator)
+    } else {
+        None
+    }
 }
 
-/// How many tallies the limit counts.
-pub fn count_counted<A: Aggregator>(tallies: &IndexMap<SetKey<'static>, Tally<A>>) -> usize
-    ensures { result ≡ number_counted (entries_of A.meaning tallies.now.entries) }
+/// The aggregator in the slot of this number.
+fn aggregator_in<A: Aggregator>(slots: &Slab<Slot<A>>, number: usize) -> Option<&A>
+    ensures { option_map (λ found. A.meaning found.now) result ≡ option_map (λ kept. kept.fold) (look_in A.meaning slots.now number) }
 {
-    count_tallies(tallies)
+    let slot = slots.get(number)?;
+    Some(&slot.aggregator)
+}
+
+/// A copy of a slot.
+fn copy_slot<A: Aggregator>(alloc: Global, slot: &Slot<A>) -> Result<Slot<A>, Fault>
+    ensures copy { IfOk result (λ made. kept_of A.meaning made ≡ kept_of A.meaning slot.now) }
+    ensures only_memory { IsOkUnless result Fault.OutOfMemory }
+{
+    Ok(Slot {
+        aggregator: slot.aggregator.copy(alloc)?,
+        counted: slot.counted,
+        updated: slot.updated,
+        lasting: slot.lasting,
+        handles: slot.handles,
+    })
+}
+
+impl<A: Aggregator> Table<A> {
+    /// No entry but that of the empty set, with an aggregator that has no records. It takes memory for that one slot.
+    pub fn new(alloc: Global, aggregator: A) -> Result<Table<A>, Fault>
+        ensures table { IfOk result (λ made. made.table ≡ new_table (A.meaning aggregator)) }
+        ensures sets { IfOk result (λ made. made.numbers.sets ≡ []) }
+        ensures given { IfOk result (λ made. made.given ≡ []) }
+        ensures only_memory { IsOkUnless result Fault.OutOfMemory }
+    {
+        Table::with_none(alloc, Slot::new(aggregator, false, true))
+    }
+
+    /// No entry but that of the empty set, of which this is kept.
+    fn with_none(alloc: Global, slot: Slot<A>) -> Result<Table<A>, Fault>
+        requires { slot.lasting ≡ true }
+        ensures table { IfOk result (λ made. made.table ≡ record { none = entry_of none_set (Some (kept_of A.meaning slot)); entries = [] }) }
+        ensures sets { IfOk result (λ made. made.numbers.sets ≡ []) }
+        ensures given { IfOk result (λ made. made.given ≡ []) }
+        ensures only_memory { IsOkUnless result Fault.OutOfMemory }
+    {
+        let mut slots = Slab::new(alloc);
+        slots.reserve(1)?;
+        let none = fill(&mut slots, slot);
+        Ok(Table {
+            slots,
+            none,
+            sets: IndexMap::new(alloc),
+            given: IndexMap::new(alloc),
+        })
+    }
+
+    /// The number of the empty set's slot.
+    pub fn none(&self) -> usize
+        ensures { result ≡ self.now.numbers.none }
+    {
+        self.none
+    }
+
+    /// The number to which a set leads.
+    pub fn find_set(&self, set: &SetKey) -> Option<usize>
+        ensures { result ≡ lookup (set_eq set.now) self.now.numbers.sets }
+    {
+        number_in(&self.sets, set)
+    }
+
+    /// The number to which a list leads as it stands: as a set, or as the list that admitted one.
+    pub fn find(&self, list: &SetKey) -> Option<usize>
+        ensures { result ≡ found list.now self.now.numbers.sets self.now.given }
+    {
+        match number_in(&self.sets, list) {
+            Some(number) => Some(number),
+            None => number_in(&self.given, list),
+        }
+    }
+
+    /// Makes room for an entry more, with a key of its set and one of another list.
+    pub fn make_room(&mut self) -> Result<(), AllocError>
+        ensures table { self.new.table ≡ self.old.table }
+        ensures numbers { self.new.numbers ≡ self.old.numbers }
+        ensures given { self.new.given ≡ self.old.given }
+        ensures room { OnOk result (self.new.room ≡ true) }
+    {
+        self.slots.reserve(1)?;
+        self.sets.reserve(1)?;
+        self.given.reserve(1)
+    }
+
+    /// Takes a record into the entry of this number. It looks nothing up.
+    pub fn touch(&mut self, number: usize, value: A::PreComputedValue)
+        ensures table { (s : AttributeSet) → number_of s self.old.numbers ≡ Some number → self.new.table ≡ at_entry s (write (A.sample value)) self.old.table }
+        ensures numbers { self.new.numbers ≡ self.old.numbers }
+        ensures given { self.new.given ≡ self.old.given }
+    {
+        touch(&mut self.slots, number, value);
+    }
+
+    /// A live handle less of the entry of this number.
+    pub fn release(&mut self, number: usize)
+        ensures table { (s : AttributeSet) → number_of s self.old.numbers ≡ Some number → self.new.table ≡ at_entry s drop_handle self.old.table }
+        ensures numbers { self.new.numbers ≡ self.old.numbers }
+        ensures given { self.new.given ≡ self.old.given }
+    {
+        release(&mut self.slots, number);
+    }
+
+    /// Forgets all records, and the entries that had none since the last time and that no handle holds, but that of the
+    /// overflow set. An entry that is left keeps its number.
+    pub fn evict(&mut self)
+        ensures table { self.new.table ≡ evicted self.old.table }
+        ensures numbers { KeepLeft (evicted self.old.table).entries self.old.numbers self.new.numbers }
+        ensures given { keys_of self.new.given ≡ filter (λ l. has (canon l) (evicted self.old.table).entries) (keys_of self.old.given) }
+    {
+        evict(&mut self.slots);
+        keep_filled(&mut self.sets, &self.slots);
+        keep_filled(&mut self.given, &self.slots);
+    }
+
+    /// Adds an entry for a set that has none: a slot, and keys of the set and of the list that admitted it, if that is another.
+    /// Tells its number. What lasts is that of the overflow set alone.
+    pub fn add(
+        &mut self,
+        set: SetKey<'static>,
+        list: Option<SetKey<'static>>,
+        slot: Slot<A>,
+    ) -> usize
+        requires new { IsNew self.old.numbers.sets set }
+        requires spelling { IsSpelling self.old.given set list }
+        requires lasting { slot.lasting ≡ set_eq set over_set }
+        requires room { self.old.room ≡ true }
+        ensures table { self.new.table ≡ record self.old.table { entries = self.old.table.entries ++ entry_of set.entry (Some (kept_of A.meaning slot)) ∷ [] } }
+        ensures none { self.new.numbers.none ≡ self.old.numbers.none }
+        ensures sets { self.new.numbers.sets ≡ self.old.numbers.sets ++ (set.entry, result) ∷ [] }
+        ensures given { self.new.given ≡ with_spelling list.entry result self.old.given }
+    {
+        let number = fill(&mut self.slots, slot);
+        add_key(&mut self.sets, set, number);
+        if let Some(list) = list {
+            add_key(&mut self.given, list, number);
+        }
+        number
+    }
+
+    /// A live handle more of the entry of this number.
+    pub fn hold(&mut self, number: usize)
+        requires { (s : AttributeSet) × (number_of s self.old.numbers ≡ Some number) × (handles_at s self.old.table < 2 ^ 64 - 1) }
+        ensures table { (s : AttributeSet) → number_of s self.old.numbers ≡ Some number → self.new.table ≡ at_entry s take_handle self.old.table }
+        ensures numbers { self.new.numbers ≡ self.old.numbers }
+        ensures given { self.new.given ≡ self.old.given }
+    {
+        hold(&mut self.slots, number);
+    }
+
+    /// Forgets all records, and all entries but that of the empty set. What it took for entries stays for later ones.
+    pub fn drain(&mut self)
+        ensures table { self.new.table ≡ drained self.old.table }
+        ensures none { self.new.numbers.none ≡ self.old.numbers.none }
+        ensures sets { self.new.numbers.sets ≡ [] }
+        ensures given { self.new.given ≡ [] }
+    {
+        clear_but(&mut self.slots, self.none);
+        self.sets.clear();
+        self.given.clear();
+    }
+
+    /// The points: of the empty set if it was updated, and of the sets in order of making, of every one or of those that
+    /// were updated. It copies each set that it gives.
+    pub fn points(&self, alloc: Global, every: bool) -> Result<Vec<(Items<KeyValue>, A)>, Fault>
+        ensures points { IfOk result (λ given. copies A.meaning given.items ≡ points every self.now.table) }
+        ensures only_memory { IsOkUnless result Fault.OutOfMemory }
+    {
+        let mut points = first_points(alloc, &self.slots, self.none)?;
+        copy_out(alloc, &self.slots, &self.sets, every, &mut points)?;
+        Ok(points)
+    }
+
+    /// What the records add up to that `points` shows, modulo 2^64.
+    pub fn total(&self, every: bool) -> u64
+        ensures { result ≡ wrapped (points_total (points every self.now.table)) }
+    {
+        let rest = total_of(&self.slots, &self.sets, every);
+        rest.wrapping_add(weight_shown(&self.slots, self.none, false))
+    }
+
+    /// How many entries the limit counts.
+    pub fn count_counted(&self) -> usize
+        ensures { result ≡ number_counted self.now.table.entries }
+    {
+        count_counted(&self.slots, &self.sets)
+    }
+
+    /// The aggregator of a set, as a collection that drains would show it; none where it would show no point of the set.
+    pub fn get(&self, set: &SetKey) -> Option<&A>
+        ensures { option_map (λ found. A.meaning found.now) result ≡ fold_in (points true self.now.table) set.now }
+    {
+        if set.is_empty() {
+            return shown_in(&self.slots, self.none);
+        }
+        let number = self.find_set(set)?;
+        aggregator_in(&self.slots, number)
+    }
+
+    /// A copy of the entries. Lists that admitted a set in another form are not known to it.
+    pub fn copy(&self, alloc: Global) -> Result<Table<A>, Fault>
+        ensures table { IfOk result (λ made. made.table ≡ self.now.table) }
+        ensures only_memory { IsOkUnless result Fault.OutOfMemory }
+    {
+        let none = self.slots.get(self.none).unwrap();
+        let mut made = Table::with_none(alloc, copy_slot(alloc, none)?)?;
+        copy_entries(alloc, &self.slots, &self.sets, &mut made)?;
+        Ok(made)
+    }
+}
+
+/// Adds copies of the entries of these sets to a table that has none.
+fn copy_entries<A: Aggregator>(
+    alloc: Global,
+    slots: &Slab<Slot<A>>,
+    sets: &Numbered,
+    made: &mut Table<A>,
+) -> Result<(), Fault>
+    requires fits { AllByRecursion (Fits (look_in A.meaning slots.now)) sets.now.entries }
+    requires first { made.old.numbers.sets ≡ [] }
+    requires empty { made.old.table.entries ≡ [] }
+    ensures table { OnOk result (made.new.table ≡ record made.old.table { entries = map (entry_at (look_in A.meaning slots.now)) sets.now.entries }) }
+    ensures only_memory { IsOkUnless result Fault.OutOfMemory }
+{
+    for (set, number) in sets.iter() {
+        if let Some(slot) = slots.get(*number) {
+            made.make_room()?;
+            let slot = copy_slot(alloc, slot)?;
+            let set = SetKey::owned(set.copy(alloc)?.into_vec());
+            made.add(set, None, slot);
+        }
+    }
+    Ok(())
 }

@@ -1,23 +1,25 @@
-use Rattle.std.proofs.Common.{◌≡◌, ◌+◌, ◌||◌, ◌∷◌, Bool, List, ap, sym, ◌∙◌, arith, rules}
+use Rattle.std.proofs.Common.{◌≡◌, ◌+◌, ◌||◌, ◌∷◌, Bool, List, ap, sym, ◌∙◌, arith, map, rules}
 use Rattle.otel_model_stream.specs.Folds.{wrapped}
 use Rattle.otel_model_stream.specs.Entries.{Entry}
 use Rattle.otel_model_stream.specs.Totals.{points_total}
-use Rattle.otel_value_map.specs.Tallies.{entries_of, entry_of}
+use Rattle.otel_value_map.specs.Slots.{look_in, entry_at}
 use Rattle.otel_value_map.proofs.WeightLemmas.{passed, total-turn, total-end}
 use Rattle.otel_value_map.proofs.table.total_of.Goals as goal
 
-pub loop-tally-init : goal.loop-tally-init
-loop-tally-init g c = search rules
+pub loop-number-init : goal.loop-number-init
+loop-number-init g c = search rules
 
-pub loop-tally-preserved : goal.loop-tally-preserved
-loop-tally-preserved g c =
+pub loop-number-preserved : goal.loop-number-preserved
+loop-number-preserved g c =
+    let look = look_in g.A.Aggregator.meaning c.args.slots.now in
     let shows : Entry → Bool = λ (e : Entry). c.args.every || e.updated in
-    let e : Entry = entry_of g.A.Aggregator.meaning (c.in-Some.field-0-0.now, c.in-Some.tally.now) in
-    let left : List Entry = entries_of g.A.Aggregator.meaning c.next.new.self in
-    let steps : entries_of g.A.Aggregator.meaning c.loop-tally.tally-iterator ≡ e ∷ left = ap (entries_of g.A.Aggregator.meaning) c.in-Some.ensures.steps in
-    total-turn shows e left c.loop-tally.total c.weight_shown-total.result _ (c.weight_shown-total.ensures e.set) (ap (λ (es : List Entry). wrapped (c.loop-tally.total + points_total (passed shows es))) (sym steps) ∙ c.loop-tally.invariant)
+    let e : Entry = entry_at look (c.in-Some.field-0-0.now, c.in-Some.number.now) in
+    let left : List Entry = map (entry_at look) c.next.new.self in
+    let steps : map (entry_at look) c.loop-number.number-iterator ≡ e ∷ left = ap (map (entry_at look)) c.in-Some.ensures.steps in
+    total-turn shows e left c.loop-number.total c.weight_shown-total.result _ (c.weight_shown-total.ensures c.in-Some.field-0-0.now) (ap (λ (es : List Entry). wrapped (c.loop-number.total + points_total (passed shows es))) (sym steps) ∙ c.loop-number.invariant)
 
 pub returns : goal.returns
 returns g c =
+    let look = look_in g.A.Aggregator.meaning c.args.slots.now in
     let shows : Entry → Bool = λ (e : Entry). c.args.every || e.updated in
-    total-end shows (entries_of g.A.Aggregator.meaning c.loop-tally.tally-iterator) c.loop-tally.total _ (omega (arith, c.loop-tally.auto.total-fits)) (ap (entries_of g.A.Aggregator.meaning) c.in-None.ensures.steps.0) c.loop-tally.invariant
+    total-end shows (map (entry_at look) c.loop-number.number-iterator) c.loop-number.total _ (omega (arith, c.loop-number.auto.total-fits)) (ap (map (entry_at look)) c.in-None.ensures.steps.0) c.loop-number.invariant

@@ -1,0 +1,112 @@
+-- What a look-up tells of entries.
+use Rattle.std.proofs.Common.{ℕ, ◌≡◌, Bool, true, false, cond, ◌||◌, List, [], ◌∷◌, ◌++◌, Option, Some, None, is_some, map, refl, sym, ap, subst, ◌∙◌, nat_eq, true≢false, arith, eqb-true}
+use Rattle.std.specs.List.{AllByRecursion, IsDistinct, list_any}
+use Rattle.std.specs.Map.{lookup, keys_of, values_of}
+use Rattle.std.specs.Cmp.{IsEquivalence}
+use Rattle.std.specs.Cmp.Lexicographic.{lists_equiv}
+use Rattle.std.proofs.lemmas.Bool.Decides.{nat_tests}
+use Rattle.otel_common.specs.Canonical.{canon}
+use Rattle.otel_common.specs.Equality.{set_eq, set_eq-Decides, key_value_eq_equiv}
+use Rattle.otel_common.specs.declared.attributes.KeyValue.{KeyValue}
+use Rattle.otel_model_stream.specs.Sets.{AttributeSet, none_set, over_set}
+use Rattle.otel_model_stream.specs.Entries.{Entry, has, is_of}
+use Rattle.otel_value_map.specs.Slots.{Kept, Look, Keyed, entry_of, entry_at}
+use Rattle.otel_value_map.specs.Keyed.{Fits, Links, IsKept, found, first_of, is_lasting}
+
+pub same_set : (s t : AttributeSet) → set_eq s t ≡ true → s ≡ t
+same_set s t h = (set_eq-Decides s t).0 h
+
+pub set_eq-self : (s : AttributeSet) → set_eq s s ≡ true
+set_eq-self s = (set_eq-Decides s s).1 refl
+
+pub set_eq_equiv : IsEquivalence set_eq
+set_eq_equiv = lists_equiv key_value_eq_equiv
+
+pub same_number : (n : ℕ) → nat_eq n n ≡ true
+same_number n = grind (arith, nat_tests)
+
+-- the test of sets is the same both ways round
+pub set_eq-flip : (a b : AttributeSet) → set_eq a b ≡ set_eq b a
+set_eq-flip a b = by (set_eq a b) (set_eq b a) refl refl
+  where
+    by : (x y : Bool) → set_eq a b ≡ x → set_eq b a ≡ y → x ≡ y
+    by true true p q = refl
+    by false false p q = refl
+    by true false p q = sym ((set_eq-Decides b a).1 (sym ((set_eq-Decides a b).0 p))) ∙ q
+    by false true p q = sym p ∙ (set_eq-Decides a b).1 (sym ((set_eq-Decides b a).0 q))
+
+pub entry-set : (s : AttributeSet) (o : Option Kept) → (entry_of s o).set ≡ s
+entry-set s None = refl
+entry-set s (Some k) = refl
+
+-- a set has an entry exactly if it is a key
+pub has-lookup : (s : AttributeSet) (look : Look) (es : List Keyed) → has s (map (entry_at look) es) ≡ is_some (lookup (set_eq s) es)
+has-lookup s look [] = refl
+has-lookup s look (e ∷ es) = ap (λ t. set_eq t s || has s (map (entry_at look) es)) (entry-set e.0 (look e.1)) ∙ ap (λ b. b || has s (map (entry_at look) es)) (set_eq-flip e.0 s) ∙ by (set_eq s e.0) (has-lookup s look es)
+  where
+    by : (b : Bool) → has s (map (entry_at look) es) ≡ is_some (lookup (set_eq s) es) → (b || has s (map (entry_at look) es)) ≡ is_some (cond b (Some e.1) (lookup (set_eq s) es))
+    by true h = refl
+    by false h = h
+
+-- a number that is found is none from which all differ
+pub lookup-away : (s : AttributeSet) (es : List Keyed) (m n : ℕ) → lookup (set_eq s) es ≡ Some n → AllByRecursion (λ y. nat_eq m y ≡ false) (values_of es) → nat_eq m n ≡ false
+lookup-away s [] m n e h = absurd (cc)
+lookup-away s (x ∷ es) m n e h = by (set_eq s x.0) e (λ r. lookup-away s es m n r h.1)
+  where
+    by : (b : Bool) → cond b (Some x.1) (lookup (set_eq s) es) ≡ Some n → (lookup (set_eq s) es ≡ Some n → nat_eq m n ≡ false) → nat_eq m n ≡ false
+    by true r ih = let k : x.1 ≡ n = cc in subst (λ j. nat_eq m j ≡ false) k h.0
+    by false r ih = ih r
+
+-- a key that is found fits
+pub lookup-fits : (look : Look) (s : AttributeSet) (es : List Keyed) (n : ℕ) → lookup (set_eq s) es ≡ Some n → AllByRecursion (Fits look) es → Fits look (s, n)
+lookup-fits look s [] n e h = absurd (cc)
+lookup-fits look s (x ∷ es) n e h = by (set_eq s x.0) refl e (λ r. lookup-fits look s es n r h.1)
+  where
+    by : (b : Bool) → set_eq s x.0 ≡ b → cond b (Some x.1) (lookup (set_eq s) es) ≡ Some n → (lookup (set_eq s) es ≡ Some n → Fits look (s, n)) → Fits look (s, n)
+    by true q r ih =
+        let k : x.1 ≡ n = cc in
+        let t : x.0 ≡ s = sym (same_set s x.0 q) in
+        subst (Fits look) (λ i. (t i, k i)) h.0
+    by false q r ih = ih r
+
+pub lookup-links : (es : List Keyed) (s : AttributeSet) (gs : List Keyed) (n : ℕ) → lookup (set_eq s) gs ≡ Some n → AllByRecursion (Links es) gs → Links es (s, n)
+lookup-links es s [] n e h = absurd (cc)
+lookup-links es s (x ∷ gs) n e h = by (set_eq s x.0) refl e (λ r. lookup-links es s gs n r h.1)
+  where
+    by : (b : Bool) → set_eq s x.0 ≡ b → cond b (Some x.1) (lookup (set_eq s) gs) ≡ Some n → (lookup (set_eq s) gs ≡ Some n → Links es (s, n)) → Links es (s, n)
+    by true q r ih =
+        let k : x.1 ≡ n = cc in
+        let t : x.0 ≡ s = sym (same_set s x.0 q) in
+        subst (Links es) (λ i. (t i, k i)) h.0
+    by false q r ih = ih r
+
+-- what is found under a list stands under its canonical form
+pub found-canon : (look : Look) (none : ℕ) (es gs : List Keyed) (l : List KeyValue) (n : ℕ) → IsKept look none es gs → found l es gs ≡ Some n → lookup (set_eq (canon l)) es ≡ Some n
+found-canon look none es gs l n laws e = by (lookup (set_eq l) es) refl e
+  where
+    by : (o : Option ℕ) → lookup (set_eq l) es ≡ o → first_of o (lookup (set_eq l) gs) ≡ Some n → lookup (set_eq (canon l)) es ≡ Some n
+    by None q r = lookup-links es l gs n r laws.linked
+    by (Some m) q r =
+        let k : lookup (set_eq l) es ≡ Some n = cc in
+        subst (λ t. lookup (set_eq t) es ≡ Some n) (sym (lookup-fits look l es n k laws.fits).canonical) k
+
+pub first_of-None : (o r : Option ℕ) → first_of o r ≡ None → (o ≡ None) × (r ≡ None)
+first_of-None None r e = (refl, e)
+first_of-None (Some n) r e = absurd (cc)
+
+pub some_first : (a b : Option ℕ) → is_some (first_of a b) ≡ (is_some a || is_some b)
+some_first None b = refl
+some_first (Some n) b = refl
+
+-- slots that are as they were have the same entries
+pub entries-same : (look other : Look) (n : ℕ) (es : List Keyed) → AllByRecursion (λ y. nat_eq n y ≡ false) (values_of es) → ((m : ℕ) → nat_eq n m ≡ false → other m ≡ look m) → map (entry_at other) es ≡ map (entry_at look) es
+entries-same look other n [] h s = refl
+entries-same look other n (x ∷ es) h s = λ i. entry_of x.0 (s x.1 h.0 i) ∷ entries-same look other n es h.1 s i
+
+pub fits-as : (look other : Look) (x : Keyed) → is_some (other x.1) ≡ is_some (look x.1) → is_lasting (other x.1) ≡ is_lasting (look x.1) → Fits look x → Fits other x
+fits-as look other x f l fit = record { filled = f ∙ fit.filled; lasting = l ∙ fit.lasting; canonical = fit.canonical; some = fit.some }
+
+-- an empty table is kept
+pub kept-new : (look : Look) (none : ℕ) → is_some (look none) ≡ true → is_lasting (look none) ≡ true → IsKept look none [] []
+unfolding IsDistinct
+kept-new look none filled lasts = record { none_filled = filled; none_lasts = lasts; apart = (tt, tt); unique = tt; fits = tt; linked = tt }

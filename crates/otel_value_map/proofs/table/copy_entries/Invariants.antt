@@ -1,0 +1,15 @@
+use Rattle.std.proofs.Common.{◌≡◌, ◌++◌, map}
+use Rattle.std.specs.List.{AllByRecursion}
+use Rattle.std.specs.Map.{keys_of}
+use Rattle.otel_value_map.specs.Slots.{look_in, entry_at}
+use Rattle.otel_value_map.specs.Keyed.{Fits}
+use Rattle.otel_value_map.proofs.table.copy_entries.Given as goal
+
+-- the keys that are left fit, the copies so far and the entries that are left are all, and so are their keys
+abbrev pub invariant-loop-set : goal.invariant-loop-set
+invariant-loop-set g l =
+    let look = look_in g.A.Aggregator.meaning l.slots in
+    AllByRecursion (Fits look) l.set-iterator
+    × (l.made.table.none ≡ l.fn.made.table.none)
+    × (l.made.table.entries ++ map (entry_at look) l.set-iterator ≡ map (entry_at look) l.fn.sets.entries)
+    × (keys_of l.made.numbers.sets ++ keys_of l.set-iterator ≡ keys_of l.fn.sets.entries)
