@@ -2,6 +2,10 @@
 use Rattle.std.proofs.Common.{ℕ, ◌≡◌, Bool, true, false, cond, ◌||◌, List, [], ◌∷◌, ◌++◌, Option, Some, None, is_some, map, refl, sym, ap, subst, ◌∙◌, nat_eq, true≢false, arith, eqb-true}
 use Rattle.std.specs.List.{AllByRecursion, IsDistinct, list_any}
 use Rattle.std.specs.Map.{lookup, keys_of, values_of}
+use Rattle.std.specs.Set.{is_member}
+use Rattle.std.specs.Option.{IfSome}
+use Rattle.std.proofs.lemmas.Map.Keys.{IsDistinct-head, IsDistinct-tail}
+use Rattle.std.proofs.lemmas.Map.Made.{is_some-lookup}
 use Rattle.std.specs.Cmp.{IsEquivalence}
 use Rattle.std.specs.Cmp.Lexicographic.{lists_equiv}
 use Rattle.std.proofs.lemmas.Bool.Decides.{nat_tests}
@@ -12,6 +16,7 @@ use Rattle.otel_model_stream.specs.Sets.{AttributeSet, none_set, over_set}
 use Rattle.otel_model_stream.specs.Entries.{Entry, has, is_of}
 use Rattle.otel_value_map.specs.Slots.{Kept, Look, Keyed, entry_of, entry_at}
 use Rattle.otel_value_map.specs.Keyed.{Fits, Links, IsKept, found, first_of, is_lasting}
+use Rattle.otel_value_map.specs.Numbers.{named_in, IsNumberOf}
 
 pub same_set : (s t : AttributeSet) → set_eq s t ≡ true → s ≡ t
 same_set s t h = (set_eq-Decides s t).0 h
@@ -110,3 +115,57 @@ fits-as look other x f l fit = record { filled = f ∙ fit.filled; lasting = l �
 pub kept-new : (look : Look) (none : ℕ) → is_some (look none) ≡ true → is_lasting (look none) ≡ true → IsKept look none [] []
 unfolding IsDistinct
 kept-new look none filled lasts = record { none_filled = filled; none_lasts = lasts; apart = (tt, tt); unique = tt; fits = tt; linked = tt }
+
+-- ======== numbers ========
+-- the set of a number that is found
+pub named_in-lookup : (s : AttributeSet) (es : List Keyed) (n : ℕ) → lookup (set_eq s) es ≡ Some n → IsDistinct nat_eq (values_of es) → named_in n es ≡ s
+unfolding IsDistinct
+named_in-lookup s [] n e d = absurd (cc)
+named_in-lookup s (x ∷ es) n e d = by (set_eq s x.0) refl e (λ r. named_in-lookup s es n r d.1)
+  where
+    by : (b : Bool) → set_eq s x.0 ≡ b → cond b (Some x.1) (lookup (set_eq s) es) ≡ Some n → (lookup (set_eq s) es ≡ Some n → named_in n es ≡ s) → cond (nat_eq n x.1) x.0 (named_in n es) ≡ s
+    by true q r ih =
+        let k : x.1 ≡ n = cc in
+        let here : nat_eq n x.1 ≡ true = grind (arith, nat_tests) in
+        ap (λ b. cond b x.0 (named_in n es)) here ∙ sym (same_set s x.0 q)
+    by false q r ih =
+        let other : nat_eq x.1 n ≡ false = lookup-away s es x.1 n r d.0 in
+        let away : nat_eq n x.1 ≡ false = grind (arith, nat_tests) in
+        ap (λ b. cond b x.0 (named_in n es)) away ∙ ih r
+
+-- a set that is found has that number
+pub number-found : (look : Look) (none : ℕ) (es gs : List Keyed) (s : AttributeSet) (n : ℕ) → IsKept look none es gs → lookup (set_eq s) es ≡ Some n → IsNumberOf s n (record { none = none; sets = es })
+number-found look none es gs s n laws e =
+    let apart : nat_eq none n ≡ false = lookup-away s es none n e (IsDistinct-head nat_eq none (values_of es) laws.apart) in
+    let away : nat_eq n none ≡ false = grind (arith, nat_tests) in
+    record {
+      some = (lookup-fits look s es n e laws.fits).some;
+      number = e;
+      named = ap (λ b. cond b none_set (named_in n es)) away ∙ named_in-lookup s es n e (IsDistinct-tail nat_eq none (values_of es) laws.apart);
+    }
+
+-- the same of what is found, if anything
+pub if_found : (look : Look) (none : ℕ) (es gs : List Keyed) (s : AttributeSet) (o : Option ℕ) → IsKept look none es gs → (is_some o ≡ true → o ≡ lookup (set_eq s) es) → IfSome o (λ n. IsNumberOf s n (record { none = none; sets = es }))
+if_found look none es gs s None laws e = tt
+if_found look none es gs s (Some n) laws e = number-found look none es gs s n laws (sym (e refl))
+
+-- a list that is found is known
+pub found-known : (look : Look) (es gs : List Keyed) (l : List KeyValue) → is_some (found l es gs) ≡ (is_member set_eq (keys_of gs) l || has l (map (entry_at look) es))
+found-known look es gs l =
+    some_first (lookup (set_eq l) es) (lookup (set_eq l) gs)
+    ∙ (λ i. sym (has-lookup l look es) i || is_some-lookup (set_eq l) gs i)
+    ∙ or-flip (has l (map (entry_at look) es)) (is_member set_eq (keys_of gs) l)
+  where
+    or-flip : (a b : Bool) → (a || b) ≡ (b || a)
+    or-flip true true = refl
+    or-flip true false = refl
+    or-flip false true = refl
+    or-flip false false = refl
+
+-- what a list leads to is the entry of its set
+pub found-placed : (look : Look) (none : ℕ) (es gs : List Keyed) (l : List KeyValue) (o : Option ℕ) → IsKept look none es gs → o ≡ found l es gs
+    → IfSome o (λ _. has (canon l) (map (entry_at look) es) ≡ true) × IfSome o (λ n. IsNumberOf (canon l) n (record { none = none; sets = es }))
+found-placed look none es gs l None laws e = (tt, tt)
+found-placed look none es gs l (Some n) laws e =
+    let there : lookup (set_eq (canon l)) es ≡ Some n = found-canon look none es gs l n laws (sym e) in
+    (has-lookup (canon l) look es ∙ ap is_some there, number-found look none es gs (canon l) n laws there)

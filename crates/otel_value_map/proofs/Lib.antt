@@ -6,6 +6,8 @@ pub mod TouchLemmas
 pub mod AddLemmas
 pub mod LeftLemmas
 pub mod ShownLemmas
+pub mod PlanLemmas
+pub mod PlaceLemmas
 pub mod BoundLemmas
 pub mod FoldLaws
 pub mod WeightLemmas

@@ -1,5 +1,5 @@
 -- A change in one slot is a change of one entry.
-use Rattle.std.proofs.Common.{ℕ, ◌≡◌, Bool, true, false, cond, List, [], ◌∷◌, Option, Some, None, is_some, map, refl, sym, ap, subst, ◌∙◌, nat_eq, true≢false, arith}
+use Rattle.std.proofs.Common.{ℕ, ◌+◌, ◌≡◌, Bool, true, false, cond, List, [], ◌∷◌, Option, Some, None, is_some, map, refl, sym, ap, subst, ◌∙◌, nat_eq, true≢false, arith}
 use Rattle.std.specs.List.{AllByRecursion, IsDistinct}
 use Rattle.std.specs.Map.{lookup, keys_of, values_of}
 use Rattle.std.specs.Option.{option_map}
@@ -7,10 +7,11 @@ use Rattle.std.proofs.lemmas.Bool.Decides.{nat_tests}
 use Rattle.std.proofs.lemmas.Map.Keys.{IsDistinct-head, IsDistinct-tail}
 use Rattle.otel_common.specs.Equality.{set_eq}
 use Rattle.otel_model_stream.specs.Sets.{AttributeSet, none_set}
-use Rattle.otel_model_stream.specs.Entries.{Entry, on, is_of, at_entry}
+use Rattle.otel_model_stream.specs.Entries.{Entry, on, is_of, at_entry, number_counted}
 use Rattle.otel_value_map.specs.Slots.{Kept, Look, SameLook, Keyed, at_slot, entry_of, entry_at, table_at}
 use Rattle.otel_value_map.specs.Keyed.{Fits, IsKept, is_lasting}
 use Rattle.otel_value_map.specs.Numbers.{number_of}
+use Rattle.otel_value_map.proofs.TableLemmas.{counted_cons}
 use Rattle.otel_value_map.proofs.KeyedLemmas.{same_set, set_eq-flip, same_number, entry-set, lookup-away, entries-same, fits-as}
 
 module _ (f : Kept → Kept) (g : Entry → Entry) (as_entry : (s : AttributeSet) (k : Kept) → entry_of s (Some (f k)) ≡ g (entry_of s (Some k))) (lasts : (k : Kept) → (f k).lasting ≡ k.lasting)
@@ -104,3 +105,16 @@ module _ (f : Kept → Kept) (g : Entry → Entry) (as_entry : (s : AttributeSet
             none = (ap (entry_of none_set) (elsewhere none back) ∙ ap (λ b. cond b (g (entry_at look (none_set, none))) (entry_at look (none_set, none))) (sym miss)) i;
             entries = rest i;
           }
+
+  -- what is counted stays
+  pub counted-touched : ((k : Kept) → (f k).counted ≡ k.counted) → (es : List Keyed) → number_counted (map (entry_at other) es) ≡ number_counted (map (entry_at look) es)
+  counted-touched same [] = refl
+  counted-touched same (x ∷ es) =
+      counted_cons (entry_at other x) (map (entry_at other) es)
+      ∙ (λ i. cond ((ap (λ o. (entry_of x.0 o).counted) (w x.1) ∙ by (nat_eq n x.1) (look x.1)) i) 1 0 + counted-touched same es i)
+      ∙ sym (counted_cons (entry_at look x) (map (entry_at look) es))
+    where
+      by : (b : Bool) (o : Option Kept) → (entry_of x.0 (cond b (option_map f o) o)).counted ≡ (entry_of x.0 o).counted
+      by true None = refl
+      by true (Some k) = same k
+      by false o = refl

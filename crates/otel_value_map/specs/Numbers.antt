@@ -1,5 +1,5 @@
 -- The numbers of entries, by which handles name them, and the keys of a map.
-use Rattle.std.specs.Prelude.{◌≡◌, ℕ, ◌&&◌, ◌||◌, not, cond, Bool, true, List, [], ◌∷◌, map, Option, Some, None}
+use Rattle.std.specs.Prelude.{◌≡◌, ℕ, ◌<◌, ◌-◌, ◌^◌, nat_eq, ◌&&◌, ◌||◌, not, cond, Bool, true, false, List, [], ◌∷◌, map, Option, Some, None}
 use Rattle.std.specs.Map.{lookup, keys_of}
 use Rattle.otel_common.specs.Canonical.{canon}
 use Rattle.otel_common.specs.Equality.{set_eq}
@@ -16,6 +16,14 @@ pub record Numbers : Type 0 where
 -- the number of a set's entry, if it has one
 abbrev pub number_of : AttributeSet → Numbers → Option ℕ
 number_of s ns = cond (set_eq s none_set) (Some ns.none) (lookup (set_eq s) ns.sets)
+
+-- the set whose entry has this number; the empty one if none has
+abbrev pub named_in : ℕ → List (AttributeSet × ℕ) → AttributeSet
+named_in n [] = none_set
+named_in n (e ∷ es) = cond (nat_eq n e.1) e.0 (named_in n es)
+
+abbrev pub set_named : ℕ → Numbers → AttributeSet
+set_named n ns = cond (nat_eq n ns.none) none_set (named_in n ns.sets)
 
 -- each entry keeps its number
 abbrev pub KeepNumbers : Numbers → Numbers → Type 0
@@ -40,3 +48,13 @@ handles_in s (e ∷ es) = cond (is_of s e) e.handles (handles_in s es)
 
 abbrev pub handles_at : AttributeSet → Table → ℕ
 handles_at s t = handles_in s (t.none ∷ t.entries)
+
+-- a set that isn't empty has an entry of this number, and no other has
+pub record IsNumberOf (s : AttributeSet) (n : ℕ) (ns : Numbers) : Type 0 where
+  pub some : set_eq s none_set ≡ false
+  pub number : lookup (set_eq s) ns.sets ≡ Some n
+  pub named : set_named n ns ≡ s
+
+-- no entry has so many live handles that one more can't be counted
+abbrev pub AreHandlesFew : Table → Type 0
+AreHandlesFew t = (s : AttributeSet) → handles_at s t < 2 ^ 64 - 1

@@ -31,10 +31,6 @@ module _ {A : Type 0} (meaning : A → Fold) where
   abbrev pub copies : List (AttributeSet × A) → List Point
   copies ps = map (λ p. (p.0, meaning p.1)) ps
 
-  -- the records of the empty set are kept in an aggregator of this type
-  abbrev pub HasForm : Table → Type 0
-  HasForm table = (a : A) × (table.none.fold ≡ meaning a)
-
 -- without records
 abbrev pub new_kept : Fold → Bool → Bool → Kept
 new_kept empty counted lasting = record { counted = counted; updated = false; lasting = lasting; fold = empty; handles = 0 }

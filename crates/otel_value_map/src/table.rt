@@ -3,6 +3,7 @@
 ghost use Rattle.std.specs.Prelude.{◌≡◌, ◌<◌, ◌-◌, ◌^◌, ◌∷◌, [], ◌++◌, ◌||◌, None, Some, IfOk, IsOk, OnOk, IsOkUnless, IfSome, map, filter, is_some, length, cond, nat_eq, false, true, ℕ};
 ghost use Rattle.std.specs.Option.{option_map};
 ghost use Rattle.std.specs.Map.{lookup, keys_of};
+ghost use Rattle.std.specs.Set.{is_member};
 ghost use Rattle.indexmap.specs.IndexMap.{spare};
 ghost use Rattle.otel_common.specs.Canonical.{canon};
 ghost use Rattle.otel_common.specs.Equality.{set_eq};
@@ -13,7 +14,7 @@ ghost use Rattle.otel_model_stream.specs.Totals.{points_total};
 ghost use Rattle.otel_model_stream.specs.Entries.{shown, fresh, has, write, take_handle, drop_handle, at_entry, new_table, evicted, drained, points, number_counted};
 ghost use Rattle.std.specs.List.{AllByRecursion};
 ghost use Rattle.otel_value_map.specs.Keyed.{Fits, found, IsNew, IsSpelling, with_spelling};
-ghost use Rattle.otel_value_map.specs.Numbers.{number_of, handles_at, KeepLeft};
+ghost use Rattle.otel_value_map.specs.Numbers.{number_of, handles_at, KeepLeft, IsNumberOf};
 ghost use Rattle.otel_value_map.specs.Slots.{look_in, kept_of, forgotten, entry_of, entry_at, copies};
 
 use crate::aggregator::Aggregator;
@@ -65,6 +66,20 @@ fn number_in<'s>(
     ensures { result ≡ lookup (set_eq key.now) map.now.entries }
 {
     map.get(key).copied()
+}
+
+/// The number to which a list leads, by the keys of sets or by those of lists as they were given.
+fn found_in<'s>(
+    sets: &'s IndexMap<SetKey<'s>, usize>,
+    given: &'s IndexMap<SetKey<'s>, usize>,
+    list: &'s SetKey<'s>,
+) -> Option<usize>
+    ensures { result ≡ found list.now sets.now.entries given.now.entries }
+{
+    match number_in(sets, list) {
+        Some(number) => Some(number),
+        None => number_in(given, list),
+    }
 }
 
 /// Adds a key.
@@ -257,26 +272,28 @@ impl<A: Aggregator> Table<A> {
 
     /// The number of the empty set's slot.
     pub fn none(&self) -> usize
-        ensures { result ≡ self.now.numbers.none }
+        ensures number { result ≡ self.now.numbers.none }
     {
         self.none
     }
 
     /// The number to which a set leads.
     pub fn find_set(&self, set: &SetKey) -> Option<usize>
-        ensures { result ≡ lookup (set_eq set.now) self.now.numbers.sets }
+        ensures number { result ≡ lookup (set_eq set.now) self.now.numbers.sets }
+        ensures placed { is_some result ≡ has set.now self.now.table.entries }
+        ensures named { IfSome result (λ n. IsNumberOf set.now n self.now.numbers) }
     {
         number_in(&self.sets, set)
     }
 
     /// The number to which a list leads as it stands: as a set, or as the list that admitted one.
     pub fn find(&self, list: &SetKey) -> Option<usize>
-        ensures { result ≡ found list.now self.now.numbers.sets self.now.given }
+        ensures number { result ≡ found list.now self.now.numbers.sets self.now.given }
+        ensures known { is_some result ≡ (is_member set_eq (keys_of self.now.given) list.now || has list.now self.now.table.entries) }
+        ensures placed { IfSome result (λ _. has (canon list.now) self.now.table.entries ≡ true) }
+        ensures named { IfSome result (λ n. IsNumberOf (canon list.now) n self.now.numbers) }
     {
-        match number_in(&self.sets, list) {
-            Some(number) => Some(number),
-            None => number_in(&self.given, list),
-        }
+        found_in(&self.sets, &self.given, list)
     }
 
     /// Makes room for an entry more, with a key of its set and one of another list.
@@ -294,6 +311,7 @@ impl<A: Aggregator> Table<A> {
     /// Takes a record into the entry of this number. It looks nothing up.
     pub fn touch(&mut self, number: usize, value: A::PreComputedValue)
         ensures table { (s : AttributeSet) → number_of s self.old.numbers ≡ Some number → self.new.table ≡ at_entry s (write (A.sample value)) self.old.table }
+        ensures counted { number_counted self.new.table.entries ≡ number_counted self.old.table.entries }
         ensures numbers { self.new.numbers ≡ self.old.numbers }
         ensures given { self.new.given ≡ self.old.given }
     {
@@ -303,6 +321,7 @@ impl<A: Aggregator> Table<A> {
     /// A live handle less of the entry of this number.
     pub fn release(&mut self, number: usize)
         ensures table { (s : AttributeSet) → number_of s self.old.numbers ≡ Some number → self.new.table ≡ at_entry s drop_handle self.old.table }
+        ensures counted { number_counted self.new.table.entries ≡ number_counted self.old.table.entries }
         ensures numbers { self.new.numbers ≡ self.old.numbers }
         ensures given { self.new.given ≡ self.old.given }
     {
@@ -350,6 +369,7 @@ impl<A: Aggregator> Table<A> {
     pub fn hold(&mut self, number: usize)
         requires { (s : AttributeSet) × (number_of s self.old.numbers ≡ Some number) × (handles_at s self.old.table < 2 ^ 64 - 1) }
         ensures table { (s : AttributeSet) → number_of s self.old.numbers ≡ Some number → self.new.table ≡ at_entry s take_handle self.old.table }
+        ensures counted { number_counted self.new.table.entries ≡ number_counted self.old.table.entries }
         ensures numbers { self.new.numbers ≡ self.old.numbers }
         ensures given { self.new.given ≡ self.old.given }
     {

@@ -8,7 +8,7 @@ use Rattle.otel_value_map.specs.Slots.{held, Kept, kept_of, look_in, table_at}
 use Rattle.otel_value_map.specs.declared.slots.Slot.{Slot}
 use Rattle.otel_value_map.specs.Numbers.{number_of, handles_at}
 use Rattle.otel_value_map.proofs.ShownLemmas.{handles-kept}
-use Rattle.otel_value_map.proofs.TouchLemmas.{kept-touched, table-touched}
+use Rattle.otel_value_map.proofs.TouchLemmas.{kept-touched, table-touched, counted-touched}
 use Rattle.otel_value_map.proofs.table.Table.hold.Goals as goal
 
 pub invariant_of-self : goal.invariant_of-self
@@ -33,3 +33,7 @@ hold-requires g c =
     by : {A : Type 0} (meaning : A → Fold) (o : Option (Slot A)) (m : ℕ) → option_map (λ (k : Kept). k.handles) (option_map (kept_of meaning) o) ≡ Some m → m < 2 ^ 64 - 1 → IfSome o (λ slot. slot.handles < 2 ^ 64 - 1)
     by meaning None m q h = tt
     by meaning (Some slot) m q h = let k : slot.handles ≡ m = cc in subst (λ n. n < 2 ^ 64 - 1) (sym k) h
+
+pub returns-clause-counted : goal.returns-clause-counted
+returns-clause-counted g c =
+    rw (← c.self.view_is) (counted-touched held take_handle (λ s k. refl) (λ k. refl) _ _ c.args.number c.hold.ensures.look (λ k. refl) c.self.inside.sets.entries)

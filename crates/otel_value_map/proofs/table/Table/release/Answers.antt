@@ -3,7 +3,7 @@ use Rattle.otel_model_stream.specs.Entries.{drop_handle, at_entry}
 use Rattle.otel_value_map.specs.Keyed.{Slotted}
 use Rattle.otel_value_map.specs.Slots.{released}
 use Rattle.otel_value_map.specs.Numbers.{number_of}
-use Rattle.otel_value_map.proofs.TouchLemmas.{kept-touched, table-touched}
+use Rattle.otel_value_map.proofs.TouchLemmas.{kept-touched, table-touched, counted-touched}
 use Rattle.otel_value_map.proofs.table.Table.release.Goals as goal
 
 pub invariant_of-self : goal.invariant_of-self
@@ -15,3 +15,7 @@ returns-clause-table g c = λ s e.
     table-touched released drop_handle (λ s k. refl) (λ k. refl) _ _ c.args.number c.release.ensures.look c.self.inside.none c.self.inside.sets.entries c.self.inside.given.entries s c.self.invariant
         (ap (λ (t : Slotted). number_of s t.numbers) c.self.view_is ∙ e)
     ∙ ap (λ (t : Slotted). at_entry s drop_handle t.table) c.self.view_is
+
+pub returns-clause-counted : goal.returns-clause-counted
+returns-clause-counted g c =
+    rw (← c.self.view_is) (counted-touched released drop_handle (λ s k. refl) (λ k. refl) _ _ c.args.number c.release.ensures.look (λ k. refl) c.self.inside.sets.entries)

@@ -3,7 +3,7 @@ use Rattle.otel_model_stream.specs.Entries.{write, at_entry}
 use Rattle.otel_value_map.specs.Keyed.{Slotted}
 use Rattle.otel_value_map.specs.Slots.{written}
 use Rattle.otel_value_map.specs.Numbers.{number_of}
-use Rattle.otel_value_map.proofs.TouchLemmas.{kept-touched, table-touched}
+use Rattle.otel_value_map.proofs.TouchLemmas.{kept-touched, table-touched, counted-touched}
 use Rattle.otel_value_map.proofs.table.Table.touch.Goals as goal
 
 pub invariant_of-self : goal.invariant_of-self
@@ -17,3 +17,8 @@ returns-clause-table g c = λ s e.
     table-touched (written v) (write v) (λ s k. refl) (λ k. refl) _ _ c.args.number c.touch.ensures.look c.self.inside.none c.self.inside.sets.entries c.self.inside.given.entries s c.self.invariant
         (ap (λ (t : Slotted). number_of s t.numbers) c.self.view_is ∙ e)
     ∙ ap (λ (t : Slotted). at_entry s (write v) t.table) c.self.view_is
+
+pub returns-clause-counted : goal.returns-clause-counted
+returns-clause-counted g c =
+    let v = g.A.Aggregator.sample c.args.value in
+    rw (← c.self.view_is) (counted-touched (written v) (write v) (λ s k. refl) (λ k. refl) _ _ c.args.number c.touch.ensures.look (λ k. refl) c.self.inside.sets.entries)

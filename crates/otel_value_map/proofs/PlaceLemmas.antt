@@ -1,0 +1,151 @@
+-- Where a record's entry is, once its set has a place.
+use Rattle.std.proofs.Common.{ℕ, ◌+◌, ◌-◌, ◌^◌, ◌<◌, ◌≡◌, List, [], ◌∷◌, ◌++◌, length, map, filter, nat_lt, Bool, true, false, cond, ◌||◌, ◌&&◌, Option, Some, None, is_some, refl, ap, arith, subst, sym, ◌∙◌, true≢false, IsTrue}
+use Rattle.std.specs.Map.{lookup, keys_of}
+use Rattle.std.proofs.lemmas.List.Folds.{list_any-append}
+use Rattle.std.proofs.lemmas.List.{map-append}
+use Rattle.otel_common.specs.Canonical.{canon}
+use Rattle.otel_common.specs.Equality.{set_eq, set_eq-Decides}
+use Rattle.otel_common.specs.declared.attributes.KeyValue.{KeyValue}
+use Rattle.otel_model_stream.specs.Folds.{Fold}
+use Rattle.otel_model_stream.specs.Sets.{AttributeSet, none_set, over_set}
+use Rattle.otel_model_stream.specs.Entries.{Entry, Table, fresh, is_of, has, number_counted, placed, entry_for, place}
+use Rattle.otel_model_stream.specs.Maps.{MapState, with_place}
+use Rattle.otel_value_map.specs.Slots.{Keyed}
+use Rattle.otel_value_map.specs.Keyed.{Slotted, IsNew, with_spelling}
+use Rattle.otel_value_map.specs.Numbers.{Numbers, number_of, KeepNumbers, is_placed, set_named, handles_in, AreHandlesFew}
+use Rattle.otel_value_map.specs.Held.{IsSound, IsReady, list_of, pending_in, spelling_in}
+use Rattle.otel_value_map.specs.declared.pending.Pending.{Pending}
+use Rattle.otel_value_map.specs.declared.pending.Pending.TheVariants.{Nothing, At, New}
+use Rattle.otel_value_map.proofs.KeyedLemmas.{same_set, set_eq-self, set_eq-flip}
+use Rattle.otel_value_map.proofs.AddLemmas.{lookup-pushed, numbers-pushed}
+use Rattle.otel_value_map.proofs.TableLemmas.{counted_cons}
+
+-- what a place does: the entries, and which of them the set uses
+pub record Placing (limit : ℕ) (empty : Fold) (s : AttributeSet) (entries after : List Entry) (used : AttributeSet) : Type 0 where
+  pub state : after ≡ placed limit empty s entries
+  pub goal : entry_for s after ≡ used
+
+has-last : (s : AttributeSet) (entries : List Entry) (e : Entry) → set_eq e.set s ≡ true → has s (entries ++ e ∷ []) ≡ true
+has-last s entries e q = list_any-append (is_of s) entries (e ∷ []) ∙ ap (λ b. has s entries || (b || false)) q ∙ or-true (has s entries)
+  where
+    or-true : (b : Bool) → (b || true) ≡ true
+    or-true true = refl
+    or-true false = refl
+
+module _ (limit : ℕ) (empty : Fold) (s : AttributeSet) (entries : List Entry) where
+  -- the set has an entry, or is empty
+  pub place-there : is_placed s entries ≡ true → Placing limit empty s entries entries s
+  place-there h = by (set_eq s none_set) refl h
+    where
+      by : (b : Bool) → set_eq s none_set ≡ b → (b || has s entries) ≡ true → Placing limit empty s entries entries s
+      by true q h = record { state = rw q refl; goal = rw q (sym (same_set s none_set q)) }
+      by false q h = record { state = rw (q, h) refl; goal = rw (q, h) refl }
+
+  module _ (some : set_eq s none_set ≡ false) (away : has s entries ≡ false) where
+    pub place-admitted : nat_lt (number_counted entries) limit ≡ true → Placing limit empty s entries (entries ++ fresh empty s true ∷ []) s
+    place-admitted few =
+        let there : has s (entries ++ fresh empty s true ∷ []) ≡ true = has-last s entries (fresh empty s true) (set_eq-self s) in
+        record { state = rw (some, away, few) refl; goal = rw (some, there) refl }
+
+    pub place-over : nat_lt (number_counted entries) limit ≡ false → has over_set entries ≡ true → Placing limit empty s entries entries over_set
+    place-over full there = record { state = rw (some, away, full, there) refl; goal = rw (some, away) refl }
+
+    pub place-over_made : nat_lt (number_counted entries) limit ≡ false → has over_set entries ≡ false → Placing limit empty s entries (entries ++ fresh empty over_set false ∷ []) over_set
+    place-over_made full gone = record { state = rw (some, away, full, gone) refl; goal = ap (λ b. cond b none_set (cond (has s (entries ++ fresh empty over_set false ∷ [])) s over_set)) some ∙ to (has s (entries ++ fresh empty over_set false ∷ [])) refl }
+      where
+        flat : (b : Bool) → (b || false) ≡ true → b ≡ true
+        flat true e = refl
+        flat false e = e
+
+        to : (b : Bool) → has s (entries ++ fresh empty over_set false ∷ []) ≡ b → cond b s over_set ≡ over_set
+        to false h = refl
+        to true h =
+            let one : (set_eq over_set s || false) ≡ true = ap (λ b. b || (set_eq over_set s || false)) (sym away) ∙ sym (list_any-append (is_of s) entries (fresh empty over_set false ∷ [])) ∙ h in
+            sym (same_set over_set s (flat (set_eq over_set s) one))
+
+-- what a placing says of the whole state
+pub as_state : (st : MapState) (s : AttributeSet) (t : Table) (goal : AttributeSet) → t.none ≡ st.table.none → Placing st.limit st.empty s st.table.entries t.entries goal → record st { table = t } ≡ with_place s st
+as_state st s t goal none p = λ i. record st { table = record { none = none i; entries = p.state i } }
+
+-- an entry more counts one more
+pub counted-push : (entries : List Entry) (e : Entry) → number_counted (entries ++ e ∷ []) ≡ cond e.counted 1 0 + number_counted entries
+counted-push [] e = counted_cons e []
+counted-push (r ∷ rs) e =
+    let one = counted_cons r (rs ++ e ∷ []) in
+    let two = counted_cons r rs in
+    let rest = counted-push rs e in
+    omega (arith, one, two, rest)
+
+-- ======== what is prepared ========
+-- the set that is prepared and has an entry
+pub at-prepared : (t : Slotted) (few room : Bool) (p : Pending) (n : ℕ) (s : AttributeSet) → IsSound t few room p → At n ≡ p → pending_in t.numbers p ≡ Some s → (number_of s t.numbers ≡ Some n) × (is_placed s t.table.entries ≡ true)
+at-prepared t few room p n s sound is e =
+    let found : IsSound t few room (At n) = subst (IsSound t few room) (sym is) sound in
+    let there : Some (set_named n t.numbers) ≡ Some s = ap (pending_in t.numbers) is ∙ e in
+    let same : set_named n t.numbers ≡ s = cc in
+    (subst (λ x. number_of x t.numbers ≡ Some n) same found.0, subst (λ x. is_placed x t.table.entries ≡ true) same found.1)
+
+-- and the one that is new
+pub new-prepared : (t : Slotted) (few room : Bool) (p : Pending) (set : AttributeSet) (list : Option (List KeyValue)) → IsSound t few room p → New set list ≡ p → IsReady t few room set list
+new-prepared t few room p set list sound is = subst (IsSound t few room) (sym is) sound
+
+pub new-set : (ns : Numbers) (p : Pending) (set s : AttributeSet) (list : Option (List KeyValue)) → New set list ≡ p → pending_in ns p ≡ Some s → set ≡ s
+new-set ns p set s list is e = let both : Some set ≡ Some s = ap (pending_in ns) is ∙ e in cc
+
+-- nothing is prepared
+pub nothing-prepared : (ns : Numbers) (p : Pending) (s : AttributeSet) {C : Type 0} → Nothing ≡ p → pending_in ns p ≡ Some s → C
+nothing-prepared ns p s is e = let none : None ≡ Some s = ap (pending_in ns) is ∙ e in absurd (cc)
+
+-- a list more
+pub keys-spelled : (list : Option (List KeyValue)) (n : ℕ) (gs : List Keyed) → keys_of (with_spelling list n gs) ≡ keys_of gs ++ list_of list
+keys-spelled None n gs = sym (plain (keys_of gs))
+  where
+    plain : (l : List (List KeyValue)) → l ++ [] ≡ l
+    plain [] = refl
+    plain (x ∷ l) = ap (λ (r : List (List KeyValue)). x ∷ r) (plain l)
+keys-spelled (Some l) n gs = map-append (λ (e : Keyed). e.0) gs ((l, n) ∷ [])
+
+-- the numbers with one more
+pub numbers-added : (old new : Numbers) (s : AttributeSet) (n : ℕ) → new.none ≡ old.none → new.sets ≡ old.sets ++ (s, n) ∷ [] → IsNew old.sets s → KeepNumbers old new × (number_of s new ≡ Some n)
+numbers-added old new s n none sets fresh_set =
+    let is : new ≡ record { none = old.none; sets = old.sets ++ (s, n) ∷ [] } = λ i. record { none = none i; sets = sets i } in
+    (subst (KeepNumbers old) (sym is) (numbers-pushed old.none old.sets (s, n)),
+     ap (number_of s) is ∙ ap (λ b. cond b (Some old.none) (lookup (set_eq s) (old.sets ++ (s, n) ∷ []))) fresh_set.some ∙ lookup-pushed s old.sets n fresh_set.absent)
+
+-- nothing is prepared any more
+pub nothing-left : (ns : Numbers) (p : Pending) → pending_in ns p ≡ None → p ≡ Nothing
+nothing-left ns Nothing e = refl
+nothing-left ns (At n) e = absurd (cc)
+nothing-left ns (New set list) e = absurd (cc)
+
+-- ======== handles ========
+few-push : (x : AttributeSet) (es : List Entry) (e : Entry) (n : ℕ) → 0 < n → e.handles ≡ 0 → handles_in x es < n → handles_in x (es ++ e ∷ []) < n
+few-push x [] e n some none h = by (is_of x e)
+  where
+    by : (b : Bool) → cond b e.handles 0 < n
+    by true = omega (arith, none)
+    by false = some
+few-push x (r ∷ rs) e n some none h = by (is_of x r) h (few-push x rs e n some none)
+  where
+    by : (b : Bool) → cond b r.handles (handles_in x rs) < n → (handles_in x rs < n → handles_in x (rs ++ e ∷ []) < n) → cond b r.handles (handles_in x (rs ++ e ∷ [])) < n
+    by true h ih = h
+    by false h ih = ih h
+
+-- a place for a set adds no handle
+pub few-placed : (limit : ℕ) (empty : Fold) (s : AttributeSet) (t : Table) → AreHandlesFew t → AreHandlesFew (place limit empty s t)
+few-placed limit empty s t few = λ x. first x (is_of x t.none) (few x)
+  where
+    pushed : (x : AttributeSet) (k : AttributeSet) (b : Bool) → handles_in x t.entries < 2 ^ 64 - 1 → handles_in x (t.entries ++ fresh empty k b ∷ []) < 2 ^ 64 - 1
+    pushed x k b h = few-push x t.entries (fresh empty k b) (2 ^ 64 - 1) (omega arith) refl h
+
+    rest : (x : AttributeSet) (a b c d : Bool) → handles_in x t.entries < 2 ^ 64 - 1
+        → handles_in x (cond a t.entries (cond b t.entries (cond c (t.entries ++ fresh empty s true ∷ []) (cond d t.entries (t.entries ++ fresh empty over_set false ∷ []))))) < 2 ^ 64 - 1
+    rest x true b c d h = h
+    rest x false true c d h = h
+    rest x false false true d h = pushed x s true h
+    rest x false false false true h = h
+    rest x false false false false h = pushed x over_set false h
+
+    first : (x : AttributeSet) (b : Bool) → cond b t.none.handles (handles_in x t.entries) < 2 ^ 64 - 1 → cond b t.none.handles (handles_in x (placed limit empty s t.entries)) < 2 ^ 64 - 1
+    first x true h = h
+    first x false h = rest x (set_eq s none_set) (has s t.entries) (nat_lt (number_counted t.entries) limit) (has over_set t.entries) h

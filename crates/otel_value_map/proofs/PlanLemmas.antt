@@ -1,0 +1,100 @@
+-- What a record is to do, in a map.
+use Rattle.std.proofs.Common.{ℕ, ◌≡◌, Bool, true, false, cond, not, ◌||◌, ◌&&◌, List, [], ◌∷◌, Option, Some, None, is_some, refl, sym, ap, subst, ◌∙◌, nat_eq, true≢false, IsTrue}
+use Rattle.std.specs.Map.{lookup, keys_of}
+use Rattle.std.specs.Set.{is_member}
+use Rattle.otel_common.specs.Canonical.{canon}
+use Rattle.otel_common.specs.Equality.{set_eq}
+use Rattle.otel_common.specs.declared.attributes.KeyValue.{KeyValue}
+use Rattle.otel_common.proofs.CanonLaws.{canon-canon}
+use Rattle.otel_model_stream.specs.Sets.{AttributeSet, none_set}
+use Rattle.otel_model_stream.specs.Entries.{has}
+use Rattle.otel_value_map.specs.Keyed.{Slotted, IsNew, IsSpelling, found}
+use Rattle.otel_value_map.specs.Numbers.{Numbers, number_of, set_named, named_in}
+use Rattle.otel_value_map.specs.Held.{IsPlan, IsSound, IsReady, is_new, leads, list_of, pending_in, spelling_in}
+use Rattle.otel_value_map.specs.declared.pending.Pending.{Pending}
+use Rattle.otel_value_map.specs.declared.pending.Pending.TheVariants.{Nothing, At, New}
+use Rattle.otel_value_map.proofs.CanonicalSets.{canon-nil}
+use Rattle.otel_value_map.proofs.KeyedLemmas.{same_set, same_number, first_of-None}
+
+-- one without attributes
+pub plan-empty : (t : Slotted) (few : Bool) (l : List KeyValue) → set_eq l none_set ≡ true → IsPlan t few l (At t.numbers.none)
+plan-empty t few l e =
+    let is : l ≡ [] = same_set l none_set e in
+    let bare : canon l ≡ [] = ap canon is ∙ canon-nil in
+    let named : set_named t.numbers.none t.numbers ≡ none_set = ap (λ b. cond b none_set (named_in t.numbers.none t.numbers.sets)) (same_number t.numbers.none) in
+    record {
+      pending = ap Some (named ∙ sym bare);
+      spelling = sym (ap (λ s. cond ((not (set_eq s none_set) && (not (has s t.table.entries) && few)) && not (set_eq s l)) (l ∷ []) []) bare);
+      sound = λ room ready. (ap (λ s. number_of s t.numbers) named, ap (λ s. set_eq s none_set || has s t.table.entries) named);
+      unknown = λ new. absurd (cc);
+    }
+
+or-none : (a b c : Bool) → a ≡ false → b ≡ false → c ≡ false → (a || (b || c)) ≡ false
+or-none true b c p q r = absurd (true≢false p)
+or-none false true c p q r = absurd (true≢false q)
+or-none false false c p q r = r
+
+module _ (t : Slotted) (l : List KeyValue) (some : set_eq l none_set ≡ false) (bare : set_eq (canon l) none_set ≡ false)
+    (unled : (is_member set_eq (keys_of t.given) l || has l t.table.entries) ≡ false) (unfound : found l t.numbers.sets t.given ≡ None)
+    (absent : lookup (set_eq (canon l)) t.numbers.sets ≡ None) (away : has (canon l) t.table.entries ≡ false) where
+  new : IsNew t.numbers.sets (canon l)
+  new = record { absent = absent; canonical = canon-canon l; some = bare }
+
+  unknown : leads l t ≡ false
+  unknown = ap (λ b. b || (is_member set_eq (keys_of t.given) l || has l t.table.entries)) some ∙ unled
+
+  -- past the limit
+  pub plan-past : (set : AttributeSet) → set ≡ canon l → IsPlan t false l (New set None)
+  plan-past set is = record {
+    pending = ap Some is;
+    spelling = sym (ap (λ b. cond (b && not (set_eq (canon l) l)) (l ∷ []) []) (none_few (not (set_eq (canon l) none_set)) (not (has (canon l) t.table.entries))));
+    sound = λ room ready. subst (λ s. IsReady t false room s None) (sym is) (record { new = new; absent = away; spelling = tt; admitted = λ h. absurd (true≢false (sym h)); ready = ready });
+    unknown = λ h. unknown;
+  }
+    where
+      none_few : (a b : Bool) → (a && (b && false)) ≡ false
+      none_few true true = refl
+      none_few true false = refl
+      none_few false b = refl
+
+  spelled : (b : Bool) → set_eq (canon l) l ≡ b → (o : Option (List KeyValue)) → o ≡ cond b None (Some l) → IsSpelling t.given (canon l) o
+  spelled true q o e = subst (IsSpelling t.given (canon l)) (sym e) tt
+  spelled false q o e = subst (IsSpelling t.given (canon l)) (sym e) (refl, (first_of-None _ _ unfound).1)
+
+  listed : (b : Bool) (o : Option (List KeyValue)) → o ≡ cond b None (Some l) → list_of o ≡ cond (not b) (l ∷ []) []
+  listed true o e = ap list_of e
+  listed false o e = ap list_of e
+
+  -- below it
+  pub plan-admitted : (set : AttributeSet) (o : Option (List KeyValue)) → set ≡ canon l → o ≡ cond (set_eq set l) None (Some l) → IsPlan t true l (New set o)
+  plan-admitted set o is e =
+      let f : o ≡ cond (set_eq (canon l) l) None (Some l) = e ∙ ap (λ s. cond (set_eq s l) None (Some l)) is in
+      record {
+        pending = ap Some is;
+        spelling = listed (set_eq (canon l) l) o f ∙ (λ i. cond ((not (sym bare i) && (not (sym away i) && true)) && not (set_eq (canon l) l)) (l ∷ []) []);
+        sound = λ room ready. subst (λ s. IsReady t true room s o) (sym is) (record { new = new; absent = away; spelling = spelled (set_eq (canon l) l) refl o f; admitted = λ h. refl; ready = ready });
+        unknown = λ h. unknown;
+      }
+
+-- what isn't new needs no room
+pub sound-known : (t : Slotted) (few room : Bool) (p : Pending) → is_new p ≡ false → IsSound t few true p → IsSound t few room p
+sound-known t few room Nothing e s = tt
+sound-known t few room (At n) e s = s
+sound-known t few room (New set list) e s = absurd (true≢false e)
+
+-- one that leads to an entry isn't new
+pub unled : (t : Slotted) (few : Bool) (l : List KeyValue) (p : Pending) {C : Type 0} → IsPlan t few l p → is_new p ≡ true → leads l t ≡ true → C
+unled t few l p plan new known = absurd (true≢false (sym known ∙ plan.unknown new))
+
+pub all-true : (a b c : Bool) → a ≡ true → b ≡ true → c ≡ true → (a && (b && c)) ≡ true
+all-true a b c p q r = ap (λ x. x && (b && c)) p ∙ ap (λ x. true && (x && c)) q ∙ r
+
+-- it doesn't depend on the room of the table itself
+pub sound-same : (t n : Slotted) (few room : Bool) (p : Pending) → n.table ≡ t.table → n.numbers ≡ t.numbers → n.given ≡ t.given → IsSound t few room p → IsSound n few room p
+sound-same t n few room p table numbers given sound =
+    anew p (subst (λ (x : Slotted). IsSound x few room p) (λ i. record { table = sym table i; numbers = sym numbers i; given = sym given i; room = t.room }) sound)
+  where
+    anew : (p : Pending) → IsSound (record n { room = t.room }) few room p → IsSound n few room p
+    anew Nothing s = tt
+    anew (At k) s = s
+    anew (New set list) s = record { new = s.new; absent = s.absent; spelling = s.spelling; admitted = s.admitted; ready = s.ready }

@@ -1,0 +1,28 @@
+use Rattle.std.proofs.Common.{◌≡◌, ◌∙◌, ◌<◌, ◌-◌, ◌^◌, ap, sym, subst, refl, None, Some, true≢false}
+use Rattle.std.specs.Prelude.{IsSome}
+use Rattle.otel_model_stream.specs.Sets.{AttributeSet}
+use Rattle.otel_model_stream.specs.Entries.{entry_for}
+use Rattle.otel_model_stream.specs.Maps.{MapState}
+use Rattle.otel_value_map.specs.Numbers.{number_of, handles_at, AreHandlesFew}
+use Rattle.otel_value_map.specs.Held.{Held, IsSound, pending_in}
+use Rattle.otel_value_map.specs.declared.pending.Pending.TheVariants.{Nothing}
+use Rattle.otel_value_map.proofs.PlaceLemmas.{nothing-left, few-placed}
+use Rattle.otel_value_map.proofs.value_map.ValueMap.bind_ready.Goals as goal
+
+pub invariant_of-self : goal.invariant_of-self
+invariant_of-self g c =
+    let spent : pending_in c.self.inside.table.numbers c.self.inside.pending ≡ None = ap (λ (h : Held). h.pending) c.self.view_is ∙ c.place-number.ensures.spent in
+    let nothing : c.self.inside.pending ≡ Nothing = nothing-left c.self.inside.table.numbers c.self.inside.pending spent in
+    (c.self.invariant.0 ∙ sym c.hold.ensures.counted, c.self.invariant.1, c.self.invariant.2, c.self.invariant.3, subst (IsSound _ _ _) (sym nothing) tt)
+
+pub hold-requires : goal.hold-requires
+hold-requires g c =
+    elim c.args.self.now.pending as (λ o. c.args.self.now.pending ≡ o → IsSome o → (x : AttributeSet) × (number_of x c.self.inside.table.numbers ≡ Some c.place-number.result) × (handles_at x c.self.inside.table.table < 2 ^ 64 - 1)) [
+      | None ↦ λ none some. absurd (true≢false (sym some))
+      | Some s ↦ λ is some.
+          let x : AttributeSet = entry_for s c.place-number.new.self.state.table.entries in
+          let few : AreHandlesFew c.place-number.new.self.state.table = subst (λ (m : MapState). AreHandlesFew m.table) (sym (c.place-number.ensures.state s is)) (few-placed c.args.self.now.state.limit c.args.self.now.state.empty s c.args.self.now.state.table c.requires.few) in
+          (x,
+           ap (λ (h : Held). number_of x h.numbers) c.self.view_is ∙ c.place-number.ensures.number s is,
+           subst (λ (h : Held). handles_at x h.state.table < 2 ^ 64 - 1) (sym c.self.view_is) (few x))
+    ] refl c.requires.prepared

@@ -1,0 +1,73 @@
+-- What contracts see of a map.
+use Rattle.std.specs.Prelude.{◌≡◌, ℕ, ◌&&◌, ◌||◌, not, Bool, true, false, cond, List, [], ◌∷◌, Option, Some, None, IsTrue, is_some}
+use Rattle.std.specs.Map.{keys_of}
+use Rattle.std.specs.Set.{is_member}
+use Rattle.otel_common.specs.Canonical.{canon}
+use Rattle.otel_common.specs.Equality.{set_eq}
+use Rattle.otel_common.specs.declared.attributes.KeyValue.{KeyValue}
+use Rattle.otel_model_stream.specs.Sets.{AttributeSet, none_set}
+use Rattle.otel_model_stream.specs.Entries.{has}
+use Rattle.otel_model_stream.specs.Maps.{MapState, KnownMap}
+use Rattle.otel_value_map.specs.Keyed.{Slotted, IsNew, IsSpelling}
+use Rattle.otel_value_map.specs.Numbers.{Numbers, number_of, set_named, is_placed}
+use Rattle.otel_value_map.specs.declared.pending.Pending.{Pending}
+use Rattle.otel_value_map.specs.declared.pending.Pending.TheVariants.{Nothing, At, New}
+
+-- a map's state; the numbers of its entries, and the lists as they were given that it knows besides the sets of its entries;
+-- the set of the record that is prepared, and the list that it adds to those
+pub record Held : Type 0 where
+  pub state : MapState
+  pub numbers : Numbers
+  pub given : List (List KeyValue)
+  pub pending : Option AttributeSet
+  pub spelling : List (List KeyValue)
+
+-- what a map knows
+abbrev pub known_of : Held → KnownMap
+known_of h = record { map_state = h.state; given = h.given }
+
+-- the set of the record that is prepared
+abbrev pub pending_in : Numbers → Pending → Option AttributeSet
+pending_in ns Nothing = None
+pending_in ns (At n) = Some (set_named n ns)
+pending_in ns (New s list) = Some s
+
+-- the list that it adds
+abbrev pub list_of : Option (List KeyValue) → List (List KeyValue)
+list_of None = []
+list_of (Some l) = l ∷ []
+
+abbrev pub spelling_in : Pending → List (List KeyValue)
+spelling_in Nothing = []
+spelling_in (At n) = []
+spelling_in (New s list) = list_of list
+
+-- a set that can be given an entry: there is room for one, and a list is added only where the set will be counted
+pub record IsReady (t : Slotted) (few : Bool) (room : Bool) (s : AttributeSet) (list : Option (List KeyValue)) : Type 0 where
+  pub new : IsNew t.numbers.sets s
+  pub absent : has s t.table.entries ≡ false
+  pub spelling : IsSpelling t.given s list
+  pub admitted : IsTrue (is_some list) → IsTrue few
+  pub ready : IsTrue room
+
+-- what is prepared can be carried out
+abbrev pub IsSound : Slotted → Bool → Bool → Pending → Type 0
+IsSound t few room Nothing = Unit {0}
+IsSound t few room (At n) = (number_of (set_named n t.numbers) t.numbers ≡ Some n) × (is_placed (set_named n t.numbers) t.table.entries ≡ true)
+IsSound t few room (New s list) = IsReady t few room s list
+
+abbrev pub is_new : Pending → Bool
+is_new Nothing = false
+is_new (At n) = false
+is_new (New s list) = true
+
+-- whether a list leads to an entry as it stands
+abbrev pub leads : List KeyValue → Slotted → Bool
+leads l t = set_eq l none_set || (is_member set_eq (keys_of t.given) l || has l t.table.entries)
+
+-- what a record of the list is to do. `few` says whether the entries that count are below the limit
+pub record IsPlan (t : Slotted) (few : Bool) (l : List KeyValue) (plan : Pending) : Type 0 where
+  pub pending : pending_in t.numbers plan ≡ Some (canon l)
+  pub spelling : spelling_in plan ≡ cond ((not (set_eq (canon l) none_set) && (not (has (canon l) t.table.entries) && few)) && not (set_eq (canon l) l)) (l ∷ []) []
+  pub sound : (room : Bool) → IsTrue room → IsSound t few room plan
+  pub unknown : IsTrue (is_new plan) → leads l t ≡ false

@@ -1,0 +1,433 @@
+//! A bounded map from sets of attributes to aggregators.
+
+ghost use Rattle.std.specs.Prelude.{◌≡◌, ◌<◌, ◌-◌, ◌+◌, ◌*◌, ◌≤◌, ◌^◌, ◌++◌, [], true, false, is_some, length, None, Some, IsSome, OnOk, OnErr, IfOk, IsOkUnless, ℕ};
+ghost use Rattle.std.specs.Option.{option_map};
+ghost use Rattle.otel_common.specs.Canonical.{canon};
+ghost use Rattle.otel_model_stream.specs.Entries.{entry_for, points, number_counted};
+ghost use Rattle.otel_model_stream.specs.Maps.{new_map, with_place, measured, measured_list, bound_list, bound_map, bound_to, updated_bound, unbound, evicted_map, evicted_known, drained_map, readonly_points, resetting_points, draining_points, knows, keys, given_left, SucceedsIfKnown};
+ghost use Rattle.otel_model_stream.specs.Observed.{fold_in};
+ghost use Rattle.otel_model_stream.specs.Folds.{wrapped};
+ghost use Rattle.otel_model_stream.specs.Sets.{AttributeSet, kept, set_of};
+ghost use Rattle.otel_model_stream.specs.Totals.{points_total};
+ghost use Rattle.otel_value_map.specs.Held.{known_of};
+ghost use Rattle.otel_value_map.specs.Numbers.{number_of, AreHandlesFew, spelling_of, KeepNumbers, KeepLeft};
+ghost use Rattle.otel_value_map.specs.Slots.{copies};
+
+use crate::aggregator::Aggregator;
+use crate::pending::{Pending, make_key, make_unused, plan, take_slot};
+use crate::saved::Saved;
+use crate::set_key::SetKey;
+use crate::sets::overflow_set;
+use crate::slots::Slot;
+use crate::table::Table;
+use otel_common::attributes::KeyValue;
+use otel_common::faults::Fault;
+use otel_common::keys::Key;
+use otel_common::lists::Items;
+use std::alloc::Global;
+use std::marker::Model;
+use std::mem::replace;
+
+/// A bounded map from sets of attributes to aggregators (Metrics SDK, "Cardinality limits").
+///
+/// Any limit is taken: with 0 every set but the empty one goes to the overflow entry. Nothing is reserved
+/// by it.
+///
+/// A set that has an entry uses it. A new one gets an entry while their number is below the limit,
+/// and otherwise uses the overflow entry. The empty set has an entry of its own that isn't counted.
+///
+/// Entries have numbers, by which handles name them. An entry keeps its number; that of an entry that went is given
+/// again.
+#[derive(Drop)]
+pub struct ValueMap<A: Aggregator> {
+    alloc: Global,
+    config: A::InitConfig,
+    limit: usize,
+    /// How many entries the limit counts.
+    count: usize,
+    table: Table<A>,
+    /// An aggregator that was made in advance for the next new entry.
+    unused: Option<A>,
+    /// The set of the overflow entry, to look it up.
+    overflow: SetKey<'static>,
+    /// The same set, made in advance to be the key of the overflow entry.
+    spare_key: Option<SetKey<'static>>,
+    pending: Pending,
+}
+
+impl<A: Aggregator> Model for ValueMap<A> {
+    ghost use Rattle.std.specs.Prelude.{◌≡◌, ◌&&◌, nat_lt, is_some, IfSome};
+    ghost use Rattle.std.specs.Map.{keys_of};
+    ghost use Rattle.otel_model_stream.specs.Sets.{over_set};
+    ghost use Rattle.otel_model_stream.specs.Entries.{number_counted};
+    ghost use Rattle.otel_value_map.specs.Held.{Held, pending_in, spelling_in, IsSound};
+
+    ghost Value = { Held };
+
+    ghost view = { λ m. record {
+      state = record { limit = m.limit; empty = A.empty m.config; table = m.table.table };
+      numbers = m.table.numbers;
+      given = keys_of m.table.given;
+      pending = pending_in m.table.numbers m.pending;
+      spelling = spelling_in m.pending;
+    } };
+
+    ghost invariant = { λ m. (m.count ≡ number_counted m.table.table.entries)
+        × IfSome m.unused (λ made. A.meaning made ≡ A.empty m.config)
+        × (m.overflow ≡ over_set)
+        × IfSome m.spare_key (λ key. key ≡ over_set)
+        × IsSound m.table (nat_lt m.count m.limit) (is_some m.unused && (is_some m.spare_key && m.table.room)) m.pending };
+}
+
+impl<A: Aggregator> ValueMap<A> {
+    /// A map with no entry but that of the empty set. It takes memory for that, for the set of the overflow entry,
+    /// and what an aggregator takes.
+    pub fn new(alloc: Global, config: A::InitConfig, limit: usize) -> Result<Self, Fault>
+        ensures made { IfOk result (λ made. made.state ≡ new_map limit (A.empty config)) }
+        ensures given { IfOk result (λ made. made.given ≡ []) }
+        ensures unprepared { IfOk result (λ made. made.pending ≡ None) }
+        ensures only_memory { IsOkUnless result Fault.OutOfMemory }
+    {
+        let none = A::create(alloc, &config)?;
+        let table = Table::new(alloc, none)?;
+        let overflow = SetKey::owned(overflow_set(alloc)?);
+        Ok(ValueMap {
+            alloc,
+            config,
+            limit,
+            count: 0,
+            table,
+            unused: None,
+            overflow,
+            spare_key: None,
+            pending: Pending::Nothing,
+        })
+    }
+
+    /// Prepares a record or a bind of a list, under its canonical form, in the place of one that was prepared before.
+    fn prepare_list(&mut self, list: &SetKey) -> Result<(), Fault>
+        ensures same { self.new.state ≡ self.old.state }
+        ensures numbers { self.new.numbers ≡ self.old.numbers }
+        ensures given { self.new.given ≡ self.old.given }
+        ensures ready { OnOk result (self.new.pending ≡ Some (canon list.now)) }
+        ensures spelling { OnOk result (self.new.spelling ≡ spelling_of list.now self.old.state) }
+        ensures refused { OnErr result (self.new.pending ≡ None) }
+        ensures known { SucceedsIfKnown list.now (known_of self.old) result }
+        ensures only_memory { IsOkUnless result Fault.OutOfMemory }
+    {
+        self.pending = Pending::Nothing;
+        let plan = plan(self.alloc, &self.table, self.count < self.limit, list)?;
+        if !plan.is_new() {
+            self.pending = plan;
+            return Ok(());
+        }
+        self.table.make_room()?;
+        make_unused(&mut self.unused, self.alloc, &self.config)?;
+        make_key(&mut self.spare_key, self.alloc)?;
+        self.pending = plan;
+        Ok(())
+    }
+
+    /// Finds or makes the entry that the record that is prepared goes to, and tells its number.
+    fn place(&mut self) -> usize
+        requires { IsSome self.old.pending }
+        ensures state { (s : AttributeSet) → self.old.pending ≡ Some s → self.new.state ≡ with_place s self.old.state }
+        ensures number { (s : AttributeSet) → self.old.pending ≡ Some s → number_of (entry_for s self.new.state.table.entries) self.new.numbers ≡ Some result }
+        ensures numbers { KeepNumbers self.old.numbers self.new.numbers }
+        ensures given { self.new.given ≡ self.old.given ++ self.old.spelling }
+        ensures spent { self.new.pending ≡ None }
+    {
+        let (set, list) = match replace(&mut self.pending, Pending::Nothing) {
+            Pending::Nothing => return self.table.none(),
+            Pending::At(number) => return number,
+            Pending::New(set, list) => (set, list),
+        };
+        if self.count < self.limit {
+            self.count += 1;
+            let lasting = set == self.overflow;
+            let slot = take_slot(&mut self.unused, &self.config, true, lasting);
+            return self.table.add(set, list, slot);
+        }
+        if let Some(number) = self.table.find_set(&self.overflow) {
+            return number;
+        }
+        let slot = take_slot(&mut self.unused, &self.config, false, true);
+        let key = self.spare_key.take().unwrap();
+        self.table.add(key, None, slot)
+    }
+
+    /// Prepares a record or a bind of the attributes, under their canonical form, in the place of one that was
+    /// prepared before. What the map holds stays as it was.
+    ///
+    /// The first of two phases: a record of many maps is prepared in all of them, and then taken in by
+    /// all. It looks the attributes up as they stand, which is all where they lead to an entry: as its set, or as the list
+    /// that admitted it. It takes no memory then, nor without attributes. Else it sorts a copy and looks that up.
+    pub fn prepare(&mut self, attributes: &[KeyValue]) -> Result<(), Fault>
+        ensures same { self.new.state ≡ self.old.state }
+        ensures numbers { self.new.numbers ≡ self.old.numbers }
+        ensures given { self.new.given ≡ self.old.given }
+        ensures ready { OnOk result (self.new.pending ≡ Some (canon attributes.now)) }
+        ensures spelling { OnOk result (self.new.spelling ≡ spelling_of attributes.now self.old.state) }
+        ensures refused { OnErr result (self.new.pending ≡ None) }
+        ensures known { SucceedsIfKnown attributes.now (known_of self.old) result }
+        ensures only_memory { IsOkUnless result Fault.OutOfMemory }
+    {
+        self.prepare_list(&SetKey::given(attributes))
+    }
+
+    /// Prepares a record or a bind of those of the attributes whose key is in the allow-list, as `prepare` does of
+    /// all (Metrics SDK, "View").
+    ///
+    /// It looks what is kept up where it stands, without a copy of it, and takes no memory where that,
+    /// in its order, leads to an entry, or where nothing is kept. Else it copies what is kept, sorts
+    /// a copy of that and looks it up.
+    pub fn prepare_allowed(&mut self, allow: &[Key], attributes: &[KeyValue]) -> Result<(), Fault>
+        ensures same { self.new.state ≡ self.old.state }
+        ensures numbers { self.new.numbers ≡ self.old.numbers }
+        ensures given { self.new.given ≡ self.old.given }
+        ensures ready { OnOk result (self.new.pending ≡ Some (set_of (Some allow.now) attributes.now)) }
+        ensures spelling { OnOk result (self.new.spelling ≡ spelling_of (kept (Some allow.now) attributes.now) self.old.state) }
+        ensures refused { OnErr result (self.new.pending ≡ None) }
+        ensures known { SucceedsIfKnown (kept (Some allow.now) attributes.now) (known_of self.old) result }
+        ensures only_memory { IsOkUnless result Fault.OutOfMemory }
+    {
+        self.prepare_list(&SetKey::allowed(allow, attributes))
+    }
+
+    /// Gives up the record or bind that is prepared, if there is one.
+    pub fn give_up(&mut self)
+        ensures same { self.new.state ≡ self.old.state }
+        ensures numbers { self.new.numbers ≡ self.old.numbers }
+        ensures given { self.new.given ≡ self.old.given }
+        ensures spent { self.new.pending ≡ None }
+    {
+        self.pending = Pending::Nothing;
+    }
+
+    /// Whether a record or a bind is prepared.
+    pub fn is_prepared(&self) -> bool
+        ensures { result ≡ is_some self.now.pending }
+    {
+        match self.pending {
+            Pending::Nothing => false,
+            Pending::At(_) => true,
+            Pending::New(_, _) => true,
+        }
+    }
+
+    /// Takes in the record that was prepared. The second phase, without a look-up for a set that has
+    /// an entry.
+    pub fn measure_ready(&mut self, value: A::PreComputedValue)
+        requires { IsSome self.old.pending }
+        ensures measured { (s : AttributeSet) → self.old.pending ≡ Some s → self.new.state ≡ measured s (A.sample value) self.old.state }
+        ensures numbers { KeepNumbers self.old.numbers self.new.numbers }
+        ensures given { self.new.given ≡ self.old.given ++ self.old.spelling }
+        ensures spent { self.new.pending ≡ None }
+    {
+        let number = self.place();
+        self.table.touch(number, value);
+    }
+
+    /// Takes in a record of the attributes, under their canonical form. Without attributes, and with
+    /// those that lead to an entry as they stand, it takes no memory.
+    pub fn measure(
+        &mut self,
+        value: A::PreComputedValue,
+        attributes: &[KeyValue],
+    ) -> Result<(), Fault>
+        ensures ok { OnOk result (known_of self.new ≡ measured_list attributes.now (A.sample value) (known_of self.old)) }
+        ensures numbers { KeepNumbers self.old.numbers self.new.numbers }
+        ensures err { OnErr result (known_of self.new ≡ known_of self.old) }
+        ensures spent { self.new.pending ≡ None }
+        ensures known { SucceedsIfKnown attributes.now (known_of self.old) result }
+        ensures only_memory { IsOkUnless result Fault.OutOfMemory }
+    {
+        self.prepare(attributes)?;
+        self.measure_ready(value);
+        Ok(())
+    }
+
+    /// Carries out the bind that was prepared, and tells the number of its entry: that of its set, or the overflow entry.
+    /// The second phase; it can't fail.
+    pub fn bind_ready(&mut self) -> usize
+        requires prepared { IsSome self.old.pending }
+        requires few { AreHandlesFew self.old.state.table }
+        ensures bound { (s : AttributeSet) → self.old.pending ≡ Some s → self.new.state ≡ bound_map s self.old.state }
+        ensures number { (s : AttributeSet) → self.old.pending ≡ Some s → number_of (bound_to s self.old.state) self.new.numbers ≡ Some result }
+        ensures numbers { KeepNumbers self.old.numbers self.new.numbers }
+        ensures given { self.new.given ≡ self.old.given ++ self.old.spelling }
+        ensures spent { self.new.pending ≡ None }
+    {
+        let number = self.place();
+        self.table.hold(number);
+        number
+    }
+
+    /// Binds a handle at the attributes, under their canonical form, and tells the number of its entry, which stays with it
+    /// for its life. It takes memory as a record of them does.
+    pub fn bind(&mut self, attributes: &[KeyValue]) -> Result<usize, Fault>
+        requires { AreHandlesFew self.old.state.table }
+        ensures ok { OnOk result (known_of self.new ≡ bound_list attributes.now (known_of self.old)) }
+        ensures number { IfOk result (λ n. number_of (bound_to (canon attributes.now) self.old.state) self.new.numbers ≡ Some n) }
+        ensures numbers { KeepNumbers self.old.numbers self.new.numbers }
+        ensures err { OnErr result (known_of self.new ≡ known_of self.old) }
+        ensures spent { self.new.pending ≡ None }
+        ensures known { SucceedsIfKnown attributes.now (known_of self.old) result }
+        ensures only_memory { IsOkUnless result Fault.OutOfMemory }
+    {
+        self.prepare(attributes)?;
+        Ok(self.bind_ready())
+    }
+
+    /// Takes in a record through a handle, by the number of its entry. It looks nothing up and takes no memory, and gives up
+    /// what was prepared.
+    pub fn update_bound(&mut self, number: usize, value: A::PreComputedValue)
+        ensures updated { (s : AttributeSet) → number_of s self.old.numbers ≡ Some number → self.new.state ≡ updated_bound s (A.sample value) self.old.state }
+        ensures numbers { self.new.numbers ≡ self.old.numbers }
+        ensures given { self.new.given ≡ self.old.given }
+        ensures spent { self.new.pending ≡ None }
+    {
+        self.pending = Pending::Nothing;
+        self.table.touch(number, value);
+    }
+
+    /// Ends a handle, by the number of its entry. It takes no memory, and gives up what was prepared.
+    pub fn unbind(&mut self, number: usize)
+        ensures unbound { (s : AttributeSet) → number_of s self.old.numbers ≡ Some number → self.new.state ≡ unbound s self.old.state }
+        ensures numbers { self.new.numbers ≡ self.old.numbers }
+        ensures given { self.new.given ≡ self.old.given }
+        ensures spent { self.new.pending ≡ None }
+    {
+        self.pending = Pending::Nothing;
+        self.table.release(number);
+    }
+
+    /// Whether the attributes lead to an entry as they stand: as its set, or as the list that admitted it. Without attributes
+    /// they do. A record or a bind of such attributes takes no memory.
+    pub fn knows(&self, attributes: &[KeyValue]) -> bool
+        ensures { result ≡ knows attributes.now (known_of self.now) }
+    {
+        let list = SetKey::given(attributes);
+        if list.is_empty() {
+            return true;
+        }
+        self.table.find(&list).is_some()
+    }
+
+    /// How many entries the limit counts.
+    pub fn count(&self) -> usize
+        ensures { result ≡ number_counted self.now.state.table.entries }
+    {
+        self.count
+    }
+
+    /// The sets with copies of their aggregators: the empty set if it was updated, and then the entries
+    /// in order of making, every one or those that were updated. The map stays as it was. It copies each set that it gives.
+    pub fn points(&self, alloc: Global, every: bool) -> Result<Vec<(Items<KeyValue>, A)>, Fault>
+        ensures points { IfOk result (λ given. copies A.meaning given.items ≡ points every self.now.state.table) }
+        ensures only_memory { IsOkUnless result Fault.OutOfMemory }
+    {
+        self.table.points(alloc, every)
+    }
+
+    /// What the records add up to that `points` shows, modulo 2^64.
+    pub fn total(&self, every: bool) -> u64
+        ensures { result ≡ wrapped (points_total (points every self.now.state.table)) }
+    {
+        self.table.total(every)
+    }
+
+    /// Forgets all records. An entry that had none since the last time and that no handle holds goes, but for the overflow
+    /// entry, and with it the list that admitted it. A record that was prepared is given up.
+    pub fn reset_and_evict(&mut self)
+        ensures state { self.new.state ≡ evicted_map self.old.state }
+        ensures numbers { KeepLeft (evicted_map self.old.state).table.entries self.old.numbers self.new.numbers }
+        ensures given { self.new.given ≡ given_left (evicted_map self.old.state) self.old.given }
+        ensures unprepared { self.new.pending ≡ None }
+    {
+        self.pending = Pending::Nothing;
+        self.table.evict();
+        self.count = self.table.count_counted();
+    }
+
+    /// Forgets all records and all entries. A record that was prepared is given up. What the map took
+    /// for entries stays with it for later ones.
+    pub fn drain(&mut self)
+        ensures state { self.new.state ≡ drained_map self.old.state }
+        ensures none { self.new.numbers.none ≡ self.old.numbers.none }
+        ensures given { self.new.given ≡ [] }
+        ensures unprepared { self.new.pending ≡ None }
+    {
+        self.pending = Pending::Nothing;
+        self.table.drain();
+        self.count = 0;
+    }
+
+    /// A copy of the entries, to be restored later. Of a map without entries it takes memory for that of the empty set.
+    pub fn save(&self, alloc: Global) -> Result<Saved<A>, Fault>
+        ensures saved { IfOk result (λ saved. saved ≡ self.now.state.table) }
+        ensures only_memory { IsOkUnless result Fault.OutOfMemory }
+    {
+        Ok(Saved::of(self.table.copy(alloc)?))
+    }
+
+    /// Puts saved entries in the place of its own, and gives up a record that was prepared. It takes no
+    /// memory. Entries may get other numbers, so no handle is to be live.
+    pub fn restore(&mut self, saved: Saved<A>)
+        ensures state { self.new.state ≡ record self.old.state { table = saved } }
+        ensures unprepared { self.new.pending ≡ None }
+    {
+        self.pending = Pending::Nothing;
+        saved.put_into(&mut self.table);
+        self.count = self.table.count_counted();
+    }
+
+    /// The aggregator of a set, as a collection that drains would show it; none where it would show no
+    /// point of the set. The attributes are looked up as they stand, without a copy.
+    pub fn get(&self, attributes: &[KeyValue]) -> Option<&A>
+        ensures { option_map (λ found. A.meaning found.now) result ≡ fold_in (draining_points self.now.state) attributes.now }
+    {
+        self.table.get(&SetKey::given(attributes))
+    }
+
+    /// The points of a collection that changes nothing: of the empty set if it was updated, and of
+    /// every entry.
+    pub fn collect_readonly(&self, alloc: Global) -> Result<Vec<(Items<KeyValue>, A)>, Fault>
+        ensures points { IfOk result (λ given. copies A.meaning given.items ≡ readonly_points self.now.state) }
+        ensures only_memory { IsOkUnless result Fault.OutOfMemory }
+    {
+        self.points(alloc, true)
+    }
+
+    /// The points of a collection that resets: of what was updated since the last one. Then the map
+    /// forgets all records, evicts the entries that had none and that no handle holds, and gives up a record that was
+    /// prepared. Where it is refused, all stays as it was.
+    pub fn collect_and_reset(&mut self, alloc: Global) -> Result<Vec<(Items<KeyValue>, A)>, Fault>
+        ensures points { IfOk result (λ given. copies A.meaning given.items ≡ resetting_points self.old.state) }
+        ensures ok { OnOk result (known_of self.new ≡ evicted_known (known_of self.old)) }
+        ensures numbers { KeepLeft self.new.state.table.entries self.old.numbers self.new.numbers }
+        ensures err { OnErr result (self.new ≡ self.old) }
+        ensures spent { OnOk result (self.new.pending ≡ None) }
+        ensures only_memory { IsOkUnless result Fault.OutOfMemory }
+    {
+        let points = self.points(alloc, false)?;
+        self.reset_and_evict();
+        Ok(points)
+    }
+
+    /// The points of a collection that drains: of the empty set if it was updated, and of every entry.
+    /// Then the map forgets all records and all entries, and gives up a record that was prepared. Where
+    /// it is refused, all stays as it was.
+    pub fn drain_and_reset(&mut self, alloc: Global) -> Result<Vec<(Items<KeyValue>, A)>, Fault>
+        ensures points { IfOk result (λ given. copies A.meaning given.items ≡ draining_points self.old.state) }
+        ensures ok { OnOk result (self.new.state ≡ drained_map self.old.state) }
+        ensures given { OnOk result (self.new.given ≡ []) }
+        ensures err { OnErr result (self.new ≡ self.old) }
+        ensures spent { OnOk result (self.new.pending ≡ None) }
+        ensures only_memory { IsOkUnless result Fault.OutOfMemory }
+    {
+        let points = self.points(alloc, true)?;
+        self.drain();
+        Ok(points)
+    }
+}
