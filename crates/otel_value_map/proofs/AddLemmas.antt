@@ -11,7 +11,7 @@ use Rattle.otel_common.specs.Equality.{set_eq}
 use Rattle.otel_model_stream.specs.Sets.{AttributeSet, none_set, over_set}
 use Rattle.otel_model_stream.specs.Entries.{Entry, Table}
 use Rattle.otel_value_map.specs.Slots.{Kept, Look, SameLook, Keyed, with_slot, entry_of, entry_at, table_at}
-use Rattle.otel_value_map.specs.Keyed.{Fits, Links, IsKept, IsNew, IsSpelling, is_lasting, with_spelling}
+use Rattle.otel_value_map.specs.Keyed.{Fits, Links, IsKept, IsNew, IsSpelling, is_lasting, is_counted, with_spelling}
 use Rattle.otel_value_map.specs.Numbers.{number_of, KeepNumbers}
 use Rattle.otel_value_map.proofs.KeyedLemmas.{set_eq-self, set_eq_equiv, same_number, entries-same, fits-as}
 
@@ -91,6 +91,7 @@ module _ (look other : Look) (none : ℕ) (es gs : List Keyed) (set : AttributeS
   kept-keyed = record {
     none_filled = ap is_some (rest_same none none_away) ∙ laws.none_filled;
     none_lasts = ap is_lasting (rest_same none none_away) ∙ laws.none_lasts;
+    none_uncounted = ap is_counted (rest_same none none_away) ∙ laws.none_uncounted;
     apart = subst (IsDistinct nat_eq) (ap (λ l. none ∷ l) (sym (map-append (λ (e : Keyed). e.1) es ((set, n) ∷ []))))
         (IsDistinct-push nat_eq_equiv (none ∷ values_of es) n laws.apart (any_none n (none ∷ values_of es) (none_away, away)));
     unique = subst (IsDistinct set_eq) (sym (map-append (λ (e : Keyed). e.0) es ((set, n) ∷ [])))
@@ -103,7 +104,7 @@ module _ (look other : Look) (none : ℕ) (es gs : List Keyed) (set : AttributeS
   pub kept-added : (list : Option AttributeSet) → IsSpelling gs set list → IsKept other none (es ++ (set, n) ∷ []) (with_spelling list n gs)
   kept-added None can = kept-keyed
   kept-added (Some l) can = record {
-    none_filled = kept-keyed.none_filled; none_lasts = kept-keyed.none_lasts; apart = kept-keyed.apart; unique = kept-keyed.unique; fits = kept-keyed.fits;
+    none_filled = kept-keyed.none_filled; none_lasts = kept-keyed.none_lasts; none_uncounted = kept-keyed.none_uncounted; apart = kept-keyed.apart; unique = kept-keyed.unique; fits = kept-keyed.fits;
     linked = all-push (Links (es ++ (set, n) ∷ [])) gs (l, n) kept-keyed.linked
         (subst (λ s. lookup (set_eq s) (es ++ (set, n) ∷ []) ≡ Some n) (sym can.0) (lookup-pushed set es n new.absent));
   }

@@ -14,8 +14,12 @@ use Rattle.otel_common.specs.Equality.{set_eq, set_eq-Decides, key_value_eq_equi
 use Rattle.otel_common.specs.declared.attributes.KeyValue.{KeyValue}
 use Rattle.otel_model_stream.specs.Sets.{AttributeSet, none_set, over_set}
 use Rattle.otel_model_stream.specs.Entries.{Entry, has, is_of}
-use Rattle.otel_value_map.specs.Slots.{Kept, Look, Keyed, entry_of, entry_at}
-use Rattle.otel_value_map.specs.Keyed.{Fits, Links, IsKept, found, first_of, is_lasting}
+use Rattle.std.specs.Option.{option_map}
+use Rattle.slab.specs.Slab.{Slab, get}
+use Rattle.otel_model_stream.specs.Folds.{Fold}
+use Rattle.otel_value_map.specs.declared.slots.Slot.{Slot}
+use Rattle.otel_value_map.specs.Slots.{Kept, Look, Keyed, kept_of, look_in, entry_of, entry_at, table_at, HasForm}
+use Rattle.otel_value_map.specs.Keyed.{Fits, Links, IsKept, found, first_of, is_lasting, is_counted}
 use Rattle.otel_value_map.specs.Numbers.{named_in, IsNumberOf}
 
 pub same_set : (s t : AttributeSet) → set_eq s t ≡ true → s ≡ t
@@ -112,9 +116,9 @@ pub fits-as : (look other : Look) (x : Keyed) → is_some (other x.1) ≡ is_som
 fits-as look other x f l fit = record { filled = f ∙ fit.filled; lasting = l ∙ fit.lasting; canonical = fit.canonical; some = fit.some }
 
 -- an empty table is kept
-pub kept-new : (look : Look) (none : ℕ) → is_some (look none) ≡ true → is_lasting (look none) ≡ true → IsKept look none [] []
+pub kept-new : (look : Look) (none : ℕ) → is_some (look none) ≡ true → is_lasting (look none) ≡ true → is_counted (look none) ≡ false → IsKept look none [] []
 unfolding IsDistinct
-kept-new look none filled lasts = record { none_filled = filled; none_lasts = lasts; apart = (tt, tt); unique = tt; fits = tt; linked = tt }
+kept-new look none filled lasts uncounted = record { none_filled = filled; none_lasts = lasts; none_uncounted = uncounted; apart = (tt, tt); unique = tt; fits = tt; linked = tt }
 
 -- ======== numbers ========
 -- the set of a number that is found
@@ -169,3 +173,12 @@ found-placed look none es gs l None laws e = (tt, tt)
 found-placed look none es gs l (Some n) laws e =
     let there : lookup (set_eq (canon l)) es ≡ Some n = found-canon look none es gs l n laws (sym e) in
     (has-lookup (canon l) look es ∙ ap is_some there, number-found look none es gs (canon l) n laws there)
+
+-- what the empty set's slot has
+pub form-kept : {A : Type 0} (meaning : A → Fold) (slots : Slab (Slot A)) (none : ℕ) (es gs : List Keyed) → IsKept (look_in meaning slots) none es gs → HasForm meaning (table_at (look_in meaning slots) none es)
+form-kept meaning slots none es gs laws = by (get slots none) laws.none_filled laws.none_uncounted
+  where
+    by : (o : Option (Slot _)) → is_some (option_map (kept_of meaning) o) ≡ true → is_counted (option_map (kept_of meaning) o) ≡ false
+        → HasForm meaning (record { none = entry_of none_set (option_map (kept_of meaning) o); entries = map (entry_at (look_in meaning slots)) es })
+    by None f u = absurd (true≢false (sym f))
+    by (Some slot) f u = (slot.aggregator, λ i. record { set = none_set; counted = u i; updated = slot.updated; fold = meaning slot.aggregator; handles = slot.handles })

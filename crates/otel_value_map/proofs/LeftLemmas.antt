@@ -12,7 +12,7 @@ use Rattle.otel_common.specs.declared.attributes.KeyValue.{KeyValue}
 use Rattle.otel_model_stream.specs.Sets.{AttributeSet, none_set, over_set}
 use Rattle.otel_model_stream.specs.Entries.{Entry, Table, has, stays, reset, evicted, drained}
 use Rattle.otel_value_map.specs.Slots.{Kept, Look, Keyed, remains, forgotten, left_of, entry_of, entry_at, table_at}
-use Rattle.otel_value_map.specs.Keyed.{Fits, Links, IsKept, is_lasting}
+use Rattle.otel_value_map.specs.Keyed.{Fits, Links, IsKept, is_lasting, is_counted}
 use Rattle.otel_value_map.specs.Numbers.{number_of, KeepLeft, is_placed}
 use Rattle.otel_value_map.proofs.KeyedLemmas.{set_eq_equiv, same_number, has-lookup, fits-as}
 
@@ -84,6 +84,17 @@ module _ (look other : Look) (w : (n : ℕ) → other n ≡ left_of (look n)) wh
       by None q = ap is_lasting q
       by (Some k) q = deep k (remains k) q
 
+  counted-left : (n : ℕ) → is_some (other n) ≡ true → is_counted (other n) ≡ is_counted (look n)
+  counted-left n s = by (look n) (w n)
+    where
+      deep : (k : Kept) (b : Bool) → other n ≡ cond b (Some (forgotten k)) None → is_counted (other n) ≡ k.counted
+      deep k true r = ap is_counted r
+      deep k false r = absurd (true≢false (sym s ∙ ap is_some r))
+
+      by : (o : Option Kept) → other n ≡ left_of o → is_counted (other n) ≡ is_counted o
+      by None q = ap is_counted q
+      by (Some k) q = deep k (remains k) q
+
   fits-left : (es : List Keyed) → AllByRecursion (Fits look) es → AllByRecursion (Fits other) (filter (is_left other) es)
   fits-left [] h = tt
   fits-left (x ∷ es) h = by (is_left other x) refl (fits-left es h.1)
@@ -133,6 +144,7 @@ module _ (look other : Look) (w : (n : ℕ) → other n ≡ left_of (look n)) wh
         record {
           none_filled = n.0;
           none_lasts = lasting-left none n.0 ∙ laws.none_lasts;
+          none_uncounted = counted-left none n.0 ∙ laws.none_uncounted;
           apart = (apart-filter (is_left other) none es laws.apart.0, distinct-filter (is_left other) es laws.apart.1);
           unique = IsDistinct-keys_filter set_eq (is_left other) es laws.unique;
           fits = fits-left es laws.fits;
@@ -177,12 +189,13 @@ module _ (look other : Look) (none : ℕ) (es gs : List Keyed) (laws : IsKept lo
   kept-drained = record {
       none_filled = ap is_some w ∙ (by (look none)).0 ∙ laws.none_filled;
       none_lasts = ap is_lasting w ∙ (by (look none)).1 ∙ laws.none_lasts;
+      none_uncounted = ap is_counted w ∙ (by (look none)).2 ∙ laws.none_uncounted;
       apart = (tt, tt); unique = tt; fits = tt; linked = tt;
     }
     where
-      by : (o : Option Kept) → (is_some (option_map forgotten o) ≡ is_some o) × (is_lasting (option_map forgotten o) ≡ is_lasting o)
-      by None = (refl, refl)
-      by (Some k) = (refl, refl)
+      by : (o : Option Kept) → (is_some (option_map forgotten o) ≡ is_some o) × (is_lasting (option_map forgotten o) ≡ is_lasting o) × (is_counted (option_map forgotten o) ≡ is_counted o)
+      by None = (refl, refl, refl)
+      by (Some k) = (refl, refl, refl)
 
   pub table-drained : table_at other none [] ≡ drained (table_at look none es)
   table-drained = λ i. record { none = (ap (entry_of none_set) w ∙ by (look none) laws.none_filled) i; entries = [] }

@@ -9,12 +9,12 @@ use Rattle.otel_common.specs.Equality.{set_eq}
 use Rattle.otel_model_stream.specs.Sets.{AttributeSet, none_set}
 use Rattle.otel_model_stream.specs.Entries.{Entry, on, is_of, at_entry, number_counted}
 use Rattle.otel_value_map.specs.Slots.{Kept, Look, SameLook, Keyed, at_slot, entry_of, entry_at, table_at}
-use Rattle.otel_value_map.specs.Keyed.{Fits, IsKept, is_lasting}
+use Rattle.otel_value_map.specs.Keyed.{Fits, IsKept, is_lasting, is_counted}
 use Rattle.otel_value_map.specs.Numbers.{number_of}
 use Rattle.otel_value_map.proofs.TableLemmas.{counted_cons}
 use Rattle.otel_value_map.proofs.KeyedLemmas.{same_set, set_eq-flip, same_number, entry-set, lookup-away, entries-same, fits-as}
 
-module _ (f : Kept → Kept) (g : Entry → Entry) (as_entry : (s : AttributeSet) (k : Kept) → entry_of s (Some (f k)) ≡ g (entry_of s (Some k))) (lasts : (k : Kept) → (f k).lasting ≡ k.lasting)
+module _ (f : Kept → Kept) (g : Entry → Entry) (as_entry : (s : AttributeSet) (k : Kept) → entry_of s (Some (f k)) ≡ g (entry_of s (Some k))) (lasts : (k : Kept) → (f k).lasting ≡ k.lasting) (counts : (k : Kept) → (f k).counted ≡ k.counted)
     (look other : Look) (n : ℕ) (w : SameLook other (at_slot n f look)) where
   elsewhere : (m : ℕ) → nat_eq n m ≡ false → other m ≡ look m
   elsewhere m q = w m ∙ ap (λ b. cond b (option_map f (look m)) (look m)) q
@@ -34,6 +34,14 @@ module _ (f : Kept → Kept) (g : Entry → Entry) (as_entry : (s : AttributeSet
       by true (Some k) = (refl, lasts k)
       by false o = (refl, refl)
 
+  count-touched : (m : ℕ) → is_counted (other m) ≡ is_counted (look m)
+  count-touched m = ap is_counted (w m) ∙ by (nat_eq n m) (look m)
+    where
+      by : (b : Bool) (o : Option Kept) → is_counted (cond b (option_map f o) o) ≡ is_counted o
+      by true None = refl
+      by true (Some k) = counts k
+      by false o = refl
+
   fits-touched : (es : List Keyed) → AllByRecursion (Fits look) es → AllByRecursion (Fits other) es
   fits-touched [] h = tt
   fits-touched (x ∷ es) h = (fits-as look other x (fit-touched x.1).0 (fit-touched x.1).1 h.0, fits-touched es h.1)
@@ -42,6 +50,7 @@ module _ (f : Kept → Kept) (g : Entry → Entry) (as_entry : (s : AttributeSet
   kept-touched none es gs laws = record {
     none_filled = (fit-touched none).0 ∙ laws.none_filled;
     none_lasts = (fit-touched none).1 ∙ laws.none_lasts;
+    none_uncounted = count-touched none ∙ laws.none_uncounted;
     apart = laws.apart; unique = laws.unique; linked = laws.linked;
     fits = fits-touched es laws.fits;
   }
@@ -107,14 +116,14 @@ module _ (f : Kept → Kept) (g : Entry → Entry) (as_entry : (s : AttributeSet
           }
 
   -- what is counted stays
-  pub counted-touched : ((k : Kept) → (f k).counted ≡ k.counted) → (es : List Keyed) → number_counted (map (entry_at other) es) ≡ number_counted (map (entry_at look) es)
-  counted-touched same [] = refl
-  counted-touched same (x ∷ es) =
+  pub counted-touched : (es : List Keyed) → number_counted (map (entry_at other) es) ≡ number_counted (map (entry_at look) es)
+  counted-touched [] = refl
+  counted-touched (x ∷ es) =
       counted_cons (entry_at other x) (map (entry_at other) es)
-      ∙ (λ i. cond ((ap (λ o. (entry_of x.0 o).counted) (w x.1) ∙ by (nat_eq n x.1) (look x.1)) i) 1 0 + counted-touched same es i)
+      ∙ (λ i. cond ((ap (λ o. (entry_of x.0 o).counted) (w x.1) ∙ by (nat_eq n x.1) (look x.1)) i) 1 0 + counted-touched es i)
       ∙ sym (counted_cons (entry_at look x) (map (entry_at look) es))
     where
       by : (b : Bool) (o : Option Kept) → (entry_of x.0 (cond b (option_map f o) o)).counted ≡ (entry_of x.0 o).counted
       by true None = refl
-      by true (Some k) = same k
+      by true (Some k) = counts k
       by false o = refl

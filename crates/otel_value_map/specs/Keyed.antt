@@ -35,6 +35,11 @@ abbrev pub is_lasting : Option Kept → Bool
 is_lasting None = false
 is_lasting (Some k) = k.lasting
 
+-- whether the limit counts what a slot has, if anything
+abbrev pub is_counted : Option Kept → Bool
+is_counted None = false
+is_counted (Some k) = k.counted
+
 -- a key is a canonical set that isn't empty, and its slot is filled; it lasts exactly if the set is that of the overflow entry
 pub record Fits (look : Look) (e : Keyed) : Type 0 where
   pub filled : is_some (look e.1) ≡ true
@@ -46,10 +51,11 @@ pub record Fits (look : Look) (e : Keyed) : Type 0 where
 abbrev pub Links : List Keyed → Keyed → Type 0
 Links es g = lookup (set_eq (canon g.0)) es ≡ Some g.1
 
--- the slot of the empty set is filled and lasts; no slot is of two sets and no set has two; keys fit, and lists are linked
+-- the slot of the empty set is filled, isn't counted and lasts; no slot is of two sets and no set has two; keys fit, and lists are linked
 pub record IsKept (look : Look) (none : ℕ) (es gs : List Keyed) : Type 0 where
   pub none_filled : is_some (look none) ≡ true
   pub none_lasts : is_lasting (look none) ≡ true
+  pub none_uncounted : is_counted (look none) ≡ false
   pub apart : IsDistinct nat_eq (none ∷ values_of es)
   pub unique : IsDistinct set_eq (keys_of es)
   pub fits : AllByRecursion (Fits look) es

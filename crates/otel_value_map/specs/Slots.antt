@@ -31,6 +31,10 @@ module _ {A : Type 0} (meaning : A → Fold) where
   abbrev pub copies : List (AttributeSet × A) → List Point
   copies ps = map (λ p. (p.0, meaning p.1)) ps
 
+-- the records of the empty set come to what those in an aggregator of this type do
+abbrev pub HasForm : {A : Type 0} → (A → Fold) → Table → Type 0
+HasForm {A} meaning t = (a : A) × (t.none ≡ record { set = none_set; counted = false; updated = t.none.updated; fold = meaning a; handles = t.none.handles })
+
 -- without records
 abbrev pub new_kept : Fold → Bool → Bool → Kept
 new_kept empty counted lasting = record { counted = counted; updated = false; lasting = lasting; fold = empty; handles = 0 }

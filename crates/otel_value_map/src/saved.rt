@@ -1,6 +1,7 @@
 //! What is kept of a map to undo what it took in.
 
 ghost use Rattle.std.specs.Prelude.{◌≡◌};
+ghost use Rattle.otel_value_map.specs.Slots.{HasForm};
 
 use crate::aggregator::Aggregator;
 use crate::table::Table;
@@ -31,9 +32,14 @@ impl<A: Aggregator> Saved<A> {
 
     /// Puts its entries in the place of these.
     pub(crate) fn put_into(self, entries: &mut Table<A>)
-        ensures { entries.new.table ≡ self }
+        ensures table { entries.new.table ≡ self }
+        ensures was { HasForm A.meaning entries.old.table }
+        ensures is { HasForm A.meaning self }
     {
         let Saved { entries: mut saved } = self;
+        // These tell the prover what is kept of the empty set.
+        entries.told_form();
+        saved.told_form();
         swap(entries, &mut saved);
     }
 }

@@ -15,7 +15,7 @@ ghost use Rattle.otel_model_stream.specs.Entries.{shown, fresh, has, write, take
 ghost use Rattle.std.specs.List.{AllByRecursion};
 ghost use Rattle.otel_value_map.specs.Keyed.{Fits, found, IsNew, IsSpelling, with_spelling};
 ghost use Rattle.otel_value_map.specs.Numbers.{number_of, handles_at, KeepLeft, IsNumberOf};
-ghost use Rattle.otel_value_map.specs.Slots.{look_in, kept_of, forgotten, entry_of, entry_at, copies};
+ghost use Rattle.otel_value_map.specs.Slots.{HasForm, look_in, kept_of, forgotten, entry_of, entry_at, copies};
 
 use crate::aggregator::Aggregator;
 use crate::set_key::SetKey;
@@ -253,7 +253,8 @@ impl<A: Aggregator> Table<A> {
 
     /// No entry but that of the empty set, of which this is kept.
     fn with_none(alloc: Global, slot: Slot<A>) -> Result<Table<A>, Fault>
-        requires { slot.lasting ≡ true }
+        requires lasting { slot.lasting ≡ true }
+        requires uncounted { slot.counted ≡ false }
         ensures table { IfOk result (λ made. made.table ≡ record { none = entry_of none_set (Some (kept_of A.meaning slot)); entries = [] }) }
         ensures sets { IfOk result (λ made. made.numbers.sets ≡ []) }
         ensures given { IfOk result (λ made. made.given ≡ []) }
@@ -269,6 +270,11 @@ impl<A: Aggregator> Table<A> {
             given: IndexMap::new(alloc),
         })
     }
+
+    /// Tells the prover what the empty set's entry is.
+    pub fn told_form(&self)
+        ensures { HasForm A.meaning self.now.table }
+    {}
 
     /// The number of the empty set's slot.
     pub fn none(&self) -> usize

@@ -11,7 +11,7 @@ ghost use Rattle.otel_model_stream.specs.Sets.{AttributeSet, kept, set_of};
 ghost use Rattle.otel_model_stream.specs.Totals.{points_total};
 ghost use Rattle.otel_value_map.specs.Held.{known_of};
 ghost use Rattle.otel_value_map.specs.Numbers.{number_of, AreHandlesFew, spelling_of, KeepNumbers, KeepLeft};
-ghost use Rattle.otel_value_map.specs.Slots.{copies};
+ghost use Rattle.otel_value_map.specs.Slots.{HasForm, copies};
 
 use crate::aggregator::Aggregator;
 use crate::pending::{Pending, make_key, make_unused, plan, take_slot};
@@ -376,6 +376,8 @@ impl<A: Aggregator> ValueMap<A> {
     pub fn restore(&mut self, saved: Saved<A>)
         ensures state { self.new.state ≡ record self.old.state { table = saved } }
         ensures unprepared { self.new.pending ≡ None }
+        ensures was { HasForm A.meaning self.old.state.table }
+        ensures is { HasForm A.meaning saved }
     {
         self.pending = Pending::Nothing;
         saved.put_into(&mut self.table);

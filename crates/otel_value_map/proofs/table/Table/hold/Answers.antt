@@ -13,11 +13,11 @@ use Rattle.otel_value_map.proofs.table.Table.hold.Goals as goal
 
 pub invariant_of-self : goal.invariant_of-self
 invariant_of-self g c =
-    kept-touched held take_handle (λ s k. refl) (λ k. refl) _ _ c.args.number c.hold.ensures.look c.self.inside.none c.self.inside.sets.entries c.self.inside.given.entries c.self.invariant
+    kept-touched held take_handle (λ s k. refl) (λ k. refl) (λ k. refl) _ _ c.args.number c.hold.ensures.look c.self.inside.none c.self.inside.sets.entries c.self.inside.given.entries c.self.invariant
 
 pub returns-clause-table : goal.returns-clause-table
 returns-clause-table g c = λ s e.
-    table-touched held take_handle (λ s k. refl) (λ k. refl) _ _ c.args.number c.hold.ensures.look c.self.inside.none c.self.inside.sets.entries c.self.inside.given.entries s c.self.invariant
+    table-touched held take_handle (λ s k. refl) (λ k. refl) (λ k. refl) _ _ c.args.number c.hold.ensures.look c.self.inside.none c.self.inside.sets.entries c.self.inside.given.entries s c.self.invariant
         (ap (λ (t : Slotted). number_of s t.numbers) c.self.view_is ∙ e)
     ∙ ap (λ (t : Slotted). at_entry s take_handle t.table) c.self.view_is
 
@@ -36,4 +36,4 @@ hold-requires g c =
 
 pub returns-clause-counted : goal.returns-clause-counted
 returns-clause-counted g c =
-    rw (← c.self.view_is) (counted-touched held take_handle (λ s k. refl) (λ k. refl) _ _ c.args.number c.hold.ensures.look (λ k. refl) c.self.inside.sets.entries)
+    rw (← c.self.view_is) (counted-touched held take_handle (λ s k. refl) (λ k. refl) (λ k. refl) _ _ c.args.number c.hold.ensures.look c.self.inside.sets.entries)
