@@ -32,5 +32,6 @@ fn an_allow_list_drops_other_keys(rt: HostRuntime) -> Result<(), Fail> {
 }
 
 mod aggregators;
+mod hashing;
 mod maps;
 mod numbers;
