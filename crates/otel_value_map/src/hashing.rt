@@ -136,10 +136,23 @@ fn after_many(state: u64, bytes: &[u8]) -> u64
     mixed(state.wrapping_add(len as u64), bytes, 0, len - 8)
 }
 
-/// The state after up to 8 bytes.
+/// The state after 4 to 8 bytes.
+#[inline]
+fn after_some(state: u64, bytes: &[u8]) -> u64
+    requires { 4 ≤ length bytes.now }
+    ensures { result ≡ spec.after_some state bytes.now }
+{
+    let len = bytes.len();
+    folded_multiply(
+        read_u32(bytes, 0) ^ state.wrapping_add(len as u64),
+        read_u32(bytes, len - 4) ^ MULTIPLIER,
+    )
+}
+
+/// The state after up to 3 bytes, taken as one number.
 #[inline]
 fn after_few(state: u64, bytes: &[u8]) -> u64
-    requires { length bytes.now ≤ 8 }
+    requires { length bytes.now ≤ 3 }
     ensures { result ≡ spec.after_few state bytes.now }
 {
     folded_multiply(
@@ -162,13 +175,16 @@ fn after(state: u64, bytes: &[u8]) -> u64
     ensures { result ≡ spec.after state bytes.now }
 {
     let len = bytes.len();
+    if len > 8 {
+        return after_many(state, bytes);
+    }
+    if len >= 4 {
+        return after_some(state, bytes);
+    }
     if len == 1 {
         return after_one(state, bytes[0]);
     }
-    if len <= 8 {
-        return after_few(state, bytes);
-    }
-    after_many(state, bytes)
+    after_few(state, bytes)
 }
 
 impl Hasher for SetHasher {
