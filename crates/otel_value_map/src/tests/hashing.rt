@@ -44,12 +44,18 @@ fn place_of(alloc: Global, places: &Places, set: Set) -> Result<Option<usize>, F
 
 #[test]
 fn sets_are_found_by_what_they_hold(rt: HostRuntime) -> Result<(), Fail> {
-    let mut places = places_of(rt.alloc(), &[&[("a", 1)], &[("a", 2)], &[("a", 1), ("b", 2)]])?;
+    let mut places = places_of(
+        rt.alloc(),
+        &[&[("a", 1)], &[("a", 2)], &[("a", 1), ("b", 2)]],
+    )?;
     assert_eq!(rt; place_of(rt.alloc(), &places, &[("a", 2)])?, Some(1));
     assert_eq!(rt; place_of(rt.alloc(), &places, &[("b", 2)])?, None);
     places.retain(|_set: &SetKey, place: &mut usize| -> bool { *place != 1 });
     assert_eq!(rt; place_of(rt.alloc(), &places, &[("a", 2)])?, None);
-    assert_eq!(rt; place_of(rt.alloc(), &places, &[("a", 1), ("b", 2)])?, Some(1));
+    assert_eq!(rt;
+        place_of(rt.alloc(), &places, &[("a", 1), ("b", 2)])?,
+        Some(1)
+    );
     places.clear();
     assert_eq!(rt; places.iter().count(), 0);
     Ok(())
