@@ -5,6 +5,7 @@ pub mod aggregator;
 pub mod assign;
 pub mod bounds;
 pub mod buckets;
+pub mod hashing;
 pub mod internal;
 pub mod number;
 mod pending;

@@ -18,6 +18,7 @@ ghost use Rattle.otel_value_map.specs.Numbers.{number_of, handles_at, KeepLeft, 
 ghost use Rattle.otel_value_map.specs.Slots.{HasForm, look_in, kept_of, forgotten, entry_of, entry_at, copies};
 
 use crate::aggregator::Aggregator;
+use crate::hashing::SetHashBuilder;
 use crate::set_key::SetKey;
 use crate::slots::{Slot, evict, fill, hold, release, touch};
 use indexmap::IndexMap;
@@ -29,7 +30,7 @@ use std::alloc::{AllocError, Global};
 use std::marker::Model;
 
 /// Keys with the numbers of the slots to which they lead, in order of making.
-type Numbered = IndexMap<SetKey<'static>, usize>;
+type Numbered = IndexMap<SetKey<'static>, usize, SetHashBuilder>;
 
 /// The entries of a map. Each stands in a slot, whose number stays as long as the entry does; a slot that is
 /// freed is used again.
@@ -60,7 +61,7 @@ impl<A: Aggregator> Model for Table<A> {
 
 /// The number to which a key leads.
 fn number_in<'s>(
-    map: &'s IndexMap<SetKey<'s>, usize>,
+    map: &'s IndexMap<SetKey<'s>, usize, SetHashBuilder>,
     key: &'s SetKey<'s>,
 ) -> Option<usize>
     ensures { result ≡ lookup (set_eq key.now) map.now.entries }
@@ -70,8 +71,8 @@ fn number_in<'s>(
 
 /// The number to which a list leads, by the keys of sets or by those of lists as they were given.
 fn found_in<'s>(
-    sets: &'s IndexMap<SetKey<'s>, usize>,
-    given: &'s IndexMap<SetKey<'s>, usize>,
+    sets: &'s IndexMap<SetKey<'s>, usize, SetHashBuilder>,
+    given: &'s IndexMap<SetKey<'s>, usize, SetHashBuilder>,
     list: &'s SetKey<'s>,
 ) -> Option<usize>
     ensures { result ≡ found list.now sets.now.entries given.now.entries }
@@ -266,15 +267,17 @@ impl<A: Aggregator> Table<A> {
         Ok(Table {
             slots,
             none,
-            sets: IndexMap::new(alloc),
-            given: IndexMap::new(alloc),
+            sets: IndexMap::with_hasher(alloc, SetHashBuilder::default()),
+            given: IndexMap::with_hasher(alloc, SetHashBuilder::default()),
         })
     }
 
     /// Tells the prover what the empty set's entry is.
     pub fn told_form(&self)
         ensures { HasForm A.meaning self.now.table }
-    {}
+    {
+        let _none = self.none;
+    }
 
     /// The number of the empty set's slot.
     pub fn none(&self) -> usize

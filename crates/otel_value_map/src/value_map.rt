@@ -172,6 +172,10 @@ impl<A: Aggregator> ValueMap<A> {
         ensures known { SucceedsIfKnown attributes.now (known_of self.old) result }
         ensures only_memory { IsOkUnless result Fault.OutOfMemory }
     {
+        if attributes.is_empty() {
+            self.pending = Pending::At(self.table.none());
+            return Ok(());
+        }
         self.prepare_list(&SetKey::given(attributes))
     }
 

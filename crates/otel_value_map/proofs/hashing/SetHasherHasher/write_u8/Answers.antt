@@ -1,0 +1,7 @@
+use Rattle.std.specs.Prelude.{◌≡◌}
+use Rattle.otel_value_map.specs.Hashing.{write}
+use Rattle.otel_value_map.proofs.hashing.SetHasherHasher.write_u8.Goals as goal
+
+pub returns : goal.returns
+unfolding write
+returns c = rw c.after_one-self.ensures
