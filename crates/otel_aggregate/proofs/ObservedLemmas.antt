@@ -12,7 +12,7 @@ use Rattle.otel_model_stream.specs.Observed.{fold_in, value_before, difference}
 use Rattle.otel_model_stream.specs.Totals.{value_of}
 use Rattle.otel_model_stream.specs.Data.{sum_point}
 use Rattle.otel_model_stream.proofs.Clearing.{cleared-recorded}
-use Rattle.otel_value_map.specs.Tallies.{HasTally}
+use Rattle.otel_value_map.specs.Slots.{HasForm}
 use Rattle.otel_aggregate.specs.Streams.{StreamState, HeldStream, recorded_set, taken, taken_from}
 use Rattle.otel_aggregate.specs.Data.{temporality_of}
 use Rattle.otel_aggregate.specs.Observed.{ObservedState, values_now, since_reported, sums_now, observed_data}
@@ -53,15 +53,16 @@ drained-taken v h = by h.pending
     by (Some s) = drained-measured s (sample_of h.state.aggregate v) h.state.map_state
 
 -- the entry of the empty set, forgotten, where no records come to a last value of 0
-reset-tally : {A : Type 0} (meaning : A → Fold) → ((a : A) → cleared (meaning a) ≡ Last 0) → (t : Table) → HasTally meaning t
-    → reset t.none ≡ record { set = none_set; counted = false; updated = false; fold = Last 0; handles = 0 }
-reset-tally meaning forgets t h = ap reset h.1 ∙ ap (λ f. record { set = none_set; counted = false; updated = false; fold = f; handles = 0 }) (forgets h.0.aggregator)
+reset-form : {A : Type 0} (meaning : A → Fold) → ((a : A) → cleared (meaning a) ≡ Last 0) → (t : Table) → HasForm meaning t
+    → reset t.none ≡ record { set = none_set; counted = false; updated = false; fold = Last 0; handles = t.none.handles }
+reset-form meaning forgets t h = ap reset h.1 ∙ ap (λ f. record { set = none_set; counted = false; updated = false; fold = f; handles = t.none.handles }) (forgets h.0)
 
 -- a map is drained to the same with another table
-pub drained-restored : {A : Type 0} (meaning : A → Fold) → ((a : A) → cleared (meaning a) ≡ Last 0) → (m : MapState) (t : Table) → HasTally meaning m.table → HasTally meaning t
+pub drained-restored : {A : Type 0} (meaning : A → Fold) → ((a : A) → cleared (meaning a) ≡ Last 0) → (m : MapState) (t : Table) → HasForm meaning m.table → HasForm meaning t → t.none.handles ≡ m.table.none.handles
     → drained_map (record m { table = t }) ≡ drained_map m
-drained-restored meaning forgets m t was is =
-    ap (λ (none : Entry). record m { table = record { none = none; entries = [] } }) (reset-tally meaning forgets t is ∙ sym (reset-tally meaning forgets m.table was))
+drained-restored meaning forgets m t was is held =
+    ap (λ (none : Entry). record m { table = record { none = none; entries = [] } })
+        (reset-form meaning forgets t is ∙ ap (λ n. record { set = none_set; counted = false; updated = false; fold = Last 0; handles = n }) held ∙ sym (reset-form meaning forgets m.table was))
 
 -- ======== points ========
 pub value_before-none : (ps : List Point) (x : AttributeSet) → fold_in ps x ≡ None → value_before ps x ≡ 0

@@ -159,10 +159,11 @@ pub record HeldSaved : Type 0 where
 abbrev pub saved_of : HeldAny → HeldSaved
 saved_of a = record { is_signed = a.is_signed; form = form_of a.state.aggregate; table = a.state.map_state.table }
 
--- these entries can be those of the stream
+-- these entries can be those of the stream: of its number type and form, and with as many handles at the empty set's
 pub record IsLike (saved : HeldSaved) (a : HeldAny) : Type 0 where
   pub number : saved.is_signed ≡ a.is_signed
   pub form : saved.form ≡ form_of a.state.aggregate
+  pub handles : saved.table.none.handles ≡ a.state.map_state.table.none.handles
 
 -- with these entries in place of its own; a record that was prepared is given up
 abbrev pub with_saved : HeldSaved → HeldAny → HeldAny

@@ -9,7 +9,7 @@ ghost use Rattle.otel_model_stream.specs.Totals.{points_total};
 ghost use Rattle.otel_model_stream.specs.Maps.{draining_points};
 ghost use Rattle.otel_model_stream.specs.Observed.{value_before, less};
 ghost use Rattle.otel_model_stream.specs.Data.{sum_point};
-ghost use Rattle.otel_value_map.specs.Tallies.{copies};
+ghost use Rattle.otel_value_map.specs.Slots.{copies};
 ghost use Rattle.otel_aggregate.specs.Streams.{is_known};
 ghost use Rattle.otel_aggregate.specs.Observed.{new_observed, observed_set, observed_attributes, observed, values_now, since_reported, drained_at, observed_data};
 
@@ -276,6 +276,7 @@ impl<T: Number + Drop> PrecomputedSum<T> {
     /// Puts saved observations in the place of its own, and gives up one that was prepared. What was
     /// reported stays as it was. It takes no memory.
     pub fn restore(&mut self, saved: Saved<Assign<T>>)
+        requires { saved.none.handles ≡ self.old.state.stream.map_state.table.none.handles }
         ensures state { self.new.state ≡ record self.old.state { stream = record self.old.state.stream { map_state = record self.old.state.stream.map_state { table = saved } } } }
         ensures unprepared { self.new.pending ≡ None }
     {

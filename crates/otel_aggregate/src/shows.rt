@@ -6,7 +6,7 @@ ghost use Rattle.otel_common.specs.declared.metrics.Temporality.{Temporality as 
 ghost use Rattle.otel_model_stream.specs.Entries.{Point};
 ghost use Rattle.otel_model_stream.specs.Folds.{Aggregate, Sum as SumAggregate, LastValue as LastValueAggregate, Histogram as HistogramAggregate, empty_of, sample_of, bounds_of};
 ghost use Rattle.otel_model_stream.specs.Data.{sum_point, gauge_point, histogram_point};
-ghost use Rattle.otel_value_map.specs.Tallies.{copies};
+ghost use Rattle.otel_value_map.specs.Slots.{copies};
 
 use crate::settings::HistogramSettings;
 use otel_common::attributes::KeyValue;

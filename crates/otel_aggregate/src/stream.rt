@@ -7,7 +7,7 @@ ghost use Rattle.otel_model_stream.specs.Sets.{AttributeSet, set_of};
 ghost use Rattle.otel_model_stream.specs.Folds.{wrapped};
 ghost use Rattle.otel_model_stream.specs.Totals.{points_total};
 ghost use Rattle.otel_model_stream.specs.Maps.{draining_points, drained_map};
-ghost use Rattle.otel_value_map.specs.Tallies.{HasTally, copies};
+ghost use Rattle.otel_value_map.specs.Slots.{HasForm, copies};
 ghost use Rattle.otel_aggregate.specs.Data.{temporality_of};
 ghost use Rattle.otel_aggregate.specs.Streams.{new_stream, is_known, recorded_set, recorded_attributes, taken, collected, points_now};
 
@@ -250,8 +250,8 @@ impl<A: Shows> Stream<A> {
     pub fn restore(&mut self, saved: Saved<A>)
         ensures state { self.new.state ≡ record self.old.state { map_state = record self.old.state.map_state { table = saved } } }
         ensures unprepared { self.new.pending ≡ None }
-        ensures was_tally { HasTally A.meaning self.old.state.map_state.table }
-        ensures is_tally { HasTally A.meaning saved }
+        ensures was { HasForm A.meaning self.old.state.map_state.table }
+        ensures is { HasForm A.meaning saved }
     {
         self.map.restore(saved);
     }

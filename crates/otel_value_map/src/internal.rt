@@ -5,3 +5,5 @@ pub use crate::assign::Assign;
 pub use crate::bounds::Bounds;
 pub use crate::buckets::{Buckets, BucketsConfig, counted_once};
 pub use crate::number::Number;
+pub use crate::saved::Saved;
+pub use crate::value_map::ValueMap;

@@ -3,7 +3,7 @@ use Rattle.std.specs.Option.{option_map}
 use Rattle.otel_model_stream.specs.Folds.{Last}
 use Rattle.otel_model_stream.specs.Maps.{draining_points}
 use Rattle.otel_model_stream.specs.Data.{sum_point}
-use Rattle.otel_value_map.specs.Tallies.{copies}
+use Rattle.otel_value_map.specs.Slots.{copies}
 use Rattle.otel_aggregate.specs.Observed.{since_reported}
 use Rattle.otel_aggregate.proofs.precomputed_sum.shown_points.Given as goal
 

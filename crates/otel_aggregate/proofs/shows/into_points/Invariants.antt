@@ -1,5 +1,5 @@
 use Rattle.std.proofs.Common.{◌≡◌, ◌++◌, map}
-use Rattle.otel_value_map.specs.Tallies.{copies}
+use Rattle.otel_value_map.specs.Slots.{copies}
 use Rattle.otel_aggregate.proofs.shows.into_points.Given as goal
 
 -- the points so far and those of the sets that are left are all
