@@ -34,6 +34,24 @@ distinct-filter t (x ∷ es) h = by (t x) (distinct-filter t es h.1)
     by true r = (apart-filter t x.1 es h.0, r)
     by false r = r
 
+-- no two lists of one set left
+sets-filter : (t : Keyed → Bool) (s : AttributeSet) (gs : List Keyed) → AllByRecursion (λ x. set_eq s x ≡ false) (map canon (keys_of gs)) → AllByRecursion (λ x. set_eq s x ≡ false) (map canon (keys_of (filter t gs)))
+sets-filter t s [] h = tt
+sets-filter t s (g ∷ gs) h = by (t g) (sets-filter t s gs h.1)
+  where
+    by : (b : Bool) → AllByRecursion (λ x. set_eq s x ≡ false) (map canon (keys_of (filter t gs))) → AllByRecursion (λ x. set_eq s x ≡ false) (map canon (keys_of (cond b (g ∷ filter t gs) (filter t gs))))
+    by true r = (h.0, r)
+    by false r = r
+
+single-filter : (t : Keyed → Bool) (gs : List Keyed) → IsDistinct set_eq (map canon (keys_of gs)) → IsDistinct set_eq (map canon (keys_of (filter t gs)))
+unfolding IsDistinct
+single-filter t [] h = tt
+single-filter t (g ∷ gs) h = by (t g) (single-filter t gs h.1)
+  where
+    by : (b : Bool) → IsDistinct set_eq (map canon (keys_of (filter t gs))) → IsDistinct set_eq (map canon (keys_of (cond b (g ∷ filter t gs) (filter t gs))))
+    by true r = (sets-filter t (canon g.0) gs h.0, r)
+    by false r = r
+
 -- what is filled is left
 abbrev pub is_left : Look → Keyed → Bool
 is_left other e = is_some (other e.1)
@@ -137,6 +155,7 @@ module _ (look other : Look) (w : (n : ℕ) → other n ≡ left_of (look n)) wh
           unique = IsDistinct-keys_filter set_eq (is_left other) es laws.unique;
           fits = fits-left es laws.fits;
           linked = links-left gs laws.linked;
+          single = single-filter (is_left other) gs laws.single;
         }
 
     -- an entry that is left keeps its number
@@ -177,7 +196,7 @@ module _ (look other : Look) (none : ℕ) (es gs : List Keyed) (laws : IsKept lo
   kept-drained = record {
       none_filled = ap is_some w ∙ (by (look none)).0 ∙ laws.none_filled;
       none_lasts = ap is_lasting w ∙ (by (look none)).1 ∙ laws.none_lasts;
-      apart = (tt, tt); unique = tt; fits = tt; linked = tt;
+      apart = (tt, tt); unique = tt; fits = tt; linked = tt; single = tt;
     }
     where
       by : (o : Option Kept) → (is_some (option_map forgotten o) ≡ is_some o) × (is_lasting (option_map forgotten o) ≡ is_lasting o)
