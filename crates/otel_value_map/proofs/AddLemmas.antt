@@ -1,17 +1,15 @@
 -- A new key and its slot.
-use Rattle.std.proofs.Common.{ℕ, ◌≡◌, Bool, true, false, cond, ◌||◌, List, [], ◌∷◌, ◌++◌, Option, Some, None, is_some, map, refl, sym, ap, subst, ◌∙◌, nat_eq, true≢false, arith, eqb-true}
+use Rattle.std.proofs.Common.{ℕ, ◌≡◌, Bool, true, false, cond, ◌||◌, List, [], ◌∷◌, ◌++◌, Option, Some, None, is_some, map, refl, sym, ap, subst, ◌∙◌, nat_eq, true≢false, eqb-true}
 use Rattle.std.specs.List.{AllByRecursion, IsDistinct, list_any}
 use Rattle.std.specs.Map.{lookup, keys_of, values_of}
 use Rattle.std.specs.Set.{is_member}
 use Rattle.std.proofs.lemmas.Cmp.{nat_eq_equiv}
 use Rattle.std.proofs.lemmas.List.{map-append}
-use Rattle.std.proofs.lemmas.Map.Keys.{IsDistinct-push, IsDistinct-head}
+use Rattle.std.proofs.lemmas.Map.Keys.{IsDistinct-push}
 use Rattle.std.proofs.lemmas.Map.Made.{is_some-lookup}
 use Rattle.otel_common.specs.Canonical.{canon}
 use Rattle.otel_common.specs.Equality.{set_eq}
-use Rattle.otel_common.specs.declared.attributes.KeyValue.{KeyValue}
 use Rattle.otel_model_stream.specs.Sets.{AttributeSet, none_set, over_set}
-use Rattle.otel_model_stream.specs.Entries.{Entry, Table}
 use Rattle.otel_value_map.specs.Slots.{Kept, Look, SameLook, Keyed, with_slot, entry_of, entry_at, table_at}
 use Rattle.otel_value_map.specs.Keyed.{Fits, Links, IsKept, IsNew, IsSpelling, is_lasting, with_spelling}
 use Rattle.otel_value_map.specs.Numbers.{number_of, KeepNumbers}
@@ -114,7 +112,11 @@ module _ (look other : Look) (none : ℕ) (es gs : List Keyed) (set : AttributeS
   pub kept-added : (list : Option AttributeSet) → IsSpelling gs set list → IsKept other none (es ++ (set, n) ∷ []) (with_spelling list n gs)
   kept-added None can = kept-keyed
   kept-added (Some l) can = record {
-    none_filled = kept-keyed.none_filled; none_lasts = kept-keyed.none_lasts; apart = kept-keyed.apart; unique = kept-keyed.unique; fits = kept-keyed.fits;
+    none_filled = kept-keyed.none_filled;
+    none_lasts = kept-keyed.none_lasts;
+    apart = kept-keyed.apart;
+    unique = kept-keyed.unique;
+    fits = kept-keyed.fits;
     linked = all-push (Links (es ++ (set, n) ∷ [])) gs (l, n) kept-keyed.linked
         (subst (λ s. lookup (set_eq s) (es ++ (set, n) ∷ []) ≡ Some n) (sym can.0) (lookup-pushed set es n new.absent));
     single = subst (IsDistinct set_eq) (sym (ap (map canon) (map-append (λ (e : Keyed). e.0) gs ((l, n) ∷ [])) ∙ map-append canon (keys_of gs) (l ∷ [])))

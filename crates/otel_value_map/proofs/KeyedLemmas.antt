@@ -1,6 +1,6 @@
 -- What a look-up tells of entries.
-use Rattle.std.proofs.Common.{ℕ, ◌≡◌, Bool, true, false, cond, ◌||◌, List, [], ◌∷◌, ◌++◌, Option, Some, None, is_some, map, length, ◌≤◌, refl, sym, ap, subst, ◌∙◌, nat_eq, true≢false, arith, eqb-true}
-use Rattle.std.specs.List.{AllByRecursion, IsDistinct, list_any}
+use Rattle.std.proofs.Common.{ℕ, ◌≡◌, Bool, true, false, cond, ◌||◌, List, [], ◌∷◌, Option, Some, None, is_some, map, length, ◌≤◌, refl, sym, ap, subst, ◌∙◌, nat_eq, true≢false, arith}
+use Rattle.std.specs.List.{AllByRecursion, IsDistinct}
 use Rattle.std.specs.Map.{lookup, keys_of, values_of}
 use Rattle.std.specs.Set.{is_member}
 use Rattle.std.specs.Option.{IfSome}
@@ -13,8 +13,8 @@ use Rattle.std.proofs.lemmas.Bool.Decides.{nat_tests}
 use Rattle.otel_common.specs.Canonical.{canon}
 use Rattle.otel_common.specs.Equality.{set_eq, set_eq-Decides, key_value_eq_equiv}
 use Rattle.otel_common.specs.declared.attributes.KeyValue.{KeyValue}
-use Rattle.otel_model_stream.specs.Sets.{AttributeSet, none_set, over_set}
-use Rattle.otel_model_stream.specs.Entries.{Entry, has, is_of}
+use Rattle.otel_model_stream.specs.Sets.{AttributeSet, none_set}
+use Rattle.otel_model_stream.specs.Entries.{has}
 use Rattle.otel_value_map.specs.Slots.{Kept, Look, Keyed, entry_of, entry_at}
 use Rattle.otel_value_map.specs.Keyed.{Fits, Links, IsKept, found, first_of, is_lasting}
 use Rattle.otel_value_map.specs.Numbers.{named_in, IsNumberOf}

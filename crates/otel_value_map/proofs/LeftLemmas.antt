@@ -1,20 +1,19 @@
 -- What a collection leaves in the slots, and of the keys.
-use Rattle.std.proofs.Common.{ℕ, ◌≡◌, Bool, true, false, cond, ◌||◌, List, [], ◌∷◌, ◌++◌, Option, Some, None, is_some, map, filter, refl, sym, ap, subst, ◌∙◌, nat_eq, nat_lt, true≢false, arith}
-use Rattle.std.specs.List.{AllByRecursion, IsDistinct, list_any}
+use Rattle.std.proofs.Common.{ℕ, ◌≡◌, Bool, true, false, cond, ◌||◌, List, [], ◌∷◌, Option, Some, None, is_some, map, filter, refl, sym, ap, ◌∙◌, nat_eq, nat_lt, true≢false}
+use Rattle.std.specs.List.{AllByRecursion, IsDistinct}
 use Rattle.std.specs.Map.{lookup, keys_of, values_of}
 use Rattle.std.specs.Option.{option_map}
-use Rattle.std.proofs.lemmas.Bool.Decides.{nat_tests}
 use Rattle.std.proofs.lemmas.Map.Made.{IsDistinct-keys_filter}
 use Rattle.std.proofs.lemmas.Map.Entries.{lookup-filter-values, option_filter}
 use Rattle.otel_common.specs.Canonical.{canon}
 use Rattle.otel_common.specs.Equality.{set_eq}
 use Rattle.otel_common.specs.declared.attributes.KeyValue.{KeyValue}
 use Rattle.otel_model_stream.specs.Sets.{AttributeSet, none_set, over_set}
-use Rattle.otel_model_stream.specs.Entries.{Entry, Table, has, stays, reset, evicted, drained}
+use Rattle.otel_model_stream.specs.Entries.{Entry, has, stays, reset, evicted, drained}
 use Rattle.otel_value_map.specs.Slots.{Kept, Look, Keyed, remains, forgotten, left_of, entry_of, entry_at, table_at}
 use Rattle.otel_value_map.specs.Keyed.{Fits, Links, IsKept, is_lasting}
-use Rattle.otel_value_map.specs.Numbers.{number_of, KeepLeft, is_placed}
-use Rattle.otel_value_map.proofs.KeyedLemmas.{set_eq_equiv, same_number, has-lookup, fits-as}
+use Rattle.otel_value_map.specs.Numbers.{KeepLeft}
+use Rattle.otel_value_map.proofs.KeyedLemmas.{set_eq_equiv, has-lookup, fits-as}
 
 -- no key left
 apart-filter : (t : Keyed → Bool) (n : ℕ) (es : List Keyed) → AllByRecursion (λ y. nat_eq n y ≡ false) (values_of es) → AllByRecursion (λ y. nat_eq n y ≡ false) (values_of (filter t es))
@@ -70,9 +69,10 @@ module _ (look other : Look) (w : (n : ℕ) → other n ≡ left_of (look n)) wh
       by (Some k) q =
           let same : k.lasting ≡ set_eq s over_set = sym (ap is_lasting q) ∙ lasts in
           let keep : remains k ≡ stays (entry_of s (Some k)) = ap (λ b. k.updated || (nat_lt 0 k.handles || b)) same in
-          let new : other n ≡ cond (remains k) (Some (forgotten k)) None = w n ∙ ap left_of q in
-          (two (remains k) (forgotten k) (other n) new ∙ keep,
-           λ h. ap (entry_of s) (new ∙ ap (λ b. cond b (Some (forgotten k)) None) (keep ∙ h)))
+          let new : other n ≡ cond (remains k) (Some (forgotten k)) None = w n ∙ ap left_of q in (
+            two (remains k) (forgotten k) (other n) new ∙ keep,
+            λ h. ap (entry_of s) (new ∙ ap (λ b. cond b (Some (forgotten k)) None) (keep ∙ h)),
+          )
 
   entries-left : (es : List Keyed) → AllByRecursion (Fits look) es → map (entry_at other) (filter (is_left other) es) ≡ map reset (filter stays (map (entry_at look) es))
   entries-left [] h = refl
@@ -194,10 +194,14 @@ module _ (look other : Look) (none : ℕ) (es gs : List Keyed) (laws : IsKept lo
   pub kept-drained : IsKept other none [] []
   unfolding IsDistinct
   kept-drained = record {
-      none_filled = ap is_some w ∙ (by (look none)).0 ∙ laws.none_filled;
-      none_lasts = ap is_lasting w ∙ (by (look none)).1 ∙ laws.none_lasts;
-      apart = (tt, tt); unique = tt; fits = tt; linked = tt; single = tt;
-    }
+    none_filled = ap is_some w ∙ (by (look none)).0 ∙ laws.none_filled;
+    none_lasts = ap is_lasting w ∙ (by (look none)).1 ∙ laws.none_lasts;
+    apart = (tt, tt);
+    unique = tt;
+    fits = tt;
+    linked = tt;
+    single = tt;
+  }
     where
       by : (o : Option Kept) → (is_some (option_map forgotten o) ≡ is_some o) × (is_lasting (option_map forgotten o) ≡ is_lasting o)
       by None = (refl, refl)

@@ -59,10 +59,7 @@ impl<A: Aggregator> Model for Table<A> {
 }
 
 /// The number to which a key leads.
-fn number_in<'s>(
-    map: &'s IndexMap<SetKey<'s>, usize>,
-    key: &'s SetKey<'s>,
-) -> Option<usize>
+fn number_in<'s>(map: &'s IndexMap<SetKey<'s>, usize>, key: &'s SetKey<'s>) -> Option<usize>
     ensures { result ≡ lookup (set_eq key.now) map.now.entries }
 {
     map.get(key).copied()
@@ -151,7 +148,11 @@ fn weight_shown<A: Aggregator>(slots: &Slab<Slot<A>>, number: usize, every: bool
         None => 0,
         Some(slot) => {
             let is_shown = every || slot.updated;
-            if is_shown { slot.aggregator.weight() } else { 0 }
+            if is_shown {
+                slot.aggregator.weight()
+            } else {
+                0
+            }
         }
     }
 }

@@ -225,8 +225,8 @@ impl<A: Aggregator> ValueMap<A> {
         ensures given { self.new.given ≡ self.old.given ++ self.old.spelling }
         ensures spent { self.new.pending ≡ None }
     {
-        let number = self.place();
-        self.table.touch(number, value);
+        let entry = self.place();
+        self.table.touch(entry, value);
     }
 
     /// Takes in a record of the attributes, under their canonical form. Without attributes, and with
