@@ -1,19 +1,19 @@
 -- A new key and its slot.
-use Rattle.std.proofs.Common.{ℕ, ◌≡◌, Bool, true, false, cond, ◌||◌, List, [], ◌∷◌, ◌++◌, Option, Some, None, is_some, map, refl, sym, ap, subst, ◌∙◌, nat_eq, true≢false, arith, eqb-true}
+use Rattle.std.proofs.Common.{ℕ, ◌≡◌, Bool, true, false, cond, ◌||◌, List, [], ◌∷◌, ◌++◌, Option, Some, None, is_some, map, refl, sym, ap, subst, ◌∙◌, nat_eq, true≢false, eqb-true}
 use Rattle.std.specs.List.{AllByRecursion, IsDistinct, list_any}
 use Rattle.std.specs.Map.{lookup, keys_of, values_of}
+use Rattle.std.specs.Set.{is_member}
 use Rattle.std.proofs.lemmas.Cmp.{nat_eq_equiv}
 use Rattle.std.proofs.lemmas.List.{map-append}
-use Rattle.std.proofs.lemmas.Map.Keys.{IsDistinct-push, IsDistinct-head}
+use Rattle.std.proofs.lemmas.Map.Keys.{IsDistinct-push}
 use Rattle.std.proofs.lemmas.Map.Made.{is_some-lookup}
 use Rattle.otel_common.specs.Canonical.{canon}
 use Rattle.otel_common.specs.Equality.{set_eq}
 use Rattle.otel_model_stream.specs.Sets.{AttributeSet, none_set, over_set}
-use Rattle.otel_model_stream.specs.Entries.{Entry, Table}
 use Rattle.otel_value_map.specs.Slots.{Kept, Look, SameLook, Keyed, with_slot, entry_of, entry_at, table_at}
 use Rattle.otel_value_map.specs.Keyed.{Fits, Links, IsKept, IsNew, IsSpelling, is_lasting, is_counted, with_spelling}
 use Rattle.otel_value_map.specs.Numbers.{number_of, KeepNumbers}
-use Rattle.otel_value_map.proofs.KeyedLemmas.{set_eq-self, set_eq_equiv, same_number, entries-same, fits-as}
+use Rattle.otel_value_map.proofs.KeyedLemmas.{set_eq-self, set_eq_equiv, same_number, entries-same, fits-as, linked-set}
 
 -- a filled slot is none that is free
 fits-apart : (look : Look) (n m : ℕ) → is_some (look m) ≡ true → look n ≡ None → nat_eq n m ≡ false
@@ -99,7 +99,16 @@ module _ (look other : Look) (none : ℕ) (es gs : List Keyed) (set : AttributeS
     fits = all-push (Fits other) es (set, n) (fits-same look other n es away rest_same laws.fits)
         (record { filled = ap is_some at_new; lasting = ap is_lasting at_new ∙ lasts; canonical = new.canonical; some = new.some });
     linked = links-push es (set, n) gs laws.linked;
+    single = laws.single;
   }
+
+  -- no list is of the new set
+  unlisted : is_member set_eq (map canon (keys_of gs)) set ≡ false
+  unlisted = by (is_member set_eq (map canon (keys_of gs)) set) refl
+    where
+      by : (b : Bool) → is_member set_eq (map canon (keys_of gs)) set ≡ b → b ≡ false
+      by true h = absurd (true≢false (sym (linked-set es gs set laws.linked h) ∙ ap is_some new.absent))
+      by false h = refl
 
   pub kept-added : (list : Option AttributeSet) → IsSpelling gs set list → IsKept other none (es ++ (set, n) ∷ []) (with_spelling list n gs)
   kept-added None can = kept-keyed
@@ -107,6 +116,8 @@ module _ (look other : Look) (none : ℕ) (es gs : List Keyed) (set : AttributeS
     none_filled = kept-keyed.none_filled; none_lasts = kept-keyed.none_lasts; none_uncounted = kept-keyed.none_uncounted; apart = kept-keyed.apart; unique = kept-keyed.unique; fits = kept-keyed.fits;
     linked = all-push (Links (es ++ (set, n) ∷ [])) gs (l, n) kept-keyed.linked
         (subst (λ s. lookup (set_eq s) (es ++ (set, n) ∷ []) ≡ Some n) (sym can.0) (lookup-pushed set es n new.absent));
+    single = subst (IsDistinct set_eq) (sym (ap (map canon) (map-append (λ (e : Keyed). e.0) gs ((l, n) ∷ [])) ∙ map-append canon (keys_of gs) (l ∷ [])))
+        (IsDistinct-push set_eq_equiv (map canon (keys_of gs)) (canon l) laws.single (ap (is_member set_eq (map canon (keys_of gs))) can.0 ∙ unlisted));
   }
 
   pub number-added : number_of set (record { none = none; sets = es ++ (set, n) ∷ [] }) ≡ Some n

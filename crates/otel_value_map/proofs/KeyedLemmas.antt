@@ -1,11 +1,12 @@
 -- What a look-up tells of entries.
-use Rattle.std.proofs.Common.{ℕ, ◌≡◌, Bool, true, false, cond, ◌||◌, List, [], ◌∷◌, ◌++◌, Option, Some, None, is_some, map, refl, sym, ap, subst, ◌∙◌, nat_eq, true≢false, arith, eqb-true}
-use Rattle.std.specs.List.{AllByRecursion, IsDistinct, list_any}
+use Rattle.std.proofs.Common.{ℕ, ◌≡◌, Bool, true, false, cond, ◌||◌, List, [], ◌∷◌, Option, Some, None, is_some, map, length, ◌≤◌, refl, sym, ap, subst, ◌∙◌, nat_eq, true≢false, arith}
+use Rattle.std.specs.List.{AllByRecursion, IsDistinct}
 use Rattle.std.specs.Map.{lookup, keys_of, values_of}
 use Rattle.std.specs.Set.{is_member}
 use Rattle.std.specs.Option.{IfSome}
 use Rattle.std.proofs.lemmas.Map.Keys.{IsDistinct-head, IsDistinct-tail}
-use Rattle.std.proofs.lemmas.Map.Made.{is_some-lookup}
+use Rattle.std.proofs.lemmas.List.{length-map}
+use Rattle.std.proofs.lemmas.Map.Made.{is_some-lookup, length-le_from_is_member}
 use Rattle.std.specs.Cmp.{IsEquivalence}
 use Rattle.std.specs.Cmp.Lexicographic.{lists_equiv}
 use Rattle.std.proofs.lemmas.Bool.Decides.{nat_tests}
@@ -118,7 +119,7 @@ fits-as look other x f l fit = record { filled = f ∙ fit.filled; lasting = l �
 -- an empty table is kept
 pub kept-new : (look : Look) (none : ℕ) → is_some (look none) ≡ true → is_lasting (look none) ≡ true → is_counted (look none) ≡ false → IsKept look none [] []
 unfolding IsDistinct
-kept-new look none filled lasts uncounted = record { none_filled = filled; none_lasts = lasts; none_uncounted = uncounted; apart = (tt, tt); unique = tt; fits = tt; linked = tt }
+kept-new look none filled lasts uncounted = record { none_filled = filled; none_lasts = lasts; none_uncounted = uncounted; apart = (tt, tt); unique = tt; fits = tt; linked = tt; single = tt }
 
 -- ======== numbers ========
 -- the set of a number that is found
@@ -182,3 +183,21 @@ form-kept meaning slots none es gs laws = by (get slots none) laws.none_filled l
         → HasForm meaning (record { none = entry_of none_set (option_map (kept_of meaning) o); entries = map (entry_at (look_in meaning slots)) es })
     by None f u = absurd (true≢false (sym f))
     by (Some slot) f u = (slot.aggregator, λ i. record { set = none_set; counted = u i; updated = slot.updated; fold = meaning slot.aggregator; handles = slot.handles })
+
+-- ======== how many keys ========
+-- the set of a list that is linked is a key
+pub linked-set : (es gs : List Keyed) (s : AttributeSet) → AllByRecursion (Links es) gs → is_member set_eq (map canon (keys_of gs)) s ≡ true → is_some (lookup (set_eq s) es) ≡ true
+linked-set es [] s linked h = absurd (true≢false (sym h))
+linked-set es (g ∷ gs) s linked h = by (set_eq s (canon g.0)) refl h (linked-set es gs s linked.1)
+  where
+    by : (b : Bool) → set_eq s (canon g.0) ≡ b → (b || is_member set_eq (map canon (keys_of gs)) s) ≡ true
+        → (is_member set_eq (map canon (keys_of gs)) s ≡ true → is_some (lookup (set_eq s) es) ≡ true) → is_some (lookup (set_eq s) es) ≡ true
+    by true q h ih = ap (λ t. is_some (lookup (set_eq t) es)) (same_set s (canon g.0) q) ∙ ap is_some linked.0
+    by false q h ih = ih h
+
+-- there are at most as many lists as sets
+pub lists-few : (look : Look) (none : ℕ) (es gs : List Keyed) → IsKept look none es gs → length gs ≤ length es
+lists-few look none es gs laws = omega (arith, few, length-map (keys_of gs) canon, length-map gs (λ (e : Keyed). e.0), length-map es (λ (e : Keyed). e.0))
+  where
+    few : length (map canon (keys_of gs)) ≤ length (keys_of es)
+    few = length-le_from_is_member set_eq_equiv (map canon (keys_of gs)) (keys_of es) laws.single (λ s h. sym (is_some-lookup (set_eq s) es) ∙ linked-set es gs s laws.linked h)

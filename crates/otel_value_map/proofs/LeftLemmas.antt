@@ -1,16 +1,15 @@
 -- What a collection leaves in the slots, and of the keys.
-use Rattle.std.proofs.Common.{ℕ, ◌≡◌, Bool, true, false, cond, ◌||◌, List, [], ◌∷◌, ◌++◌, Option, Some, None, is_some, map, filter, refl, sym, ap, subst, ◌∙◌, nat_eq, nat_lt, true≢false, arith}
-use Rattle.std.specs.List.{AllByRecursion, IsDistinct, list_any}
+use Rattle.std.proofs.Common.{ℕ, ◌≡◌, Bool, true, false, cond, ◌||◌, List, [], ◌∷◌, Option, Some, None, is_some, map, filter, refl, sym, ap, ◌∙◌, nat_eq, nat_lt, true≢false}
+use Rattle.std.specs.List.{AllByRecursion, IsDistinct}
 use Rattle.std.specs.Map.{lookup, keys_of, values_of}
 use Rattle.std.specs.Option.{option_map}
-use Rattle.std.proofs.lemmas.Bool.Decides.{nat_tests}
 use Rattle.std.proofs.lemmas.Map.Made.{IsDistinct-keys_filter}
 use Rattle.std.proofs.lemmas.Map.Entries.{lookup-filter-values, option_filter}
 use Rattle.otel_common.specs.Canonical.{canon}
 use Rattle.otel_common.specs.Equality.{set_eq}
 use Rattle.otel_common.specs.declared.attributes.KeyValue.{KeyValue}
 use Rattle.otel_model_stream.specs.Sets.{AttributeSet, none_set, over_set}
-use Rattle.otel_model_stream.specs.Entries.{Entry, Table, has, stays, reset, evicted, drained}
+use Rattle.otel_model_stream.specs.Entries.{Entry, has, stays, reset, evicted, drained}
 use Rattle.otel_value_map.specs.Slots.{Kept, Look, Keyed, remains, forgotten, left_of, entry_of, entry_at, table_at}
 use Rattle.otel_value_map.specs.Keyed.{Fits, Links, IsKept, is_lasting, is_counted}
 use Rattle.otel_value_map.specs.Numbers.{number_of, KeepLeft, is_placed}
@@ -34,6 +33,24 @@ distinct-filter t (x ∷ es) h = by (t x) (distinct-filter t es h.1)
     by true r = (apart-filter t x.1 es h.0, r)
     by false r = r
 
+-- no two lists of one set left
+sets-filter : (t : Keyed → Bool) (s : AttributeSet) (gs : List Keyed) → AllByRecursion (λ x. set_eq s x ≡ false) (map canon (keys_of gs)) → AllByRecursion (λ x. set_eq s x ≡ false) (map canon (keys_of (filter t gs)))
+sets-filter t s [] h = tt
+sets-filter t s (g ∷ gs) h = by (t g) (sets-filter t s gs h.1)
+  where
+    by : (b : Bool) → AllByRecursion (λ x. set_eq s x ≡ false) (map canon (keys_of (filter t gs))) → AllByRecursion (λ x. set_eq s x ≡ false) (map canon (keys_of (cond b (g ∷ filter t gs) (filter t gs))))
+    by true r = (h.0, r)
+    by false r = r
+
+single-filter : (t : Keyed → Bool) (gs : List Keyed) → IsDistinct set_eq (map canon (keys_of gs)) → IsDistinct set_eq (map canon (keys_of (filter t gs)))
+unfolding IsDistinct
+single-filter t [] h = tt
+single-filter t (g ∷ gs) h = by (t g) (single-filter t gs h.1)
+  where
+    by : (b : Bool) → IsDistinct set_eq (map canon (keys_of (filter t gs))) → IsDistinct set_eq (map canon (keys_of (cond b (g ∷ filter t gs) (filter t gs))))
+    by true r = (sets-filter t (canon g.0) gs h.0, r)
+    by false r = r
+
 -- what is filled is left
 abbrev pub is_left : Look → Keyed → Bool
 is_left other e = is_some (other e.1)
@@ -52,9 +69,10 @@ module _ (look other : Look) (w : (n : ℕ) → other n ≡ left_of (look n)) wh
       by (Some k) q =
           let same : k.lasting ≡ set_eq s over_set = sym (ap is_lasting q) ∙ lasts in
           let keep : remains k ≡ stays (entry_of s (Some k)) = ap (λ b. k.updated || (nat_lt 0 k.handles || b)) same in
-          let new : other n ≡ cond (remains k) (Some (forgotten k)) None = w n ∙ ap left_of q in
-          (two (remains k) (forgotten k) (other n) new ∙ keep,
-           λ h. ap (entry_of s) (new ∙ ap (λ b. cond b (Some (forgotten k)) None) (keep ∙ h)))
+          let new : other n ≡ cond (remains k) (Some (forgotten k)) None = w n ∙ ap left_of q in (
+            two (remains k) (forgotten k) (other n) new ∙ keep,
+            λ h. ap (entry_of s) (new ∙ ap (λ b. cond b (Some (forgotten k)) None) (keep ∙ h)),
+          )
 
   entries-left : (es : List Keyed) → AllByRecursion (Fits look) es → map (entry_at other) (filter (is_left other) es) ≡ map reset (filter stays (map (entry_at look) es))
   entries-left [] h = refl
@@ -149,6 +167,7 @@ module _ (look other : Look) (w : (n : ℕ) → other n ≡ left_of (look n)) wh
           unique = IsDistinct-keys_filter set_eq (is_left other) es laws.unique;
           fits = fits-left es laws.fits;
           linked = links-left gs laws.linked;
+          single = single-filter (is_left other) gs laws.single;
         }
 
     -- an entry that is left keeps its number
@@ -190,7 +209,7 @@ module _ (look other : Look) (none : ℕ) (es gs : List Keyed) (laws : IsKept lo
       none_filled = ap is_some w ∙ (by (look none)).0 ∙ laws.none_filled;
       none_lasts = ap is_lasting w ∙ (by (look none)).1 ∙ laws.none_lasts;
       none_uncounted = ap is_counted w ∙ (by (look none)).2 ∙ laws.none_uncounted;
-      apart = (tt, tt); unique = tt; fits = tt; linked = tt;
+      apart = (tt, tt); unique = tt; fits = tt; linked = tt; single = tt;
     }
     where
       by : (o : Option Kept) → (is_some (option_map forgotten o) ≡ is_some o) × (is_lasting (option_map forgotten o) ≡ is_lasting o) × (is_counted (option_map forgotten o) ≡ is_counted o)

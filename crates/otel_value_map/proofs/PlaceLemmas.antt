@@ -1,10 +1,9 @@
 -- Where a record's entry is, once its set has a place.
-use Rattle.std.proofs.Common.{ℕ, ◌+◌, ◌-◌, ◌^◌, ◌<◌, ◌≡◌, List, [], ◌∷◌, ◌++◌, length, map, filter, nat_lt, Bool, true, false, cond, ◌||◌, ◌&&◌, Option, Some, None, is_some, refl, ap, arith, subst, sym, ◌∙◌, true≢false, IsTrue}
+use Rattle.std.proofs.Common.{ℕ, ◌+◌, ◌-◌, ◌^◌, ◌<◌, ◌≡◌, List, [], ◌∷◌, ◌++◌, nat_lt, Bool, true, false, cond, ◌||◌, Option, Some, None, refl, ap, arith, subst, sym, ◌∙◌}
 use Rattle.std.specs.Map.{lookup, keys_of}
 use Rattle.std.proofs.lemmas.List.Folds.{list_any-append}
 use Rattle.std.proofs.lemmas.List.{map-append}
-use Rattle.otel_common.specs.Canonical.{canon}
-use Rattle.otel_common.specs.Equality.{set_eq, set_eq-Decides}
+use Rattle.otel_common.specs.Equality.{set_eq}
 use Rattle.otel_common.specs.declared.attributes.KeyValue.{KeyValue}
 use Rattle.otel_model_stream.specs.Folds.{Fold}
 use Rattle.otel_model_stream.specs.Sets.{AttributeSet, none_set, over_set}
@@ -13,10 +12,10 @@ use Rattle.otel_model_stream.specs.Maps.{MapState, with_place}
 use Rattle.otel_value_map.specs.Slots.{Keyed}
 use Rattle.otel_value_map.specs.Keyed.{Slotted, IsNew, with_spelling}
 use Rattle.otel_value_map.specs.Numbers.{Numbers, number_of, KeepNumbers, is_placed, set_named, handles_in, AreHandlesFew}
-use Rattle.otel_value_map.specs.Held.{IsSound, IsReady, list_of, pending_in, spelling_in}
+use Rattle.otel_value_map.specs.Held.{IsSound, IsReady, list_of, pending_in}
 use Rattle.otel_value_map.specs.declared.pending.Pending.{Pending}
 use Rattle.otel_value_map.specs.declared.pending.Pending.TheVariants.{Nothing, At, New}
-use Rattle.otel_value_map.proofs.KeyedLemmas.{same_set, set_eq-self, set_eq-flip}
+use Rattle.otel_value_map.proofs.KeyedLemmas.{same_set, set_eq-self}
 use Rattle.otel_value_map.proofs.AddLemmas.{lookup-pushed, numbers-pushed}
 use Rattle.otel_value_map.proofs.TableLemmas.{counted_cons}
 
@@ -108,9 +107,10 @@ keys-spelled (Some l) n gs = map-append (λ (e : Keyed). e.0) gs ((l, n) ∷ [])
 -- the numbers with one more
 pub numbers-added : (old new : Numbers) (s : AttributeSet) (n : ℕ) → new.none ≡ old.none → new.sets ≡ old.sets ++ (s, n) ∷ [] → IsNew old.sets s → KeepNumbers old new × (number_of s new ≡ Some n)
 numbers-added old new s n none sets fresh_set =
-    let is : new ≡ record { none = old.none; sets = old.sets ++ (s, n) ∷ [] } = λ i. record { none = none i; sets = sets i } in
-    (subst (KeepNumbers old) (sym is) (numbers-pushed old.none old.sets (s, n)),
-     ap (number_of s) is ∙ ap (λ b. cond b (Some old.none) (lookup (set_eq s) (old.sets ++ (s, n) ∷ []))) fresh_set.some ∙ lookup-pushed s old.sets n fresh_set.absent)
+    let is : new ≡ record { none = old.none; sets = old.sets ++ (s, n) ∷ [] } = λ i. record { none = none i; sets = sets i } in (
+      subst (KeepNumbers old) (sym is) (numbers-pushed old.none old.sets (s, n)),
+      ap (number_of s) is ∙ ap (λ b. cond b (Some old.none) (lookup (set_eq s) (old.sets ++ (s, n) ∷ []))) fresh_set.some ∙ lookup-pushed s old.sets n fresh_set.absent,
+    )
 
 -- nothing is prepared any more
 pub nothing-left : (ns : Numbers) (p : Pending) → pending_in ns p ≡ None → p ≡ Nothing

@@ -1,5 +1,5 @@
 -- What a record is to do, in a map.
-use Rattle.std.proofs.Common.{ℕ, ◌≡◌, Bool, true, false, cond, not, ◌||◌, ◌&&◌, List, [], ◌∷◌, Option, Some, None, is_some, refl, sym, ap, subst, ◌∙◌, nat_eq, true≢false, IsTrue}
+use Rattle.std.proofs.Common.{◌≡◌, Bool, true, false, cond, not, ◌||◌, ◌&&◌, List, [], ◌∷◌, Option, Some, None, refl, sym, ap, subst, ◌∙◌, true≢false}
 use Rattle.std.specs.Map.{lookup, keys_of}
 use Rattle.std.specs.Set.{is_member}
 use Rattle.otel_common.specs.Canonical.{canon}
@@ -9,8 +9,8 @@ use Rattle.otel_common.proofs.CanonLaws.{canon-canon}
 use Rattle.otel_model_stream.specs.Sets.{AttributeSet, none_set}
 use Rattle.otel_model_stream.specs.Entries.{has}
 use Rattle.otel_value_map.specs.Keyed.{Slotted, IsNew, IsSpelling, found}
-use Rattle.otel_value_map.specs.Numbers.{Numbers, number_of, set_named, named_in}
-use Rattle.otel_value_map.specs.Held.{IsPlan, IsSound, IsReady, is_new, leads, list_of, pending_in, spelling_in}
+use Rattle.otel_value_map.specs.Numbers.{number_of, set_named, named_in}
+use Rattle.otel_value_map.specs.Held.{IsPlan, IsSound, IsReady, is_new, leads, list_of}
 use Rattle.otel_value_map.specs.declared.pending.Pending.{Pending}
 use Rattle.otel_value_map.specs.declared.pending.Pending.TheVariants.{Nothing, At, New}
 use Rattle.otel_value_map.proofs.CanonicalSets.{canon-nil}

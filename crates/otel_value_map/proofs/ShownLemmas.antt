@@ -1,12 +1,12 @@
 -- What a draining collection shows of one set, and how many handles its entry has.
-use Rattle.std.proofs.Common.{ℕ, ◌≡◌, List, [], ◌∷◌, ◌++◌, map, filter, Bool, true, false, cond, ◌||◌, ◌&&◌, Option, Some, None, is_some, refl, ap, subst, sym, ◌∙◌, true≢false}
+use Rattle.std.proofs.Common.{ℕ, ◌≡◌, List, [], ◌∷◌, ◌++◌, map, filter, Bool, true, false, cond, ◌||◌, ◌&&◌, Option, Some, None, is_some, refl, ap, sym, ◌∙◌, true≢false}
 use Rattle.std.specs.List.{AllByRecursion, IsDistinct}
 use Rattle.std.specs.Map.{lookup, keys_of}
 use Rattle.std.specs.Option.{option_map}
 use Rattle.otel_common.specs.Equality.{set_eq}
 use Rattle.otel_model_stream.specs.Folds.{Fold}
 use Rattle.otel_model_stream.specs.Sets.{AttributeSet, none_set}
-use Rattle.otel_model_stream.specs.Entries.{Entry, Point, shown, points}
+use Rattle.otel_model_stream.specs.Entries.{Entry, shown, points}
 use Rattle.otel_model_stream.specs.Observed.{fold_in}
 use Rattle.otel_value_map.specs.Slots.{Kept, Look, Keyed, entry_of, entry_at, table_at}
 use Rattle.otel_value_map.specs.Keyed.{Fits, IsKept}

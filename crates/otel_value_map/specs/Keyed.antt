@@ -1,5 +1,5 @@
 -- Entries in slots, and the keys that lead to them.
-use Rattle.std.specs.Prelude.{◌≡◌, ℕ, nat_eq, ◌||◌, Bool, true, false, cond, List, [], ◌∷◌, ◌++◌, Option, Some, None, is_some}
+use Rattle.std.specs.Prelude.{◌≡◌, ℕ, nat_eq, Bool, true, false, List, [], ◌∷◌, ◌++◌, map, Option, Some, None, is_some}
 use Rattle.std.specs.List.{AllByRecursion, IsDistinct}
 use Rattle.std.specs.Map.{lookup, keys_of, values_of}
 use Rattle.otel_common.specs.Canonical.{canon}
@@ -51,7 +51,8 @@ pub record Fits (look : Look) (e : Keyed) : Type 0 where
 abbrev pub Links : List Keyed → Keyed → Type 0
 Links es g = lookup (set_eq (canon g.0)) es ≡ Some g.1
 
--- the slot of the empty set is filled, isn't counted and lasts; no slot is of two sets and no set has two; keys fit, and lists are linked
+-- the slot of the empty set is filled, isn't counted and lasts; no slot is of two sets and no set has two; keys fit; lists are
+-- linked, and no two are of one set
 pub record IsKept (look : Look) (none : ℕ) (es gs : List Keyed) : Type 0 where
   pub none_filled : is_some (look none) ≡ true
   pub none_lasts : is_lasting (look none) ≡ true
@@ -60,6 +61,7 @@ pub record IsKept (look : Look) (none : ℕ) (es gs : List Keyed) : Type 0 where
   pub unique : IsDistinct set_eq (keys_of es)
   pub fits : AllByRecursion (Fits look) es
   pub linked : AllByRecursion (Links es) gs
+  pub single : IsDistinct set_eq (map canon (keys_of gs))
 
 -- a set that can be made a key: canonical, not empty, and without an entry
 pub record IsNew (es : List Keyed) (s : AttributeSet) : Type 0 where

@@ -1,12 +1,12 @@
 -- The numbers of entries, by which handles name them, and the keys of a map.
-use Rattle.std.specs.Prelude.{◌≡◌, ℕ, ◌<◌, ◌-◌, ◌^◌, nat_eq, ◌&&◌, ◌||◌, not, cond, Bool, true, false, List, [], ◌∷◌, map, Option, Some, None}
-use Rattle.std.specs.Map.{lookup, keys_of}
+use Rattle.std.specs.Prelude.{◌≡◌, ℕ, ◌<◌, ◌-◌, ◌^◌, nat_eq, ◌&&◌, ◌||◌, not, cond, Bool, true, false, List, [], ◌∷◌, Option, Some}
+use Rattle.std.specs.Map.{lookup}
 use Rattle.otel_common.specs.Canonical.{canon}
 use Rattle.otel_common.specs.Equality.{set_eq}
 use Rattle.otel_common.specs.declared.attributes.KeyValue.{KeyValue}
 use Rattle.otel_model_stream.specs.Sets.{AttributeSet, none_set}
 use Rattle.otel_model_stream.specs.Entries.{Entry, Table, is_of, has}
-use Rattle.otel_model_stream.specs.Maps.{MapState, KnownMap, is_admitted}
+use Rattle.otel_model_stream.specs.Maps.{MapState, is_admitted}
 
 -- the number of the empty set's entry, and each set that has an entry with the number of that, in order of making
 pub record Numbers : Type 0 where

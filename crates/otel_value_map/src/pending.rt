@@ -39,11 +39,7 @@ impl Pending {
 }
 
 /// A copy of a list that is to lead to the entry of this set, unless it is the set itself.
-fn other_key(
-    alloc: Global,
-    list: &SetKey,
-    set: &SetKey,
-) -> Result<Option<SetKey<'static>>, Fault>
+fn other_key(alloc: Global, list: &SetKey, set: &SetKey) -> Result<Option<SetKey<'static>>, Fault>
     ensures key { IfOk result (λ key. key ≡ cond (set_eq set.now list.now) None (Some list.now)) }
     ensures only_memory { IsOkUnless result Fault.OutOfMemory }
 {

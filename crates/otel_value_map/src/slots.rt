@@ -46,11 +46,7 @@ pub fn fill<A: Aggregator>(slots: &mut Slab<Slot<A>>, slot: Slot<A>) -> usize
 }
 
 /// Takes a record into the slot of this number. It looks nothing up.
-pub fn touch<A: Aggregator>(
-    slots: &mut Slab<Slot<A>>,
-    number: usize,
-    value: A::PreComputedValue,
-)
+pub fn touch<A: Aggregator>(slots: &mut Slab<Slot<A>>, number: usize, value: A::PreComputedValue)
     ensures look { SameLook (look_in A.meaning slots.new) (at_slot number (written (A.sample value)) (look_in A.meaning slots.old)) }
 {
     if let Some(slot) = slots.get_mut(number) {

@@ -1,6 +1,6 @@
 //! Entries in slots, found by their sets and by the lists that admitted them.
 
-ghost use Rattle.std.specs.Prelude.{◌≡◌, ◌<◌, ◌-◌, ◌^◌, ◌∷◌, [], ◌++◌, ◌||◌, None, Some, IfOk, IsOk, OnOk, IsOkUnless, IfSome, map, filter, is_some, length, cond, nat_eq, false, true, ℕ};
+ghost use Rattle.std.specs.Prelude.{◌≡◌, ◌<◌, ◌≤◌, ◌+◌, ◌-◌, ◌*◌, ◌^◌, ◌∷◌, [], ◌++◌, ◌||◌, None, Some, IfOk, IsOk, OnOk, IsOkUnless, IfSome, map, filter, is_some, length, cond, nat_eq, false, true, ℕ};
 ghost use Rattle.std.specs.Option.{option_map};
 ghost use Rattle.std.specs.Map.{lookup, keys_of};
 ghost use Rattle.std.specs.Set.{is_member};
@@ -152,7 +152,11 @@ fn weight_shown<A: Aggregator>(slots: &Slab<Slot<A>>, number: usize, every: bool
         None => 0,
         Some(slot) => {
             let is_shown = every || slot.updated;
-            if is_shown { slot.aggregator.weight() } else { 0 }
+            if is_shown {
+                slot.aggregator.weight()
+            } else {
+                0
+            }
         }
     }
 }
@@ -303,6 +307,14 @@ impl<A: Aggregator> Table<A> {
         ensures named { IfSome result (λ n. IsNumberOf (canon list.now) n self.now.numbers) }
     {
         found_in(&self.sets, &self.given, list)
+    }
+
+    /// How many keys lead to entries: those of sets, and those of lists as they were given.
+    pub fn keys(&self) -> usize
+        ensures number { result ≡ length self.now.table.entries + length self.now.given }
+        ensures few { result ≤ 2 * length self.now.table.entries }
+    {
+        self.sets.len() + self.given.len()
     }
 
     /// Makes room for an entry more, with a key of its set and one of another list.

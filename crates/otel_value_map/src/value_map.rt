@@ -1,10 +1,11 @@
 //! A bounded map from sets of attributes to aggregators.
 
-ghost use Rattle.std.specs.Prelude.{◌≡◌, ◌<◌, ◌-◌, ◌+◌, ◌*◌, ◌≤◌, ◌^◌, ◌++◌, [], true, false, is_some, length, None, Some, IsSome, OnOk, OnErr, IfOk, IsOkUnless, ℕ};
+ghost use Rattle.std.specs.Prelude.{◌≡◌, ◌<◌, ◌-◌, ◌+◌, ◌*◌, ◌≤◌, ◌^◌, ◌++◌, [], true, false, is_some, length, None, Some, IsSome, OnOk, OnErr, IfOk, IsOkUnless, IsTrue, ℕ};
 ghost use Rattle.std.specs.Option.{option_map};
 ghost use Rattle.otel_common.specs.Canonical.{canon};
 ghost use Rattle.otel_model_stream.specs.Entries.{entry_for, points, number_counted};
-ghost use Rattle.otel_model_stream.specs.Maps.{new_map, with_place, measured, measured_list, bound_list, bound_map, bound_to, updated_bound, unbound, evicted_map, evicted_known, drained_map, readonly_points, resetting_points, draining_points, knows, keys, given_left, SucceedsIfKnown};
+ghost use Rattle.otel_model_stream.specs.Maps.{new_map, with_place, measured, measured_list, bound_list, bound_map, bound_to, updated_bound, unbound, evicted_map, evicted_known, drained_map, readonly_points, resetting_points, draining_points, knows, keys, given_left, is_admitted, SucceedsIfKnown};
+ghost use Rattle.otel_model_stream.specs.Laws.{AreKnown};
 ghost use Rattle.otel_model_stream.specs.Observed.{fold_in};
 ghost use Rattle.otel_model_stream.specs.Folds.{wrapped};
 ghost use Rattle.otel_model_stream.specs.Sets.{AttributeSet, kept, set_of};
@@ -228,18 +229,20 @@ impl<A: Aggregator> ValueMap<A> {
         ensures given { self.new.given ≡ self.old.given ++ self.old.spelling }
         ensures spent { self.new.pending ≡ None }
     {
-        let number = self.place();
-        self.table.touch(number, value);
+        let entry = self.place();
+        self.table.touch(entry, value);
     }
 
     /// Takes in a record of the attributes, under their canonical form. Without attributes, and with
-    /// those that lead to an entry as they stand, it takes no memory.
+    /// those that lead to an entry as they stand, it takes no memory. Where it admits their set, the attributes and
+    /// their canonical form lead to it from then on.
     pub fn measure(
         &mut self,
         value: A::PreComputedValue,
         attributes: &[KeyValue],
     ) -> Result<(), Fault>
         ensures ok { OnOk result (known_of self.new ≡ measured_list attributes.now (A.sample value) (known_of self.old)) }
+        ensures learned { OnOk result (IsTrue (is_admitted (canon attributes.now) self.old.state) → AreKnown attributes.now (known_of self.new)) }
         ensures numbers { KeepNumbers self.old.numbers self.new.numbers }
         ensures err { OnErr result (known_of self.new ≡ known_of self.old) }
         ensures spent { self.new.pending ≡ None }
@@ -268,10 +271,11 @@ impl<A: Aggregator> ValueMap<A> {
     }
 
     /// Binds a handle at the attributes, under their canonical form, and tells the number of its entry, which stays with it
-    /// for its life. It takes memory as a record of them does.
+    /// for its life. It takes memory as a record of them does, and lets them lead to an entry as that does.
     pub fn bind(&mut self, attributes: &[KeyValue]) -> Result<usize, Fault>
         requires { AreHandlesFew self.old.state.table }
         ensures ok { OnOk result (known_of self.new ≡ bound_list attributes.now (known_of self.old)) }
+        ensures learned { OnOk result (IsTrue (is_admitted (canon attributes.now) self.old.state) → AreKnown attributes.now (known_of self.new)) }
         ensures number { IfOk result (λ n. number_of (bound_to (canon attributes.now) self.old.state) self.new.numbers ≡ Some n) }
         ensures numbers { KeepNumbers self.old.numbers self.new.numbers }
         ensures err { OnErr result (known_of self.new ≡ known_of self.old) }
@@ -316,6 +320,15 @@ impl<A: Aggregator> ValueMap<A> {
             return true;
         }
         self.table.find(&list).is_some()
+    }
+
+    /// How many keys it has: the sets of its entries, and the lists as they were given that admitted one of them in another
+    /// form. There are at most two of an entry.
+    pub fn keys(&self) -> usize
+        ensures number { result ≡ keys (known_of self.now) }
+        ensures few { result ≤ 2 * length self.now.state.table.entries }
+    {
+        self.table.keys()
     }
 
     /// How many entries the limit counts.

@@ -1,9 +1,8 @@
-use Rattle.std.proofs.Common.{◌≡◌, ◌∙◌, ap, sym, subst, true, false, None, Some, Bool, rules, ◌||◌}
-use Rattle.std.specs.Map.{lookup, keys_of}
-use Rattle.std.specs.Set.{is_member}
+use Rattle.std.proofs.Common.{◌≡◌, ◌∙◌, ap, sym, subst, true, false, None, Bool, rules}
+use Rattle.std.specs.Map.{lookup}
 use Rattle.otel_common.specs.Canonical.{canon}
 use Rattle.otel_common.specs.Equality.{set_eq}
-use Rattle.otel_model_stream.specs.Sets.{AttributeSet, none_set}
+use Rattle.otel_model_stream.specs.Sets.{AttributeSet}
 use Rattle.otel_model_stream.specs.Entries.{has}
 use Rattle.otel_value_map.specs.Held.{IsPlan}
 use Rattle.otel_value_map.specs.declared.pending.Pending.TheVariants.{At, New}
@@ -26,7 +25,7 @@ returns-then-not-few-clause-plan g c =
     let away : has (canon l) t.table.entries ≡ false = ap (λ (s : AttributeSet). has s t.table.entries) (sym set) ∙ sym c.in_default-find_set.ensures.placed in
     let past : c.args.few ≡ false = search rules in
     subst (λ (b : Bool). IsPlan t b l (New c.in_ok-set.set None)) (sym past)
-        (plan-past t l (some-set l some) (some-canon l some) (sym c.in_default.ensures.known) (sym c.in_default.ensures.number) absent away c.in_ok-set.set set)
+    (plan-past t l (some-set l some) (some-canon l some) (sym c.in_default.ensures.known) (sym c.in_default.ensures.number) absent away c.in_ok-set.set set)
 
 pub returns-clause-plan : goal.returns-clause-plan
 returns-clause-plan g c =
@@ -38,4 +37,4 @@ returns-clause-plan g c =
     let away : has (canon l) t.table.entries ≡ false = ap (λ (s : AttributeSet). has s t.table.entries) (sym set) ∙ sym c.in_default-find_set.ensures.placed in
     let below : c.args.few ≡ true = search rules in
     subst (λ (b : Bool). IsPlan t b l (New c.in_ok-set.set c.in_ok-key.key)) (sym below)
-        (plan-admitted t l (some-set l some) (some-canon l some) (sym c.in_default.ensures.known) (sym c.in_default.ensures.number) absent away c.in_ok-set.set c.in_ok-key.key set c.in_ok-key.ensures.key)
+    (plan-admitted t l (some-set l some) (some-canon l some) (sym c.in_default.ensures.known) (sym c.in_default.ensures.number) absent away c.in_ok-set.set c.in_ok-key.key set c.in_ok-key.ensures.key)

@@ -1,10 +1,9 @@
-use Rattle.std.proofs.Common.{◌≡◌, ap, sym, ◌∙◌, List, map, filter, subst}
+use Rattle.std.proofs.Common.{◌≡◌, ap, ◌∙◌, List, filter}
 use Rattle.std.specs.Map.{keys_of}
 use Rattle.otel_common.specs.Canonical.{canon}
 use Rattle.otel_model_stream.specs.Entries.{Table, has, evicted}
-use Rattle.otel_value_map.specs.Keyed.{Slotted, IsKept}
+use Rattle.otel_value_map.specs.Keyed.{Slotted}
 use Rattle.otel_value_map.specs.Slots.{look_in, Keyed, table_at}
-use Rattle.otel_value_map.specs.Numbers.{Numbers, KeepLeft}
 use Rattle.otel_value_map.proofs.LeftLemmas.{table-left, kept-left, numbers-left, lists-left}
 use Rattle.otel_value_map.proofs.table.Table.evict.Goals as goal
 

@@ -1,4 +1,4 @@
-use Rattle.std.proofs.Common.{refl, ap, sym, ◌∙◌}
+use Rattle.std.proofs.Common.{refl, ap, ◌∙◌}
 use Rattle.otel_model_stream.specs.Entries.{drop_handle, at_entry}
 use Rattle.otel_value_map.specs.Keyed.{Slotted}
 use Rattle.otel_value_map.specs.Slots.{released}

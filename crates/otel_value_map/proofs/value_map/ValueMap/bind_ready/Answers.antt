@@ -21,8 +21,9 @@ hold-requires g c =
       | None ↦ λ none some. absurd (true≢false (sym some))
       | Some s ↦ λ is some.
           let x : AttributeSet = entry_for s c.place-number.new.self.state.table.entries in
-          let few : AreHandlesFew c.place-number.new.self.state.table = subst (λ (m : MapState). AreHandlesFew m.table) (sym (c.place-number.ensures.state s is)) (few-placed c.args.self.now.state.limit c.args.self.now.state.empty s c.args.self.now.state.table c.requires.few) in
-          (x,
-           ap (λ (h : Held). number_of x h.numbers) c.self.view_is ∙ c.place-number.ensures.number s is,
-           subst (λ (h : Held). handles_at x h.state.table < 2 ^ 64 - 1) (sym c.self.view_is) (few x))
+          let few : AreHandlesFew c.place-number.new.self.state.table = subst (λ (m : MapState). AreHandlesFew m.table) (sym (c.place-number.ensures.state s is)) (few-placed c.args.self.now.state.limit c.args.self.now.state.empty s c.args.self.now.state.table c.requires.few) in (
+            x,
+            ap (λ (h : Held). number_of x h.numbers) c.self.view_is ∙ c.place-number.ensures.number s is,
+            subst (λ (h : Held). handles_at x h.state.table < 2 ^ 64 - 1) (sym c.self.view_is) (few x),
+          )
     ] refl c.requires.prepared

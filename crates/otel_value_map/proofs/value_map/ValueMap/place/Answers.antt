@@ -1,4 +1,4 @@
-use Rattle.std.proofs.Common.{◌≡◌, ◌∙◌, ◌++◌, ◌∷◌, [], List, ap, sym, subst, refl, true, false, None, Some, Option, Bool, nat_lt, is_some, ◌&&◌, ◌≤◌, ℕ, arith}
+use Rattle.std.proofs.Common.{◌≡◌, ◌∙◌, ◌++◌, ◌∷◌, [], List, ap, sym, subst, refl, true, false, None, Some, Option, nat_lt, ◌≤◌, ℕ, arith}
 use Rattle.std.specs.Map.{lookup}
 use Rattle.std.specs.Option.{IfSome}
 use Rattle.std.proofs.lemmas.Bool.{lt-ltb}
@@ -9,7 +9,7 @@ use Rattle.otel_model_stream.specs.Sets.{AttributeSet, over_set}
 use Rattle.otel_model_stream.specs.Entries.{Entry, Table, fresh, has, entry_for, number_counted}
 use Rattle.otel_value_map.specs.Slots.{Kept, entry_of}
 use Rattle.otel_value_map.specs.Keyed.{IsNew}
-use Rattle.otel_value_map.specs.Numbers.{Numbers, number_of}
+use Rattle.otel_value_map.specs.Numbers.{number_of}
 use Rattle.otel_value_map.specs.Held.{Held, IsReady}
 use Rattle.otel_value_map.proofs.CanonicalSets.{canon-over}
 use Rattle.otel_value_map.proofs.PlaceLemmas.{Placing, place-admitted, place-over_made, new-prepared, new-set, numbers-added}
@@ -37,11 +37,11 @@ returns-then-self-clause-number g c = λ s e.
     let few : nat_lt (number_counted entries) c.self.inside.limit ≡ true = rw (← c.self.invariant.0) (lt-ltb _ _ c.if-self.true) in
     let place : Placing c.self.inside.limit empty set entries _ set = place-admitted c.self.inside.limit empty set entries ready.new.some ready.absent few in
     let after : c.add.new.self.table.entries ≡ entries ++ fresh empty set true ∷ [] =
-        ap (λ (x : Table). x.entries) c.add.ensures.table ∙ ap (λ (k : Kept). entries ++ entry_of set (Some k) ∷ []) c.take_slot-slot.ensures.slot in
+    ap (λ (x : Table). x.entries) c.add.ensures.table ∙ ap (λ (k : Kept). entries ++ entry_of set (Some k) ∷ []) c.take_slot-slot.ensures.slot in
     let goal : entry_for set c.add.new.self.table.entries ≡ set = ap (entry_for set) after ∙ place.goal in
     let number = (numbers-added t.numbers c.add.new.self.numbers set c.add.result c.add.ensures.none c.add.ensures.sets ready.new).1 in
     subst (λ (x : AttributeSet). number_of (entry_for x c.add.new.self.table.entries) c.add.new.self.numbers ≡ Some c.add.result) same
-        (ap (λ (x : AttributeSet). number_of x c.add.new.self.numbers) goal ∙ number)
+    (ap (λ (x : AttributeSet). number_of x c.add.new.self.numbers) goal ∙ number)
 
 pub returns-then-self-clause-numbers : goal.returns-then-self-clause-numbers
 returns-then-self-clause-numbers g c =
@@ -68,12 +68,12 @@ returns-clause-number g c = λ s e.
     let gone : has over_set entries ≡ false = ap (λ (x : AttributeSet). has x entries) (sym c.self.invariant.2) ∙ sym c.in_default.ensures.placed in
     let place : Placing c.self.inside.limit empty set entries _ over_set = place-over_made c.self.inside.limit empty set entries ready.new.some ready.absent full gone in
     let after : c.add-2.new.self.table.entries ≡ entries ++ fresh empty over_set false ∷ [] =
-        ap (λ (x : Table). x.entries) c.add-2.ensures.table ∙ ap (λ (k : Kept). entries ++ entry_of c.unwrap-key.result (Some k) ∷ []) c.take_slot-slot-2.ensures.slot ∙ ap (λ (x : AttributeSet). entries ++ fresh empty x false ∷ []) key in
+    ap (λ (x : Table). x.entries) c.add-2.ensures.table ∙ ap (λ (k : Kept). entries ++ entry_of c.unwrap-key.result (Some k) ∷ []) c.take_slot-slot-2.ensures.slot ∙ ap (λ (x : AttributeSet). entries ++ fresh empty x false ∷ []) key in
     let goal : entry_for set c.add-2.new.self.table.entries ≡ over_set = ap (entry_for set) after ∙ place.goal in
     let new : IsNew t.numbers.sets c.unwrap-key.result = subst (IsNew t.numbers.sets) (sym key) (over_new t.numbers.sets c.self.inside.overflow c.self.invariant.2 c.in_default.ensures.number) in
     let number = (numbers-added t.numbers c.add-2.new.self.numbers c.unwrap-key.result c.add-2.result c.add-2.ensures.none c.add-2.ensures.sets new).1 in
     subst (λ (x : AttributeSet). number_of (entry_for x c.add-2.new.self.table.entries) c.add-2.new.self.numbers ≡ Some c.add-2.result) same
-        (ap (λ (x : AttributeSet). number_of x c.add-2.new.self.numbers) (goal ∙ sym key) ∙ number)
+    (ap (λ (x : AttributeSet). number_of x c.add-2.new.self.numbers) (goal ∙ sym key) ∙ number)
 
 pub returns-clause-numbers : goal.returns-clause-numbers
 returns-clause-numbers g c =
