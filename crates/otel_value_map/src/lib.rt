@@ -12,6 +12,4 @@ mod set_key;
 pub mod sets;
 mod signed;
 mod table;
-#[cfg(test)]
-mod tests;
 pub mod value_map;

@@ -1,7 +1,7 @@
 //! Sums: what collections give after each of some steps, as whole points.
 
 use super::{B, NONE, OVERFLOW, Set, X, Y, Z, attributes};
-use crate::sum::Sum;
+use otel_aggregate::sum::Sum;
 use otel_common::faults::Fault;
 use otel_common::keys::Key;
 use otel_common::lists::Items;

@@ -1,12 +1,12 @@
 //! The map of sets.
 
 use super::{Set, attributes};
-use crate::aggregator::Increment;
-use crate::number::Number;
-use crate::value_map::ValueMap;
 use otel_common::attributes::KeyValue;
 use otel_common::faults::Fault;
 use otel_common::lists::Items;
+use otel_value_map::aggregator::Increment;
+use otel_value_map::number::Number;
+use otel_value_map::value_map::ValueMap;
 use std::alloc::Global;
 use std::test::Fail;
 

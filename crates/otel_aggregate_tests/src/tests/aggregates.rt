@@ -1,4 +1,4 @@
-//! Worked rows and carried tests, and each public call once, at both number types.
+//! Streams of records by sets of attributes: worked rows and carried tests.
 
 use otel_common::attributes::{KeyValue, Value};
 use otel_common::faults::Fault;

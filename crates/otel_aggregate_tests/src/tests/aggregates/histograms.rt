@@ -1,7 +1,7 @@
 //! Histograms: whole points, of both number types.
 
 use super::{B, NONE, Set, attributes};
-use crate::histogram::Histogram;
+use otel_aggregate::histogram::Histogram;
 use otel_common::faults::Fault;
 use otel_common::lists::Items;
 use otel_common::metrics::Temporality;

@@ -1,7 +1,7 @@
 //! Last values: whole points, of both number types.
 
 use super::{B, NONE, Set, X, attributes};
-use crate::last_value::LastValue;
+use otel_aggregate::last_value::LastValue;
 use otel_common::faults::Fault;
 use otel_common::lists::Items;
 use otel_common::metrics::Temporality;

@@ -1,9 +1,9 @@
-//! Worked values, and each generic call once at both number types.
+//! Worked values of the map of sets, of its aggregators and its numbers.
 
-use crate::sets::allowed_attributes;
 use otel_common::attributes::{KeyValue, Value};
 use otel_common::faults::Fault;
 use otel_common::keys::Key;
+use otel_value_map::sets::allowed_attributes;
 use std::alloc::Global;
 use std::test::Fail;
 

@@ -1,13 +1,13 @@
 //! Aggregators, and the bounds of buckets.
 
-use crate::aggregator::{Aggregator, Increment, create_fold, reset_fold, update_fold};
-use crate::assign::Assign;
-use crate::bounds::Bounds;
-use crate::buckets::{Buckets, BucketsConfig, counted_once};
-use crate::number::Number;
 use otel_common::bounds::is_rising;
 use otel_common::faults::Fault;
 use otel_common::lists::Items;
+use otel_value_map::aggregator::{Aggregator, Increment, create_fold, reset_fold, update_fold};
+use otel_value_map::assign::Assign;
+use otel_value_map::bounds::Bounds;
+use otel_value_map::buckets::{Buckets, BucketsConfig, counted_once};
+use otel_value_map::number::Number;
 use std::alloc::Global;
 use std::test::Fail;
 

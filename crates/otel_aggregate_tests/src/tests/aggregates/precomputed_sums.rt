@@ -2,7 +2,7 @@
 
 use super::sums::are_sums;
 use super::{B, Set, X, attributes};
-use crate::precomputed_sum::PrecomputedSum;
+use otel_aggregate::precomputed_sum::PrecomputedSum;
 use otel_common::faults::Fault;
 use otel_common::metrics::Temporality;
 use otel_value_map::number::Number;

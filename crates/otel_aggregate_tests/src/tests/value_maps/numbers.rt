@@ -1,6 +1,6 @@
 //! Numbers of both types.
 
-use crate::number::Number;
+use otel_value_map::number::Number;
 
 #[test]
 fn numbers_wrap(rt: HostRuntime) {
