@@ -2,7 +2,7 @@
 
 use opentelemetry_sdk::common::Fault;
 use opentelemetry_sdk::metrics::callback::NoCallback;
-use opentelemetry_sdk::metrics::provider::{Parts, SdkMeterProvider};
+use opentelemetry_sdk::metrics::provider::{Parts, Provider, SdkMeterProvider};
 use opentelemetry_sdk::metrics::reader::MetricReader;
 use opentelemetry_sdk::metrics::{ManualReader, View};
 use std::alloc::Global;
@@ -28,4 +28,9 @@ pub fn boxed_provider(
     SdkMeterProvider::builder(alloc)
         .with_reader(reader)?
         .build()
+}
+
+/// A provider with one reader that is in no box.
+pub fn plain_provider(alloc: Global, reader: ManualReader) -> Result<Provider<OnlyManual>, Fault> {
+    Provider::builder(alloc).with_reader(reader)?.build()
 }

@@ -1,9 +1,13 @@
 //! What the program prints.
 
+use crate::calls::collect;
+use anyhow::Error;
 use opentelemetry_sdk::common::{KeyValue, Value};
 use opentelemetry_sdk::metrics::data::{
     AggregatedMetrics, HistogramDataPoint, Metric, MetricData, ResourceMetrics,
 };
+use opentelemetry_sdk::metrics::provider::{Parts, Provider};
+use std::alloc::Global;
 use std::io;
 use std::slice::Iter;
 
@@ -67,7 +71,7 @@ fn print_metric(rt: &impl Print, metric: &Metric) -> io::Result<()> {
 }
 
 /// Prints the points of a collection.
-pub fn print_points(rt: &impl Print, collected: &ResourceMetrics) -> io::Result<()> {
+fn print_points(rt: &impl Print, collected: &ResourceMetrics) -> io::Result<()> {
     println!(rt; "collected")?;
     for scope in collected.scope_metrics() {
         for metric in scope.metrics() {
@@ -75,4 +79,19 @@ pub fn print_points(rt: &impl Print, collected: &ResourceMetrics) -> io::Result<
         }
     }
     Ok(())
+}
+
+/// Prints what a collection gave.
+pub fn print_collected(rt: &impl Print, collected: &ResourceMetrics) -> Result<(), Error> {
+    Ok(print_points(rt, collected)?)
+}
+
+/// Prints what the first reader of a provider collects at a moment.
+pub fn print_collection<P: Parts>(
+    rt: &impl Print,
+    alloc: Global,
+    provider: &mut Provider<P>,
+    now: u64,
+) -> Result<(), Error> {
+    print_collected(rt, &collect(alloc, provider, 0, now)?)
 }

@@ -7,6 +7,17 @@ use opentelemetry_sdk::metrics::meter::Counter;
 use opentelemetry_sdk::metrics::provider::{Parts, Provider};
 use std::alloc::Global;
 
+/// The counter of a shop's requests, made at a moment.
+fn counter_of_requests<P: Parts>(
+    alloc: Global,
+    provider: &mut Provider<P>,
+    now: u64,
+) -> Result<Counter<u64>, Fault> {
+    let name = String::from_str(alloc, "requests")?;
+    let meter = provider.meter("shop")?;
+    meter.u64_counter(name).build(provider, now)
+}
+
 /// A shop, and the counter of its requests.
 #[derive(Drop)]
 pub struct Shop<P: Parts> {
@@ -17,10 +28,8 @@ pub struct Shop<P: Parts> {
 impl<P: Parts> Shop<P> {
     /// A shop that counts its requests at this provider, from a moment on.
     pub fn open(alloc: Global, provider: Provider<P>, now: u64) -> Result<Shop<P>, Fault> {
-        let name = String::from_str(alloc, "requests")?;
         let mut provider = provider;
-        let meter = provider.meter("shop")?;
-        let requests = meter.u64_counter(name).build(&mut provider, now)?;
+        let requests = counter_of_requests(alloc, &mut provider, now)?;
         Ok(Shop { provider, requests })
     }
 

@@ -1,24 +1,27 @@
 //! A stand that counts at a provider with views.
 
-use crate::calls::{collect, text};
-use crate::views::{dropped, few_points, other_buckets, renamed, two_attributes};
+use crate::calls::text;
+use crate::views::{OfName, dropped, few_points, other_buckets, renamed, two_attributes};
 use anyhow::Error;
 use opentelemetry_sdk::common::{Fault, KeyValue};
 use opentelemetry_sdk::metrics::ManualReader;
-use opentelemetry_sdk::metrics::data::ResourceMetrics;
 use opentelemetry_sdk::metrics::meter::{Counter, Meter};
-use opentelemetry_sdk::metrics::provider::SdkMeterProvider;
+use opentelemetry_sdk::metrics::provider::{MeterProviderBuilder, SdkMeterProvider};
 use std::alloc::Global;
 
 /// The attributes of an order.
-fn order(alloc: Global, cart: &str) -> Result<[KeyValue; 5], Fault> {
-    Ok([
-        text(alloc, "country", "se")?,
-        text(alloc, "paid", "card")?,
-        text(alloc, "cart", cart)?,
-        text(alloc, "browser", "lynx")?,
-        text(alloc, "page", "7")?,
-    ])
+fn order(alloc: Global, cart: &str) -> Result<Vec<KeyValue>, Fault> {
+    let mut attributes = Vec::new(alloc);
+    for (key, value) in [
+        ("country", "se"),
+        ("paid", "card"),
+        ("cart", cart),
+        ("browser", "lynx"),
+        ("page", "7"),
+    ] {
+        attributes.push(text(alloc, key, value)?)?;
+    }
+    Ok(attributes)
 }
 
 /// A counter of the stand, made at the moment 100.
@@ -59,7 +62,7 @@ fn time(alloc: Global, provider: &mut SdkMeterProvider, meter: Meter) -> Result<
 }
 
 /// Counts what happens on a day.
-fn count_a_day(alloc: Global, provider: &mut SdkMeterProvider) -> Result<(), Fault> {
+pub fn count_a_day(alloc: Global, provider: &mut SdkMeterProvider) -> Result<(), Fault> {
     let meter = provider.meter("stand")?;
     let requests = counter(alloc, provider, meter, "requests")?;
     requests.add(provider, 3, &[])?;
@@ -70,22 +73,24 @@ fn count_a_day(alloc: Global, provider: &mut SdkMeterProvider) -> Result<(), Fau
     time(alloc, provider, meter)
 }
 
-/// What the reader of a provider with five views collects of a day.
-pub fn a_day(alloc: Global) -> Result<ResourceMetrics, Error> {
-    let named = Box::new(alloc, renamed(alloc)?)?;
-    let none = Box::new(alloc, dropped(alloc)?)?;
-    let narrow = Box::new(alloc, two_attributes(alloc)?)?;
-    let few = Box::new(alloc, few_points(alloc)?)?;
-    let wide = Box::new(alloc, other_buckets(alloc)?)?;
+/// The builder with a view more, in a box.
+fn with_view(
+    alloc: Global,
+    builder: MeterProviderBuilder,
+    view: Result<OfName, Error>,
+) -> Result<MeterProviderBuilder, Error> {
+    let view = Box::new(alloc, view?)?;
+    Ok(builder.with_view(view)?)
+}
+
+/// A provider with five views and one reader.
+pub fn provider_with_views(alloc: Global) -> Result<SdkMeterProvider, Error> {
     let reader = Box::new(alloc, ManualReader::default())?;
-    let mut provider = SdkMeterProvider::builder(alloc)
-        .with_view(named)?
-        .with_view(none)?
-        .with_view(narrow)?
-        .with_view(few)?
-        .with_view(wide)?
-        .with_reader(reader)?
-        .build()?;
-    count_a_day(alloc, &mut provider)?;
-    Ok(collect(alloc, &mut provider, 0, 200)?)
+    let builder = SdkMeterProvider::builder(alloc).with_reader(reader)?;
+    let builder = with_view(alloc, builder, renamed(alloc))?;
+    let builder = with_view(alloc, builder, dropped(alloc))?;
+    let builder = with_view(alloc, builder, two_attributes(alloc))?;
+    let builder = with_view(alloc, builder, few_points(alloc))?;
+    let builder = with_view(alloc, builder, other_buckets(alloc))?;
+    Ok(builder.build()?)
 }
