@@ -5,10 +5,10 @@ ghost use Rattle.std.specs.Prelude.{◌≡◌, ◌∷◌, [], map, IfOk};
 use crate::calls::text;
 use opentelemetry_sdk::Resource;
 use opentelemetry_sdk::common::{Fault, Items, StringValue, Value};
-use opentelemetry_sdk::metrics::ManualReader;
 use opentelemetry_sdk::metrics::callback::{Observation, ObserveU64};
 use opentelemetry_sdk::metrics::meter::{Histogram, Meter};
 use opentelemetry_sdk::metrics::provider::{Parts, Provider, SdkMeterProvider};
+use opentelemetry_sdk::metrics::reader::MetricReader;
 use std::alloc::Global;
 
 /// What all points of the program come from.
@@ -21,10 +21,12 @@ pub fn service(alloc: Global) -> Result<Resource, Fault> {
     )
 }
 
-/// A provider of the service, with a reader that collects when it is asked to.
-pub fn provider_of_service(alloc: Global) -> Result<SdkMeterProvider, Fault> {
+/// A provider of the service, with one reader.
+pub fn provider_of_service(
+    alloc: Global,
+    reader: Box<dyn MetricReader>,
+) -> Result<SdkMeterProvider, Fault> {
     let service = service(alloc)?;
-    let reader = Box::new(alloc, ManualReader::default())?;
     SdkMeterProvider::builder(alloc)
         .with_resource(service)?
         .with_reader(reader)?

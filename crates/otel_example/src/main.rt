@@ -37,7 +37,8 @@ fn serve<P: Parts>(
 /// A service that serves two requests.
 fn first_program(rt: &impl Print, alloc: Global) -> Result<(), Error> {
     let waiting = Box::new(alloc, Waiting::new(alloc, 3))?;
-    let mut provider = provider_of_service(alloc)?;
+    let reader = Box::new(alloc, ManualReader::default())?;
+    let mut provider = provider_of_service(alloc, reader)?;
     serve(rt, alloc, &mut provider, waiting)
 }
 
@@ -83,11 +84,20 @@ fn without_boxes(rt: &impl Print, alloc: Global) -> Result<(), Error> {
     serve_two_days(rt, alloc, &mut shop)
 }
 
+/// Counts what happens on a day, and prints it.
+fn print_day<P: Parts>(
+    rt: &impl Print,
+    alloc: Global,
+    provider: &mut Provider<P>,
+) -> Result<(), Error> {
+    count_a_day(alloc, provider)?;
+    print_collection(rt, alloc, provider, 200)
+}
+
 /// Views that rename a stream, drop one, keep two attributes of five, set a limit and change buckets.
 fn with_views(rt: &impl Print, alloc: Global) -> Result<(), Error> {
     let mut provider = provider_with_views(alloc)?;
-    count_a_day(alloc, &mut provider)?;
-    print_collection(rt, alloc, &mut provider, 200)
+    print_day(rt, alloc, &mut provider)
 }
 
 /// Makes a counter, and counts two batches of requests.

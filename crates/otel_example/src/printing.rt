@@ -11,17 +11,22 @@ use std::alloc::Global;
 use std::io;
 use std::slice::Iter;
 
+/// Prints a value, of a list only that it is one.
+fn print_value(rt: &impl Print, value: &Value) -> io::Result<()> {
+    match value {
+        Value::String(text) => print!(rt; "{}", text.as_str()),
+        Value::Bool(truth) => print!(rt; "{truth}"),
+        Value::I64(number) => print!(rt; "{number}"),
+        Value::Array(_) => print!(rt; ".."),
+    }
+}
+
 /// Prints the name of a metric and the attributes of a point.
 fn print_place(rt: &impl Print, name: &str, attributes: Iter<'_, KeyValue>) -> io::Result<()> {
     print!(rt; "{name}")?;
     for attribute in attributes {
-        let key = attribute.key.as_str();
-        match &attribute.value {
-            Value::String(text) => print!(rt; " {key}={}", text.as_str())?,
-            Value::Bool(truth) => print!(rt; " {key}={truth}")?,
-            Value::I64(number) => print!(rt; " {key}={number}")?,
-            Value::Array(_) => print!(rt; " {key}=..")?,
-        }
+        print!(rt; " {}=", attribute.key.as_str())?;
+        print_value(rt, &attribute.value)?;
     }
     Ok(())
 }

@@ -1,6 +1,6 @@
 //! A shop that keeps a provider and counts at it.
 
-use crate::calls::{collect, text};
+use crate::calls::{add_one, collect, counter};
 use opentelemetry_sdk::common::Fault;
 use opentelemetry_sdk::metrics::data::ResourceMetrics;
 use opentelemetry_sdk::metrics::meter::Counter;
@@ -13,9 +13,8 @@ fn counter_of_requests<P: Parts>(
     provider: &mut Provider<P>,
     now: u64,
 ) -> Result<Counter<u64>, Fault> {
-    let name = String::from_str(alloc, "requests")?;
     let meter = provider.meter("shop")?;
-    meter.u64_counter(name).build(provider, now)
+    counter(alloc, provider, meter, "requests", now)
 }
 
 /// A shop, and the counter of its requests.
@@ -35,8 +34,7 @@ impl<P: Parts> Shop<P> {
 
     /// Counts a request of a path.
     pub fn serve(&mut self, alloc: Global, path: &str) -> Result<(), Fault> {
-        let attributes = [text(alloc, "path", path)?];
-        self.requests.add(&mut self.provider, 1, &attributes)
+        add_one(alloc, &mut self.provider, self.requests, "path", path)
     }
 
     /// What a reader's streams have at a moment.
