@@ -1,29 +1,7 @@
 //! Reads a script of calls of a metrics pipeline from standard input, runs it, and prints the replies.
 #![tactic(auto)]
 
-mod aggregations;
-mod attributes;
-mod boundaries;
-mod calls;
-mod failures;
-mod keys;
-mod kinds;
-mod named;
-mod numbers;
-mod options;
-mod points;
-mod printing;
-mod readers;
-mod refusals;
-mod script;
-mod scripts;
-mod streams;
-#[cfg(test)]
-mod tests;
-mod texts;
-mod views;
-
-use script::script;
+use metrics_script::script::script;
 use std::process::ExitCode;
 
 fn main(rt: HostRuntime) -> ExitCode {

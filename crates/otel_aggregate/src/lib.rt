@@ -13,5 +13,3 @@ pub mod settings;
 mod shows;
 mod stream;
 pub mod sum;
-#[cfg(test)]
-mod tests;

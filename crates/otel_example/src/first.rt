@@ -6,7 +6,9 @@ use crate::calls::text;
 use opentelemetry_sdk::Resource;
 use opentelemetry_sdk::common::{Fault, Items, StringValue, Value};
 use opentelemetry_sdk::metrics::callback::{Observation, ObserveU64};
-use opentelemetry_sdk::metrics::provider::{Parts, Provider};
+use opentelemetry_sdk::metrics::meter::{Histogram, Meter};
+use opentelemetry_sdk::metrics::provider::{Parts, Provider, SdkMeterProvider};
+use opentelemetry_sdk::metrics::reader::MetricReader;
 use std::alloc::Global;
 
 /// What all points of the program come from.
@@ -17,6 +19,18 @@ pub fn service(alloc: Global) -> Result<Resource, Fault> {
             .with_service_name(name)?
             .build(),
     )
+}
+
+/// A provider of the service, with one reader.
+pub fn provider_of_service(
+    alloc: Global,
+    reader: Box<dyn MetricReader>,
+) -> Result<SdkMeterProvider, Fault> {
+    let service = service(alloc)?;
+    SdkMeterProvider::builder(alloc)
+        .with_resource(service)?
+        .with_reader(reader)?
+        .build()
 }
 
 /// Observes how many requests wait.
@@ -46,31 +60,43 @@ impl ObserveU64 for Waiting {
     }
 }
 
-/// Has a collection observe how many requests wait.
+/// Has each collection observe how many requests wait.
 pub fn watch_queue<P: Parts>(
     alloc: Global,
     provider: &mut Provider<P>,
     waiting: P::ObserveU64,
 ) -> Result<(), Fault> {
+    let name = String::from_str(alloc, "waiting")?;
     let meter = provider.meter("shop")?;
     meter
-        .u64_observable_gauge(String::from_str(alloc, "waiting")?)
+        .u64_observable_gauge(name)
         .with_callback(waiting)?
         .build(provider, 100)?;
     Ok(())
 }
 
+/// A histogram of how long requests take, in milliseconds, with bounds of its own.
+fn latency_of<P: Parts>(
+    alloc: Global,
+    provider: &mut Provider<P>,
+    meter: Meter,
+) -> Result<Histogram<u64>, Fault> {
+    let name = String::from_str(alloc, "latency")?;
+    let unit = String::from_str(alloc, "ms")?;
+    let bounds = [10, 100].to_vec(alloc)?;
+    meter
+        .u64_histogram(name)
+        .with_unit(unit)
+        .with_boundaries(bounds)
+        .build(provider, 100)
+}
+
 /// Serves two requests of a path: counts them, and how long each took.
 pub fn serve_two<P: Parts>(alloc: Global, provider: &mut Provider<P>) -> Result<(), Fault> {
+    let name = String::from_str(alloc, "requests")?;
     let meter = provider.meter("shop")?;
-    let requests = meter
-        .u64_counter(String::from_str(alloc, "requests")?)
-        .build(provider, 100)?;
-    let latency = meter
-        .u64_histogram(String::from_str(alloc, "latency")?)
-        .with_unit(String::from_str(alloc, "ms")?)
-        .with_boundaries([10, 100].to_vec(alloc)?)
-        .build(provider, 100)?;
+    let requests = meter.u64_counter(name).build(provider, 100)?;
+    let latency = latency_of(alloc, provider, meter)?;
     let path = [text(alloc, "path", "/cart")?];
     for milliseconds in [7, 250] {
         requests.add(provider, 1, &path)?;

@@ -11,45 +11,68 @@ mod stand;
 mod views;
 
 use anyhow::Error;
-use calls::collect;
 use counted::count_batch;
-use first::{Waiting, serve_two, service, watch_queue};
+use first::{Waiting, provider_of_service, serve_two, watch_queue};
 use opentelemetry_sdk::common::Fault;
-use opentelemetry_sdk::metrics::provider::{Parts, Provider, SdkMeterProvider};
+use opentelemetry_sdk::metrics::provider::{Parts, Provider};
 use opentelemetry_sdk::metrics::{ManualReader, Temporality};
-use parts::{OnlyManual, boxed_provider};
-use printing::print_points;
+use parts::{boxed_provider, plain_provider};
+use printing::{print_collected, print_collection};
 use shop::Shop;
-use stand::a_day;
+use stand::{count_a_day, provider_with_views};
 use std::alloc::Global;
+
+/// Serves two requests while others wait, and prints what was counted.
+fn serve<P: Parts>(
+    rt: &impl Print,
+    alloc: Global,
+    provider: &mut Provider<P>,
+    waiting: P::ObserveU64,
+) -> Result<(), Error> {
+    serve_two(alloc, provider)?;
+    watch_queue(alloc, provider, waiting)?;
+    print_collection(rt, alloc, provider, 200)
+}
 
 /// A service that serves two requests.
 fn first_program(rt: &impl Print, alloc: Global) -> Result<(), Error> {
-    let reader = Box::new(alloc, ManualReader::default())?;
     let waiting = Box::new(alloc, Waiting::new(alloc, 3))?;
-    let mut provider = SdkMeterProvider::builder(alloc)
-        .with_resource(service(alloc)?)?
-        .with_reader(reader)?
-        .build()?;
-    serve_two(alloc, &mut provider)?;
-    watch_queue(alloc, &mut provider, waiting)?;
-    print_points(rt, &collect(alloc, &mut provider, 0, 200)?)?;
-    Ok(())
+    let reader = Box::new(alloc, ManualReader::default())?;
+    let mut provider = provider_of_service(alloc, reader)?;
+    serve(rt, alloc, &mut provider, waiting)
+}
+
+/// A shop serves requests of these paths, and prints what was counted until a moment.
+fn serve_paths<P: Parts>(
+    rt: &impl Print,
+    alloc: Global,
+    shop: &mut Shop<P>,
+    paths: &[&str],
+    now: u64,
+) -> Result<(), Error> {
+    for path in paths {
+        shop.serve(alloc, path)?;
+    }
+    print_collected(rt, &shop.collect(alloc, 0, now)?)
 }
 
 /// Readers in boxes, which may differ in type. The provider goes on when the shop is closed.
 fn with_boxes(rt: &impl Print, alloc: Global) -> Result<(), Error> {
     let reader = Box::new(alloc, ManualReader::default())?;
-    let provider: SdkMeterProvider = boxed_provider(alloc, reader)?;
-    let mut shop = Shop::open(alloc, provider, 100)?;
-    shop.serve(alloc, "/cart")?;
-    shop.serve(alloc, "/cart")?;
-    shop.serve(alloc, "/")?;
-    print_points(rt, &shop.collect(alloc, 0, 200)?)?;
+    let mut shop = Shop::open(alloc, boxed_provider(alloc, reader)?, 100)?;
+    serve_paths(rt, alloc, &mut shop, &["/cart", "/cart", "/"], 200)?;
     let mut next = Shop::open(alloc, shop.close(), 300)?;
-    next.serve(alloc, "/cart")?;
-    print_points(rt, &next.collect(alloc, 0, 400)?)?;
-    Ok(())
+    serve_paths(rt, alloc, &mut next, &["/cart"], 400)
+}
+
+/// A shop is open for two days.
+fn serve_two_days<P: Parts>(
+    rt: &impl Print,
+    alloc: Global,
+    shop: &mut Shop<P>,
+) -> Result<(), Error> {
+    serve_paths(rt, alloc, shop, &["/cart"], 200)?;
+    serve_paths(rt, alloc, shop, &["/cart", "/cart"], 300)
 }
 
 /// Readers of one type, without boxes.
@@ -57,20 +80,24 @@ fn without_boxes(rt: &impl Print, alloc: Global) -> Result<(), Error> {
     let reader = ManualReader::builder()
         .with_temporality(Temporality::Delta)
         .build();
-    let provider: Provider<OnlyManual> = Provider::builder(alloc).with_reader(reader)?.build()?;
-    let mut shop = Shop::open(alloc, provider, 100)?;
-    shop.serve(alloc, "/cart")?;
-    print_points(rt, &shop.collect(alloc, 0, 200)?)?;
-    shop.serve(alloc, "/cart")?;
-    shop.serve(alloc, "/cart")?;
-    print_points(rt, &shop.collect(alloc, 0, 300)?)?;
-    Ok(())
+    let mut shop = Shop::open(alloc, plain_provider(alloc, reader)?, 100)?;
+    serve_two_days(rt, alloc, &mut shop)
+}
+
+/// Counts what happens on a day, and prints it.
+fn print_day<P: Parts>(
+    rt: &impl Print,
+    alloc: Global,
+    provider: &mut Provider<P>,
+) -> Result<(), Error> {
+    count_a_day(alloc, provider)?;
+    print_collection(rt, alloc, provider, 200)
 }
 
 /// Views that rename a stream, drop one, keep two attributes of five, set a limit and change buckets.
 fn with_views(rt: &impl Print, alloc: Global) -> Result<(), Error> {
-    print_points(rt, &a_day(alloc)?)?;
-    Ok(())
+    let mut provider = provider_with_views(alloc)?;
+    print_day(rt, alloc, &mut provider)
 }
 
 /// Makes a counter, and counts two batches of requests.
@@ -82,13 +109,20 @@ fn count_two<P: Parts>(alloc: Global, provider: &mut Provider<P>) -> Result<(), 
     count_batch(provider, requests, 2, &[])
 }
 
+/// Counts two batches, and prints how many requests there were.
+fn print_two<P: Parts>(
+    rt: &impl Print,
+    alloc: Global,
+    provider: &mut Provider<P>,
+) -> Result<(), Error> {
+    count_two(alloc, provider)?;
+    print_collection(rt, alloc, provider, 200)
+}
+
 /// Requests that are counted by the batch.
 fn in_batches(rt: &impl Print, alloc: Global) -> Result<(), Error> {
-    let reader = ManualReader::default();
-    let mut provider: Provider<OnlyManual> = Provider::builder(alloc).with_reader(reader)?.build()?;
-    count_two(alloc, &mut provider)?;
-    print_points(rt, &collect(alloc, &mut provider, 0, 200)?)?;
-    Ok(())
+    let mut provider = plain_provider(alloc, ManualReader::default())?;
+    print_two(rt, alloc, &mut provider)
 }
 
 fn main(rt: HostRuntime) -> Result<(), Error> {

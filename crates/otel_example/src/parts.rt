@@ -1,17 +1,18 @@
 //! The views, readers and callbacks that the program uses.
 
+use crate::views::OfName;
 use opentelemetry_sdk::common::Fault;
+use opentelemetry_sdk::metrics::ManualReader;
 use opentelemetry_sdk::metrics::callback::NoCallback;
-use opentelemetry_sdk::metrics::provider::{Parts, SdkMeterProvider};
+use opentelemetry_sdk::metrics::provider::{Parts, Provider, SdkMeterProvider};
 use opentelemetry_sdk::metrics::reader::MetricReader;
-use opentelemetry_sdk::metrics::{ManualReader, View};
 use std::alloc::Global;
 
-/// Views in boxes, readers that are all a `ManualReader`, and no callbacks.
+/// Views that are all an `OfName`, readers that are all a `ManualReader`, and no callbacks.
 pub struct OnlyManual;
 
 impl Parts for OnlyManual {
-    type View = Box<dyn View>;
+    type View = OfName;
 
     type Reader = ManualReader;
 
@@ -28,4 +29,9 @@ pub fn boxed_provider(
     SdkMeterProvider::builder(alloc)
         .with_reader(reader)?
         .build()
+}
+
+/// A provider with one reader that is in no box.
+pub fn plain_provider(alloc: Global, reader: ManualReader) -> Result<Provider<OnlyManual>, Fault> {
+    Provider::builder(alloc).with_reader(reader)?.build()
 }

@@ -1,23 +1,32 @@
 //! What the program prints.
 
+use crate::calls::collect;
+use anyhow::Error;
 use opentelemetry_sdk::common::{KeyValue, Value};
 use opentelemetry_sdk::metrics::data::{
     AggregatedMetrics, HistogramDataPoint, Metric, MetricData, ResourceMetrics,
 };
+use opentelemetry_sdk::metrics::provider::{Parts, Provider};
+use std::alloc::Global;
 use std::io;
 use std::slice::Iter;
+
+/// Prints a value, of a list only that it is one.
+fn print_value(rt: &impl Print, value: &Value) -> io::Result<()> {
+    match value {
+        Value::String(text) => print!(rt; "{}", text.as_str()),
+        Value::Bool(truth) => print!(rt; "{truth}"),
+        Value::I64(number) => print!(rt; "{number}"),
+        Value::Array(_) => print!(rt; ".."),
+    }
+}
 
 /// Prints the name of a metric and the attributes of a point.
 fn print_place(rt: &impl Print, name: &str, attributes: Iter<'_, KeyValue>) -> io::Result<()> {
     print!(rt; "{name}")?;
     for attribute in attributes {
-        let key = attribute.key.as_str();
-        match &attribute.value {
-            Value::String(text) => print!(rt; " {key}={}", text.as_str())?,
-            Value::Bool(truth) => print!(rt; " {key}={truth}")?,
-            Value::I64(number) => print!(rt; " {key}={number}")?,
-            Value::Array(_) => print!(rt; " {key}=..")?,
-        }
+        print!(rt; " {}=", attribute.key.as_str())?;
+        print_value(rt, &attribute.value)?;
     }
     Ok(())
 }
@@ -67,7 +76,7 @@ fn print_metric(rt: &impl Print, metric: &Metric) -> io::Result<()> {
 }
 
 /// Prints the points of a collection.
-pub fn print_points(rt: &impl Print, collected: &ResourceMetrics) -> io::Result<()> {
+fn print_points(rt: &impl Print, collected: &ResourceMetrics) -> io::Result<()> {
     println!(rt; "collected")?;
     for scope in collected.scope_metrics() {
         for metric in scope.metrics() {
@@ -75,4 +84,19 @@ pub fn print_points(rt: &impl Print, collected: &ResourceMetrics) -> io::Result<
         }
     }
     Ok(())
+}
+
+/// Prints what a collection gave.
+pub fn print_collected(rt: &impl Print, collected: &ResourceMetrics) -> Result<(), Error> {
+    Ok(print_points(rt, collected)?)
+}
+
+/// Prints what the first reader of a provider collects at a moment.
+pub fn print_collection<P: Parts>(
+    rt: &impl Print,
+    alloc: Global,
+    provider: &mut Provider<P>,
+    now: u64,
+) -> Result<(), Error> {
+    print_collected(rt, &collect(alloc, provider, 0, now)?)
 }

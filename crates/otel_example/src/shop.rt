@@ -1,11 +1,21 @@
 //! A shop that keeps a provider and counts at it.
 
-use crate::calls::{collect, text};
+use crate::calls::{add_one, collect, counter};
 use opentelemetry_sdk::common::Fault;
 use opentelemetry_sdk::metrics::data::ResourceMetrics;
 use opentelemetry_sdk::metrics::meter::Counter;
 use opentelemetry_sdk::metrics::provider::{Parts, Provider};
 use std::alloc::Global;
+
+/// The counter of a shop's requests, made at a moment.
+fn counter_of_requests<P: Parts>(
+    alloc: Global,
+    provider: &mut Provider<P>,
+    now: u64,
+) -> Result<Counter<u64>, Fault> {
+    let meter = provider.meter("shop")?;
+    counter(alloc, provider, meter, "requests", now)
+}
 
 /// A shop, and the counter of its requests.
 #[derive(Drop)]
@@ -17,17 +27,14 @@ pub struct Shop<P: Parts> {
 impl<P: Parts> Shop<P> {
     /// A shop that counts its requests at this provider, from a moment on.
     pub fn open(alloc: Global, provider: Provider<P>, now: u64) -> Result<Shop<P>, Fault> {
-        let name = String::from_str(alloc, "requests")?;
         let mut provider = provider;
-        let meter = provider.meter("shop")?;
-        let requests = meter.u64_counter(name).build(&mut provider, now)?;
+        let requests = counter_of_requests(alloc, &mut provider, now)?;
         Ok(Shop { provider, requests })
     }
 
     /// Counts a request of a path.
     pub fn serve(&mut self, alloc: Global, path: &str) -> Result<(), Fault> {
-        let attributes = [text(alloc, "path", path)?];
-        self.requests.add(&mut self.provider, 1, &attributes)
+        add_one(alloc, &mut self.provider, self.requests, "path", path)
     }
 
     /// What a reader's streams have at a moment.

@@ -28,46 +28,45 @@ impl View for OfName {
     }
 }
 
-/// A view that sets the streams of the instruments of a name so.
-fn of_name(alloc: Global, name: &str, stream: Stream) -> Result<OfName, Error> {
-    let name = StringValue::new(alloc, name)?;
-    Ok(OfName { name, stream })
-}
-
 /// The stream has a name of its own.
 pub fn renamed(alloc: Global) -> Result<OfName, Error> {
-    let name = String::from_str(alloc, "shop.requests")?;
-    let stream = Stream::builder().with_name(name).build()?;
-    of_name(alloc, "requests", stream)
+    let name = StringValue::new(alloc, "requests")?;
+    let own = String::from_str(alloc, "shop.requests")?;
+    let stream = Stream::builder().with_name(own).build()?;
+    Ok(OfName { name, stream })
 }
 
 /// The instrument has no stream.
 pub fn dropped(alloc: Global) -> Result<OfName, Error> {
+    let name = StringValue::new(alloc, "debug")?;
     let stream = Stream::builder()
         .with_aggregation(Aggregation::Drop)
         .build()?;
-    of_name(alloc, "debug", stream)
+    Ok(OfName { name, stream })
 }
 
 /// Of the attributes of an order two are kept.
 pub fn two_attributes(alloc: Global) -> Result<OfName, Error> {
+    let name = StringValue::new(alloc, "orders")?;
     let keys = vec![in alloc; Key::new(alloc, "country")?, Key::new(alloc, "paid")?]?;
     let stream = Stream::builder().with_allowed_attribute_keys(keys).build()?;
-    of_name(alloc, "orders", stream)
+    Ok(OfName { name, stream })
 }
 
 /// Two users have points of their own, all others share one.
 pub fn few_points(alloc: Global) -> Result<OfName, Error> {
+    let name = StringValue::new(alloc, "users")?;
     let stream = Stream::builder().with_cardinality_limit(2).build()?;
-    of_name(alloc, "users", stream)
+    Ok(OfName { name, stream })
 }
 
 /// The buckets of a histogram end at 10, 100 and 1000.
 pub fn other_buckets(alloc: Global) -> Result<OfName, Error> {
+    let name = StringValue::new(alloc, "latency")?;
     let aggregation = Aggregation::ExplicitBucketHistogram {
         boundaries: vec![in alloc; 10i64, 100i64, 1000i64]?.into(),
         record_min_max: true,
     };
     let stream = Stream::builder().with_aggregation(aggregation).build()?;
-    of_name(alloc, "latency", stream)
+    Ok(OfName { name, stream })
 }

@@ -1,0 +1,10 @@
+-- How a script can end.
+use Rattle.std.specs.Prelude.{ℕ}
+use Rattle.metrics_script.specs.declared.failures.Failure.{Failure}
+use Rattle.metrics_script.specs.declared.failures.Failure.TheVariants.{BadLine, OutOfMemory, InputOrOutput}
+
+-- the status that the program ends with
+abbrev pub status_of : Failure → ℕ
+status_of (BadLine _) = 2
+status_of OutOfMemory = 3
+status_of InputOrOutput = 4

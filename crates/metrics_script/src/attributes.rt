@@ -1,0 +1,69 @@
+//! Attributes of a script.
+
+ghost use Rattle.std.specs.Prelude.{◌≡◌, IfOk, IfErr, OnErr, IsOkUnless};
+ghost use Rattle.metrics_script.specs.Attributes.{IsAttributeWord, IsTruthWord, IsValueWord, ReadsAttributes};
+ghost use Rattle.metrics_script.specs.Refusals.{StandsForNothing};
+
+use crate::keys::key_of;
+use crate::numbers::signed;
+use crate::refusals::Refusal;
+use crate::texts::unescaped;
+use opentelemetry_sdk::common::{KeyValue, Value};
+use std::alloc::Global;
+
+/// The attributes of a word: `-` for none, else pairs with commas between them.
+pub fn attributes_of(alloc: Global, word: &str) -> Result<Vec<KeyValue>, Refusal>
+    ensures attributes { IfOk result (λ attributes. ReadsAttributes word.now attributes.items) }
+    ensures meaningless { IfErr result (λ refusal. refusal ≡ Refusal.BadCommand → StandsForNothing ReadsAttributes word.now) }
+{
+    let mut attributes = Vec::new(alloc);
+    if word == "-" {
+        return Ok(attributes);
+    }
+    for pair in word.split(',') {
+        attributes.push(attribute_of(alloc, pair)?)?;
+    }
+    Ok(attributes)
+}
+
+/// A key and a value, with the pair's first `=` between them.
+fn attribute_of(alloc: Global, pair: &str) -> Result<KeyValue, Refusal>
+    ensures attribute { IfOk result (IsAttributeWord pair.now) }
+    ensures meaningless { IfErr result (λ refusal. refusal ≡ Refusal.BadCommand → StandsForNothing IsAttributeWord pair.now) }
+{
+    let Some((key, value)) = pair.split_once('=') else {
+        return Err(Refusal::BadCommand);
+    };
+    let key = key_of(alloc, key)?;
+    let value = value_of(alloc, value)?;
+    Ok(KeyValue::new(key, value))
+}
+
+/// A truth value, a signed number or a text.
+fn value_of(alloc: Global, word: &str) -> Result<Value, Refusal>
+    ensures value { IfOk result (IsValueWord word.now) }
+    ensures meaningless { IfErr result (λ refusal. refusal ≡ Refusal.BadCommand → StandsForNothing IsValueWord word.now) }
+{
+    let Some((kind, rest)) = word.split_once(':') else {
+        return Err(Refusal::BadCommand);
+    };
+    match kind {
+        "b" => Ok(Value::Bool(truth_of(rest)?)),
+        "i" => Ok(Value::I64(signed(rest)?)),
+        "s" => Ok(Value::String(unescaped(alloc, rest)?.into())),
+        _ => Err(Refusal::BadCommand),
+    }
+}
+
+/// `true` or `false`.
+fn truth_of(word: &str) -> Result<bool, Refusal>
+    ensures truth { IfOk result (IsTruthWord word.now) }
+    ensures meaningless { OnErr result (StandsForNothing IsTruthWord word.now) }
+    ensures refused { IsOkUnless result Refusal.BadCommand }
+{
+    match word {
+        "true" => Ok(true),
+        "false" => Ok(false),
+        _ => Err(Refusal::BadCommand),
+    }
+}

@@ -1,0 +1,24 @@
+//! Boundaries of buckets in a script.
+
+ghost use Rattle.std.specs.Prelude.{IfOk, IfErr, ◌≡◌};
+ghost use Rattle.metrics_script.specs.Boundaries.{ReadsBoundaries};
+ghost use Rattle.metrics_script.specs.Refusals.{StandsForNothing};
+
+use crate::numbers::signed;
+use crate::refusals::Refusal;
+use std::alloc::Global;
+
+/// The boundaries of a word: signed numbers with commas between them; the empty word is none.
+pub fn boundaries_of(alloc: Global, word: &str) -> Result<Vec<i64>, Refusal>
+    ensures boundaries { IfOk result (λ boundaries. ReadsBoundaries word.now boundaries.items) }
+    ensures meaningless { IfErr result (λ refusal. refusal ≡ Refusal.BadCommand → StandsForNothing ReadsBoundaries word.now) }
+{
+    let mut boundaries = Vec::new(alloc);
+    if word.is_empty() {
+        return Ok(boundaries);
+    }
+    for number in word.split(',') {
+        boundaries.push(signed(number)?)?;
+    }
+    Ok(boundaries)
+}

@@ -1,0 +1,150 @@
+//! The lines of a script that are calls.
+
+ghost use Rattle.std.specs.Prelude.{◌≡◌, None, [], IfSome, IfOk, IfErr, OnErr, IsOkUnless};
+ghost use Rattle.std.specs.Option.{option_map};
+ghost use Rattle.std.specs.Str.{IsUtf8};
+ghost use Rattle.metrics_script.specs.Calls.{IsMeterWord, IsSortWord, IsCollectOf, IsObservedOf};
+ghost use Rattle.metrics_script.specs.Refusals.{StandsForNothing};
+ghost use Rattle.metrics_script.specs.Texts.{text_of_word};
+ghost use Rattle.otel_callback.specs.declared.observation.Observed.{Observed};
+ghost use Rattle.otel_provider.specs.declared.calls.Call.{Call};
+
+use crate::attributes::attributes_of;
+use crate::numbers::{index, unsigned, value};
+use crate::options::{Options, options_of};
+use crate::refusals::Refusal;
+use crate::texts::text_of_word;
+use opentelemetry_sdk::common::InstrumentationScope;
+use opentelemetry_sdk::metrics::provider::{Call, InstrumentSort, Observed};
+use std::alloc::Global;
+
+/// The call that the words of a line ask for, but for a collection.
+pub fn call_of(alloc: Global, words: &[&str]) -> Result<Call, Refusal> {
+    match words {
+        ["meter", name] => Ok(Call::Meter {
+            scope: scope_of(alloc, name, None)?,
+        }),
+        ["meter", name, version] => Ok(Call::Meter {
+            scope: scope_of(alloc, name, Some(version))?,
+        }),
+        ["build", meter, sort, name, now, options @ ..] => {
+            build_of(alloc, meter, sort, name, now, options)
+        }
+        ["record", instrument, number, attributes] => Ok(Call::Record {
+            instrument: index(instrument)?,
+            value: value(number)?,
+            attributes: attributes_of(alloc, attributes)?.into(),
+        }),
+        ["flush"] => Ok(Call::Flush),
+        ["shutdown"] => Ok(Call::Shutdown),
+        _ => Err(Refusal::BadCommand),
+    }
+}
+
+/// The collection that the words of a line ask for, with what was observed before.
+pub fn collect_of(reader: &str, now: &str, observations: Vec<Observed>) -> Result<Call, Refusal>
+    ensures collect { IfOk result (IsCollectOf reader.now now.now observations.items) }
+    ensures meaningless { OnErr result ((call : Call) → ¬ IsCollectOf reader.now now.now observations.items call) }
+    ensures refused { IsOkUnless result Refusal.BadCommand }
+{
+    Ok(Call::Collect {
+        reader: index(reader)?,
+        now: unsigned(now)?,
+        observations: observations.into(),
+    })
+}
+
+/// What the words of a line say was observed.
+pub fn observed_of(
+    alloc: Global,
+    instrument: &str,
+    number: &str,
+    attributes: &str,
+) -> Result<Observed, Refusal>
+    ensures observed { IfOk result (IsObservedOf instrument.now number.now attributes.now) }
+    ensures meaningless { IfErr result (λ refusal. refusal ≡ Refusal.BadCommand → (observed : Observed) → ¬ IsObservedOf instrument.now number.now attributes.now observed) }
+{
+    Ok(Observed {
+        instrument: index(instrument)?,
+        value: value(number)?,
+        attributes: attributes_of(alloc, attributes)?.into(),
+    })
+}
+
+/// The build that the words of a line ask for.
+fn build_of(
+    alloc: Global,
+    meter: &str,
+    sort: &str,
+    name: &str,
+    now: &str,
+    options: &[&str],
+) -> Result<Call, Refusal> {
+    let meter = meter_of(meter)?;
+    let sort = sort_of(sort)?;
+    let name = text_of_word(alloc, name)?;
+    let now = unsigned(now)?;
+    let Options {
+        description,
+        unit,
+        boundaries,
+    } = options_of(alloc, options)?;
+    Ok(Call::Build {
+        meter,
+        sort,
+        name: name.into(),
+        description,
+        unit,
+        boundaries,
+        now,
+    })
+}
+
+/// The scope of a name and, if one is given, a version.
+fn scope_of(
+    alloc: Global,
+    name: &str,
+    version: Option<&str>,
+) -> Result<InstrumentationScope, Refusal>
+    ensures scope { IfOk result (λ scope. scope ≡ record { name = text_of_word name.now; version = option_map (λ word. text_of_word word.now) version.entry; schema_url = None; attributes = [] }) }
+    ensures utf8 { IsUtf8 (text_of_word name.now) → IfSome version.entry (λ word. IsUtf8 (text_of_word word.now)) → IsOkUnless result Refusal.OutOfMemory }
+{
+    let builder = InstrumentationScope::builder(alloc, text_of_word(alloc, name)?);
+    let builder = match version {
+        Some(version) => builder.with_version(text_of_word(alloc, version)?),
+        None => builder,
+    };
+    Ok(builder.build()?)
+}
+
+/// The number of a meter, or `none`.
+fn meter_of(word: &str) -> Result<Option<usize>, Refusal>
+    ensures meter { IfOk result (IsMeterWord word.now) }
+    ensures meaningless { OnErr result (StandsForNothing IsMeterWord word.now) }
+    ensures refused { IsOkUnless result Refusal.BadCommand }
+{
+    match word {
+        "none" => Ok(None),
+        _ => Ok(Some(index(word)?)),
+    }
+}
+
+/// The sort of an instrument, by the name of its builder.
+fn sort_of(word: &str) -> Result<InstrumentSort, Refusal>
+    ensures sort { IfOk result (IsSortWord word.now) }
+    ensures meaningless { OnErr result (StandsForNothing IsSortWord word.now) }
+    ensures refused { IsOkUnless result Refusal.BadCommand }
+{
+    match word {
+        "u64_counter" => Ok(InstrumentSort::U64Counter),
+        "u64_observable_counter" => Ok(InstrumentSort::U64ObservableCounter),
+        "i64_up_down_counter" => Ok(InstrumentSort::I64UpDownCounter),
+        "i64_observable_up_down_counter" => Ok(InstrumentSort::I64ObservableUpDownCounter),
+        "u64_gauge" => Ok(InstrumentSort::U64Gauge),
+        "i64_gauge" => Ok(InstrumentSort::I64Gauge),
+        "u64_observable_gauge" => Ok(InstrumentSort::U64ObservableGauge),
+        "i64_observable_gauge" => Ok(InstrumentSort::I64ObservableGauge),
+        "u64_histogram" => Ok(InstrumentSort::U64Histogram),
+        _ => Err(Refusal::BadCommand),
+    }
+}

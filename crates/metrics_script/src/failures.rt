@@ -1,0 +1,61 @@
+//! Why a script ends before its end.
+
+ghost use Rattle.std.specs.Prelude.{◌≡◌};
+ghost use Rattle.metrics_script.specs.Failures.{status_of};
+ghost use Rattle.metrics_script.specs.declared.failures.Failure.TheVariants.{OutOfMemory};
+
+use opentelemetry_sdk::common::Fault;
+use std::alloc::{AllocError, AllocFailed};
+use thiserror::Error;
+
+/// Why a script ends before its end. Its text goes to standard error.
+#[derive(Debug, Drop, Error)]
+pub enum Failure {
+    /// The number of the first bad line, from 1.
+    #[error("line {0}: bad command")]
+    BadLine(u64),
+    /// There was no memory for something that is no call's reply.
+    #[error("out of memory")]
+    OutOfMemory,
+    /// A read or a write failed.
+    #[error("input or output failed")]
+    InputOrOutput,
+}
+
+impl Failure {
+    /// The status that the script ends with.
+    pub fn status(&self) -> u8
+        ensures { result ≡ status_of self.now }
+    {
+        match self {
+            Failure::BadLine(_) => 2,
+            Failure::OutOfMemory => 3,
+            Failure::InputOrOutput => 4,
+        }
+    }
+}
+
+impl From<AllocError> for Failure {
+    ghost from_gives = { λ _ failure. failure ≡ OutOfMemory };
+
+    fn from(_error: AllocError) -> Failure {
+        Failure::OutOfMemory
+    }
+}
+
+impl<T: Drop> From<AllocFailed<T>> for Failure {
+    ghost from_gives = { λ _ failure. failure ≡ OutOfMemory };
+
+    fn from(_failed: AllocFailed<T>) -> Failure {
+        Failure::OutOfMemory
+    }
+}
+
+/// Only for calls that are refused for want of memory alone: the making of a provider and a run.
+impl From<Fault> for Failure {
+    ghost from_gives = { λ _ failure. failure ≡ OutOfMemory };
+
+    fn from(_fault: Fault) -> Failure {
+        Failure::OutOfMemory
+    }
+}

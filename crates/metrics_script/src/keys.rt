@@ -1,0 +1,34 @@
+//! Keys of attributes in a script.
+
+ghost use Rattle.std.specs.Prelude.{◌≡◌, IfOk, IfErr};
+ghost use Rattle.metrics_script.specs.Keys.{IsKeyWord, ReadsKeys};
+ghost use Rattle.metrics_script.specs.Refusals.{StandsForNothing};
+
+use crate::refusals::Refusal;
+use crate::texts::unescaped;
+use opentelemetry_sdk::common::Key;
+use std::alloc::Global;
+
+/// The keys of a word, with commas between them; the empty word is none.
+pub fn keys_of(alloc: Global, word: &str) -> Result<Vec<Key>, Refusal>
+    ensures keys { IfOk result (λ keys. ReadsKeys word.now keys.items) }
+    ensures meaningless { IfErr result (λ refusal. refusal ≡ Refusal.BadCommand → StandsForNothing ReadsKeys word.now) }
+{
+    let mut keys = Vec::new(alloc);
+    if word.is_empty() {
+        return Ok(keys);
+    }
+    for key in word.split(',') {
+        keys.push(key_of(alloc, key)?)?;
+    }
+    Ok(keys)
+}
+
+/// The key of a word with escapes.
+pub fn key_of(alloc: Global, word: &str) -> Result<Key, Refusal>
+    ensures key { IfOk result (IsKeyWord word.now) }
+    ensures meaningless { IfErr result (λ refusal. refusal ≡ Refusal.BadCommand → StandsForNothing IsKeyWord word.now) }
+{
+    let key = unescaped(alloc, word)?;
+    Ok(Key::new(alloc, key.as_str())?)
+}

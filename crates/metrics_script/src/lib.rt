@@ -1,0 +1,24 @@
+//! Reads a script of calls of a metrics pipeline, runs it, and prints the replies.
+#![tactic(auto)]
+
+mod aggregations;
+mod attributes;
+mod boundaries;
+mod calls;
+mod failures;
+mod keys;
+mod kinds;
+mod named;
+mod numbers;
+mod options;
+mod points;
+mod printing;
+mod readers;
+mod refusals;
+pub mod script;
+mod scripts;
+mod streams;
+#[cfg(test)]
+mod tests;
+mod texts;
+mod views;

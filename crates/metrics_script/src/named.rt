@@ -1,0 +1,95 @@
+//! Words of a line that are a name, `=` and a value.
+
+ghost use Rattle.std.specs.Prelude.{◌≡◌, ◌==◌, ◌<◌, IsTrue, map, length, IfOk, IfErr, OnErr, IsOkUnless};
+ghost use Rattle.std.specs.Cmp.Lexicographic.{pointwise};
+ghost use Rattle.std.specs.List.{list_all, list_any};
+ghost use Rattle.std.specs.Option.{option_map, option_to_list};
+ghost use Rattle.std.specs.String.{string_bytes};
+ghost use Rattle.metrics_script.specs.Aggregations.{IsAggregationWord};
+ghost use Rattle.metrics_script.specs.Named.{has_name_of, has_value, ReadsNothing};
+ghost use Rattle.metrics_script.specs.Options.{values_named, ReadsOption, ReadsText};
+
+use crate::aggregations::aggregation_of;
+use crate::options::set_once;
+use crate::refusals::Refusal;
+use crate::texts::text_of_word;
+use opentelemetry_sdk::metrics::Aggregation;
+use std::alloc::Global;
+
+/// Whether each of the words has one of these names.
+pub fn have_names_of(words: &[&str], names: &[&str]) -> bool
+    ensures { result ≡ list_all (has_name_of (map (λ name. name.now) names.now)) (map (λ word. word.now) words.now) }
+{
+    for word in words {
+        if !has_name_of(word, names) {
+            return false;
+        }
+    }
+    true
+}
+
+/// Whether the word has one of these names.
+fn has_name_of(word: &str, names: &[&str]) -> bool
+    ensures { result ≡ has_name_of (map (λ name. name.now) names.now) word.now }
+{
+    match word.split_once('=') {
+        Some((given, _)) => is_one_of(given, names),
+        None => false,
+    }
+}
+
+/// Whether the name is one of these.
+fn is_one_of(given: &str, names: &[&str]) -> bool
+    ensures { result ≡ list_any (pointwise ◌==◌ given.now) (map (λ name. name.now) names.now) }
+{
+    for name in names {
+        if given == *name {
+            return true;
+        }
+    }
+    false
+}
+
+/// The value of the only word of this name, or none if no word has it.
+pub fn value_named<'a>(words: &[&'a str], name: &str) -> Result<Option<&'a str>, Refusal>
+    ensures value { IfOk result (λ value. option_to_list (option_map (λ text. text.now) value) ≡ values_named name.now (map (λ word. word.now) words.now)) }
+    ensures meaningless { OnErr result (IsTrue (list_all has_value (map (λ word. word.now) words.now)) → 1 < length (values_named name.now (map (λ word. word.now) words.now))) }
+    ensures refused { IsOkUnless result Refusal.BadCommand }
+{
+    let mut value = None;
+    for word in words {
+        let Some((given, rest)) = word.split_once('=') else {
+            return Err(Refusal::BadCommand);
+        };
+        if given == name {
+            set_once(&mut value, rest)?;
+        }
+    }
+    Ok(value)
+}
+
+/// The text of the only word of this name, or none if no word has it.
+pub fn text_named(alloc: Global, words: &[&str], name: &str) -> Result<Option<String>, Refusal>
+    ensures text { IfOk result (λ text. ReadsOption ReadsText name.now (map (λ word. word.now) words.now) (option_map string_bytes text)) }
+    ensures meaningless { IfErr result (λ refusal. refusal ≡ Refusal.BadCommand → ReadsNothing ReadsText name.now (map (λ word. word.now) words.now)) }
+{
+    match value_named(words, name)? {
+        Some(value) => Ok(Some(text_of_word(alloc, value)?)),
+        None => Ok(None),
+    }
+}
+
+/// The aggregation of the only word of this name, or none if no word has it.
+pub fn aggregation_named(
+    alloc: Global,
+    words: &[&str],
+    name: &str,
+) -> Result<Option<Aggregation>, Refusal>
+    ensures aggregation { IfOk result (ReadsOption IsAggregationWord name.now (map (λ word. word.now) words.now)) }
+    ensures meaningless { IfErr result (λ refusal. refusal ≡ Refusal.BadCommand → ReadsNothing IsAggregationWord name.now (map (λ word. word.now) words.now)) }
+{
+    match value_named(words, name)? {
+        Some(value) => Ok(Some(aggregation_of(alloc, value)?)),
+        None => Ok(None),
+    }
+}

@@ -1,0 +1,161 @@
+//! Readers of a script.
+
+ghost use Rattle.std.specs.Prelude.{◌≡◌, ℕ, Option, None, Some, Ok, false, IsTrue, map, codes, IfOk, IfErr, OnErr, IsOkUnless};
+ghost use Rattle.std.specs.List.{list_all};
+ghost use Rattle.otel_common.specs.Temporalities.{temporality_named};
+ghost use Rattle.otel_stream.specs.Answers.{kind_eq};
+ghost use Rattle.otel_stream.specs.Wants.{limit_of, aggregation_of};
+ghost use Rattle.otel_stream.specs.declared.instrument.InstrumentKind.{InstrumentKind};
+ghost use Rattle.otel_stream.specs.declared.wants.Wants.{Wants};
+ghost use Rattle.metrics_script.specs.Options.{ReadsOption};
+ghost use Rattle.metrics_script.specs.Readers.{IsLimitWord, ReadsKind, ReadsReader, reader_names};
+ghost use Rattle.metrics_script.specs.Named.{has_name_of, has_value, ReadsNothing};
+ghost use Rattle.metrics_script.specs.Refusals.{StandsForNothing};
+
+use crate::kinds::{KINDS, aggregation_name, limit_name};
+use crate::named::{aggregation_named, have_names_of, value_named};
+use crate::numbers::index;
+use crate::refusals::Refusal;
+use opentelemetry_sdk::metrics::reader::CardinalityLimit;
+use opentelemetry_sdk::metrics::{
+    Aggregation, InstrumentKind, ManualReader, ManualReaderBuilder, Temporality,
+};
+use std::alloc::Global;
+use std::str::FromStr;
+
+/// The reader of a line: its temporality, and what it wants for the kinds of instruments. A kind's
+/// own limit wins over the one for all kinds.
+pub fn reader_of(
+    alloc: Global,
+    temporality: &str,
+    options: &[&str],
+) -> Result<ManualReader, Refusal>
+    ensures reader { IfOk result (ReadsReader temporality.now (map (λ word. word.now) options.now)) }
+    ensures meaningless { IfErr result (λ refusal. refusal ≡ Refusal.BadCommand → (reader : Wants) → ¬ ReadsReader temporality.now (map (λ word. word.now) options.now) reader) }
+{
+    let mut builder = ManualReader::builder().with_temporality(temporality_of(temporality)?);
+    if !are_reader_options(options) {
+        return Err(Refusal::BadCommand);
+    }
+    let limit = limit_named(options, "limit")?;
+    for kind in KINDS {
+        builder = with_options_of(alloc, builder, kind, options, &limit)?;
+    }
+    Ok(builder.build())
+}
+
+/// The temporality of a word.
+fn temporality_of(word: &str) -> Result<Temporality, Refusal>
+    ensures temporality { IfOk result (λ temporality. temporality_named word.now ≡ Ok temporality) }
+    ensures meaningless { OnErr result (StandsForNothing (λ word temporality. temporality_named word ≡ Ok temporality) word.now) }
+    ensures refused { IsOkUnless result Refusal.BadCommand }
+{
+    match Temporality::from_str(word) {
+        Ok(temporality) => Ok(temporality),
+        Err(()) => Err(Refusal::BadCommand),
+    }
+}
+
+/// Whether each of the words says something of a reader.
+fn are_reader_options(words: &[&str]) -> bool
+    ensures { result ≡ list_all (has_name_of reader_names) (map (λ word. word.now) words.now) }
+{
+    have_names_of(
+        words,
+        &[
+            "limit",
+            "limit:counter",
+            "limit:updowncounter",
+            "limit:histogram",
+            "limit:observablecounter",
+            "limit:observableupdowncounter",
+            "limit:gauge",
+            "limit:observablegauge",
+            "agg:counter",
+            "agg:updowncounter",
+            "agg:histogram",
+            "agg:observablecounter",
+            "agg:observableupdowncounter",
+            "agg:gauge",
+            "agg:observablegauge",
+        ],
+    )
+}
+
+/// The builder with the limit and the aggregation that the options give for a kind; `limit` is the
+/// one for all kinds.
+fn with_options_of(
+    alloc: Global,
+    builder: ManualReaderBuilder,
+    kind: InstrumentKind,
+    options: &[&str],
+    limit: &Option<CardinalityLimit>,
+) -> Result<ManualReaderBuilder, Refusal>
+    ensures given { limit_of builder kind ≡ None → aggregation_of builder kind ≡ None → IfOk result (λ made. ReadsKind (map (λ word. word.now) options.now) limit.now made kind) }
+    ensures others { IfOk result (λ made. (other : InstrumentKind) → kind_eq other kind ≡ false → (limit_of made other ≡ limit_of builder other) × (aggregation_of made other ≡ aggregation_of builder other)) }
+    ensures temporality { IfOk result (λ made. made.temporality ≡ builder.temporality) }
+    ensures meaningless { IfErr result (λ refusal. refusal ≡ Refusal.BadCommand → IsTrue (list_all has_value (map (λ word. word.now) options.now)) → (for_all : Option ℕ) (reader : Wants) → ¬ ReadsKind (map (λ word. word.now) options.now) for_all reader kind) }
+{
+    let own = limit_named(options, limit_name(kind))?;
+    let aggregation = aggregation_named(alloc, options, aggregation_name(kind))?;
+    let builder = with_limit(builder, kind, own.or(*limit));
+    Ok(with_aggregation(builder, kind, aggregation))
+}
+
+/// The limit of the only word of this name, or none if no word has it.
+fn limit_named(words: &[&str], name: &str) -> Result<Option<CardinalityLimit>, Refusal>
+    ensures limit { IfOk result (ReadsOption IsLimitWord name.now (map (λ word. word.now) words.now)) }
+    ensures meaningless { OnErr result (ReadsNothing IsLimitWord name.now (map (λ word. word.now) words.now)) }
+    ensures refused { IsOkUnless result Refusal.BadCommand }
+{
+    match value_named(words, name)? {
+        Some(value) => Ok(Some(limit_of_word(value)?)),
+        None => Ok(None),
+    }
+}
+
+/// The limit of a word.
+fn limit_of_word(word: &str) -> Result<CardinalityLimit, Refusal>
+    ensures limit { IfOk result (IsLimitWord word.now) }
+    ensures meaningless { OnErr result (StandsForNothing IsLimitWord word.now) }
+    ensures refused { IsOkUnless result Refusal.BadCommand }
+{
+    match CardinalityLimit::new(index(word)?) {
+        Ok(limit) => Ok(limit),
+        Err(_) => Err(Refusal::BadCommand),
+    }
+}
+
+/// The builder with this limit for a kind, if there is one.
+fn with_limit(
+    builder: ManualReaderBuilder,
+    kind: InstrumentKind,
+    limit: Option<CardinalityLimit>,
+) -> ManualReaderBuilder
+    ensures given { limit_of builder kind ≡ None → limit_of result kind ≡ limit }
+    ensures others { (other : InstrumentKind) → kind_eq other kind ≡ false → limit_of result other ≡ limit_of builder other }
+    ensures temporality { result.temporality ≡ builder.temporality }
+    ensures aggregations { result.aggregations ≡ builder.aggregations }
+{
+    match limit {
+        Some(limit) => builder.with_cardinality_limit(kind, limit),
+        None => builder,
+    }
+}
+
+/// The builder with this aggregation for a kind, if there is one.
+fn with_aggregation(
+    builder: ManualReaderBuilder,
+    kind: InstrumentKind,
+    aggregation: Option<Aggregation>,
+) -> ManualReaderBuilder
+    ensures given { aggregation_of builder kind ≡ None → aggregation_of result kind ≡ aggregation }
+    ensures others { (other : InstrumentKind) → kind_eq other kind ≡ false → aggregation_of result other ≡ aggregation_of builder other }
+    ensures temporality { result.temporality ≡ builder.temporality }
+    ensures limits { result.limits ≡ builder.limits }
+{
+    match aggregation {
+        Some(aggregation) => builder.with_default_aggregation(kind, aggregation),
+        None => builder,
+    }
+}

@@ -1,0 +1,33 @@
+//! Texts of a script.
+
+ghost use Rattle.std.specs.Prelude.{◌≡◌, IfOk, OnOk, IsOkUnless};
+ghost use Rattle.std.specs.Str.{IsUtf8};
+ghost use Rattle.std.specs.String.{string_bytes};
+ghost use Rattle.percent_encoding.specs.Percent.{percent_decode};
+ghost use Rattle.metrics_script.specs.Texts.{text_of_word};
+
+use crate::refusals::Refusal;
+use percent_encoding::percent_decode_str;
+use std::alloc::Global;
+
+/// The text that stands for itself but for escapes: `%` and two hexadecimal digits are one byte.
+pub fn unescaped(alloc: Global, escaped: &str) -> Result<String, Refusal>
+    ensures text { IfOk result (λ text. string_bytes text ≡ percent_decode escaped.now) }
+    ensures utf8 { IsUtf8 (percent_decode escaped.now) → IsOkUnless result Refusal.OutOfMemory }
+    ensures only_utf8 { OnOk result (IsUtf8 (percent_decode escaped.now)) }
+{
+    let text = percent_decode_str(escaped).decode_utf8(alloc)?;
+    Ok(text.into_owned(alloc)?)
+}
+
+/// The text of a word: the word `-` alone is the empty text, any other has escapes.
+pub fn text_of_word(alloc: Global, word: &str) -> Result<String, Refusal>
+    ensures text { IfOk result (λ text. string_bytes text ≡ text_of_word word.now) }
+    ensures utf8 { IsUtf8 (text_of_word word.now) → IsOkUnless result Refusal.OutOfMemory }
+    ensures only_utf8 { OnOk result (IsUtf8 (text_of_word word.now)) }
+{
+    if word == "-" {
+        return Ok(String::new(alloc));
+    }
+    unescaped(alloc, word)
+}

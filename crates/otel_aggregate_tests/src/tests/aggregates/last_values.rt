@@ -1,0 +1,128 @@
+//! Last values: whole points, of both number types.
+
+use super::{B, NONE, Set, X, attributes};
+use otel_aggregate::last_value::LastValue;
+use otel_common::faults::Fault;
+use otel_common::lists::Items;
+use otel_common::metrics::Temporality;
+use otel_data::gauges::Gauge;
+use otel_data::points::GaugeDataPoint;
+use otel_value_map::number::Number;
+use std::alloc::Global;
+use std::test::Fail;
+
+/// The points of these sets and values, without exemplars.
+fn points<T: Copy + Drop>(
+    alloc: Global,
+    wanted: &[(Set, T)],
+) -> Result<Vec<GaugeDataPoint<T>>, Fault> {
+    let mut points = Vec::new(alloc);
+    for (set, value) in wanted {
+        let attributes = Items::from(attributes(alloc, *set)?);
+        points.push(GaugeDataPoint::new(attributes, Items::from(Vec::new(alloc)), *value))?;
+    }
+    Ok(points)
+}
+
+/// Whether the data are of these points, whole and in order, between these moments.
+pub fn are_last_values<T: Copy + Drop + PartialEq>(
+    alloc: Global,
+    data: &Gauge<T>,
+    start: u64,
+    now: u64,
+    wanted: &[(Set, T)],
+) -> Result<bool, Fault> {
+    let wanted = points(alloc, wanted)?;
+    let moments = data.start_time() == Some(start) && data.time() == now;
+    Ok(moments && data.data_points().as_slice() == wanted.as_slice())
+}
+
+/// Last values with a limit of 10, made at 100.
+fn made<T: Number + Drop>(alloc: Global, temporality: Temporality) -> Result<LastValue<T>, Fault> {
+    LastValue::new(alloc, temporality, None, 10, 100)
+}
+
+fn measure<T: Number + Drop>(
+    alloc: Global,
+    gauge: &mut LastValue<T>,
+    set: Set,
+    value: T,
+) -> Result<(), Fault> {
+    gauge.measure(value, &attributes(alloc, set)?)
+}
+
+/// Takes in a record without attributes in two phases.
+fn take_in(gauge: &mut LastValue<i64>, value: i64) -> Result<(), Fault> {
+    gauge.prepare(&[])?;
+    if gauge.is_prepared() {
+        gauge.measure_ready(value);
+    }
+    Ok(())
+}
+
+/// Whether points between two moments are these.
+fn shows(
+    alloc: Global,
+    gauge: &LastValue<i64>,
+    now: u64,
+    wanted: &[(Set, i64)],
+) -> Result<bool, Fault> {
+    let data = gauge.points(alloc, now)?;
+    are_last_values(alloc, &data, 100, now, wanted)
+}
+
+/// Whether a collection between two moments gives these points.
+fn gives<T: Number + Drop + PartialEq>(
+    alloc: Global,
+    gauge: &mut LastValue<T>,
+    start: u64,
+    now: u64,
+    wanted: &[(Set, T)],
+) -> Result<bool, Fault> {
+    let data = gauge.collect(alloc, now)?;
+    are_last_values(alloc, &data, start, now, wanted)
+}
+
+/// Whether last values that are kept show one record of 2.
+fn aggregates(alloc: Global, gauge: &mut LastValue<u64>) -> Result<bool, Fault> {
+    measure(alloc, gauge, B, 2)?;
+    gives(alloc, gauge, 100, 200, &[(B, 2)])
+}
+
+#[test]
+fn last_value_aggregation(rt: HostRuntime) -> Result<(), Fail> {
+    let mut gauge = made::<u64>(rt.alloc(), Temporality::Cumulative)?;
+    assert!(rt; aggregates(rt.alloc(), &mut gauge).unwrap_or(false));
+    Ok(())
+}
+
+/// Whether the last of two values stays from collection to collection.
+fn stays(alloc: Global, gauge: &mut LastValue<i64>) -> Result<bool, Fault> {
+    let is_still = !gauge.resets() && !gauge.is_prepared();
+    gauge.measure(7, &[])?;
+    take_in(gauge, -3)?;
+    let is_shown = gauge.total() == 0 && shows(alloc, gauge, 200, &[(NONE, -3)])?;
+    gauge.finish(200);
+    Ok(is_still && is_shown && gives(alloc, gauge, 100, 300, &[(NONE, -3)])?)
+}
+
+#[test]
+fn the_last_value_stays(rt: HostRuntime) -> Result<(), Fail> {
+    let mut gauge = made::<i64>(rt.alloc(), Temporality::Cumulative)?;
+    assert!(rt; stays(rt.alloc(), &mut gauge).unwrap_or(false));
+    Ok(())
+}
+
+/// Whether a value is shown once.
+fn is_forgotten(alloc: Global, gauge: &mut LastValue<i64>) -> Result<bool, Fault> {
+    measure(alloc, gauge, X, 7)?;
+    let is_shown = gives(alloc, gauge, 100, 200, &[(X, 7)])?;
+    Ok(is_shown && gives(alloc, gauge, 200, 300, &[])?)
+}
+
+#[test]
+fn a_delta_value_is_forgotten(rt: HostRuntime) -> Result<(), Fail> {
+    let mut gauge = made::<i64>(rt.alloc(), Temporality::Delta)?;
+    assert!(rt; is_forgotten(rt.alloc(), &mut gauge).unwrap_or(false));
+    Ok(())
+}

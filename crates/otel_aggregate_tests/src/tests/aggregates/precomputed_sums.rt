@@ -1,0 +1,73 @@
+//! Sums that are observed: whole points, in both temporalities and of both number types.
+
+use super::sums::are_sums;
+use super::{B, Set, X, attributes};
+use otel_aggregate::precomputed_sum::PrecomputedSum;
+use otel_common::faults::Fault;
+use otel_common::metrics::Temporality;
+use otel_value_map::number::Number;
+use std::alloc::Global;
+use std::test::Fail;
+
+/// Sums that never fall, with a limit of 10, made at 100.
+fn made<T: Number + Drop>(
+    alloc: Global,
+    temporality: Temporality,
+) -> Result<PrecomputedSum<T>, Fault> {
+    PrecomputedSum::new(alloc, temporality, None, 10, 100, true)
+}
+
+/// Observes a value of a set in two phases.
+fn observe(
+    alloc: Global,
+    sum: &mut PrecomputedSum<i64>,
+    set: Set,
+    value: i64,
+) -> Result<bool, Fault> {
+    sum.prepare(&attributes(alloc, set)?)?;
+    Ok(sum.is_prepared() && sum.commit(value))
+}
+
+/// Whether a collection between two moments gives these points.
+fn gives(
+    alloc: Global,
+    sum: &mut PrecomputedSum<i64>,
+    start: u64,
+    now: u64,
+    wanted: &[(Set, i64)],
+) -> Result<bool, Fault> {
+    let data = sum.collect(alloc, now)?;
+    are_sums(alloc, &data, start, now, wanted)
+}
+
+/// Whether one value is shown as it was observed.
+fn aggregates(alloc: Global, temporality: Temporality) -> Result<bool, Fault> {
+    let mut sum = made::<u64>(alloc, temporality)?;
+    sum.measure(3, &attributes(alloc, B)?)?;
+    let data = sum.collect(alloc, 200)?;
+    let is_of = data.temporality() == temporality && data.is_monotonic();
+    Ok(is_of && are_sums(alloc, &data, 100, 200, &[(B, 3)])?)
+}
+
+#[test]
+fn precomputed_sum_aggregation(rt: HostRuntime) -> Result<(), Fail> {
+    assert!(rt; aggregates(rt.alloc(), Temporality::Cumulative).unwrap_or(false));
+    assert!(rt; aggregates(rt.alloc(), Temporality::Delta).unwrap_or(false));
+    Ok(())
+}
+
+/// Whether what is added is shown, and a value that no point showed is forgotten.
+fn shows_what_is_added(alloc: Global, sum: &mut PrecomputedSum<i64>) -> Result<bool, Fault> {
+    let is_whole = observe(alloc, sum, X, 5)? && gives(alloc, sum, 100, 200, &[(X, 5)])?;
+    let is_less = observe(alloc, sum, X, 3)? && gives(alloc, sum, 200, 300, &[(X, -2)])?;
+    let is_empty = sum.resets() && gives(alloc, sum, 300, 400, &[])?;
+    let is_anew = observe(alloc, sum, X, 4)? && gives(alloc, sum, 400, 500, &[(X, 4)])?;
+    Ok(is_whole && is_less && is_empty && is_anew)
+}
+
+#[test]
+fn a_delta_shows_what_is_added(rt: HostRuntime) -> Result<(), Fail> {
+    let mut sum = made::<i64>(rt.alloc(), Temporality::Delta)?;
+    assert!(rt; shows_what_is_added(rt.alloc(), &mut sum).unwrap_or(false));
+    Ok(())
+}

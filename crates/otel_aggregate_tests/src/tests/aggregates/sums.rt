@@ -1,0 +1,371 @@
+//! Sums: what collections give after each of some steps, as whole points.
+
+use super::{B, NONE, OVERFLOW, Set, X, Y, Z, attributes};
+use otel_aggregate::sum::Sum;
+use otel_common::faults::Fault;
+use otel_common::keys::Key;
+use otel_common::lists::Items;
+use otel_common::metrics::Temporality;
+use otel_data::points::SumDataPoint;
+use otel_data::sums::Sum as SumData;
+use otel_value_map::number::Number;
+use std::alloc::Global;
+use std::test::Fail;
+
+/// What a sum is made with, besides its limit: its keys, if there is an allow-list.
+#[derive(Clone, Copy)]
+struct Kind {
+    temporality: Temporality,
+    is_monotonic: bool,
+    allow: Option<&'static str>,
+}
+
+const CUMULATIVE: Kind = Kind {
+    temporality: Temporality::Cumulative,
+    is_monotonic: true,
+    allow: None,
+};
+
+const DELTA: Kind = Kind {
+    temporality: Temporality::Delta,
+    is_monotonic: true,
+    allow: None,
+};
+
+/// What is done to a sum, or what is seen of it.
+#[derive(Clone, Copy)]
+enum Step {
+    Record(Set, u64),
+    Prepare(Set),
+    TakeIn(u64),
+    IsPrepared(bool),
+    Total(u64),
+    /// What is shown between two moments, and nothing changes.
+    Shows(u64, u64, &'static [(Set, u64)]),
+    Finish(u64),
+    /// A collection between two moments.
+    Gives(u64, u64, &'static [(Set, u64)]),
+}
+
+/// The points of these sets and values, without exemplars.
+fn points<T: Copy + Drop>(
+    alloc: Global,
+    wanted: &[(Set, T)],
+) -> Result<Vec<SumDataPoint<T>>, Fault> {
+    let mut points = Vec::new(alloc);
+    for (set, value) in wanted {
+        let attributes = Items::from(attributes(alloc, *set)?);
+        points.push(SumDataPoint::new(attributes, Items::from(Vec::new(alloc)), *value))?;
+    }
+    Ok(points)
+}
+
+/// Whether the data are of these points, whole and in order, between these moments.
+pub fn are_sums<T: Copy + Drop + PartialEq>(
+    alloc: Global,
+    data: &SumData<T>,
+    start: u64,
+    now: u64,
+    wanted: &[(Set, T)],
+) -> Result<bool, Fault> {
+    let wanted = points(alloc, wanted)?;
+    let moments = data.start_time() == start && data.time() == now;
+    Ok(moments && data.data_points().as_slice() == wanted.as_slice())
+}
+
+/// Whether the data are of a sum of this kind.
+fn is_of<T>(data: &SumData<T>, kind: Kind) -> bool {
+    data.temporality() == kind.temporality && data.is_monotonic() == kind.is_monotonic
+}
+
+/// Takes in a record.
+fn record<T: Number + Drop>(
+    alloc: Global,
+    sum: &mut Sum<T>,
+    set: Set,
+    value: T,
+) -> Result<bool, Fault> {
+    sum.measure(value, &attributes(alloc, set)?)?;
+    Ok(true)
+}
+
+fn prepare<T: Number + Drop>(alloc: Global, sum: &mut Sum<T>, set: Set) -> Result<bool, Fault> {
+    sum.prepare(&attributes(alloc, set)?)?;
+    Ok(true)
+}
+
+/// Takes in what was prepared, if anything was.
+fn take_in<T: Number + Drop>(sum: &mut Sum<T>, value: T) -> bool {
+    let is_prepared = sum.is_prepared();
+    if is_prepared {
+        sum.measure_ready(value);
+    }
+    is_prepared
+}
+
+fn finish<T: Number + Drop>(sum: &mut Sum<T>, now: u64) -> bool {
+    sum.finish(now);
+    true
+}
+
+/// Whether a sum shows these points between two moments.
+fn shows<T: Number + Drop + PartialEq>(
+    alloc: Global,
+    sum: &Sum<T>,
+    kind: Kind,
+    moments: (u64, u64),
+    wanted: &[(Set, T)],
+) -> Result<bool, Fault> {
+    let data = sum.points(alloc, moments.1)?;
+    Ok(are_sums(alloc, &data, moments.0, moments.1, wanted)? && is_of(&data, kind))
+}
+
+/// Whether a collection gives these points between two moments.
+fn gives<T: Number + Drop + PartialEq>(
+    alloc: Global,
+    sum: &mut Sum<T>,
+    kind: Kind,
+    moments: (u64, u64),
+    wanted: &[(Set, T)],
+) -> Result<bool, Fault> {
+    let data = sum.collect(alloc, moments.1)?;
+    Ok(are_sums(alloc, &data, moments.0, moments.1, wanted)? && is_of(&data, kind))
+}
+
+/// Does a step, and tells whether what is seen is as wanted.
+fn goes(alloc: Global, sum: &mut Sum<u64>, kind: Kind, step: &Step) -> Result<bool, Fault> {
+    match step {
+        Step::Record(set, value) => record(alloc, sum, *set, *value),
+        Step::Prepare(set) => prepare(alloc, sum, *set),
+        Step::TakeIn(value) => Ok(take_in(sum, *value)),
+        Step::IsPrepared(want) => Ok(sum.is_prepared() == *want),
+        Step::Total(want) => Ok(sum.total() == *want),
+        Step::Shows(start, now, want) => shows(alloc, sum, kind, (*start, *now), *want),
+        Step::Finish(now) => Ok(finish(sum, *now)),
+        Step::Gives(start, now, want) => gives(alloc, sum, kind, (*start, *now), *want),
+    }
+}
+
+/// A sum of this kind without records, made at 100.
+fn made<T: Number + Drop>(alloc: Global, kind: Kind, limit: usize) -> Result<Sum<T>, Fault> {
+    let allow = match kind.allow {
+        None => None,
+        Some(key) => Some(Items::from(vec![in alloc; Key::new(alloc, key)?]?)),
+    };
+    Ok(Sum::new(
+        alloc,
+        kind.temporality,
+        allow,
+        limit,
+        100,
+        kind.is_monotonic,
+    )?)
+}
+
+/// Does all steps, and tells whether what is seen is as wanted.
+fn goes_on(alloc: Global, sum: &mut Sum<u64>, kind: Kind, steps: &[Step]) -> Result<bool, Fault> {
+    let mut as_wanted = sum.resets() == (kind.temporality == Temporality::Delta);
+    for step in steps {
+        if !goes(alloc, sum, kind, step)? {
+            as_wanted = false;
+        }
+    }
+    Ok(as_wanted)
+}
+
+/// Whether a sum of this kind and limit, made at 100, goes so from step to step.
+fn follows(alloc: Global, kind: Kind, limit: usize, steps: &[Step]) -> Result<bool, Fault> {
+    let mut sum = made(alloc, kind, limit)?;
+    Ok(goes_on(alloc, &mut sum, kind, steps).unwrap_or(false))
+}
+
+#[test]
+fn past_the_limit_the_overflow_entry_is_used(rt: HostRuntime) -> Result<(), Fail> {
+    let steps: [Step; 6] = [
+        Step::Record(X, 1),
+        Step::Record(Y, 2),
+        Step::Record(Z, 4),
+        Step::Record(X, 8),
+        Step::Gives(100, 200, &[(X, 9), (OVERFLOW, 6)]),
+        Step::Gives(100, 200, &[(X, 9), (OVERFLOW, 6)]),
+    ];
+    assert!(rt; follows(rt.alloc(), CUMULATIVE, 1, &steps)?);
+    Ok(())
+}
+
+#[test]
+fn the_empty_set_comes_first_and_is_not_counted(rt: HostRuntime) -> Result<(), Fail> {
+    let steps: [Step; 5] = [
+        Step::Gives(100, 200, &[]),
+        Step::Record(X, 2),
+        Step::Record(NONE, 1),
+        Step::Record(Y, 4),
+        Step::Gives(100, 200, &[(NONE, 1), (X, 2), (OVERFLOW, 4)]),
+    ];
+    assert!(rt; follows(rt.alloc(), CUMULATIVE, 1, &steps)?);
+    Ok(())
+}
+
+#[test]
+fn row_3(rt: HostRuntime) -> Result<(), Fail> {
+    let steps: [Step; 5] = [
+        Step::Record(X, 1),
+        Step::Record(Y, 2),
+        Step::Record(Z, 4),
+        Step::Record(X, 8),
+        Step::Gives(100, 200, &[(X, 9), (Y, 2), (OVERFLOW, 4)]),
+    ];
+    assert!(rt; follows(rt.alloc(), DELTA, 2, &steps)?);
+    Ok(())
+}
+
+#[test]
+fn row_4(rt: HostRuntime) -> Result<(), Fail> {
+    let steps: [Step; 6] = [
+        Step::Record(X, 1),
+        Step::Gives(100, 200, &[(X, 1)]),
+        Step::Record(Y, 2),
+        Step::Gives(200, 300, &[(OVERFLOW, 2)]),
+        Step::Record(Y, 4),
+        Step::Gives(300, 400, &[(Y, 4)]),
+    ];
+    assert!(rt; follows(rt.alloc(), DELTA, 1, &steps)?);
+    Ok(())
+}
+
+#[test]
+fn row_7(rt: HostRuntime) -> Result<(), Fail> {
+    let steps: [Step; 6] = [
+        Step::Record(OVERFLOW, 1),
+        Step::Record(X, 2),
+        Step::Gives(100, 200, &[(OVERFLOW, 3)]),
+        Step::Gives(200, 300, &[]),
+        Step::Record(X, 5),
+        Step::Gives(300, 400, &[(OVERFLOW, 5)]),
+    ];
+    assert!(rt; follows(rt.alloc(), DELTA, 1, &steps)?);
+    Ok(())
+}
+
+#[test]
+fn row_22(rt: HostRuntime) -> Result<(), Fail> {
+    let steps: [Step; 4] = [
+        Step::Record(NONE, 1),
+        Step::Record(X, 2),
+        Step::Record(Y, 4),
+        Step::Gives(100, 200, &[(NONE, 1), (X, 2), (OVERFLOW, 4)]),
+    ];
+    assert!(rt; follows(rt.alloc(), DELTA, 1, &steps)?);
+    Ok(())
+}
+
+/// A delta collection has the moments since the one before, also where that had no points.
+#[test]
+fn delta_moments(rt: HostRuntime) -> Result<(), Fail> {
+    let steps: [Step; 3] = [
+        Step::Gives(100, 200, &[]),
+        Step::Record(NONE, 1),
+        Step::Gives(200, 300, &[(NONE, 1)]),
+    ];
+    assert!(rt; follows(rt.alloc(), DELTA, 10, &steps)?);
+    Ok(())
+}
+
+/// And where its points add up to 0.
+#[test]
+fn delta_moments_of_zero(rt: HostRuntime) -> Result<(), Fail> {
+    let steps: [Step; 3] = [
+        Step::Record(X, 0),
+        Step::Gives(100, 200, &[(X, 0)]),
+        Step::Gives(200, 300, &[]),
+    ];
+    assert!(rt; follows(rt.alloc(), DELTA, 10, &steps)?);
+    Ok(())
+}
+
+#[test]
+fn the_order_of_attributes_does_not_matter(rt: HostRuntime) -> Result<(), Fail> {
+    let steps: [Step; 4] = [
+        Step::Record(Set::BThenA, 1),
+        Step::Record(Set::AThenB, 2),
+        Step::Record(Set::TwiceAThenB, 4),
+        Step::Gives(100, 200, &[(Set::AThenB, 7)]),
+    ];
+    assert!(rt; follows(rt.alloc(), CUMULATIVE, 10, &steps)?);
+    Ok(())
+}
+
+#[test]
+fn an_allow_list_drops_other_keys(rt: HostRuntime) -> Result<(), Fail> {
+    let kind = Kind {
+        allow: Some("b"),
+        ..CUMULATIVE
+    };
+    let steps: [Step; 4] = [
+        Step::Record(Set::BThenA, 1),
+        Step::Record(Set::CThenB, 2),
+        Step::Record(Set::A, 4),
+        Step::Gives(100, 200, &[(NONE, 4), (Set::OneB, 3)]),
+    ];
+    assert!(rt; follows(rt.alloc(), kind, 10, &steps)?);
+    Ok(())
+}
+
+#[test]
+fn a_record_is_prepared_and_then_taken_in(rt: HostRuntime) -> Result<(), Fail> {
+    let steps: [Step; 8] = [
+        Step::IsPrepared(false),
+        Step::Prepare(X),
+        Step::IsPrepared(true),
+        Step::Gives(100, 200, &[]),
+        Step::TakeIn(5),
+        Step::IsPrepared(false),
+        Step::Shows(100, 300, &[(X, 5)]),
+        Step::Gives(100, 200, &[(X, 5)]),
+    ];
+    assert!(rt; follows(rt.alloc(), CUMULATIVE, 10, &steps)?);
+    Ok(())
+}
+
+/// A collection that resets gives up a record that was prepared.
+#[test]
+fn a_delta_collection_gives_up_a_record(rt: HostRuntime) -> Result<(), Fail> {
+    let steps: [Step; 3] = [
+        Step::Prepare(X),
+        Step::Gives(100, 200, &[]),
+        Step::IsPrepared(false),
+    ];
+    assert!(rt; follows(rt.alloc(), DELTA, 10, &steps)?);
+    Ok(())
+}
+
+#[test]
+fn sum_aggregation(rt: HostRuntime) -> Result<(), Fail> {
+    let steps: [Step; 2] = [Step::Record(B, 3), Step::Gives(100, 200, &[(B, 3)])];
+    for kind in [CUMULATIVE, DELTA] {
+        assert!(rt; follows(rt.alloc(), kind, 10, &steps)?);
+    }
+    Ok(())
+}
+
+/// Whether a plain sum of signed numbers wraps around, and stays from collection to collection.
+fn wraps_around(alloc: Global, sum: &mut Sum<i64>, kind: Kind) -> Result<bool, Fault> {
+    let want = [(NONE, -9223372036854775808i64)];
+    prepare(alloc, sum, NONE)?;
+    let is_taken = take_in(sum, 9223372036854775807) && record(alloc, sum, NONE, 1)?;
+    let is_counted = sum.total() == 9223372036854775808 && !sum.resets();
+    let is_shown = shows(alloc, sum, kind, (100, 200), &want)?;
+    sum.finish(200);
+    Ok(is_taken && is_counted && is_shown && gives(alloc, sum, kind, (100, 300), &want)?)
+}
+
+#[test]
+fn row_13(rt: HostRuntime) -> Result<(), Fail> {
+    let kind = Kind {
+        is_monotonic: false,
+        ..CUMULATIVE
+    };
+    let mut sum = made::<i64>(rt.alloc(), kind, 10)?;
+    assert!(rt; wraps_around(rt.alloc(), &mut sum, kind).unwrap_or(false));
+    Ok(())
+}

@@ -1,0 +1,36 @@
+//! Worked values of the map of sets, of its aggregators and its numbers.
+
+use otel_common::attributes::{KeyValue, Value};
+use otel_common::faults::Fault;
+use otel_common::keys::Key;
+use otel_value_map::sets::allowed_attributes;
+use std::alloc::Global;
+use std::test::Fail;
+
+/// A set of attributes, by their keys and values.
+type Set = &'static [(&'static str, i64)];
+
+fn attributes(alloc: Global, set: Set) -> Result<Vec<KeyValue>, Fault> {
+    let mut made = Vec::new(alloc);
+    for (key, value) in set {
+        made.push(KeyValue::new(Key::new(alloc, *key)?, Value::I64(*value)))?;
+    }
+    Ok(made)
+}
+
+/// Whether an allow-list of one key leaves this set of another.
+fn leaves(alloc: Global, key: &str, set: Set, left: Set) -> Result<bool, Fault> {
+    let given = attributes(alloc, set)?;
+    let allowed = allowed_attributes(alloc, &[Key::new(alloc, key)?], &given)?;
+    Ok(allowed == attributes(alloc, left)?)
+}
+
+#[test]
+fn an_allow_list_drops_other_keys(rt: HostRuntime) -> Result<(), Fail> {
+    assert!(rt; leaves(rt.alloc(), "b", &[("b", 1), ("a", 2)], &[("b", 1)])?);
+    Ok(())
+}
+
+mod aggregators;
+mod maps;
+mod numbers;

@@ -1,0 +1,134 @@
+//! Aggregators, and the bounds of buckets.
+
+use otel_common::bounds::is_rising;
+use otel_common::faults::Fault;
+use otel_common::lists::Items;
+use otel_value_map::aggregator::{Aggregator, Increment, create_fold, reset_fold, update_fold};
+use otel_value_map::assign::Assign;
+use otel_value_map::bounds::Bounds;
+use otel_value_map::buckets::{Buckets, BucketsConfig, counted_once};
+use otel_value_map::number::Number;
+use std::alloc::Global;
+use std::test::Fail;
+
+/// An aggregator of two records.
+fn made_of<A: Aggregator>(
+    alloc: Global,
+    config: &A::InitConfig,
+    first: A::PreComputedValue,
+    second: A::PreComputedValue,
+) -> Result<A, Fault> {
+    let mut aggregator: A = create_fold(alloc, config)?;
+    update_fold(&mut aggregator, first);
+    aggregator.update(second);
+    Ok(aggregator)
+}
+
+/// Whether a sum of two values is this one, weighs this, is copied, and is 0 after a reset.
+fn adds_up<T: Number + Drop + PartialEq>(
+    alloc: Global,
+    values: [T; 2],
+    want: T,
+    weight: u64,
+) -> Result<bool, Fault> {
+    let mut sum: Increment<T> = made_of(alloc, &(), values[0], values[1])?;
+    let is_sum = sum.copy(alloc)?.value == want && sum.weight() == weight;
+    reset_fold(&mut sum);
+    Ok(is_sum && sum.value == T::zero())
+}
+
+/// Whether of two values the second is kept, weighs nothing, is copied, and is 0 after a reset.
+fn keeps_the_last<T: Number + Drop + PartialEq>(
+    alloc: Global,
+    first: T,
+    second: T,
+) -> Result<bool, Fault> {
+    let mut last: Assign<T> = made_of(alloc, &(), first, second)?;
+    let is_last = last.copy(alloc)?.value == second && last.weight() == 0;
+    reset_fold(&mut last);
+    Ok(is_last && last.value == T::zero())
+}
+
+#[test]
+fn an_increment_adds_up(rt: HostRuntime) -> Result<(), Fail> {
+    assert!(rt; adds_up(rt.alloc(), [3u64, 4], 7, 7)?);
+    assert!(rt; adds_up(rt.alloc(), [-4i64, 3], -1, 18446744073709551615)?);
+    Ok(())
+}
+
+#[test]
+fn an_assign_keeps_the_last(rt: HostRuntime) -> Result<(), Fail> {
+    assert!(rt; keeps_the_last(rt.alloc(), 4u64, 3)?);
+    assert!(rt; keeps_the_last(rt.alloc(), 3i64, -4)?);
+    Ok(())
+}
+
+fn rising(alloc: Global, bounds: &[i64]) -> Result<Option<Bounds>, Fault> {
+    Ok(Bounds::new(Items::from(Vec::from_clones(alloc, bounds)?)))
+}
+
+#[test]
+fn bounds_that_rise(rt: HostRuntime) -> Result<(), Fail> {
+    assert!(rt; is_rising(&[]));
+    assert!(rt; is_rising(&[-3, 0, 7]));
+    assert!(rt; !is_rising(&[0, 0]));
+    assert!(rt; !is_rising(&[1, 2, -3]));
+    assert!(rt; rising(rt.alloc(), &[1, 1])?.is_none());
+    let none = rising(rt.alloc(), &[])?.ok_or("bounds that do not rise")?;
+    assert_eq!(rt; none.number_of_buckets(), 0);
+    Ok(())
+}
+
+/// Whether a copy of the bounds is these.
+fn is_copied(alloc: Global, bounds: &Bounds, want: &[i64]) -> Result<bool, Fault> {
+    Ok(bounds.copy(alloc)?.as_slice() == want)
+}
+
+#[test]
+fn bounds_rise(rt: HostRuntime) -> Result<(), Fail> {
+    let bounds = rising(rt.alloc(), &[1, 3])?.ok_or("bounds that do not rise")?;
+    assert_eq!(rt; bounds.number_of_buckets(), 3);
+    assert!(rt; bounds.as_slice() == [1, 3].as_slice());
+    assert!(rt; is_copied(rt.alloc(), &bounds, &[1, 3]).unwrap_or(false));
+    assert_eq!(rt; bounds.bucket_of(1), 0);
+    assert_eq!(rt; bounds.bucket_of(2), 1);
+    assert_eq!(rt;
+        bounds.bucket_of(170141183460469231731687303715884105727),
+        2
+    );
+    Ok(())
+}
+
+/// Buckets with their ends and sum after three records.
+fn counted<T: Number + Drop>(
+    alloc: Global,
+    first: (T, usize),
+    second: (T, usize),
+    third: (T, usize),
+) -> Result<Buckets<T>, Fault> {
+    let config = BucketsConfig {
+        number: 2,
+        has_min_max: true,
+        has_sum: true,
+    };
+    let mut buckets: Buckets<T> = made_of(alloc, &config, first, second)?;
+    buckets.update(third);
+    counted_once(&buckets);
+    Ok(buckets)
+}
+
+#[test]
+fn buckets_count(rt: HostRuntime) -> Result<(), Fail> {
+    let mut buckets = counted(rt.alloc(), (-3i64, 0), (2, 1), (4, 1))?;
+    assert_eq!(rt; buckets.weight(), 3);
+    let copy = buckets.copy(rt.alloc())?;
+    assert!(rt; copy.counts.as_slice() == [1, 2].as_slice());
+    assert_eq!(rt; copy.sum, 3);
+    assert_eq!(rt; copy.least, Some(-3));
+    assert_eq!(rt; copy.greatest, Some(4));
+    reset_fold(&mut buckets);
+    assert_eq!(rt; buckets.weight(), 0);
+    assert!(rt; buckets.counts.as_slice() == [0, 0].as_slice());
+    assert_eq!(rt; buckets.least, None);
+    Ok(())
+}
