@@ -5,6 +5,7 @@ use otel_common::attributes::KeyValue;
 use otel_common::faults::Fault;
 use otel_common::lists::Items;
 use otel_value_map::aggregator::Increment;
+use otel_value_map::assign::Assign;
 use otel_value_map::number::Number;
 use otel_value_map::value_map::ValueMap;
 use std::alloc::Global;
@@ -190,5 +191,38 @@ fn a_map_of_signed_sums(rt: HostRuntime) -> Result<(), Fail> {
         shows(alloc, &map, &[(NONE, -4), (BOTH, 3)], 18446744073709551615).unwrap_or(false)
     );
     assert!(rt; gives(alloc, &mut map, &[(NONE, -4), (BOTH, 3)]).unwrap_or(false));
+    Ok(())
+}
+
+/// A list that isn't its set in order leads to the entry that it made, as the set does, until the entry is evicted.
+#[test]
+fn row_31(rt: HostRuntime) -> Result<(), Fail> {
+    let alloc = rt.alloc();
+    let given = attributes(alloc, TURNED)?;
+    let sorted = attributes(alloc, BOTH)?;
+    let mut map: ValueMap<Assign<i64>> = ValueMap::new(alloc, (), 10)?;
+    map.measure(1, &given)?;
+    assert!(rt; map.keys() == 2 && map.count() == 1);
+    assert!(rt; map.knows(&given) && map.knows(&sorted));
+    assert_eq!(rt; map.collect_and_reset(alloc)?.len(), 1);
+    assert_eq!(rt; map.collect_and_reset(alloc)?.len(), 0);
+    assert!(rt; map.keys() == 0 && map.count() == 0);
+    assert!(rt; !map.knows(&given));
+    Ok(())
+}
+
+/// A list in another order than the one that made the entry adds no key.
+#[test]
+fn row_32(rt: HostRuntime) -> Result<(), Fail> {
+    let alloc = rt.alloc();
+    let given = attributes(alloc, TURNED)?;
+    let sorted = attributes(alloc, BOTH)?;
+    let mut map: ValueMap<Assign<i64>> = ValueMap::new(alloc, (), 10)?;
+    map.measure(1, &sorted)?;
+    map.measure(2, &given)?;
+    assert!(rt; map.keys() == 1 && !map.knows(&given));
+    let points = map.collect_and_reset(alloc)?;
+    assert_eq!(rt; points.len(), 1);
+    assert!(rt; points[0].0.as_slice() == sorted.as_slice() && points[0].1.value == 2);
     Ok(())
 }
