@@ -62,7 +62,7 @@ pub drained-restored : {A : Type 0} (meaning : A → Fold) → ((a : A) → clea
     → drained_map (record m { table = t }) ≡ drained_map m
 drained-restored meaning forgets m t was is held =
     ap (λ (none : Entry). record m { table = record { none = none; entries = [] } })
-        (reset-form meaning forgets t is ∙ ap (λ n. record { set = none_set; counted = false; updated = false; fold = Last 0; handles = n }) held ∙ sym (reset-form meaning forgets m.table was))
+    (reset-form meaning forgets t is ∙ ap (λ n. record { set = none_set; counted = false; updated = false; fold = Last 0; handles = n }) held ∙ sym (reset-form meaning forgets m.table was))
 
 -- ======== points ========
 pub value_before-none : (ps : List Point) (x : AttributeSet) → fold_in ps x ≡ None → value_before ps x ≡ 0

@@ -113,7 +113,12 @@ module _ (look other : Look) (none : ℕ) (es gs : List Keyed) (set : AttributeS
   pub kept-added : (list : Option AttributeSet) → IsSpelling gs set list → IsKept other none (es ++ (set, n) ∷ []) (with_spelling list n gs)
   kept-added None can = kept-keyed
   kept-added (Some l) can = record {
-    none_filled = kept-keyed.none_filled; none_lasts = kept-keyed.none_lasts; none_uncounted = kept-keyed.none_uncounted; apart = kept-keyed.apart; unique = kept-keyed.unique; fits = kept-keyed.fits;
+    none_filled = kept-keyed.none_filled;
+    none_lasts = kept-keyed.none_lasts;
+    none_uncounted = kept-keyed.none_uncounted;
+    apart = kept-keyed.apart;
+    unique = kept-keyed.unique;
+    fits = kept-keyed.fits;
     linked = all-push (Links (es ++ (set, n) ∷ [])) gs (l, n) kept-keyed.linked
         (subst (λ s. lookup (set_eq s) (es ++ (set, n) ∷ []) ≡ Some n) (sym can.0) (lookup-pushed set es n new.absent));
     single = subst (IsDistinct set_eq) (sym (ap (map canon) (map-append (λ (e : Keyed). e.0) gs ((l, n) ∷ [])) ∙ map-append canon (keys_of gs) (l ∷ [])))

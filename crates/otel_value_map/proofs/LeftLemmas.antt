@@ -12,8 +12,8 @@ use Rattle.otel_model_stream.specs.Sets.{AttributeSet, none_set, over_set}
 use Rattle.otel_model_stream.specs.Entries.{Entry, has, stays, reset, evicted, drained}
 use Rattle.otel_value_map.specs.Slots.{Kept, Look, Keyed, remains, forgotten, left_of, entry_of, entry_at, table_at}
 use Rattle.otel_value_map.specs.Keyed.{Fits, Links, IsKept, is_lasting, is_counted}
-use Rattle.otel_value_map.specs.Numbers.{number_of, KeepLeft, is_placed}
-use Rattle.otel_value_map.proofs.KeyedLemmas.{set_eq_equiv, same_number, has-lookup, fits-as}
+use Rattle.otel_value_map.specs.Numbers.{KeepLeft}
+use Rattle.otel_value_map.proofs.KeyedLemmas.{set_eq_equiv, has-lookup, fits-as}
 
 -- no key left
 apart-filter : (t : Keyed → Bool) (n : ℕ) (es : List Keyed) → AllByRecursion (λ y. nat_eq n y ≡ false) (values_of es) → AllByRecursion (λ y. nat_eq n y ≡ false) (values_of (filter t es))
@@ -206,11 +206,15 @@ module _ (look other : Look) (none : ℕ) (es gs : List Keyed) (laws : IsKept lo
   pub kept-drained : IsKept other none [] []
   unfolding IsDistinct
   kept-drained = record {
-      none_filled = ap is_some w ∙ (by (look none)).0 ∙ laws.none_filled;
-      none_lasts = ap is_lasting w ∙ (by (look none)).1 ∙ laws.none_lasts;
-      none_uncounted = ap is_counted w ∙ (by (look none)).2 ∙ laws.none_uncounted;
-      apart = (tt, tt); unique = tt; fits = tt; linked = tt; single = tt;
-    }
+    none_filled = ap is_some w ∙ (by (look none)).0 ∙ laws.none_filled;
+    none_lasts = ap is_lasting w ∙ (by (look none)).1 ∙ laws.none_lasts;
+    none_uncounted = ap is_counted w ∙ (by (look none)).2 ∙ laws.none_uncounted;
+    apart = (tt, tt);
+    unique = tt;
+    fits = tt;
+    linked = tt;
+    single = tt;
+  }
     where
       by : (o : Option Kept) → (is_some (option_map forgotten o) ≡ is_some o) × (is_lasting (option_map forgotten o) ≡ is_lasting o) × (is_counted (option_map forgotten o) ≡ is_counted o)
       by None = (refl, refl, refl)

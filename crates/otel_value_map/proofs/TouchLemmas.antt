@@ -51,7 +51,10 @@ module _ (f : Kept → Kept) (g : Entry → Entry) (as_entry : (s : AttributeSet
     none_filled = (fit-touched none).0 ∙ laws.none_filled;
     none_lasts = (fit-touched none).1 ∙ laws.none_lasts;
     none_uncounted = count-touched none ∙ laws.none_uncounted;
-    apart = laws.apart; unique = laws.unique; linked = laws.linked; single = laws.single;
+    apart = laws.apart;
+    unique = laws.unique;
+    linked = laws.linked;
+    single = laws.single;
     fits = fits-touched es laws.fits;
   }
 

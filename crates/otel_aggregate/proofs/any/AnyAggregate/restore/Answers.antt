@@ -14,63 +14,63 @@ returns c =
       | in-HistogramU64-HistogramU64 w ↦ search rules
       | in-HistogramI64-HistogramI64 w ↦ search rules
       | in_default+in-SumU64-1 w ↦ elim w.in_default.branch [
-          | in_default-via-in-SumU64+in_default v ↦ search rules
-          | in_default-via-in-SumI64+in_default v ↦ search rules
-          | in_default-via-in-PrecomputedSumU64+in_default v ↦ search rules
-          | in_default-via-in-PrecomputedSumI64+in_default v ↦ search rules
-          | in_default-via-in-LastValueU64+in_default v ↦ search rules
-          | in_default-via-in-LastValueI64+in_default v ↦ search rules
-          | in_default-via-in-HistogramU64+in_default v ↦ search rules
-          | in_default-via-in-HistogramI64+in_default v ↦ search rules
-        ]
+        | in_default-via-in-SumU64+in_default v ↦ search rules
+        | in_default-via-in-SumI64+in_default v ↦ search rules
+        | in_default-via-in-PrecomputedSumU64+in_default v ↦ search rules
+        | in_default-via-in-PrecomputedSumI64+in_default v ↦ search rules
+        | in_default-via-in-LastValueU64+in_default v ↦ search rules
+        | in_default-via-in-LastValueI64+in_default v ↦ search rules
+        | in_default-via-in-HistogramU64+in_default v ↦ search rules
+        | in_default-via-in-HistogramI64+in_default v ↦ search rules
+      ]
       | in_default+in-SumI64-1 w ↦ elim w.in_default.branch [
-          | in_default-via-in-SumU64+in_default v ↦ search rules
-          | in_default-via-in-SumI64+in_default v ↦ search rules
-          | in_default-via-in-PrecomputedSumU64+in_default v ↦ search rules
-          | in_default-via-in-PrecomputedSumI64+in_default v ↦ search rules
-          | in_default-via-in-LastValueU64+in_default v ↦ search rules
-          | in_default-via-in-LastValueI64+in_default v ↦ search rules
-          | in_default-via-in-HistogramU64+in_default v ↦ search rules
-          | in_default-via-in-HistogramI64+in_default v ↦ search rules
-        ]
+        | in_default-via-in-SumU64+in_default v ↦ search rules
+        | in_default-via-in-SumI64+in_default v ↦ search rules
+        | in_default-via-in-PrecomputedSumU64+in_default v ↦ search rules
+        | in_default-via-in-PrecomputedSumI64+in_default v ↦ search rules
+        | in_default-via-in-LastValueU64+in_default v ↦ search rules
+        | in_default-via-in-LastValueI64+in_default v ↦ search rules
+        | in_default-via-in-HistogramU64+in_default v ↦ search rules
+        | in_default-via-in-HistogramI64+in_default v ↦ search rules
+      ]
       | in_default+in-LastValueU64-1 w ↦ elim w.in_default.branch [
-          | in_default-via-in-SumU64+in_default v ↦ search rules
-          | in_default-via-in-SumI64+in_default v ↦ search rules
-          | in_default-via-in-PrecomputedSumU64+in_default v ↦ search rules
-          | in_default-via-in-PrecomputedSumI64+in_default v ↦ search rules
-          | in_default-via-in-LastValueU64+in_default v ↦ search rules
-          | in_default-via-in-LastValueI64+in_default v ↦ search rules
-          | in_default-via-in-HistogramU64+in_default v ↦ search rules
-          | in_default-via-in-HistogramI64+in_default v ↦ search rules
-        ]
+        | in_default-via-in-SumU64+in_default v ↦ search rules
+        | in_default-via-in-SumI64+in_default v ↦ search rules
+        | in_default-via-in-PrecomputedSumU64+in_default v ↦ search rules
+        | in_default-via-in-PrecomputedSumI64+in_default v ↦ search rules
+        | in_default-via-in-LastValueU64+in_default v ↦ search rules
+        | in_default-via-in-LastValueI64+in_default v ↦ search rules
+        | in_default-via-in-HistogramU64+in_default v ↦ search rules
+        | in_default-via-in-HistogramI64+in_default v ↦ search rules
+      ]
       | in_default+in-LastValueI64-1 w ↦ elim w.in_default.branch [
-          | in_default-via-in-SumU64+in_default v ↦ search rules
-          | in_default-via-in-SumI64+in_default v ↦ search rules
-          | in_default-via-in-PrecomputedSumU64+in_default v ↦ search rules
-          | in_default-via-in-PrecomputedSumI64+in_default v ↦ search rules
-          | in_default-via-in-LastValueU64+in_default v ↦ search rules
-          | in_default-via-in-LastValueI64+in_default v ↦ search rules
-          | in_default-via-in-HistogramU64+in_default v ↦ search rules
-          | in_default-via-in-HistogramI64+in_default v ↦ search rules
-        ]
+        | in_default-via-in-SumU64+in_default v ↦ search rules
+        | in_default-via-in-SumI64+in_default v ↦ search rules
+        | in_default-via-in-PrecomputedSumU64+in_default v ↦ search rules
+        | in_default-via-in-PrecomputedSumI64+in_default v ↦ search rules
+        | in_default-via-in-LastValueU64+in_default v ↦ search rules
+        | in_default-via-in-LastValueI64+in_default v ↦ search rules
+        | in_default-via-in-HistogramU64+in_default v ↦ search rules
+        | in_default-via-in-HistogramI64+in_default v ↦ search rules
+      ]
       | in_default+in-HistogramU64-1 w ↦ elim w.in_default.branch [
-          | in_default-via-in-SumU64+in_default v ↦ search rules
-          | in_default-via-in-SumI64+in_default v ↦ search rules
-          | in_default-via-in-PrecomputedSumU64+in_default v ↦ search rules
-          | in_default-via-in-PrecomputedSumI64+in_default v ↦ search rules
-          | in_default-via-in-LastValueU64+in_default v ↦ search rules
-          | in_default-via-in-LastValueI64+in_default v ↦ search rules
-          | in_default-via-in-HistogramU64+in_default v ↦ search rules
-          | in_default-via-in-HistogramI64+in_default v ↦ search rules
-        ]
+        | in_default-via-in-SumU64+in_default v ↦ search rules
+        | in_default-via-in-SumI64+in_default v ↦ search rules
+        | in_default-via-in-PrecomputedSumU64+in_default v ↦ search rules
+        | in_default-via-in-PrecomputedSumI64+in_default v ↦ search rules
+        | in_default-via-in-LastValueU64+in_default v ↦ search rules
+        | in_default-via-in-LastValueI64+in_default v ↦ search rules
+        | in_default-via-in-HistogramU64+in_default v ↦ search rules
+        | in_default-via-in-HistogramI64+in_default v ↦ search rules
+      ]
       | in_default+in-HistogramI64-1 w ↦ elim w.in_default.branch [
-          | in_default-via-in-SumU64+in_default v ↦ search rules
-          | in_default-via-in-SumI64+in_default v ↦ search rules
-          | in_default-via-in-PrecomputedSumU64+in_default v ↦ search rules
-          | in_default-via-in-PrecomputedSumI64+in_default v ↦ search rules
-          | in_default-via-in-LastValueU64+in_default v ↦ search rules
-          | in_default-via-in-LastValueI64+in_default v ↦ search rules
-          | in_default-via-in-HistogramU64+in_default v ↦ search rules
-          | in_default-via-in-HistogramI64+in_default v ↦ search rules
-        ]
+        | in_default-via-in-SumU64+in_default v ↦ search rules
+        | in_default-via-in-SumI64+in_default v ↦ search rules
+        | in_default-via-in-PrecomputedSumU64+in_default v ↦ search rules
+        | in_default-via-in-PrecomputedSumI64+in_default v ↦ search rules
+        | in_default-via-in-LastValueU64+in_default v ↦ search rules
+        | in_default-via-in-LastValueI64+in_default v ↦ search rules
+        | in_default-via-in-HistogramU64+in_default v ↦ search rules
+        | in_default-via-in-HistogramI64+in_default v ↦ search rules
+      ]
     ]

@@ -1,4 +1,3 @@
-use Rattle.std.specs.Prelude.{◌≡◌}
 use Rattle.otel_value_map.specs.Hashing.{write}
 use Rattle.otel_value_map.proofs.hashing.SetHasherHasher.write.Goals as goal
 

@@ -18,7 +18,7 @@ invariant_of-self g c =
 pub returns-clause-table : goal.returns-clause-table
 returns-clause-table g c = λ s e.
     table-touched held take_handle (λ s k. refl) (λ k. refl) (λ k. refl) _ _ c.args.number c.hold.ensures.look c.self.inside.none c.self.inside.sets.entries c.self.inside.given.entries s c.self.invariant
-        (ap (λ (t : Slotted). number_of s t.numbers) c.self.view_is ∙ e)
+    (ap (λ (t : Slotted). number_of s t.numbers) c.self.view_is ∙ e)
     ∙ ap (λ (t : Slotted). at_entry s take_handle t.table) c.self.view_is
 
 pub hold-requires : goal.hold-requires

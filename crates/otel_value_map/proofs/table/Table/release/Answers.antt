@@ -13,7 +13,7 @@ invariant_of-self g c =
 pub returns-clause-table : goal.returns-clause-table
 returns-clause-table g c = λ s e.
     table-touched released drop_handle (λ s k. refl) (λ k. refl) (λ k. refl) _ _ c.args.number c.release.ensures.look c.self.inside.none c.self.inside.sets.entries c.self.inside.given.entries s c.self.invariant
-        (ap (λ (t : Slotted). number_of s t.numbers) c.self.view_is ∙ e)
+    (ap (λ (t : Slotted). number_of s t.numbers) c.self.view_is ∙ e)
     ∙ ap (λ (t : Slotted). at_entry s drop_handle t.table) c.self.view_is
 
 pub returns-clause-counted : goal.returns-clause-counted

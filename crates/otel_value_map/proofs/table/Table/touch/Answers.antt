@@ -15,7 +15,7 @@ pub returns-clause-table : goal.returns-clause-table
 returns-clause-table g c = λ s e.
     let v = g.A.Aggregator.sample c.args.value in
     table-touched (written v) (write v) (λ s k. refl) (λ k. refl) (λ k. refl) _ _ c.args.number c.touch.ensures.look c.self.inside.none c.self.inside.sets.entries c.self.inside.given.entries s c.self.invariant
-        (ap (λ (t : Slotted). number_of s t.numbers) c.self.view_is ∙ e)
+    (ap (λ (t : Slotted). number_of s t.numbers) c.self.view_is ∙ e)
     ∙ ap (λ (t : Slotted). at_entry s (write v) t.table) c.self.view_is
 
 pub returns-clause-counted : goal.returns-clause-counted

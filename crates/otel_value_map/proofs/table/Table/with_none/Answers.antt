@@ -1,4 +1,4 @@
-use Rattle.std.proofs.Common.{◌≡◌, ◌∙◌, ap, is_some}
+use Rattle.std.proofs.Common.{◌∙◌, ap, is_some}
 use Rattle.otel_value_map.specs.Keyed.{is_lasting, is_counted}
 use Rattle.otel_value_map.proofs.KeyedLemmas.{kept-new, same_number}
 use Rattle.otel_value_map.proofs.table.Table.with_none.Goals as goal
