@@ -280,7 +280,7 @@ impl AnyAggregate {
         }
     }
 
-    /// A copy of the entries, to be restored later. A stream without entries takes no memory for them.
+    /// A copy of the entries, to be restored later. It takes memory also without entries.
     pub fn save(&self, alloc: Global) -> Result<SavedAggregate, Fault>
         ensures saved { IfOk result (λ saved. saved ≡ saved_of self.now) }
         ensures only_memory { IsOkUnless result Fault.OutOfMemory }

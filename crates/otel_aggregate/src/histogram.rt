@@ -152,7 +152,7 @@ impl<T: Number + Drop> Histogram<T> {
         self.stream.finish(now);
     }
 
-    /// A copy of the histograms, to be restored later. A stream without entries takes no memory for them.
+    /// A copy of the histograms, to be restored later. It takes memory also without entries.
     pub fn save(&self, alloc: Global) -> Result<Saved<Buckets<T>>, Fault>
         ensures saved { IfOk result (λ saved. saved ≡ self.now.state.map_state.table) }
         ensures only_memory { IsOkUnless result Fault.OutOfMemory }

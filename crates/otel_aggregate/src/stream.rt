@@ -237,7 +237,7 @@ impl<A: Shows> Stream<A> {
         self.map.drain();
     }
 
-    /// A copy of the entries, to be restored later. A stream without entries takes no memory for them.
+    /// A copy of the entries, to be restored later. It takes memory also without entries.
     pub fn save(&self, alloc: Global) -> Result<Saved<A>, Fault>
         ensures saved { IfOk result (λ saved. saved ≡ self.now.state.map_state.table) }
         ensures only_memory { IsOkUnless result Fault.OutOfMemory }
