@@ -23,18 +23,24 @@ pub enum Fault {
     /// No instrument has this number.
     #[error("unknown instrument")]
     UnknownInstrument,
+    /// No live handle has this number.
+    #[error("unknown handle")]
+    UnknownHandle,
     /// No reader has this number.
     #[error("unknown reader")]
     UnknownReader,
     /// A `u64` for an `i64` instrument, or the other way round.
     #[error("wrong number type")]
     WrongNumber,
-    /// The instrument is of another kind: a record at an observable one, or an observation of one that isn't.
+    /// The instrument is of another kind: a record or a bind at an observable one, or an observation of one that isn't.
     #[error("wrong instrument kind")]
     WrongKind,
     /// A flush or a shutdown of a provider that was shut down before (Metrics SDK, "Shutdown").
     #[error("already shut down")]
     AlreadyShutdown,
+    /// No number is left for another handle: 2^64 - 1 were given.
+    #[error("exhausted")]
+    Exhausted,
     /// A reader could not do what it was asked to.
     #[error("{0}")]
     InternalFailure(InternalFault),
@@ -60,12 +66,14 @@ impl Fault {
             Fault::OutOfMemory => 1,
             Fault::UnknownMeter => 2,
             Fault::UnknownInstrument => 3,
+            Fault::UnknownHandle => 4,
             Fault::UnknownReader => 5,
             Fault::WrongNumber => 6,
             Fault::WrongKind => 7,
             Fault::AlreadyShutdown => 8,
             Fault::InternalFailure(InternalFault::ReaderShutDown) => 9,
             Fault::InternalFailure(InternalFault::Readers { .. }) => 10,
+            Fault::Exhausted => 11,
         }
     }
 }

@@ -35,10 +35,12 @@ pub refused-step : (views : Views) (old new : State) (call : model.Call) (f : Fa
 refused-step views old new call fault.OutOfMemory takes is same = (takes refl, is, same)
 refused-step views old new call fault.UnknownMeter takes is same = named-step views old new call model.Fault.UnknownMeter is same
 refused-step views old new call fault.UnknownInstrument takes is same = named-step views old new call model.Fault.UnknownInstrument is same
+refused-step views old new call fault.UnknownHandle takes is same = named-step views old new call model.Fault.UnknownHandle is same
 refused-step views old new call fault.UnknownReader takes is same = named-step views old new call model.Fault.UnknownReader is same
 refused-step views old new call fault.WrongNumber takes is same = named-step views old new call model.Fault.WrongNumber is same
 refused-step views old new call fault.WrongKind takes is same = named-step views old new call model.Fault.WrongKind is same
 refused-step views old new call fault.AlreadyShutdown takes is same = named-step views old new call model.Fault.AlreadyShutdown is same
+refused-step views old new call fault.Exhausted takes is same = named-step views old new call model.Fault.Exhausted is same
 refused-step views old new call (fault.InternalFailure inner.ReaderShutDown) takes is same = named-step views old new call model.Fault.ReaderShutDown is same
 refused-step views old new call (fault.InternalFailure (inner.Readers failed first)) takes is same = absurd is
 

@@ -64,10 +64,12 @@ abbrev pub fault_of : Fault → model.Fault
 fault_of fault.OutOfMemory = model.Fault.OutOfMemory
 fault_of fault.UnknownMeter = model.Fault.UnknownMeter
 fault_of fault.UnknownInstrument = model.Fault.UnknownInstrument
+fault_of fault.UnknownHandle = model.Fault.UnknownHandle
 fault_of fault.UnknownReader = model.Fault.UnknownReader
 fault_of fault.WrongNumber = model.Fault.WrongNumber
 fault_of fault.WrongKind = model.Fault.WrongKind
 fault_of fault.AlreadyShutdown = model.Fault.AlreadyShutdown
+fault_of fault.Exhausted = model.Fault.Exhausted
 fault_of (fault.InternalFailure inner.ReaderShutDown) = model.Fault.ReaderShutDown
 fault_of (fault.InternalFailure (inner.Readers failed first)) = model.Fault.ReadersFailed failed first
 

@@ -33,10 +33,12 @@ abbrev pub IsFault : Option model.Fault → Fault → Type 0
 IsFault o fault.OutOfMemory = o ≡ None
 IsFault o fault.UnknownMeter = o ≡ Some model.Fault.UnknownMeter
 IsFault o fault.UnknownInstrument = o ≡ Some model.Fault.UnknownInstrument
+IsFault o fault.UnknownHandle = o ≡ Some model.Fault.UnknownHandle
 IsFault o fault.UnknownReader = o ≡ Some model.Fault.UnknownReader
 IsFault o fault.WrongNumber = o ≡ Some model.Fault.WrongNumber
 IsFault o fault.WrongKind = o ≡ Some model.Fault.WrongKind
 IsFault o fault.AlreadyShutdown = o ≡ Some model.Fault.AlreadyShutdown
+IsFault o fault.Exhausted = o ≡ Some model.Fault.Exhausted
 IsFault o (fault.InternalFailure inner.ReaderShutDown) = o ≡ Some model.Fault.ReaderShutDown
 IsFault o (fault.InternalFailure (inner.Readers failed first)) = ⊥
 
@@ -48,10 +50,12 @@ abbrev pub IsNamed : Fault → Type 0
 IsNamed fault.OutOfMemory = ⊥
 IsNamed fault.UnknownMeter = Unit {0}
 IsNamed fault.UnknownInstrument = Unit {0}
+IsNamed fault.UnknownHandle = Unit {0}
 IsNamed fault.UnknownReader = Unit {0}
 IsNamed fault.WrongNumber = Unit {0}
 IsNamed fault.WrongKind = Unit {0}
 IsNamed fault.AlreadyShutdown = Unit {0}
+IsNamed fault.Exhausted = Unit {0}
 IsNamed (fault.InternalFailure f) = Unit {0}
 
 -- ======== builds ========

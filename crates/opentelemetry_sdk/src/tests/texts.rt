@@ -48,6 +48,8 @@ fn faults(rt: HostRuntime) -> Result<(), Fail> {
         (Fault::UnknownReader, 5, "unknown reader"),
         (Fault::WrongNumber, 6, "wrong number type"),
         (Fault::WrongKind, 7, "wrong instrument kind"),
+        (Fault::UnknownHandle, 4, "unknown handle"),
+        (Fault::Exhausted, 11, "exhausted"),
         (Fault::AlreadyShutdown, 8, "already shut down"),
         (
             Fault::InternalFailure(InternalFault::ReaderShutDown),
