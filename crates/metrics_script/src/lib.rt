@@ -16,7 +16,7 @@ mod printing;
 mod readers;
 mod refusals;
 pub mod script;
-mod scripts;
+mod script_lines;
 mod streams;
 #[cfg(test)]
 mod tests;

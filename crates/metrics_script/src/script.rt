@@ -2,7 +2,7 @@
 
 use crate::failures::Failure;
 use crate::printing::write_reply;
-use crate::scripts::{Script, script_of};
+use crate::script_lines::{Script, script_of};
 use opentelemetry_sdk::metrics::SdkMeterProvider;
 use opentelemetry_sdk::metrics::provider::Reply;
 use std::alloc::Global;

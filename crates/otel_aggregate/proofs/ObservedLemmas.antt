@@ -5,23 +5,23 @@ use Rattle.otel_common.specs.Equality.{set_eq}
 use Rattle.otel_common.specs.declared.metrics.Temporality.{Temporality}
 use Rattle.otel_data.specs.declared.points.SumDataPoint.{SumDataPoint}
 use Rattle.otel_model_stream.specs.Sets.{AttributeSet, none_set}
-use Rattle.otel_model_stream.specs.Folds.{Amount, Sample, Fold, Total, Last, Spreads, cleared, cleared_no_spread, sample_of}
-use Rattle.otel_model_stream.specs.Entries.{Entry, Point, Table, is_of, on, write, reset, entry_for, placed}
-use Rattle.otel_model_stream.specs.Maps.{MapState, measured, drained_map}
+use Rattle.otel_model_stream.specs.Folds.{Amount, Sample, Fold, Total, Last, Spreads, clear_fold, clear_fold_no_spread, sample_of}
+use Rattle.otel_model_stream.specs.Entries.{Entry, Point, Table, is_of, on, write, reset, entry_for, entries_with_place}
+use Rattle.otel_model_stream.specs.Maps.{MapState, measured_map, drained_map}
 use Rattle.otel_model_stream.specs.Observed.{fold_in, value_before, difference}
 use Rattle.otel_model_stream.specs.Totals.{value_of}
 use Rattle.otel_model_stream.specs.Data.{sum_point}
 use Rattle.otel_model_stream.proofs.Clearing.{cleared-recorded}
 use Rattle.otel_value_map.specs.Slots.{HasForm}
-use Rattle.otel_aggregate.specs.Streams.{StreamState, HeldStream, recorded_set, taken, taken_from}
+use Rattle.otel_aggregate.specs.Streams.{StreamState, HeldStream, recorded_set, stream_after_commit, taken_from}
 use Rattle.otel_aggregate.specs.Data.{temporality_of}
 use Rattle.otel_aggregate.specs.Observed.{ObservedState, values_now, since_reported, sums_now, observed_data}
 
 -- ======== draining ========
-cleared-cleared : (f : Fold) → cleared (cleared f) ≡ cleared f
+cleared-cleared : (f : Fold) → clear_fold (clear_fold f) ≡ clear_fold f
 cleared-cleared (Total n) = refl
 cleared-cleared (Last n) = refl
-cleared-cleared (Spreads s) = cleared_no_spread s.has_min_max s.has_sum (length s.counts)
+cleared-cleared (Spreads s) = clear_fold_no_spread s.has_min_max s.has_sum (length s.counts)
 
 reset-on : (g : AttributeSet) (v : Sample) (e : Entry) → reset (on g (write v) e) ≡ reset e
 reset-on g v e = by (is_of g e)
@@ -31,8 +31,8 @@ reset-on g v e = by (is_of g e)
     by false = refl
 
 -- a map is drained to the same with a record more
-pub drained-measured : (s : AttributeSet) (v : Sample) (m : MapState) → drained_map (measured s v m) ≡ drained_map m
-drained-measured s v m = ap (λ (none : Entry). record m { table = record { none = none; entries = [] } }) (reset-on (entry_for s (placed m.limit m.empty s m.table.entries)) v m.table.none)
+pub drained-measured : (s : AttributeSet) (v : Sample) (m : MapState) → drained_map (measured_map s v m) ≡ drained_map m
+drained-measured s v m = ap (λ (none : Entry). record m { table = record { none = none; entries = [] } }) (reset-on (entry_for s (entries_with_place m.limit m.empty s m.table.entries)) v m.table.none)
 
 -- and when it was drained already
 pub drained-drained : (m : MapState) → drained_map (drained_map m) ≡ drained_map m
@@ -45,7 +45,7 @@ drained-set old new v None e some measured = absurd (true≢false (sym some))
 drained-set old new v (Some s) e some measured = ap (λ (st : StreamState). drained_map st.map_state) (measured s e) ∙ drained-measured s (sample_of old.state.aggregate v) old.state.map_state
 
 -- and if there was one
-pub drained-taken : (v : Amount) (h : HeldStream) → drained_map (taken v h).state.map_state ≡ drained_map h.state.map_state
+pub drained-taken : (v : Amount) (h : HeldStream) → drained_map (stream_after_commit v h).state.map_state ≡ drained_map h.state.map_state
 drained-taken v h = by h.pending
   where
     by : (o : Option AttributeSet) → drained_map (taken_from o v h).state.map_state ≡ drained_map h.state.map_state
@@ -53,12 +53,12 @@ drained-taken v h = by h.pending
     by (Some s) = drained-measured s (sample_of h.state.aggregate v) h.state.map_state
 
 -- the entry of the empty set, forgotten, where no records come to a last value of 0
-reset-form : {A : Type 0} (meaning : A → Fold) → ((a : A) → cleared (meaning a) ≡ Last 0) → (t : Table) → HasForm meaning t
+reset-form : {A : Type 0} (meaning : A → Fold) → ((a : A) → clear_fold (meaning a) ≡ Last 0) → (t : Table) → HasForm meaning t
     → reset t.none ≡ record { set = none_set; counted = false; updated = false; fold = Last 0; handles = t.none.handles }
 reset-form meaning forgets t h = ap reset h.1 ∙ ap (λ f. record { set = none_set; counted = false; updated = false; fold = f; handles = t.none.handles }) (forgets h.0)
 
 -- a map is drained to the same with another table
-pub drained-restored : {A : Type 0} (meaning : A → Fold) → ((a : A) → cleared (meaning a) ≡ Last 0) → (m : MapState) (t : Table) → HasForm meaning m.table → HasForm meaning t → t.none.handles ≡ m.table.none.handles
+pub drained-restored : {A : Type 0} (meaning : A → Fold) → ((a : A) → clear_fold (meaning a) ≡ Last 0) → (m : MapState) (t : Table) → HasForm meaning m.table → HasForm meaning t → t.none.handles ≡ m.table.none.handles
     → drained_map (record m { table = t }) ≡ drained_map m
 drained-restored meaning forgets m t was is held =
     ap (λ (none : Entry). record m { table = record { none = none; entries = [] } })
@@ -93,9 +93,9 @@ pub shown-data : {T : Type 0} (of_bits : ℕ → T) (of_whole : ℤ → T) (now 
     → points ≡ map (λ p. sum_point of_bits of_whole (since_reported reported p)) given → reported ≡ cond a.stream.resets (Some a.reported) None → given ≡ values_now a
     → start ≡ a.stream.start → temporality ≡ temporality_of a.stream → is_monotonic ≡ a.stream.is_monotonic
     → record { data_points = points; start_time = start; time = now; temporality = temporality; is_monotonic = is_monotonic } ≡ observed_data of_bits of_whole now a
-shown-data of_bits of_whole now a reported given points start temporality is_monotonic is before all since kind rises =
+shown-data of_bits of_whole now a reported given points start temporality is_monotonic is before all start_is kind rises =
     let same : points ≡ map (sum_point of_bits of_whole) (sums_now a) =
     is ∙ ap (λ r. map (λ p. sum_point of_bits of_whole (since_reported r p)) given) before
     ∙ since_reported-all (sum_point of_bits of_whole) a.stream.resets a.reported given
     ∙ ap (λ ps. map (sum_point of_bits of_whole) (cond a.stream.resets (map (difference a.reported) ps) ps)) all in
-    λ i. record { data_points = same i; start_time = since i; time = now; temporality = kind i; is_monotonic = rises i }
+    λ i. record { data_points = same i; start_time = start_is i; time = now; temporality = kind i; is_monotonic = rises i }

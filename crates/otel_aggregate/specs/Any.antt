@@ -12,11 +12,11 @@ use Rattle.otel_model_stream.specs.Sets.{AttributeSet, AllowList}
 use Rattle.otel_model_stream.specs.Folds.{Aggregate, Sum, LastValue, Histogram, Amount}
 use Rattle.otel_model_stream.specs.Entries.{Table, Point}
 use Rattle.otel_model_stream.specs.Maps.{draining_points}
-use Rattle.otel_model_stream.specs.Data.{natural, signed_of}
+use Rattle.otel_model_stream.specs.Data.{natural_of, signed_of}
 use Rattle.otel_aggregate.specs.declared.settings.AnySettings.{AnySettings}
 use Rattle.otel_aggregate.specs.declared.settings.AnySettings.TheVariants as settings
 use Rattle.otel_aggregate.specs.Data.{sum_data, gauge_data, histogram_data}
-use Rattle.otel_aggregate.specs.Streams.{StreamState, HeldStream, new_stream, points_now, collected, taken as taken_of}
+use Rattle.otel_aggregate.specs.Streams.{StreamState, HeldStream, new_stream, points_now, stream_after_collection, stream_after_commit}
 use Rattle.otel_aggregate.specs.Observed.{ObservedState, HeldObserved, drained_at, observed_data}
 
 -- whether its numbers are signed, the stream, the set of the record that is prepared, whether each
@@ -88,8 +88,8 @@ with_stream a s = record a { state = s.state; pending = s.pending }
 
 -- ======== records ========
 -- after the record that is prepared, if there is one, of a value that has the stream's number type
-abbrev pub taken : NumberValue → HeldAny → HeldAny
-taken value a = cond (beq (is_signed_value value) a.is_signed) (with_stream a (taken_of (amount_of value) (stream_in a))) a
+abbrev pub any_after_commit : NumberValue → HeldAny → HeldAny
+any_after_commit value a = cond (beq (is_signed_value value) a.is_signed) (with_stream a (stream_after_commit (amount_of value) (stream_in a))) a
 
 -- whether a record is made so
 abbrev pub is_taken : NumberValue → HeldAny → Bool
@@ -105,7 +105,7 @@ module _ {T : Type 0} (of_bits : ℕ → T) (of_whole : ℤ → T) where
 
 -- and by its number type
 abbrev pub metrics_of : Bool → ℕ → StreamState → AggregatedMetrics
-metrics_of false now a = metrics.U64 (data_of (λ n. n) natural a.aggregate now a)
+metrics_of false now a = metrics.U64 (data_of (λ n. n) natural_of a.aggregate now a)
 metrics_of true now a = metrics.I64 (data_of signed_of (λ z. z) a.aggregate now a)
 
 -- the stream as one of observed sums
@@ -114,7 +114,7 @@ observed_in a = record { stream = a.state; reported = a.reported }
 
 -- what a collection at a moment gives of observed sums, by their number type
 abbrev pub observed_metrics : Bool → ℕ → ObservedState → AggregatedMetrics
-observed_metrics false now a = metrics.U64 (metric.Sum (observed_data (λ n. n) natural now a))
+observed_metrics false now a = metrics.U64 (metric.Sum (observed_data (λ n. n) natural_of now a))
 observed_metrics true now a = metrics.I64 (metric.Sum (observed_data signed_of (λ z. z) now a))
 
 -- what a collection at a moment gives
@@ -130,12 +130,12 @@ abbrev pub with_observed : HeldAny → ObservedState → HeldAny
 with_observed a s = record a { state = s.stream; reported = s.reported }
 
 -- the state after a collection at a moment
-abbrev pub ended_state : ℕ → HeldAny → HeldAny
-ended_state now a = cond a.drains (with_observed a (drained_at now (observed_in a))) (record a { state = collected now a.state })
+abbrev pub state_after_collection : ℕ → HeldAny → HeldAny
+state_after_collection now a = cond a.drains (with_observed a (drained_at now (observed_in a))) (record a { state = stream_after_collection now a.state })
 
 -- after a collection at a moment: where it empties the stream or starts it again, a record that was prepared is given up
-abbrev pub ended : ℕ → HeldAny → HeldAny
-ended now a = record (ended_state now a) { pending = cond (a.drains || a.state.resets) None a.pending }
+abbrev pub any_after_collection : ℕ → HeldAny → HeldAny
+any_after_collection now a = record (state_after_collection now a) { pending = cond (a.drains || a.state.resets) None a.pending }
 
 -- ======== saved entries ========
 -- what a stream keeps of the records of a set: their sum, the last of them, or how they spread

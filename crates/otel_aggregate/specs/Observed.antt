@@ -9,7 +9,7 @@ use Rattle.otel_model_stream.specs.Entries.{Point}
 use Rattle.otel_model_stream.specs.Maps.{draining_points, drained_map}
 use Rattle.otel_model_stream.specs.Observed.{difference}
 use Rattle.otel_model_stream.specs.Data.{sum}
-use Rattle.otel_aggregate.specs.Streams.{StreamState, HeldStream, new_stream, recorded_set, recorded_attributes, taken}
+use Rattle.otel_aggregate.specs.Streams.{StreamState, HeldStream, new_stream, recorded_set, recorded_attributes, stream_after_commit}
 use Rattle.otel_aggregate.specs.Data.{temporality_of}
 
 -- what was observed since the last collection, and the values that a delta stream reported in that one
@@ -44,8 +44,8 @@ abbrev pub with_reported : List Point → HeldStream → HeldObserved
 with_reported ps s = record { state = record { stream = s.state; reported = ps }; pending = s.pending }
 
 -- after the observation that is prepared, if there is one
-abbrev pub observed : Amount → HeldObserved → HeldObserved
-observed v s = with_reported s.state.reported (taken v (stream_in s))
+abbrev pub observed_after_commit : Amount → HeldObserved → HeldObserved
+observed_after_commit v s = with_reported s.state.reported (stream_after_commit v (stream_in s))
 
 -- ======== collections ========
 -- the values that were observed

@@ -1,10 +1,10 @@
 -- One stream of one reader: its map of sets, and what a collection does to it (Metrics SDK, "MetricReader").
 use Rattle.std.specs.Prelude.{ℕ, Bool, false, not, cond, List, Option, None, Some}
 use Rattle.otel_common.specs.declared.attributes.KeyValue.{KeyValue}
-use Rattle.otel_model_stream.specs.Sets.{AttributeSet, AllowList, kept, set_of}
+use Rattle.otel_model_stream.specs.Sets.{AttributeSet, AllowList, allowed_part, set_of}
 use Rattle.otel_model_stream.specs.Folds.{Aggregate, Sum, LastValue, Histogram, Amount, empty_of, sample_of}
 use Rattle.otel_model_stream.specs.Entries.{Point, points}
-use Rattle.otel_model_stream.specs.Maps.{MapState, new_map, measured, evicted_map, without_lists, knows}
+use Rattle.otel_model_stream.specs.Maps.{MapState, new_map, measured_map, evicted_map, without_lists, knows}
 
 pub record StreamState : Type 0 where
   pub map_state : MapState
@@ -44,11 +44,11 @@ pub record HeldStream : Type 0 where
 
 -- what is kept of these attributes is nothing or, in its order, the set of an entry
 abbrev pub is_known : AllowList → List KeyValue → MapState → Bool
-is_known allow l m = knows (kept allow l) (without_lists m)
+is_known allow l m = knows (allowed_part allow l) (without_lists m)
 
 -- after a record of an amount under a set
 abbrev pub recorded_set : AttributeSet → Amount → StreamState → StreamState
-recorded_set s v a = record a { map_state = measured s (sample_of a.aggregate v) a.map_state }
+recorded_set s v a = record a { map_state = measured_map s (sample_of a.aggregate v) a.map_state }
 
 -- after a record of an amount with these attributes
 abbrev pub recorded_attributes : List KeyValue → Amount → StreamState → StreamState
@@ -59,8 +59,8 @@ abbrev pub points_now : StreamState → List Point
 points_now a = points (not a.resets) a.map_state.table
 
 -- after a collection at a moment
-abbrev pub collected : ℕ → StreamState → StreamState
-collected now a = cond a.resets (record a { map_state = evicted_map a.map_state; start = now }) a
+abbrev pub stream_after_collection : ℕ → StreamState → StreamState
+stream_after_collection now a = cond a.resets (record a { map_state = evicted_map a.map_state; start = now }) a
 
 -- after a record of this set, if there is one, which was prepared
 abbrev pub taken_from : Option AttributeSet → Amount → HeldStream → HeldStream
@@ -68,5 +68,5 @@ taken_from None v s = s
 taken_from (Some set) v s = record { state = recorded_set set v s.state; pending = None }
 
 -- after the record that is prepared, if there is one
-abbrev pub taken : Amount → HeldStream → HeldStream
-taken v s = taken_from s.pending v s
+abbrev pub stream_after_commit : Amount → HeldStream → HeldStream
+stream_after_commit v s = taken_from s.pending v s

@@ -3,9 +3,9 @@
 ghost use Rattle.std.specs.Prelude.{◌≡◌, [], is_some, None, Some, IsTrue, OnOk, OnErr, IfOk, IsOk, IsOkUnless};
 ghost use Rattle.otel_common.specs.Temporalities.{resets};
 ghost use Rattle.otel_model_stream.specs.Sets.{set_of};
-ghost use Rattle.otel_model_stream.specs.Folds.{wrapped};
+ghost use Rattle.otel_model_stream.specs.Folds.{wrap};
 ghost use Rattle.otel_model_stream.specs.Totals.{points_total};
-ghost use Rattle.otel_aggregate.specs.Any.{aggregate_of, is_monotonic_of, drains_of, taken, is_taken, metrics_now, any_points, ended, saved_of, IsLike, with_saved};
+ghost use Rattle.otel_aggregate.specs.Any.{aggregate_of, is_monotonic_of, drains_of, any_after_commit, is_taken, metrics_now, any_points, any_after_collection, saved_of, IsLike, with_saved};
 ghost use Rattle.otel_aggregate.specs.Streams.{new_stream, is_known};
 
 use crate::histogram::Histogram;
@@ -155,7 +155,7 @@ impl AnyAggregate {
     /// Takes in the record that was prepared, if there is one and the value has the stream's number type.
     /// Answers whether it did. The second phase; it takes no memory, and looks nothing up.
     pub fn commit(&mut self, value: NumberValue) -> bool
-        ensures taken { self.new ≡ taken value self.old }
+        ensures taken { self.new ≡ any_after_commit value self.old }
         ensures told { result ≡ is_taken value self.old }
     {
         match (&mut self.inner, value) {
@@ -216,7 +216,7 @@ impl AnyAggregate {
     /// What the points of a collection now would add up to, modulo 2^64: of a sum the 64 bits of its
     /// values, of a histogram how many records it counts, of last values and observed sums nothing.
     pub fn total(&self) -> u64
-        ensures { result ≡ wrapped (points_total (any_points self.now)) }
+        ensures { result ≡ wrap (points_total (any_points self.now)) }
     {
         match &self.inner {
             Inner::SumU64(stream) => stream.total(),
@@ -266,7 +266,7 @@ impl AnyAggregate {
     /// resets, it starts again from there; where it drains, what was observed is forgotten. In both a
     /// record that was prepared is given up.
     pub fn finish(&mut self, now: u64)
-        ensures ended { self.new ≡ ended now self.old }
+        ensures ended { self.new ≡ any_after_collection now self.old }
     {
         match &mut self.inner {
             Inner::SumU64(stream) => stream.finish(now),

@@ -3,10 +3,10 @@
 ghost use Rattle.std.specs.Prelude.{◌≡◌, false, cond, is_some, None, Some, IsTrue, IsSome, OnOk, OnErr, IfOk, IsOk, IsOkUnless};
 ghost use Rattle.otel_common.specs.Temporalities.{resets};
 ghost use Rattle.otel_model_stream.specs.Sets.{AttributeSet, set_of};
-ghost use Rattle.otel_model_stream.specs.Folds.{Histogram as HistogramAggregate, wrapped, bounds_of};
+ghost use Rattle.otel_model_stream.specs.Folds.{Histogram as HistogramAggregate, wrap, bounds_of};
 ghost use Rattle.otel_model_stream.specs.Totals.{points_total};
 ghost use Rattle.otel_aggregate.specs.Data.{histogram_data};
-ghost use Rattle.otel_aggregate.specs.Streams.{new_stream, keeps_min_max, keeps_sum, is_known, recorded_set, recorded_attributes, taken, collected, points_now};
+ghost use Rattle.otel_aggregate.specs.Streams.{new_stream, keeps_min_max, keeps_sum, is_known, recorded_set, recorded_attributes, stream_after_commit, stream_after_collection, points_now};
 
 use crate::settings::HistogramSettings;
 use crate::stream::Stream;
@@ -102,7 +102,7 @@ impl<T: Number + Drop> Histogram<T> {
 
     /// Takes in the record that was prepared, if there is one, and answers whether there was.
     pub fn commit(&mut self, value: T) -> bool
-        ensures taken { self.new ≡ taken (record { bits = T.bits value; wide = T.wide value }) self.old }
+        ensures taken { self.new ≡ stream_after_commit (record { bits = T.bits value; wide = T.wide value }) self.old }
         ensures told { result ≡ is_some self.old.pending }
     {
         self.stream.commit(value)
@@ -138,7 +138,7 @@ impl<T: Number + Drop> Histogram<T> {
 
     /// How many records the points of a collection now would show, modulo 2^64.
     pub fn total(&self) -> u64
-        ensures { result ≡ wrapped (points_total (points_now self.now.state)) }
+        ensures { result ≡ wrap (points_total (points_now self.now.state)) }
     {
         self.stream.total()
     }
@@ -146,7 +146,7 @@ impl<T: Number + Drop> Histogram<T> {
     /// Ends a collection whose points were taken, at a moment in nanoseconds since 1970: where the stream
     /// resets, the histograms start again from there, and a record that was prepared is given up.
     pub fn finish(&mut self, now: u64)
-        ensures state { self.new.state ≡ collected now self.old.state }
+        ensures state { self.new.state ≡ stream_after_collection now self.old.state }
         ensures pending { self.new.pending ≡ cond self.old.state.resets None self.old.pending }
     {
         self.stream.finish(now);
@@ -180,7 +180,7 @@ impl<T: Number + Drop> Histogram<T> {
     /// refused, a record that was prepared stays prepared.
     pub fn collect(&mut self, alloc: Global, now: u64) -> Result<HistogramData<T>, Fault>
         ensures data { IfOk result (λ given. given ≡ histogram_data T.of_bits T.of_wide now self.old.state) }
-        ensures ok { OnOk result (self.new.state ≡ collected now self.old.state) }
+        ensures ok { OnOk result (self.new.state ≡ stream_after_collection now self.old.state) }
         ensures err { OnErr result (self.new.state ≡ self.old.state) }
         ensures pending { OnOk result (self.new.pending ≡ cond self.old.state.resets None self.old.pending) }
         ensures refused { OnErr result (self.new.pending ≡ self.old.pending) }

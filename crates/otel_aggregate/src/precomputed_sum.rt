@@ -4,14 +4,14 @@ ghost use Rattle.std.specs.Prelude.{◌≡◌, cond, map, is_some, None, Some, I
 ghost use Rattle.std.specs.Option.{option_map};
 ghost use Rattle.otel_common.specs.Temporalities.{resets};
 ghost use Rattle.otel_model_stream.specs.Sets.{AttributeSet, set_of};
-ghost use Rattle.otel_model_stream.specs.Folds.{Last, LastValue, wrapped};
+ghost use Rattle.otel_model_stream.specs.Folds.{Last, LastValue, wrap};
 ghost use Rattle.otel_model_stream.specs.Totals.{points_total};
 ghost use Rattle.otel_model_stream.specs.Maps.{draining_points};
 ghost use Rattle.otel_model_stream.specs.Observed.{value_before, less};
 ghost use Rattle.otel_model_stream.specs.Data.{sum_point};
 ghost use Rattle.otel_value_map.specs.Slots.{copies};
 ghost use Rattle.otel_aggregate.specs.Streams.{is_known};
-ghost use Rattle.otel_aggregate.specs.Observed.{new_observed, observed_set, observed_attributes, observed, values_now, since_reported, drained_at, observed_data};
+ghost use Rattle.otel_aggregate.specs.Observed.{new_observed, observed_set, observed_attributes, observed_after_commit, values_now, since_reported, drained_at, observed_data};
 
 use crate::stream::{Stream, shown_temporality};
 use otel_common::attributes::KeyValue;
@@ -188,7 +188,7 @@ impl<T: Number + Drop> PrecomputedSum<T> {
 
     /// Takes in the observation that was prepared, if there is one, and answers whether there was.
     pub fn commit(&mut self, value: T) -> bool
-        ensures taken { self.new ≡ observed (record { bits = T.bits value; wide = T.wide value }) self.old }
+        ensures taken { self.new ≡ observed_after_commit (record { bits = T.bits value; wide = T.wide value }) self.old }
         ensures told { result ≡ is_some self.old.pending }
     {
         self.stream.commit(value)
@@ -245,7 +245,7 @@ impl<T: Number + Drop> PrecomputedSum<T> {
 
     /// What was observed since the last collection adds up to nothing, as last values do.
     pub fn total(&self) -> u64
-        ensures { result ≡ wrapped (points_total (values_now self.now.state)) }
+        ensures { result ≡ wrap (points_total (values_now self.now.state)) }
     {
         self.stream.total_of_every()
     }

@@ -4,12 +4,12 @@ ghost use Rattle.std.specs.Prelude.{◌≡◌, cond, map, is_some, None, Some, I
 ghost use Rattle.otel_common.specs.Temporalities.{resets};
 ghost use Rattle.otel_common.specs.declared.metrics.Temporality.TheVariants as shown;
 ghost use Rattle.otel_model_stream.specs.Sets.{AttributeSet, set_of};
-ghost use Rattle.otel_model_stream.specs.Folds.{wrapped};
+ghost use Rattle.otel_model_stream.specs.Folds.{wrap};
 ghost use Rattle.otel_model_stream.specs.Totals.{points_total};
 ghost use Rattle.otel_model_stream.specs.Maps.{draining_points, drained_map};
 ghost use Rattle.otel_value_map.specs.Slots.{HasForm, copies};
 ghost use Rattle.otel_aggregate.specs.Data.{temporality_of};
-ghost use Rattle.otel_aggregate.specs.Streams.{new_stream, is_known, recorded_set, recorded_attributes, taken, collected, points_now};
+ghost use Rattle.otel_aggregate.specs.Streams.{new_stream, is_known, recorded_set, recorded_attributes, stream_after_commit, stream_after_collection, points_now};
 
 use crate::shows::{Shows, into_points};
 use otel_common::attributes::KeyValue;
@@ -137,7 +137,7 @@ impl<A: Shows> Stream<A> {
 
     /// Takes in the record that was prepared, if there is one, and answers whether there was.
     pub fn commit(&mut self, value: A::Value) -> bool
-        ensures taken { self.new ≡ taken (record { bits = A.Value.bits value; wide = A.Value.wide value }) self.old }
+        ensures taken { self.new ≡ stream_after_commit (record { bits = A.Value.bits value; wide = A.Value.wide value }) self.old }
         ensures told { result ≡ is_some self.old.pending }
     {
         if !self.map.is_prepared() {
@@ -183,7 +183,7 @@ impl<A: Shows> Stream<A> {
 
     /// What the points of a collection now would add up to, modulo 2^64.
     pub fn total(&self) -> u64
-        ensures { result ≡ wrapped (points_total (points_now self.now.state)) }
+        ensures { result ≡ wrap (points_total (points_now self.now.state)) }
     {
         self.map.total(!self.resets)
     }
@@ -191,7 +191,7 @@ impl<A: Shows> Stream<A> {
     /// What the points of every set that has an entry, and of the empty one if it was updated, would add
     /// up to, modulo 2^64.
     pub fn total_of_every(&self) -> u64
-        ensures { result ≡ wrapped (points_total (draining_points self.now.state.map_state)) }
+        ensures { result ≡ wrap (points_total (draining_points self.now.state.map_state)) }
     {
         self.map.total(true)
     }
@@ -213,7 +213,7 @@ impl<A: Shows> Stream<A> {
     /// Ends a collection whose points were taken, at a moment in nanoseconds since 1970: where the stream
     /// resets, it starts again from there, and a record that was prepared is given up.
     pub fn finish(&mut self, now: u64)
-        ensures state { self.new.state ≡ collected now self.old.state }
+        ensures state { self.new.state ≡ stream_after_collection now self.old.state }
         ensures pending { self.new.pending ≡ cond self.old.state.resets None self.old.pending }
     {
         if self.resets {
@@ -273,7 +273,7 @@ impl<A: Shows> Stream<A> {
     pub fn collect(&mut self, alloc: Global, now: u64) -> Result<A::Data, Fault>
         ensures kind { (s : A.Settings) × (self.old.state.aggregate ≡ A.aggregate s) }
         ensures points { IfOk result (λ given. given ≡ A.collection self.old.state.is_monotonic (temporality_of self.old.state) self.old.state.start now (map (A.point self.old.state.aggregate) (points_now self.old.state))) }
-        ensures ok { OnOk result (self.new.state ≡ collected now self.old.state) }
+        ensures ok { OnOk result (self.new.state ≡ stream_after_collection now self.old.state) }
         ensures err { OnErr result (self.new.state ≡ self.old.state) }
         ensures pending { OnOk result (self.new.pending ≡ cond self.old.state.resets None self.old.pending) }
         ensures refused { OnErr result (self.new.pending ≡ self.old.pending) }

@@ -3,7 +3,7 @@ use Rattle.std.proofs.Common.{◌≡◌, ℕ, ◌<◌, zero, suc, List, [], ◌�
 use Rattle.std.proofs.lemmas.List.{append-nil}
 use Rattle.otel_common.specs.declared.faults.Fault.{Fault}
 use Rattle.otel_common.specs.declared.faults.Fault.TheVariants.{OutOfMemory}
-use Rattle.otel_callback.specs.Runs.{RanTo, joined, EndsWith}
+use Rattle.otel_callback.specs.Runs.{RanTo, concat_lists, EndsWith}
 
 -- one more runs
 pub ran_more : {X A : Type 0} (S : X → X → A → Type 0) (n : ℕ) (before after : List X) (rs : List A) (d b : X) (r : A) → RanTo S n before after rs → n < length after → S (get_or after n d) b r → RanTo S (suc n) before (set after n b) (rs ++ r ∷ [])
@@ -23,7 +23,7 @@ oks_more [] l = refl
 oks_more (k ∷ ls) l = rw (oks_more ls l) refl
 
 -- all lists, and one more
-pub joined_more : {B : Type 0} (ls : List (List B)) (l : List B) → joined (ls ++ l ∷ []) ≡ joined ls ++ l
+pub joined_more : {B : Type 0} (ls : List (List B)) (l : List B) → concat_lists (ls ++ l ∷ []) ≡ concat_lists ls ++ l
 joined_more [] l = append-nil l
 joined_more (k ∷ ls) l = rw (joined_more ls l, append_assoc) refl
 

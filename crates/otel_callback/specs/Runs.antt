@@ -11,8 +11,8 @@ use Rattle.otel_callback.specs.declared.registered.Callback.TheVariants.{U64, I6
 use Rattle.otel_callback.specs.declared.registered.Registered.{Registered}
 
 -- what is observed of the instrument of this number
-abbrev pub of : {T : Type 0} → (T → NumberValue) → ℕ → Observation T → Observed
-of number n o = record { instrument = n; value = number o.value; attributes = o.attributes }
+abbrev pub of_instrument : {T : Type 0} → (T → NumberValue) → ℕ → Observation T → Observed
+of_instrument number n o = record { instrument = n; value = number o.value; attributes = o.attributes }
 
 -- what a callback does: itself before and after, the list that it leaves, its answer
 abbrev pub Observes : Type 0 → Type 0 → Type 1
@@ -27,8 +27,8 @@ Gives left (Err f) (Err g) = g ≡ f
 
 -- the callback of an instrument ran once
 abbrev pub RanOnce : {U I : Type 0} → Observes U ℕ → Observes I ℤ → ℕ → Callback U I → Callback U I → Result (List Observed) Fault → Type 0
-RanOnce S R n (U64 a) (U64 b) given = (left : List (Observation ℕ)) × (answer : Result (Unit {0}) Fault) × S a b left answer × Gives (map (of number.U64 n) left) answer given
-RanOnce S R n (I64 a) (I64 b) given = (left : List (Observation ℤ)) × (answer : Result (Unit {0}) Fault) × R a b left answer × Gives (map (of number.I64 n) left) answer given
+RanOnce S R n (U64 a) (U64 b) given = (left : List (Observation ℕ)) × (answer : Result (Unit {0}) Fault) × S a b left answer × Gives (map (of_instrument number.U64 n) left) answer given
+RanOnce S R n (I64 a) (I64 b) given = (left : List (Observation ℤ)) × (answer : Result (Unit {0}) Fault) × R a b left answer × Gives (map (of_instrument number.I64 n) left) answer given
 RanOnce S R n _ _ given = ⊥
 
 -- and observes the same instrument as before
@@ -42,9 +42,9 @@ RanTo S (suc n) (a ∷ before) (b ∷ after) (r ∷ rs) = S a b r × RanTo S n b
 RanTo S _ _ _ _ = ⊥
 
 -- the lists, one after another
-abbrev pub joined : {B : Type 0} → List (List B) → List B
-joined [] = []
-joined (l ∷ ls) = l ++ joined ls
+abbrev pub concat_lists : {B : Type 0} → List (List B) → List B
+concat_lists [] = []
+concat_lists (l ∷ ls) = l ++ concat_lists ls
 
 -- no answer but the last is a fault, and the run ends with it, or with want of memory
 abbrev pub EndsWith : {B : Type 0} → List (Result (List B) Fault) → Fault → Type 0
@@ -55,5 +55,5 @@ EndsWith (Err g ∷ r ∷ rs) f = ⊥
 
 -- all ran, and gave what was observed; or some of them, up to the one at which it ended
 abbrev pub RanAll : {X B : Type 0} → (X → X → Result (List B) Fault → Type 0) → List X → List X → Result (List B) Fault → Type 0
-RanAll {X} {B} S before after (Ok observed) = (ls : List (List B)) × RanTo S (length before) before after (map Ok ls) × (observed ≡ joined ls)
+RanAll {X} {B} S before after (Ok observed) = (ls : List (List B)) × RanTo S (length before) before after (map Ok ls) × (observed ≡ concat_lists ls)
 RanAll {X} {B} S before after (Err f) = (rs : List (Result (List B) Fault)) × RanTo S (length rs) before after rs × EndsWith rs f

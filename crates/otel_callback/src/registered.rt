@@ -2,7 +2,7 @@
 
 ghost use Rattle.std.specs.Prelude.{◌≡◌, map, IfOk, Ok, Err, MatchResult, IsOkUnless};
 ghost use Rattle.otel_common.specs.declared.faults.Fault.{Fault};
-ghost use Rattle.otel_callback.specs.Runs.{of, Ran, RanAll};
+ghost use Rattle.otel_callback.specs.Runs.{of_instrument, Ran, RanAll};
 
 use crate::callback::{ObserveI64, ObserveU64};
 use crate::observation::{Observation, Observed};
@@ -34,7 +34,7 @@ fn observed_of<T: NumberType>(
     instrument: usize,
     left: Vec<Observation<T>>,
 ) -> Result<Vec<Observed>, Fault>
-    ensures observed { IfOk result (λ v. v.items ≡ map (of T.value instrument) left.items) }
+    ensures observed { IfOk result (λ v. v.items ≡ map (of_instrument T.value instrument) left.items) }
     ensures only_memory { IsOkUnless result Fault.OutOfMemory }
 {
     let mut observed = Vec::with_capacity(alloc, left.len())?;

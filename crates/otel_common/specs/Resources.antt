@@ -19,8 +19,8 @@ merged_url (Some url) None = Some url
 merged_url (Some url) (Some other) = cond (bytes_eq url other) (Some url) None
 
 -- a key has the other's value if the other has the key
-abbrev pub merged : Resource → Resource → Resource
-merged resource other = record {
+abbrev pub merged_resource : Resource → Resource → Resource
+merged_resource resource other = record {
   attributes = canon (other.attributes ++ resource.attributes);
   schema_url = merged_url resource.schema_url other.schema_url;
 }
@@ -40,22 +40,22 @@ attribute_at pair = record { key = pair.0.now; value = pair.1.now }
 
 -- the other's values win a merge
 abbrev pub OthersValuesWin : Type 0
-OthersValuesWin = (resource other : Resource) → HasValuesOfBoth resource other (merged resource other)
+OthersValuesWin = (resource other : Resource) → HasValuesOfBoth resource other (merged_resource resource other)
 
 -- and the keys of a merge rise
 abbrev pub MergesAreCanonical : Type 0
-MergesAreCanonical = (resource other : Resource) → HasRisingKeys (merged resource other).attributes
+MergesAreCanonical = (resource other : Resource) → HasRisingKeys (merged_resource resource other).attributes
 
 -- of three resources of which the last two have the same URL and the first another, merged from the left,
 -- the last one's URL stays; merged from the right, none
 abbrev pub UrlsMergeFromTheLeft : Type 0
 UrlsMergeFromTheLeft = (a b c : Resource) (one two : List ℕ) → one ≢ two → a.schema_url ≡ Some one → b.schema_url ≡ Some two → c.schema_url ≡ Some two
-    → (merged (merged a b) c).schema_url ≡ Some two
+    → (merged_resource (merged_resource a b) c).schema_url ≡ Some two
 
 -- so merged from the right, no URL is left
 abbrev pub UrlsMergeFromTheRight : Type 0
 UrlsMergeFromTheRight = (a b c : Resource) (one two : List ℕ) → one ≢ two → a.schema_url ≡ Some one → b.schema_url ≡ Some two → c.schema_url ≡ Some two
-    → (merged a (merged b c)).schema_url ≡ None
+    → (merged_resource a (merged_resource b c)).schema_url ≡ None
 
 -- ======== builders ========
 -- the resource of a list and a URL: of doubled keys the last wins
@@ -69,7 +69,7 @@ url_of (b ∷ url) = Some (b ∷ url)
 
 -- a builder that is given attributes: these win
 abbrev pub with_attributes : Resource → List KeyValue → Resource
-with_attributes builder attributes = merged builder (resource_of attributes None)
+with_attributes builder attributes = merged_resource builder (resource_of attributes None)
 
 -- one attribute
 abbrev pub with_attribute : Resource → KeyValue → Resource
@@ -81,7 +81,7 @@ with_service_name builder name = with_attribute builder (record { key = codes "s
 
 -- attributes and the URL of their schema: what stood in the builder wins
 abbrev pub with_schema_url : Resource → List KeyValue → List ℕ → Resource
-with_schema_url builder attributes url = merged (resource_of attributes (url_of url)) builder
+with_schema_url builder attributes url = merged_resource (resource_of attributes (url_of url)) builder
 
 -- the values of a list that is given win, the last of each key
 abbrev pub GivenValuesWin : Type 0

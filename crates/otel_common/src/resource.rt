@@ -57,7 +57,7 @@ impl Resource {
     ///
     /// Copies both resources, and sorts the attributes by key with a buffer. Refused only for want of memory.
     pub fn merge(&self, other: &Resource) -> Result<Resource, Fault>
-        ensures merged { IfOk result (λ r. r ≡ rules.merged self.now other.now) }
+        ensures merged { IfOk result (λ r. r ≡ rules.merged_resource self.now other.now) }
         ensures values { IfOk result (HasValuesOfBoth self.now other.now) }
         ensures in_key_order { IfOk result (λ r. HasRisingKeys r.attributes) }
         ensures only_memory { IsOkUnless result Fault.OutOfMemory }
@@ -68,7 +68,7 @@ impl Resource {
     /// What `merge` gives, of resources that are given up: copies no attribute. Refused only for want of memory: the list
     /// grows, and is sorted by key with a buffer.
     pub fn merged_with(self, other: Resource) -> Result<Resource, Fault>
-        ensures merged { IfOk result (λ r. r ≡ rules.merged self other) }
+        ensures merged { IfOk result (λ r. r ≡ rules.merged_resource self other) }
         ensures values { IfOk result (HasValuesOfBoth self other) }
         ensures in_key_order { IfOk result (λ r. HasRisingKeys r.attributes) }
         ensures only_memory { IsOkUnless result Fault.OutOfMemory }

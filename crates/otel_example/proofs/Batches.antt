@@ -6,7 +6,7 @@ use Rattle.otel_common.specs.declared.attributes.KeyValue.{KeyValue}
 use Rattle.otel_common.specs.declared.faults.Fault.{Fault}
 use Rattle.otel_model.specs.Calls as model
 use Rattle.otel_model.specs.Demands.{Views}
-use Rattle.otel_model.specs.Machine.{accepted, accepted_after, changed_at}
+use Rattle.otel_model.specs.Machine.{instrument_after_record, accepted_after, changed_at}
 use Rattle.otel_model.specs.Refusals.{record_refusal}
 use Rattle.otel_model.specs.State.{InstrumentState, State}
 use Rattle.otel_model.specs.Steps.{Step, reply_by, after_by}
@@ -17,7 +17,7 @@ use Rattle.otel_example.specs.Totals.{sum_of, total_of}
 
 -- the instrument of a record that isn't refused is there, and its sum grows
 sum_grown : (n : ℕ) (v : model.Number) (is : List InstrumentState) → record_refusal (slice_get is n) v.signed ≡ None
-    → sum_of (slice_get (changed_at n (accepted v.amount) is) n) ≡ (sum_of (slice_get is n) + v.amount.bits) % 2 ^ 64
+    → sum_of (slice_get (changed_at n (instrument_after_record v.amount) is) n) ≡ (sum_of (slice_get is n) + v.amount.bits) % 2 ^ 64
 sum_grown n v [] e = absurd (cc)
 sum_grown zero v (i ∷ is) e = refl
 sum_grown (suc n) v (i ∷ is) e = sum_grown n v is e

@@ -14,19 +14,19 @@ use Rattle.otel_data.specs.declared.collections.ResourceMetrics.{ResourceMetrics
 use Rattle.otel_data.specs.declared.points.HistogramDataPoint.{HistogramDataPoint}
 use Rattle.otel_data.specs.declared.points.SumDataPoint.{SumDataPoint}
 use Rattle.otel_model_stream.specs.Sets.{AttributeSet, none_set}
-use Rattle.otel_model_stream.specs.Folds.{Aggregate, Amount, wrapped}
+use Rattle.otel_model_stream.specs.Folds.{Aggregate, Amount, wrap}
 use Rattle.otel_model_stream.specs.Events.{Point}
 use Rattle.otel_model_stream.specs.Totals.{weight, points_total}
 use Rattle.otel_model_stream.specs.Windows.{Window, point, records_of, is_hit, shown_places}
 use Rattle.otel_model.specs.Calls.{InstrumentKind, Observed, Call, Collect, Fault, Reply}
 use Rattle.otel_model.specs.Answered.{data_total, content_total, IsMetricOf, OfMetric, HasFewPoints, ShowsWindow, ShowsAll}
-use Rattle.otel_model.specs.Collections.{sum_point, histogram_point, data_by, natural, signed_of, aggregated, exported_temporality, metric, number_of_points, points_in, ScopedMetric, difference, differences}
+use Rattle.otel_model.specs.Collections.{sum_point, histogram_point, data_by, natural_of, signed_of, aggregated_metrics, exported_temporality, metric, number_of_points, points_in, ScopedMetric, difference, differences}
 use Rattle.otel_model.specs.Demands.{Aggregation, Demand, ReaderAnswers, Views}
-use Rattle.otel_model.specs.History.{made, builds_in, streams_of, feeds_by, history, window_of, collection_of, points_with, start_of, reported_of}
+use Rattle.otel_model.specs.History.{made_calls, builds_in, streams_of, feeds_by, history, window_of, collection_of, points_with, start_of, reported_of}
 use Rattle.otel_model.specs.Laws.{IsRun, OfAnsweredMetrics, AreAnsweredFew, AreAnsweredTotals, IsAllAnswered}
 use Rattle.otel_model.specs.Machine.{new_state}
 use Rattle.otel_model.specs.Refusals.{refusal}
-use Rattle.otel_model.specs.Sent.{observed}
+use Rattle.otel_model.specs.Sent.{observed_events}
 use Rattle.otel_model.specs.State.{State, ReaderPart}
 use Rattle.otel_model.specs.Steps.{collect_from, collect_reply, answer_of, reply_by, Run}
 use Rattle.otel_model.specs.Streams.{is_drained, is_delta, kind_of, is_monotonic_kind, has_sum, aggregate_from}
@@ -57,7 +57,7 @@ pub answered_is : (views : Views) (resource : Resource) (identity : ℕ) (reader
     → (r : ℕ) (answers : ReaderAnswers) → slice_get readers r ≡ Some answers
     → (earlier later : List Call) (answered rest : List Reply) (now : ℕ) (os : List Observed) (c : ResourceMetrics)
     → calls ≡ earlier ++ Collect r now os ∷ later → replies ≡ answered ++ Reply.Collected c ∷ rest → length answered ≡ length earlier
-    → c ≡ collection_of views resource answers r (made earlier answered) now os
+    → c ≡ collection_of views resource answers r (made_calls earlier answered) now os
 answered_is views resource identity readers calls replies new run r answers at earlier later answered rest now os c calls_are replies_are alike =
     let begun : State = new_state resource identity readers in
     let OfCalls : List Call → Type 0 = λ cs. Run views begun cs replies new in
@@ -65,7 +65,7 @@ answered_is views resource identity readers calls replies new run r answers at e
     let q = run_split views earlier (Collect r now os ∷ later) answered (Reply.Collected c ∷ rest) begun new alike (subst OfReplies replies_are (subst OfCalls calls_are run)) in
     let a = (run_agrees views resource readers [] begun q.0 earlier answered q.1 (agrees_new views resource identity readers)).0 in
     collected_is (refusal q.0.shared (length q.0.readers) (Collect r now os)) c q.0 r now os _ q.2.1.0 (a.parts r answers at)
-    ∙ collect_is views resource readers (made earlier answered) q.0 r answers now os a
+    ∙ collect_is views resource readers (made_calls earlier answered) q.0 r answers now os a
 
 -- ======== its metrics ========
 -- the metric that a stream gives after these calls, with these observations
@@ -80,7 +80,7 @@ each_metric P f holds (d ∷ ds) = (holds d, each_metric P f holds ds)
 of_metrics : (P : Views → ReaderAnswers → ℕ → OfMetric) → ((views : Views) (answers : ReaderAnswers) (r : ℕ) (before : List Call) (now : ℕ) (os : List Observed) (d : Demand) → P views answers r before os d (metric_at views answers r before now os d))
     → OfAnsweredMetrics P
 of_metrics P holds views resource identity readers calls replies new run r answers at earlier later answered rest now os c calls_are replies_are alike =
-    let before : List Call = made earlier answered in (
+    let before : List Call = made_calls earlier answered in (
       map (λ (d : Demand). (d.identity.scope, metric_at views answers r before now os d)) (streams_of views answers (builds_in before)),
       each_metric (P views answers r before os) (λ d. (d.identity.scope, metric_at views answers r before now os d))
           (λ d. record { scope = refl; name = refl; description = refl; unit = refl; holds = holds views answers r before now os d }) (streams_of views answers (builds_in before)),
@@ -88,29 +88,29 @@ of_metrics P holds views resource identity readers calls replies new run r answe
     )
 
 -- ======== few points ========
-module _ {T : Type 0} (of_bits : ℕ → T) (of_whole : ℤ → T) (t : Temporality) (m : Bool) (since now : ℕ) where
-  as_many : (a : Aggregation) (ps : List Point) → points_in (data_by of_bits of_whole t m a since now ps) ≡ length ps
+module _ {T : Type 0} (of_bits : ℕ → T) (of_whole : ℤ → T) (t : Temporality) (m : Bool) (start now : ℕ) where
+  as_many : (a : Aggregation) (ps : List Point) → points_in (data_by of_bits of_whole t m a start now ps) ≡ length ps
   as_many Aggregation.Drop ps = length-map ps _
   as_many Aggregation.Default ps = length-map ps _
   as_many Aggregation.Sum ps = length-map ps _
   as_many Aggregation.LastValue ps = length-map ps _
   as_many (Aggregation.ExplicitBucketHistogram bounds k) ps = length-map ps _
 
-as_many_of : (signed : Bool) (t : Temporality) (m : Bool) (a : Aggregation) (since now : ℕ) (ps : List Point) → number_of_points (aggregated signed t m a since now ps) ≡ length ps
-as_many_of false t m a since now ps = as_many (λ n. n) natural t m since now a ps
-as_many_of true t m a since now ps = as_many signed_of (λ z. z) t m since now a ps
+as_many_of : (signed : Bool) (t : Temporality) (m : Bool) (a : Aggregation) (start now : ℕ) (ps : List Point) → number_of_points (aggregated_metrics signed t m a start now ps) ≡ length ps
+as_many_of false t m a start now ps = as_many (λ n. n) natural_of t m start now a ps
+as_many_of true t m a start now ps = as_many signed_of (λ z. z) t m start now a ps
 
 few_metric : (views : Views) (answers : ReaderAnswers) (r : ℕ) (before : List Call) (now : ℕ) (os : List Observed) (d : Demand) → HasFewPoints views answers r before os d (metric_at views answers r before now os d)
 few_metric views answers r before now os d =
     let P : ℕ → Type 0 = λ n. n ≤ d.limit + 2 in
     subst P (sym (as_many_of d.identity.signed (exported_temporality answers d) (is_monotonic_kind d.identity.kind) d.aggregation (start_of views answers r d before) now (differences answers d (reported_of views answers r d before) (points_with views answers r d before os))))
-    (few_law views answers r d before (observed (feeds_by views answers before) d os))
+    (few_law views answers r d before (observed_events (feeds_by views answers before) d os))
 
 pub few_answered_law : AreAnsweredFew
 few_answered_law = of_metrics HasFewPoints few_metric
 
 -- ======== totals ========
-wrapped_fits : (n : ℕ) → wrapped n < 2 ^ 64
+wrapped_fits : (n : ℕ) → wrap n < 2 ^ 64
 wrapped_fits n = mod_below n (2 ^ 64) (lit< tt)
 
 -- what is made of points adds up to what these do, if each does
@@ -126,7 +126,7 @@ no_sums : {X Y : Type 0} (g : Y → ℕ) (k : X → Y) → ((x : X) → g (k x) 
 no_sums g k none n [] = refl
 no_sums g k none n (x ∷ xs) = ap (λ j. fold (λ a y. a + g y) j (map k xs)) (ap (λ j. n + j) (none x) ∙ plus_zero n) ∙ no_sums g k none n xs
 
-module _ {T : Type 0} (of_bits : ℕ → T) (of_whole : ℤ → T) (bits : T → ℕ) (told : (n : ℕ) → n < 2 ^ 64 → bits (of_bits n) ≡ n) (t : Temporality) (m : Bool) (since now : ℕ) (kind : InstrumentKind) (rs : List (AttributeSet × Amount)) where
+module _ {T : Type 0} (of_bits : ℕ → T) (of_whole : ℤ → T) (bits : T → ℕ) (told : (n : ℕ) → n < 2 ^ 64 → bits (of_bits n) ≡ n) (t : Temporality) (m : Bool) (start now : ℕ) (kind : InstrumentKind) (rs : List (AttributeSet × Amount)) where
   -- the points of sets, of what the aggregation keeps
   abbrev points_for : Aggregation → List AttributeSet → List Point
   points_for a xs = map (point (aggregate_from false kind a) rs) xs
@@ -134,18 +134,18 @@ module _ {T : Type 0} (of_bits : ℕ → T) (of_whole : ℤ → T) (bits : T →
   of_sums : (xs : List AttributeSet) → fold (λ a (p : SumDataPoint T). a + bits p.value) 0 (map (sum_point of_bits of_whole) (map (point Aggregate.Sum rs) xs)) ≡ points_total (map (point Aggregate.Sum rs) xs)
   of_sums xs = same_sums (λ (p : SumDataPoint T). bits p.value) (λ (q : Point). weight q.1) (sum_point of_bits of_whole) (point Aggregate.Sum rs) (λ x. told _ (wrapped_fits _)) 0 xs
 
-  total_by : (a : Aggregation) (xs : List AttributeSet) → data_total bits (data_by of_bits of_whole t m a since now (points_for a xs)) ≡ wrapped (points_total (points_for a xs))
-  total_by Aggregation.Drop xs = ap wrapped (of_sums xs)
-  total_by Aggregation.Default xs = ap wrapped (of_sums xs)
-  total_by Aggregation.Sum xs = ap wrapped (of_sums xs)
-  total_by Aggregation.LastValue xs = sym (ap wrapped (no_sums (λ (q : Point). weight q.1) (point Aggregate.LastValue rs) (λ x. refl) 0 xs))
-  total_by (Aggregation.ExplicitBucketHistogram bounds k) xs = ap wrapped
+  total_by : (a : Aggregation) (xs : List AttributeSet) → data_total bits (data_by of_bits of_whole t m a start now (points_for a xs)) ≡ wrap (points_total (points_for a xs))
+  total_by Aggregation.Drop xs = ap wrap (of_sums xs)
+  total_by Aggregation.Default xs = ap wrap (of_sums xs)
+  total_by Aggregation.Sum xs = ap wrap (of_sums xs)
+  total_by Aggregation.LastValue xs = sym (ap wrap (no_sums (λ (q : Point). weight q.1) (point Aggregate.LastValue rs) (λ x. refl) 0 xs))
+  total_by (Aggregation.ExplicitBucketHistogram bounds k) xs = ap wrap
       (same_sums (λ (p : HistogramDataPoint T). p.count) (λ (q : Point). weight q.1) (histogram_point of_bits of_whole bounds) (point (Aggregate.Histogram bounds k (has_sum kind)) rs) (λ x. refl) 0 xs)
 
-total_of : (signed : Bool) (t : Temporality) (m : Bool) (since now : ℕ) (kind : InstrumentKind) (rs : List (AttributeSet × Amount)) (a : Aggregation) (xs : List AttributeSet)
-    → content_total (aggregated signed t m a since now (map (point (aggregate_from false kind a) rs) xs)) ≡ wrapped (points_total (map (point (aggregate_from false kind a) rs) xs))
-total_of false t m since now kind rs a xs = total_by (λ n. n) natural (λ n. n) (λ n h. refl) t m since now kind rs a xs
-total_of true t m since now kind rs a xs = total_by signed_of (λ z. z) (cast_unsigned w64) (λ n h. of_z-to_z w64 n h) t m since now kind rs a xs
+total_of : (signed : Bool) (t : Temporality) (m : Bool) (start now : ℕ) (kind : InstrumentKind) (rs : List (AttributeSet × Amount)) (a : Aggregation) (xs : List AttributeSet)
+    → content_total (aggregated_metrics signed t m a start now (map (point (aggregate_from false kind a) rs) xs)) ≡ wrap (points_total (map (point (aggregate_from false kind a) rs) xs))
+total_of false t m start now kind rs a xs = total_by (λ n. n) natural_of (λ n. n) (λ n h. refl) t m start now kind rs a xs
+total_of true t m start now kind rs a xs = total_by signed_of (λ z. z) (cast_unsigned w64) (λ n h. of_z-to_z w64 n h) t m start now kind rs a xs
 
 -- what is not drained is not shown as differences
 undiffered : (answers : ReaderAnswers) (d : Demand) (before ps : List Point) → is_drained d ≡ false → differences answers d before ps ≡ ps
@@ -157,7 +157,7 @@ window_metric views answers r before now os d e =
     ∙ subst Claim (sym e) (total_of d.identity.signed (exported_temporality answers d) (is_monotonic_kind d.identity.kind) (start_of views answers r d before) now d.identity.kind records d.aggregation sets)
   where
     w : Window
-    w = window_of answers d (history views answers r d before ++ observed (feeds_by views answers before) d os)
+    w = window_of answers d (history views answers r d before ++ observed_events (feeds_by views answers before) d os)
 
     records : List (AttributeSet × Amount)
     records = records_of d.limit w
@@ -166,18 +166,18 @@ window_metric views answers r before now os d e =
     sets = filter (is_hit records) (none_set ∷ []) ++ shown_places (kind_of answers d) d.limit w
 
     of_points : List Point → AggregatedMetrics
-    of_points ps = aggregated d.identity.signed (exported_temporality answers d) (is_monotonic_kind d.identity.kind) d.aggregation (start_of views answers r d before) now ps
+    of_points ps = aggregated_metrics d.identity.signed (exported_temporality answers d) (is_monotonic_kind d.identity.kind) d.aggregation (start_of views answers r d before) now ps
 
     Claim : Bool → Type 0
     Claim drained =
         content_total (of_points (map (point (aggregate_from drained d.identity.kind d.aggregation) records) sets))
-        ≡ wrapped (points_total (map (point (aggregate_from drained d.identity.kind d.aggregation) records) sets))
+        ≡ wrap (points_total (map (point (aggregate_from drained d.identity.kind d.aggregation) records) sets))
 
 pub totals_answered_law : AreAnsweredTotals
 totals_answered_law = of_metrics ShowsWindow window_metric
 
 all_metric : (views : Views) (answers : ReaderAnswers) (r : ℕ) (before : List Call) (now : ℕ) (os : List Observed) (d : Demand) → ShowsAll views answers r before os d (metric_at views answers r before now os d)
-all_metric views answers r before now os d e f = window_metric views answers r before now os d e ∙ all_shown_law views answers r d before (observed (feeds_by views answers before) d os) e f
+all_metric views answers r before now os d e f = window_metric views answers r before now os d e ∙ all_shown_law views answers r d before (observed_events (feeds_by views answers before) d os) e f
 
 pub all_answered_law : IsAllAnswered
 all_answered_law = of_metrics ShowsAll all_metric

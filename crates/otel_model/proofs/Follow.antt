@@ -5,17 +5,17 @@ use Rattle.std.proofs.lemmas.List.{append-nil, map-append}
 use Rattle.std.proofs.lemmas.List.Elements.{filter-append}
 use Rattle.std.proofs.lemmas.List.Sums.{sum_by_push}
 use Rattle.std.proofs.Math.Nat.{mod-add-mod}
-use Rattle.otel_model_stream.specs.Folds.{Aggregate, wrapped}
+use Rattle.otel_model_stream.specs.Folds.{Aggregate, wrap}
 use Rattle.otel_model_stream.specs.Events.{Event, Kind, Point}
 use Rattle.otel_model_stream.specs.Machine.{Machine, begin, run, step, points}
 use Rattle.otel_model_stream.specs.Totals.{points_total}
 use Rattle.otel_model.specs.Calls.{About, Observed, Call, Meter, Build, Record, Bind, RecordBound, Unbind, Collect, Flush, Shutdown}
-use Rattle.otel_model.specs.Demands.{Identity, Demand, Views, ReaderAnswers, fate_of, is_known, is_drop, is_drop_fate, is_dropped, demands_on, fed}
+use Rattle.otel_model.specs.Demands.{Identity, Demand, Views, ReaderAnswers, fate_of, is_known, is_drop, is_drop_fate, is_dropped, demands_on, fed_identities}
 use Rattle.otel_model.specs.Streams.{is_delta, kind_of, aggregate_of}
 use Rattle.otel_model.specs.Collections.{shows_differences}
 use Rattle.otel_model.specs.State.{Stream, ReaderPart}
-use Rattle.otel_model.specs.Sent.{scope_of, observed, sent}
-use Rattle.otel_model.specs.Machine.{points_at, since_after, reported_after, recorded_with, recorded_over, exported_after, stream_after, new_stream, enter, demanded, build_demands, with_feeds, built, part_sent}
+use Rattle.otel_model.specs.Sent.{scope_of, observed_events, sent_events}
+use Rattle.otel_model.specs.Machine.{points_at, start_after, reported_after, recorded_with, recorded_over, exported_after, stream_after, new_stream, enter, part_after_demand, build_demands, with_feeds, part_after_build, part_after_call}
 use Rattle.otel_model.specs.History.{Built, gather, build_in, builds_in, binds_in, meters_in, demands_after, demands_of, new_demand, firsts, streams_of, feeds_of, concerns, events_at, history, window_points, shown_by, shown_at, shown_points, last_or, moment_at}
 use Rattle.otel_model.proofs.StreamFacts.{points_of_run}
 use Rattle.otel_model.proofs.Gather.{gather_push, gather_append, map_both, cond_same, unknown_before, known_firsts, fate_firsts, enter_first, enter_all, AreKnown, map_known, firsts_are_known}
@@ -35,14 +35,14 @@ abbrev pub kept_of : ReaderAnswers → Demand → List Point → List Point
 kept_of answers d ps = cond (shows_differences answers d) ps []
 
 abbrev pub exported_of : ReaderAnswers → Demand → List (List Point) → ℕ
-exported_of answers d pss = cond (is_delta answers d) (wrapped (sum_by points_total pss)) 0
+exported_of answers d pss = cond (is_delta answers d) (wrap (sum_by points_total pss)) 0
 
 -- a stream as its history, its moments and what was shown of it make it
 abbrev pub stream_from : ReaderAnswers → Demand → List Event → List ℕ → List (List Point) → Stream
 stream_from answers d es ms pss = record {
   demand = d;
   machine = run (aggregate_of d) (kind_of answers d) d.limit (begin (aggregate_of d)) es;
-  since = last_or 0 ms;
+  start = last_or 0 ms;
   reported = kept_of answers d (last_or [] pss);
   recorded = recorded_over (aggregate_of d) (kind_of answers d) d.limit (begin (aggregate_of d)) 0 es;
   exported = exported_of answers d pss;
@@ -79,8 +79,8 @@ module _ (views : Views) (answers : ReaderAnswers) (r : ℕ) where
   }
 
   -- ======== a call that is no build ========
-  pub points_now : (past : List Call) (os : List Observed) (d : Demand) → points_at answers (feeds_in past) os (stream_in past d) ≡ window_points answers d (history views answers r d past ++ observed (feeds_in past) d os)
-  points_now past os d = ap (points (kind_of answers d)) (sym (run_append (aggregate_of d) (kind_of answers d) d.limit (begin (aggregate_of d)) (history views answers r d past) (observed (feeds_in past) d os))) ∙ points_run answers d (history views answers r d past ++ observed (feeds_in past) d os)
+  pub points_now : (past : List Call) (os : List Observed) (d : Demand) → points_at answers (feeds_in past) os (stream_in past d) ≡ window_points answers d (history views answers r d past ++ observed_events (feeds_in past) d os)
+  points_now past os d = ap (points (kind_of answers d)) (sym (run_append (aggregate_of d) (kind_of answers d) d.limit (begin (aggregate_of d)) (history views answers r d past) (observed_events (feeds_in past) d os))) ∙ points_run answers d (history views answers r d past ++ observed_events (feeds_in past) d os)
 
   history_push : (d : Demand) (past : List Call) (c : Call) → history views answers r d (past ++ c ∷ []) ≡ history views answers r d past ++ events_at views answers r d past c
   history_push d past c = gather_push (events_at views answers r d) [] past c
@@ -94,21 +94,21 @@ module _ (views : Views) (answers : ReaderAnswers) (r : ℕ) where
   known past d = is_known (demands_in past) d.identity
 
   -- a collection's moment and what it shows
-  since_moves : (b : Bool) (now : ℕ) (ms : List ℕ) → cond b now (last_or 0 ms) ≡ last_or 0 (ms ++ cond b (now ∷ []) [])
-  since_moves true now ms = sym (last_push 0 ms now)
-  since_moves false now ms = ap (last_or 0) (sym (append-nil ms))
+  start_moves : (b : Bool) (now : ℕ) (ms : List ℕ) → cond b now (last_or 0 ms) ≡ last_or 0 (ms ++ cond b (now ∷ []) [])
+  start_moves true now ms = sym (last_push 0 ms now)
+  start_moves false now ms = ap (last_or 0) (sym (append-nil ms))
 
   -- a known stream takes what the call sends to it
   moved : (past : List Call) (c : Call) (d : Demand) → build_in past c ≡ [] → concerns r c ≡ true → known past d ≡ true → stream_after answers (feeds_in past) (binds_in past) c (stream_in past d) ≡ stream_in (past ++ c ∷ []) d
   moved past c d b m k =
       (λ i. record {
         demand = d;
-        machine = (sym (run_append (aggregate_of d) (kind_of answers d) d.limit (begin (aggregate_of d)) (history views answers r d past) (sent (feeds_in past) (binds_in past) d c))
-            ∙ ap (λ es. run (aggregate_of d) (kind_of answers d) d.limit (begin (aggregate_of d)) (history views answers r d past ++ es)) (sym (λ i. cond (k i) (cond (m i) (sent (feeds_in past) (binds_in past) d c) []) []))) i;
-        since = since_is c b m i;
+        machine = (sym (run_append (aggregate_of d) (kind_of answers d) d.limit (begin (aggregate_of d)) (history views answers r d past) (sent_events (feeds_in past) (binds_in past) d c))
+            ∙ ap (λ es. run (aggregate_of d) (kind_of answers d) d.limit (begin (aggregate_of d)) (history views answers r d past ++ es)) (sym (λ i. cond (k i) (cond (m i) (sent_events (feeds_in past) (binds_in past) d c) []) []))) i;
+        start = start_is c b m i;
         reported = reported_is c b m i;
-        recorded = (sym (recorded_append (aggregate_of d) (kind_of answers d) d.limit (begin (aggregate_of d)) 0 (history views answers r d past) (sent (feeds_in past) (binds_in past) d c))
-            ∙ ap (λ es. recorded_over (aggregate_of d) (kind_of answers d) d.limit (begin (aggregate_of d)) 0 (history views answers r d past ++ es)) (sym (λ i. cond (k i) (cond (m i) (sent (feeds_in past) (binds_in past) d c) []) []))) i;
+        recorded = (sym (recorded_append (aggregate_of d) (kind_of answers d) d.limit (begin (aggregate_of d)) 0 (history views answers r d past) (sent_events (feeds_in past) (binds_in past) d c))
+            ∙ ap (λ es. recorded_over (aggregate_of d) (kind_of answers d) d.limit (begin (aggregate_of d)) 0 (history views answers r d past ++ es)) (sym (λ i. cond (k i) (cond (m i) (sent_events (feeds_in past) (binds_in past) d c) []) []))) i;
         exported = exported_is c b m i;
       })
       ∙ sym (stream_push past c d)
@@ -119,16 +119,16 @@ module _ (views : Views) (answers : ReaderAnswers) (r : ℕ) where
       S : List (List Point)
       S = shown_points views answers r d past
 
-      since_is : (c : Call) → build_in past c ≡ [] → concerns r c ≡ true → since_after answers d c (last_or 0 M) ≡ last_or 0 (M ++ moment_at views answers r d past c)
-      since_is (Meter scope) b m = ap (last_or 0) (sym (append-nil M))
-      since_is (Build meter about now) b m = absurd (cc)
-      since_is (Record n v l) b m = ap (last_or 0) (sym (append-nil M))
-      since_is (Bind n l) b m = ap (last_or 0) (sym (append-nil M))
-      since_is (RecordBound h v) b m = ap (last_or 0) (sym (append-nil M))
-      since_is (Unbind h) b m = ap (last_or 0) (sym (append-nil M))
-      since_is (Collect q now os) b m = since_moves (is_delta answers d) now M ∙ sym (λ i. last_or 0 (M ++ cond (k i) (cond (m i) (cond (is_delta answers d) (now ∷ []) []) []) []))
-      since_is Flush b m = ap (last_or 0) (sym (append-nil M))
-      since_is Shutdown b m = ap (last_or 0) (sym (append-nil M))
+      start_is : (c : Call) → build_in past c ≡ [] → concerns r c ≡ true → start_after answers d c (last_or 0 M) ≡ last_or 0 (M ++ moment_at views answers r d past c)
+      start_is (Meter scope) b m = ap (last_or 0) (sym (append-nil M))
+      start_is (Build meter about now) b m = absurd (cc)
+      start_is (Record n v l) b m = ap (last_or 0) (sym (append-nil M))
+      start_is (Bind n l) b m = ap (last_or 0) (sym (append-nil M))
+      start_is (RecordBound h v) b m = ap (last_or 0) (sym (append-nil M))
+      start_is (Unbind h) b m = ap (last_or 0) (sym (append-nil M))
+      start_is (Collect q now os) b m = start_moves (is_delta answers d) now M ∙ sym (λ i. last_or 0 (M ++ cond (k i) (cond (m i) (cond (is_delta answers d) (now ∷ []) []) []) []))
+      start_is Flush b m = ap (last_or 0) (sym (append-nil M))
+      start_is Shutdown b m = ap (last_or 0) (sym (append-nil M))
 
       nothing_more : (c : Call) → shown_by views answers r d past c ≡ [] → S ≡ S ++ shown_at views answers r d past c
       nothing_more c e = sym (ap (λ l. S ++ l) ((λ i. cond (known past d) (cond (concerns r c) (e i) []) []) ∙ (ap (λ l. cond (known past d) l []) (cond_same (concerns r c) []) ∙ cond_same (known past d) [])) ∙ append-nil S)
@@ -142,7 +142,7 @@ module _ (views : Views) (answers : ReaderAnswers) (r : ℕ) where
 
       -- what a collection shows
       now_shown : (os : List Observed) → List Point
-      now_shown os = window_points answers d (history views answers r d past ++ observed (feeds_in past) d os)
+      now_shown os = window_points answers d (history views answers r d past ++ observed_events (feeds_in past) d os)
 
       shown_now : (q now : ℕ) (os : List Observed) → concerns r (Collect q now os) ≡ true → S ++ now_shown os ∷ [] ≡ S ++ shown_at views answers r d past (Collect q now os)
       shown_now q now os m = sym (λ i. S ++ cond (k i) (cond (m i) (now_shown os ∷ []) []) [])
@@ -164,8 +164,8 @@ module _ (views : Views) (answers : ReaderAnswers) (r : ℕ) where
       still_exported : (c : Call) → shown_by views answers r d past c ≡ [] → exported_of answers d S ≡ exported_of answers d (S ++ shown_at views answers r d past c)
       still_exported c e = ap (exported_of answers d) (nothing_more c e)
 
-      more_exported : (b : Bool) (ps : List Point) → cond b (wrapped (cond b (wrapped (sum_by points_total S)) 0 + points_total ps)) (cond b (wrapped (sum_by points_total S)) 0) ≡ cond b (wrapped (sum_by points_total (S ++ ps ∷ []))) 0
-      more_exported true ps = mod-add-mod (sum_by points_total S) (2 ^ 64) (points_total ps) ∙ sym (ap wrapped (sum_by_push points_total S ps))
+      more_exported : (b : Bool) (ps : List Point) → cond b (wrap (cond b (wrap (sum_by points_total S)) 0 + points_total ps)) (cond b (wrap (sum_by points_total S)) 0) ≡ cond b (wrap (sum_by points_total (S ++ ps ∷ []))) 0
+      more_exported true ps = mod-add-mod (sum_by points_total S) (2 ^ 64) (points_total ps) ∙ sym (ap wrap (sum_by_push points_total S ps))
       more_exported false ps = refl
 
       exported_is : (c : Call) → build_in past c ≡ [] → concerns r c ≡ true → exported_after answers (feeds_in past) c (stream_in past d) ≡ exported_of answers d (S ++ shown_at views answers r d past c)
@@ -176,7 +176,7 @@ module _ (views : Views) (answers : ReaderAnswers) (r : ℕ) where
       exported_is (RecordBound h v) b m = still_exported (RecordBound h v) refl
       exported_is (Unbind h) b m = still_exported (Unbind h) refl
       exported_is (Collect q now os) b m =
-          ap (λ ps. cond (is_delta answers d) (wrapped (exported_of answers d S + points_total ps)) (exported_of answers d S)) (points_now past os d)
+          ap (λ ps. cond (is_delta answers d) (wrap (exported_of answers d S + points_total ps)) (exported_of answers d S)) (points_now past os d)
           ∙ (more_exported (is_delta answers d) (now_shown os)
           ∙ ap (exported_of answers d) (shown_now q now os m))
       exported_is Flush b m = still_exported Flush refl
@@ -216,7 +216,7 @@ module _ (views : Views) (answers : ReaderAnswers) (r : ℕ) where
         feeds = feeds_of views answers [] (still past c b i);
       })
 
-  pub part_sends : (past : List Call) (c : Call) → build_in past c ≡ [] → concerns r c ≡ true → part_sent (binds_in past) c (part_of past) ≡ part_of (past ++ c ∷ [])
+  pub part_sends : (past : List Call) (c : Call) → build_in past c ≡ [] → concerns r c ≡ true → part_after_call (binds_in past) c (part_of past) ≡ part_of (past ++ c ∷ [])
   part_sends past c b m = part_moves past c (stream_after answers (feeds_in past) (binds_in past) c) b (λ d k. moved past c d b m k)
 
   same_streams : (ss : List Stream) → map (λ (s : Stream). s) ss ≡ ss
@@ -232,7 +232,7 @@ module _ (views : Views) (answers : ReaderAnswers) (r : ℕ) where
   -- another reader's collection
   pub part_unseen : (past : List Call) (q now : ℕ) (os : List Observed) → (q == r) ≡ false → part_of past ≡ part_of (past ++ Collect q now os ∷ [])
   part_unseen past q now os m = part_rests past (Collect q now os) refl
-      (λ d. (λ i. cond (known past d) (cond (m i) (sent (feeds_in past) (binds_in past) d (Collect q now os)) []) []) ∙ cond_same (known past d) [])
+      (λ d. (λ i. cond (known past d) (cond (m i) (sent_events (feeds_in past) (binds_in past) d (Collect q now os)) []) []) ∙ cond_same (known past d) [])
       (λ d. (λ i. cond (known past d) (cond (m i) (cond (is_delta answers d) (now ∷ []) []) []) []) ∙ cond_same (known past d) [])
       (λ d. (λ i. cond (known past d) (cond (m i) (shown_by views answers r d past (Collect q now os)) []) []) ∙ cond_same (known past d) [])
 
@@ -242,9 +242,9 @@ module _ (views : Views) (answers : ReaderAnswers) (r : ℕ) where
   demands_push earlier (j ∷ js) i = demands_push (earlier ++ demands_after views answers earlier j) js i
 
   feeds_push : (earlier : List Demand) (is : List Built) (i : Built) → feeds_of views answers earlier (is ++ i ∷ [])
-      ≡ feeds_of views answers earlier is ++ fed (is_dropped (demands_of views answers earlier is ++ demands_after views answers (demands_of views answers earlier is) i)) (demands_after views answers (demands_of views answers earlier is) i) ∷ []
+      ≡ feeds_of views answers earlier is ++ fed_identities (is_dropped (demands_of views answers earlier is ++ demands_after views answers (demands_of views answers earlier is) i)) (demands_after views answers (demands_of views answers earlier is) i) ∷ []
   feeds_push earlier [] i = refl
-  feeds_push earlier (j ∷ js) i = ap (λ l. fed (is_dropped (earlier ++ demands_after views answers earlier j)) (demands_after views answers earlier j) ∷ l) (feeds_push (earlier ++ demands_after views answers earlier j) js i)
+  feeds_push earlier (j ∷ js) i = ap (λ l. fed_identities (is_dropped (earlier ++ demands_after views answers earlier j)) (demands_after views answers earlier j) ∷ l) (feeds_push (earlier ++ demands_after views answers earlier j) js i)
 
   -- demands only grow
   demands_append : (earlier : List Demand) (is js : List Built) → demands_of views answers earlier (is ++ js) ≡ demands_of views answers (demands_of views answers earlier is) js
@@ -269,10 +269,10 @@ module _ (views : Views) (answers : ReaderAnswers) (r : ℕ) where
   -- a build makes a stream that was not known
   new_is : (past : List Call) (meter : Option ℕ) (about : About) (now : ℕ) (d : Demand) → known past d ≡ false → new_stream now d ≡ stream_in (past ++ Build meter about now ∷ []) d
   new_is past meter about now d e = sym (stream_push past (Build meter about now) d ∙ (λ i. stream_from answers d
-      ((ap (λ l. l ++ events_at views answers r d past (Build meter about now)) (unmade (λ b c. cond (concerns r c) (sent (feeds_in b) (binds_in b) d c) []) d [] past e) ∙ cond_same (known past d) []) i)
+      ((ap (λ l. l ++ events_at views answers r d past (Build meter about now)) (unmade (λ b c. cond (concerns r c) (sent_events (feeds_in b) (binds_in b) d c) []) d [] past e) ∙ cond_same (known past d) []) i)
       (gather (moment_at views answers r d) [] past ++ cond (e i) [] (now ∷ []))
       ((ap (λ l. l ++ shown_at views answers r d past (Build meter about now)) (unmade (λ b c. cond (concerns r c) (shown_by views answers r d b c) []) d [] past e) ∙ cond_same (known past d) []) i))
-      ∙ (λ i. record { demand = d; machine = begin (aggregate_of d); since = last_push 0 (gather (moment_at views answers r d) [] past) now i; reported = cond_same (shows_differences answers d) [] i; recorded = 0; exported = cond_same (is_delta answers d) 0 i }))
+      ∙ (λ i. record { demand = d; machine = begin (aggregate_of d); start = last_push 0 (gather (moment_at views answers r d) [] past) now i; reported = cond_same (shows_differences answers d) [] i; recorded = 0; exported = cond_same (is_delta answers d) 0 i }))
 
   old_is : (past : List Call) (meter : Option ℕ) (about : About) (now : ℕ) (d : Demand) → known past d ≡ true → stream_in past d ≡ stream_in (past ++ Build meter about now ∷ []) d
   old_is past meter about now d k = rests past (Build meter about now) d (cond_same (known past d) []) (λ i. cond (k i) [] (now ∷ [])) (cond_same (known past d) [])
@@ -281,7 +281,7 @@ module _ (views : Views) (answers : ReaderAnswers) (r : ℕ) where
   abbrev part_with : (Demand → Stream) → List (List Identity) → List Demand → ReaderPart
   part_with st feeds ds = record { answers = answers; fates = firsts ds; streams = map st (filter keeps (firsts ds)); feeds = feeds }
 
-  demand_one : (now : ℕ) (st : Demand → Stream) (feeds : List (List Identity)) (ds : List Demand) (d : Demand) → (is_known ds d.identity ≡ false → new_stream now d ≡ st d) → demanded now (part_with st feeds ds) d ≡ part_with st feeds (ds ++ d ∷ [])
+  demand_one : (now : ℕ) (st : Demand → Stream) (feeds : List (List Identity)) (ds : List Demand) (d : Demand) → (is_known ds d.identity ≡ false → new_stream now d ≡ st d) → part_after_demand now (part_with st feeds ds) d ≡ part_with st feeds (ds ++ d ∷ [])
   demand_one now st feeds ds d new = λ i. record {
     answers = answers;
     fates = enter_first ds d i;
@@ -302,16 +302,16 @@ module _ (views : Views) (answers : ReaderAnswers) (r : ℕ) where
       go false e = ap (λ l. ss ++ l) (last (is_drop d.aggregation) (e refl))
           ∙ sym (ap (map st) (filter-append keeps (firsts ds) (d ∷ [])) ∙ map-append st (filter keeps (firsts ds)) (filter keeps (d ∷ [])))
 
-  demand_all : (now : ℕ) (st : Demand → Stream) (feeds : List (List Identity)) (ds new : List Demand) → ((d : Demand) → is_known ds d.identity ≡ false → new_stream now d ≡ st d) → fold (demanded now) (part_with st feeds ds) new ≡ part_with st feeds (ds ++ new)
+  demand_all : (now : ℕ) (st : Demand → Stream) (feeds : List (List Identity)) (ds new : List Demand) → ((d : Demand) → is_known ds d.identity ≡ false → new_stream now d ≡ st d) → fold (part_after_demand now) (part_with st feeds ds) new ≡ part_with st feeds (ds ++ new)
   demand_all now st feeds ds [] e = ap (part_with st feeds) (sym (append-nil ds))
   demand_all now st feeds ds (d ∷ new) e =
-      ap (λ p. fold (demanded now) p new) (demand_one now st feeds ds d (e d))
+      ap (λ p. fold (part_after_demand now) p new) (demand_one now st feeds ds d (e d))
       ∙ (demand_all now st feeds (ds ++ d ∷ []) new (λ k u. e k (unknown_before ds (d ∷ []) k.identity u)) ∙ ap (part_with st feeds) (append_assoc ds (d ∷ []) new))
 
-  pub part_builds : (past : List Call) (meter : Option ℕ) (about : About) (now : ℕ) → built views (scope_of (meters_in past) meter) about now (part_of past) ≡ part_of (past ++ Build meter about now ∷ [])
+  pub part_builds : (past : List Call) (meter : Option ℕ) (about : About) (now : ℕ) → part_after_build views (scope_of (meters_in past) meter) about now (part_of past) ≡ part_of (past ++ Build meter about now ∷ [])
   part_builds past meter about now =
-      ap (λ b. with_feeds b (fold (demanded now) (part_of past) b)) same_demands
-      ∙ (ap (λ ss. with_feeds A (fold (demanded now) (record { answers = answers; fates = firsts D; streams = ss; feeds = feeds_in past }) A))
+      ap (λ b. with_feeds b (fold (part_after_demand now) (part_of past) b)) same_demands
+      ∙ (ap (λ ss. with_feeds A (fold (part_after_demand now) (record { answers = answers; fates = firsts D; streams = ss; feeds = feeds_in past }) A))
       (map_known (stream_in past) (stream_in (past ++ Build meter about now ∷ [])) D (streams_of views answers (builds_in past)) (old_is past meter about now) (known_streams past))
       ∙ (ap (with_feeds A) (demand_all now (stream_in (past ++ Build meter about now ∷ [])) (feeds_in past) D A (new_is past meter about now))
       ∙ sym ((λ k. record { answers = answers; fates = firsts (demands_of views answers [] (bp k)); streams = map (stream_in (past ++ Build meter about now ∷ [])) (streams_of views answers (bp k)); feeds = feeds_of views answers [] (bp k) })
@@ -335,5 +335,5 @@ module _ (views : Views) (answers : ReaderAnswers) (r : ℕ) where
       bp : builds_in (past ++ Build meter about now ∷ []) ≡ builds_in past ++ inst ∷ []
       bp = gather_push build_in [] past (Build meter about now)
 
-      same_feeds : feeds_in past ++ fed (is_dropped (D ++ A)) A ∷ [] ≡ feeds_in past ++ fed (is_dropped (firsts (D ++ A))) A ∷ []
-      same_feeds = sym (λ i. feeds_in past ++ fed (λ x. is_drop_fate (fate_firsts (D ++ A) x i)) A ∷ [])
+      same_feeds : feeds_in past ++ fed_identities (is_dropped (D ++ A)) A ∷ [] ≡ feeds_in past ++ fed_identities (is_dropped (firsts (D ++ A))) A ∷ []
+      same_feeds = sym (λ i. feeds_in past ++ fed_identities (λ x. is_drop_fate (fate_firsts (D ++ A) x i)) A ∷ [])

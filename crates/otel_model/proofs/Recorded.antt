@@ -5,7 +5,7 @@ use Rattle.std.proofs.lemmas.Bool.{cases_Bool, true≢false, false≢true}
 use Rattle.std.proofs.lemmas.List.{map-append}
 use Rattle.std.proofs.Math.Nat.{mod-add-mod}
 use Rattle.otel_model_stream.specs.Sets.{AttributeSet}
-use Rattle.otel_model_stream.specs.Folds.{Aggregate, LastValue, Amount, wrapped, sample_of}
+use Rattle.otel_model_stream.specs.Folds.{Aggregate, LastValue, Amount, wrap, sample_of}
 use Rattle.otel_model_stream.specs.Events.{Event, Record, Bind, RecordBound, Unbind, Collect, Kind, Delta, Cumulative, Drained, Handles, held_by, without}
 use Rattle.otel_model_stream.specs.Machine.{Machine, begin, step, through, let_go}
 use Rattle.otel_model_stream.specs.Totals.{size, has_number, without_number, recorded_from, recorded_total}
@@ -61,23 +61,23 @@ zero_plus n = omega arith
 module _ (σ : Aggregate) (kind : Kind) (limit : ℕ) where
   -- the total after these events, and what the history holds
   abbrev Is : Machine → List Event → Type 0
-  Is m es = (n : ℕ) → recorded_over σ kind limit m (wrapped n) es ≡ wrapped (n + recorded_from (size σ) (numbers m.live) es)
+  Is m es = (n : ℕ) → recorded_over σ kind limit m (wrap n) es ≡ wrap (n + recorded_from (size σ) (numbers m.live) es)
 
   -- one value more
-  one_more : (m : Machine) (es : List Event) (n a : ℕ) → Is m es → recorded_over σ kind limit m (wrapped (wrapped n + a)) es ≡ wrapped (n + (a + recorded_from (size σ) (numbers m.live) es))
+  one_more : (m : Machine) (es : List Event) (n a : ℕ) → Is m es → recorded_over σ kind limit m (wrap (wrap n + a)) es ≡ wrap (n + (a + recorded_from (size σ) (numbers m.live) es))
   one_more m es n a ih =
       ap (λ k. recorded_over σ kind limit m k es) (mod-add-mod n (2 ^ 64) a)
-      ∙ (ih (n + a) ∙ ap wrapped (plus_plus n a (recorded_from (size σ) (numbers m.live) es)))
+      ∙ (ih (n + a) ∙ ap wrap (plus_plus n a (recorded_from (size σ) (numbers m.live) es)))
 
   -- a record through a handle
   by_handle : (m : Machine) (h : ℕ) (v : Amount) (es : List Event) (n : ℕ) → ((m' : Machine) → Is m' es) → (o : Option AttributeSet) → held_by h m.live ≡ o
-      → recorded_over σ kind limit (through o (sample_of σ v) m) (if_held o (wrapped (wrapped n + size σ v)) (wrapped n)) es
-      ≡ wrapped (n + (cond (has_number h (numbers m.live)) (size σ v) 0 + recorded_from (size σ) (numbers m.live) es))
+      → recorded_over σ kind limit (through o (sample_of σ v) m) (if_held o (wrap (wrap n + size σ v)) (wrap n)) es
+      ≡ wrap (n + (cond (has_number h (numbers m.live)) (size σ v) 0 + recorded_from (size σ) (numbers m.live) es))
   by_handle m h v es n ih None e =
-      ih m n ∙ ap (λ k. wrapped (n + k)) (sym (zero_plus (recorded_from (size σ) (numbers m.live) es)) ∙ sym (λ i. cond ((held_is h m.live ∙ ap is_some e) i) (size σ v) 0 + recorded_from (size σ) (numbers m.live) es))
+      ih m n ∙ ap (λ k. wrap (n + k)) (sym (zero_plus (recorded_from (size σ) (numbers m.live) es)) ∙ sym (λ i. cond ((held_is h m.live ∙ ap is_some e) i) (size σ v) 0 + recorded_from (size σ) (numbers m.live) es))
   by_handle m h v es n ih (Some g) e =
       one_more (through (Some g) (sample_of σ v) m) es n (size σ v) (ih (through (Some g) (sample_of σ v) m))
-      ∙ ap (λ k. wrapped (n + k)) (sym (λ i. cond ((held_is h m.live ∙ ap is_some e) i) (size σ v) 0 + recorded_from (size σ) (numbers m.live) es))
+      ∙ ap (λ k. wrap (n + k)) (sym (λ i. cond ((held_is h m.live ∙ ap is_some e) i) (size σ v) 0 + recorded_from (size σ) (numbers m.live) es))
 
   -- an unbind
   pub by_unbind : (m : Machine) (h : ℕ) → (o : Option AttributeSet) → held_by h m.live ≡ o → numbers (let_go o h m).live ≡ without_number h (numbers m.live)
@@ -90,11 +90,11 @@ module _ (σ : Aggregate) (kind : Kind) (limit : ℕ) where
   collect_keeps Drained m e = absurd (false≢true e)
 
   -- the same live handles
-  alike : (m : Machine) (ns : List ℕ) (es : List Event) (n : ℕ) → Is m es → numbers m.live ≡ ns → recorded_over σ kind limit m (wrapped n) es ≡ wrapped (n + recorded_from (size σ) ns es)
-  alike m ns es n ih e = ih n ∙ ap (λ l. wrapped (n + recorded_from (size σ) l es)) e
+  alike : (m : Machine) (ns : List ℕ) (es : List Event) (n : ℕ) → Is m es → numbers m.live ≡ ns → recorded_over σ kind limit m (wrap n) es ≡ wrap (n + recorded_from (size σ) ns es)
+  alike m ns es n ih e = ih n ∙ ap (λ l. wrap (n + recorded_from (size σ) l es)) e
 
   pub over_is : keeps_handles kind ≡ true → (es : List Event) (m : Machine) → Is m es
-  over_is k [] m n = ap wrapped (sym (plus_zero n))
+  over_is k [] m n = ap wrap (sym (plus_zero n))
   over_is k (Record s v ∷ es) m n = one_more (step σ kind limit m (Record s v)) es n (size σ v) (over_is k es (step σ kind limit m (Record s v)))
   over_is k (Bind h s ∷ es) m n = alike (step σ kind limit m (Bind h s)) (numbers m.live ++ h ∷ []) es n (over_is k es (step σ kind limit m (Bind h s))) (map-append (λ p. p.0) m.live _)
   over_is k (RecordBound h v ∷ es) m n = by_handle m h v es n (over_is k es) (held_by h m.live) refl
@@ -102,14 +102,14 @@ module _ (σ : Aggregate) (kind : Kind) (limit : ℕ) where
   over_is k (Collect ∷ es) m n = alike (step σ kind limit m Collect) (numbers m.live) es n (over_is k es (step σ kind limit m Collect)) (ap numbers (collect_keeps kind m k))
 
 -- ======== a last value counts nothing ========
-none_held : (o : Option AttributeSet) (n : ℕ) → if_held o (wrapped (wrapped n + 0)) (wrapped n) ≡ wrapped n
+none_held : (o : Option AttributeSet) (n : ℕ) → if_held o (wrap (wrap n + 0)) (wrap n) ≡ wrap n
 none_held None n = refl
-none_held (Some g) n = mod-add-mod n (2 ^ 64) 0 ∙ ap wrapped (plus_zero n)
+none_held (Some g) n = mod-add-mod n (2 ^ 64) 0 ∙ ap wrap (plus_zero n)
 
-last_over : (kind : Kind) (limit : ℕ) (es : List Event) (m : Machine) (n : ℕ) → recorded_over LastValue kind limit m (wrapped n) es ≡ wrapped n
+last_over : (kind : Kind) (limit : ℕ) (es : List Event) (m : Machine) (n : ℕ) → recorded_over LastValue kind limit m (wrap n) es ≡ wrap n
 last_over kind limit [] m n = refl
 last_over kind limit (Record s v ∷ es) m n =
-    ap (λ k. recorded_over LastValue kind limit (step LastValue kind limit m (Record s v)) k es) (mod-add-mod n (2 ^ 64) 0 ∙ ap wrapped (plus_zero n))
+    ap (λ k. recorded_over LastValue kind limit (step LastValue kind limit m (Record s v)) k es) (mod-add-mod n (2 ^ 64) 0 ∙ ap wrap (plus_zero n))
     ∙ last_over kind limit es (step LastValue kind limit m (Record s v)) n
 last_over kind limit (Bind h s ∷ es) m n = last_over kind limit es (step LastValue kind limit m (Bind h s)) n
 last_over kind limit (RecordBound h v ∷ es) m n =
@@ -150,11 +150,11 @@ keeps_when true delta e = absurd (true≢false e)
 keeps_when false true e = refl
 keeps_when false false e = refl
 
-pub recorded_is : (answers : ReaderAnswers) (d : Demand) (es : List Event) → recorded_over (aggregate_of d) (kind_of answers d) d.limit (begin (aggregate_of d)) 0 es ≡ wrapped (recorded_total (aggregate_of d) es)
+pub recorded_is : (answers : ReaderAnswers) (d : Demand) (es : List Event) → recorded_over (aggregate_of d) (kind_of answers d) d.limit (begin (aggregate_of d)) 0 es ≡ wrap (recorded_total (aggregate_of d) es)
 recorded_is answers d es = ⊎_elim
-    (λ e. subst Claim (sym (drained_last d e)) (last_over (kind_of answers d) d.limit es (begin LastValue) 0 ∙ sym (ap wrapped (last_from [] es))))
-    (λ e. over_is (aggregate_of d) (kind_of answers d) d.limit (keeps_when (is_drained d) (is_delta answers d) e) es (begin (aggregate_of d)) 0 ∙ ap wrapped (zero_plus (recorded_total (aggregate_of d) es)))
+    (λ e. subst Claim (sym (drained_last d e)) (last_over (kind_of answers d) d.limit es (begin LastValue) 0 ∙ sym (ap wrap (last_from [] es))))
+    (λ e. over_is (aggregate_of d) (kind_of answers d) d.limit (keeps_when (is_drained d) (is_delta answers d) e) es (begin (aggregate_of d)) 0 ∙ ap wrap (zero_plus (recorded_total (aggregate_of d) es)))
     (cases_Bool (is_drained d))
   where
     Claim : Aggregate → Type 0
-    Claim σ = recorded_over σ (kind_of answers d) d.limit (begin σ) 0 es ≡ wrapped (recorded_total σ es)
+    Claim σ = recorded_over σ (kind_of answers d) d.limit (begin σ) 0 es ≡ wrap (recorded_total σ es)

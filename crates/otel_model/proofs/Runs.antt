@@ -11,7 +11,7 @@ use Rattle.otel_common.specs.declared.scopes.InstrumentationScope.{Instrumentati
 use Rattle.otel_model_stream.specs.Entries.{Entry}
 use Rattle.otel_model_stream.specs.Events.{Point}
 use Rattle.otel_model_stream.specs.Machine.{run}
-use Rattle.otel_model_stream.specs.Windows.{places_of, counted, uncounted_of}
+use Rattle.otel_model_stream.specs.Windows.{places_of, sets_that_count, uncounted_of}
 use Rattle.otel_model.specs.Resources.{Resource}
 use Rattle.otel_data.specs.declared.collections.Metric.{Metric}
 use Rattle.otel_model.specs.Calls.{Observed, Call, Meter, Build, Record, Bind, RecordBound, Unbind, Collect, Flush, Shutdown, Fault, OutOfMemory, UnknownMeter, UnknownInstrument, UnknownHandle, UnknownReader, WrongNumber, WrongKind, AlreadyShutdown, ReaderShutDown, ReadersFailed, Exhausted, LedgerFull, UseWorker, WorkersMissing, Reply}
@@ -20,11 +20,11 @@ use Rattle.otel_model.specs.Streams.{kind_of, aggregate_of}
 use Rattle.otel_model.specs.Collections.{shows_differences, difference, content_of, metric, ScopedMetric, collection}
 use Rattle.otel_model.specs.State.{Shared, Stream, ReaderPart, State}
 use Rattle.otel_model.specs.Refusals.{refusal, observations_refusal}
-use Rattle.otel_model.specs.Sent.{has_scope, scope_of, observed}
-use Rattle.otel_model.specs.Machine.{with_meter, built, part_sent, shared_after, points_at, accepted_after, new_part, new_state}
+use Rattle.otel_model.specs.Sent.{has_scope, scope_of, observed_events}
+use Rattle.otel_model.specs.Machine.{with_meter, part_after_build, part_after_call, shared_after, points_at, accepted_after, new_part, new_state}
 use Rattle.otel_model.specs.Steps.{collect_reply, collect_from, answer_of, reply_by, after_by, reply_of, after, asks_readers, Step, Run}
 use Rattle.otel_model.specs.Only.{is_others}
-use Rattle.otel_model.specs.History.{is_shutdown, is_failed, counts, made, gather, is_bind, is_shut, binds_in, scope_asked, new_scope, meters_in, builds_in, streams_of, feeds_of, history, window_of, window_points, start_of, reported_of, collection_of, made_by, shown_in, collected_by, given}
+use Rattle.otel_model.specs.History.{is_shutdown, is_failed, counts, made_calls, gather, is_bind, is_shut, binds_in, scope_asked, new_scope, meters_in, builds_in, streams_of, feeds_of, history, window_of, window_points, start_of, reported_of, collection_of, made_by, shown_in, collected_by, given_collections}
 use Rattle.otel_model.specs.Laws.{IsRun, AreStreamsOfBuilds, AreFeedsOfBuilds, ArePlacesOfHistories, AreCountedOfHistories, AreCollectionsOfHistories}
 use Rattle.otel_model.proofs.StreamFacts.{places_are, counted_are}
 use Rattle.otel_model.proofs.Single.{some_is, get_map, part_after, concerned, unconcerned}
@@ -123,12 +123,12 @@ not_false false e = absurd (true≢false e)
 part_follows : (views : Views) (answers : ReaderAnswers) (r : ℕ) (past : List Call) (s : Shared) (c : Call) → SharedAgrees past s → is_others r c ≡ false
     → part_after views s c (part_of views answers r past) ≡ part_of views answers r (past ++ c ∷ [])
 part_follows views answers r past s (Meter scope) a m = part_rests views answers r past (Meter scope) refl (λ d. cond_same _ []) (λ d. refl) (λ d. cond_same _ [])
-part_follows views answers r past s (Build meter about now) a m = ap (λ ms. built views (scope_of ms meter) about now (part_of views answers r past)) a.meters ∙ part_builds views answers r past meter about now
-part_follows views answers r past s (Record n v l) a m = ap (λ k. part_sent k (Record n v l) (part_of views answers r past)) a.next ∙ part_sends views answers r past (Record n v l) refl refl
-part_follows views answers r past s (Bind n l) a m = ap (λ k. part_sent k (Bind n l) (part_of views answers r past)) a.next ∙ part_sends views answers r past (Bind n l) refl refl
-part_follows views answers r past s (RecordBound h v) a m = ap (λ k. part_sent k (RecordBound h v) (part_of views answers r past)) a.next ∙ part_sends views answers r past (RecordBound h v) refl refl
-part_follows views answers r past s (Unbind h) a m = ap (λ k. part_sent k (Unbind h) (part_of views answers r past)) a.next ∙ part_sends views answers r past (Unbind h) refl refl
-part_follows views answers r past s (Collect q now os) a m = ap (λ k. part_sent k (Collect q now os) (part_of views answers r past)) a.next ∙ part_sends views answers r past (Collect q now os) refl (not_false (q == r) m)
+part_follows views answers r past s (Build meter about now) a m = ap (λ ms. part_after_build views (scope_of ms meter) about now (part_of views answers r past)) a.meters ∙ part_builds views answers r past meter about now
+part_follows views answers r past s (Record n v l) a m = ap (λ k. part_after_call k (Record n v l) (part_of views answers r past)) a.next ∙ part_sends views answers r past (Record n v l) refl refl
+part_follows views answers r past s (Bind n l) a m = ap (λ k. part_after_call k (Bind n l) (part_of views answers r past)) a.next ∙ part_sends views answers r past (Bind n l) refl refl
+part_follows views answers r past s (RecordBound h v) a m = ap (λ k. part_after_call k (RecordBound h v) (part_of views answers r past)) a.next ∙ part_sends views answers r past (RecordBound h v) refl refl
+part_follows views answers r past s (Unbind h) a m = ap (λ k. part_after_call k (Unbind h) (part_of views answers r past)) a.next ∙ part_sends views answers r past (Unbind h) refl refl
+part_follows views answers r past s (Collect q now os) a m = ap (λ k. part_after_call k (Collect q now os) (part_of views answers r past)) a.next ∙ part_sends views answers r past (Collect q now os) refl (not_false (q == r) m)
 part_follows views answers r past s Flush a m = part_rests views answers r past Flush refl (λ d. cond_same _ []) (λ d. refl) (λ d. cond_same _ [])
 part_follows views answers r past s Shutdown a m = part_rests views answers r past Shutdown refl (λ d. cond_same _ []) (λ d. refl) (λ d. cond_same _ [])
 
@@ -269,12 +269,12 @@ step_counted views old new c (Reply.Refused WorkersMissing) s = by_reply views o
 
 -- ======== a collection ========
 -- what isn't shown as differences doesn't look at what was shown before
-metric_kept : (answers : ReaderAnswers) (now since : ℕ) (before : List Point) (d : Demand) (ps : List Point) → metric answers now since (kept_of answers d before) d ps ≡ metric answers now since before d ps
-metric_kept answers now since before d ps = λ i. record {
+metric_kept : (answers : ReaderAnswers) (now start : ℕ) (before : List Point) (d : Demand) (ps : List Point) → metric answers now start (kept_of answers d before) d ps ≡ metric answers now start before d ps
+metric_kept answers now start before d ps = λ i. record {
   name = d.spelling;
   description = d.identity.description;
   unit = d.identity.unit;
-  content = content_of answers d since now (same (shows_differences answers d) i);
+  content = content_of answers d start now (same (shows_differences answers d) i);
 }
   where
     same : (b : Bool) → cond b (map (difference (cond b before [])) ps) ps ≡ cond b (map (difference before) ps) ps
@@ -287,11 +287,11 @@ scoped d m = (d.identity.scope, m)
 pub collect_is : (views : Views) (resource : Resource) (readers : List ReaderAnswers) (past : List Call) (st : State) (r : ℕ) (answers : ReaderAnswers) (now : ℕ) (os : List Observed) → Agrees views resource readers past st
     → collect_from st.shared now os (part_of views answers r past) ≡ collection_of views resource answers r past now os
 collect_is views resource readers past st r answers now os a =
-    (λ i. collection (a.told i) (a.shared.meters i) (map_both (λ (q : Stream). scoped q.demand (metric answers now q.since q.reported q.demand (points_at answers (feeds_of views answers [] (builds_in past)) os q))) (stream_in views answers r past)
-    (λ (d : Demand). scoped d (metric answers now (start_of views answers r d past) (reported_of views answers r d past) d (window_points answers d (history views answers r d past ++ observed (feeds_of views answers [] (builds_in past)) d os)))) (streams_of views answers (builds_in past)) (λ d. ap (scoped d) (same_metric d)) i))
+    (λ i. collection (a.told i) (a.shared.meters i) (map_both (λ (q : Stream). scoped q.demand (metric answers now q.start q.reported q.demand (points_at answers (feeds_of views answers [] (builds_in past)) os q))) (stream_in views answers r past)
+    (λ (d : Demand). scoped d (metric answers now (start_of views answers r d past) (reported_of views answers r d past) d (window_points answers d (history views answers r d past ++ observed_events (feeds_of views answers [] (builds_in past)) d os)))) (streams_of views answers (builds_in past)) (λ d. ap (scoped d) (same_metric d)) i))
   where
     same_metric : (d : Demand) → metric answers now (start_of views answers r d past) (kept_of answers d (reported_of views answers r d past)) d (points_at answers (feeds_of views answers [] (builds_in past)) os (stream_in views answers r past d))
-        ≡ metric answers now (start_of views answers r d past) (reported_of views answers r d past) d (window_points answers d (history views answers r d past ++ observed (feeds_of views answers [] (builds_in past)) d os))
+        ≡ metric answers now (start_of views answers r d past) (reported_of views answers r d past) d (window_points answers d (history views answers r d past ++ observed_events (feeds_of views answers [] (builds_in past)) d os))
     same_metric d = metric_kept answers now (start_of views answers r d past) (reported_of views answers r d past) d (points_at answers (feeds_of views answers [] (builds_in past)) os (stream_in views answers r past d))
         ∙ ap (metric answers now (start_of views answers r d past) (reported_of views answers r d past) d) (points_now views answers r past os d)
 
@@ -340,19 +340,19 @@ given_none r Shutdown reply e = refl
 -- ======== runs ========
 abbrev Claim : Views → Resource → List ReaderAnswers → List Call → List Call → List Reply → State → Type 0
 Claim views resource readers past calls replies new =
-    Agrees views resource readers (past ++ made calls replies) new
-    × ((r : ℕ) (answers : ReaderAnswers) → slice_get readers r ≡ Some answers → given r calls replies ≡ gather (made_by views resource answers r) past (made calls replies))
+    Agrees views resource readers (past ++ made_calls calls replies) new
+    × ((r : ℕ) (answers : ReaderAnswers) → slice_get readers r ≡ Some answers → given_collections r calls replies ≡ gather (made_by views resource answers r) past (made_calls calls replies))
 
 run_join : (views : Views) (resource : Resource) (readers : List ReaderAnswers) (past : List Call) (old mid new : State) (c : Call) (reply : Reply) (calls : List Call) (replies : List Reply)
     → Counted views old c reply mid → Agrees views resource readers past old
     → ((past : List Call) → Agrees views resource readers past mid → Claim views resource readers past calls replies new)
     → Claim views resource readers past (c ∷ calls) (reply ∷ replies) new
-run_join views resource readers past old mid new c reply calls replies s a ih = ⊎_elim idle counted s
+run_join views resource readers past old mid new c reply calls replies s a ih = ⊎_elim idle if_counted s
   where
     -- the claim once it is known whether the call counts
     Known : Bool → Type 0
-    Known b = Agrees views resource readers (past ++ cond b (c ∷ made calls replies) (made calls replies)) new
-        × ((r : ℕ) (answers : ReaderAnswers) → slice_get readers r ≡ Some answers → collected_by r c reply ++ given r calls replies ≡ gather (made_by views resource answers r) past (cond b (c ∷ made calls replies) (made calls replies)))
+    Known b = Agrees views resource readers (past ++ cond b (c ∷ made_calls calls replies) (made_calls calls replies)) new
+        × ((r : ℕ) (answers : ReaderAnswers) → slice_get readers r ≡ Some answers → collected_by r c reply ++ given_collections r calls replies ≡ gather (made_by views resource answers r) past (cond b (c ∷ made_calls calls replies) (made_calls calls replies)))
 
     A : State → Type 0
     A st = Agrees views resource readers past st
@@ -366,12 +366,12 @@ run_join views resource readers past old mid new c reply calls replies s a ih = 
     idle : (counts c reply ≡ false) × (mid ≡ old) → Known (counts c reply)
     idle e =
         let q = ih past (subst A (sym e.1) a) in
-        subst Known (sym e.0) (q.0, λ r answers h. ap (λ l. l ++ given r calls replies) (given_none r c reply e.0) ∙ q.1 r answers h)
+        subst Known (sym e.0) (q.0, λ r answers h. ap (λ l. l ++ given_collections r calls replies) (given_none r c reply e.0) ∙ q.1 r answers h)
 
-    counted : (counts c reply ≡ true) × (mid ≡ accepted_after views old c) × ((asks_readers c ≡ true) ⊎ (reply ≡ answer_of old c)) → Known (counts c reply)
-    counted e =
+    if_counted : (counts c reply ≡ true) × (mid ≡ accepted_after views old c) × ((asks_readers c ≡ true) ⊎ (reply ≡ answer_of old c)) → Known (counts c reply)
+    if_counted e =
         let q = ih (past ++ c ∷ []) (subst B (sym e.1) (agrees_after views resource readers past old c a)) in
-        subst Known (sym e.0) (subst C (append_assoc past (c ∷ []) (made calls replies)) q.0, λ r answers h. (λ i. given_now views resource readers past old r answers c reply a h e.2 i ++ q.1 r answers h i))
+        subst Known (sym e.0) (subst C (append_assoc past (c ∷ []) (made_calls calls replies)) q.0, λ r answers h. (λ i. given_now views resource readers past old r answers c reply a h e.2 i ++ q.1 r answers h i))
 
 pub run_agrees : (views : Views) (resource : Resource) (readers : List ReaderAnswers) (past : List Call) (old new : State) (calls : List Call) (replies : List Reply) → Run views old calls replies new → Agrees views resource readers past old
     → Claim views resource readers past calls replies new
@@ -386,9 +386,9 @@ run_agrees views resource readers past old new (c ∷ calls) (reply ∷ replies)
 
 -- ======== the laws ========
 pub part_is : (views : Views) (resource : Resource) (identity : ℕ) (readers : List ReaderAnswers) (calls : List Call) (replies : List Reply) (new : State) → IsRun views resource identity readers calls replies new
-    → (r : ℕ) (answers : ReaderAnswers) (part : ReaderPart) → slice_get readers r ≡ Some answers → slice_get new.readers r ≡ Some part → part ≡ part_of views answers r (made calls replies)
+    → (r : ℕ) (answers : ReaderAnswers) (part : ReaderPart) → slice_get readers r ≡ Some answers → slice_get new.readers r ≡ Some part → part ≡ part_of views answers r (made_calls calls replies)
 part_is views resource identity readers calls replies new run r answers part h g =
-    some_is part (part_of views answers r (made calls replies)) (sym g ∙ (run_agrees views resource readers [] (new_state resource identity readers) new calls replies run (agrees_new views resource identity readers)).0.parts r answers h)
+    some_is part (part_of views answers r (made_calls calls replies)) (sym g ∙ (run_agrees views resource readers [] (new_state resource identity readers) new calls replies run (agrees_new views resource identity readers)).0.parts r answers h)
 
 map_same : {X : Type 0} (xs : List X) → map (λ x. x) xs ≡ xs
 map_same [] = refl
@@ -397,8 +397,8 @@ map_same (x ∷ xs) = ap (λ l. x ∷ l) (map_same xs)
 pub streams_law : AreStreamsOfBuilds
 streams_law views resource identity readers calls replies new run r answers part h g =
     ap (λ (p : ReaderPart). map (λ (s : Stream). s.demand) p.streams) (part_is views resource identity readers calls replies new run r answers part h g)
-    ∙ (map_both (λ (s : Stream). s.demand) (stream_in views answers r (made calls replies)) (λ d. d) (streams_of views answers (builds_in (made calls replies))) (λ d. refl)
-    ∙ map_same (streams_of views answers (builds_in (made calls replies))))
+    ∙ (map_both (λ (s : Stream). s.demand) (stream_in views answers r (made_calls calls replies)) (λ d. d) (streams_of views answers (builds_in (made_calls calls replies))) (λ d. refl)
+    ∙ map_same (streams_of views answers (builds_in (made_calls calls replies))))
 
 pub feeds_law : AreFeedsOfBuilds
 feeds_law views resource identity readers calls replies new run r answers part h g =
@@ -407,16 +407,16 @@ feeds_law views resource identity readers calls replies new run r answers part h
 pub places_law : ArePlacesOfHistories
 places_law views resource identity readers calls replies new run r answers part h g =
     ap (λ (p : ReaderPart). map (λ (s : Stream). map (λ (e : Entry). e.set) s.machine.table.entries) p.streams) (part_is views resource identity readers calls replies new run r answers part h g)
-    ∙ map_both (λ (s : Stream). map (λ (e : Entry). e.set) s.machine.table.entries) (stream_in views answers r (made calls replies))
-    (λ (d : Demand). places_of d.limit (window_of answers d (history views answers r d (made calls replies)))) (streams_of views answers (builds_in (made calls replies)))
-    (λ d. places_are (aggregate_of d) (kind_of answers d) d.limit (history views answers r d (made calls replies)))
+    ∙ map_both (λ (s : Stream). map (λ (e : Entry). e.set) s.machine.table.entries) (stream_in views answers r (made_calls calls replies))
+    (λ (d : Demand). places_of d.limit (window_of answers d (history views answers r d (made_calls calls replies)))) (streams_of views answers (builds_in (made_calls calls replies)))
+    (λ d. places_are (aggregate_of d) (kind_of answers d) d.limit (history views answers r d (made_calls calls replies)))
 
 pub counted_law : AreCountedOfHistories
 counted_law views resource identity readers calls replies new run r answers part h g =
     ap (λ (p : ReaderPart). map (λ (s : Stream). map (λ (e : Entry). e.set) (filter (λ (e : Entry). e.counted) s.machine.table.entries)) p.streams) (part_is views resource identity readers calls replies new run r answers part h g)
-    ∙ map_both (λ (s : Stream). map (λ (e : Entry). e.set) (filter (λ (e : Entry). e.counted) s.machine.table.entries)) (stream_in views answers r (made calls replies))
-    (λ (d : Demand). counted (uncounted_of d.limit (window_of answers d (history views answers r d (made calls replies)))) (places_of d.limit (window_of answers d (history views answers r d (made calls replies))))) (streams_of views answers (builds_in (made calls replies)))
-    (λ d. counted_are (aggregate_of d) (kind_of answers d) d.limit (history views answers r d (made calls replies)))
+    ∙ map_both (λ (s : Stream). map (λ (e : Entry). e.set) (filter (λ (e : Entry). e.counted) s.machine.table.entries)) (stream_in views answers r (made_calls calls replies))
+    (λ (d : Demand). sets_that_count (uncounted_of d.limit (window_of answers d (history views answers r d (made_calls calls replies)))) (places_of d.limit (window_of answers d (history views answers r d (made_calls calls replies))))) (streams_of views answers (builds_in (made_calls calls replies)))
+    (λ d. counted_are (aggregate_of d) (kind_of answers d) d.limit (history views answers r d (made_calls calls replies)))
 
 pub collections_law : AreCollectionsOfHistories
 collections_law views resource identity readers calls replies new run r answers h =

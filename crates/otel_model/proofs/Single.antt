@@ -7,10 +7,10 @@ use Rattle.otel_model.specs.Demands.{Views}
 use Rattle.otel_model.specs.State.{Shared, ReaderPart, State}
 use Rattle.otel_model.specs.Refusals.{refusal}
 use Rattle.otel_model.specs.Sent.{scope_of}
-use Rattle.otel_model.specs.Machine.{changed_at, built, part_sent, readers_after, shared_after, accepted_after, new_part, new_state}
+use Rattle.otel_model.specs.Machine.{changed_at, part_after_build, part_after_call, readers_after, shared_after, accepted_after, new_part, new_state}
 use Rattle.otel_model.specs.Steps.{collect_reply, answer_of, reply_by, after_by, reply_of, after, asks_readers, Step, Run, replies_of}
 use Rattle.otel_model.specs.Laws.{IsAsOnlyReader}
-use Rattle.otel_model.specs.Only.{alone, is_short, is_others, renumbered, only, replies_left, without_asking, EachAsAlone}
+use Rattle.otel_model.specs.Only.{with_one_reader, is_short, is_others, renumbered_call, only, replies_left, without_asking, EachAsAlone}
 
 -- ======== lists ========
 pub some_is : {X : Type 0} (x y : X) → Some x ≡ Some y → x ≡ y
@@ -68,12 +68,12 @@ step_cases views old new call (Reply.Refused WorkersMissing) s = inr (refl, s.1,
 -- what a call leaves of a reader that it concerns
 abbrev pub part_after : Views → Shared → Call → ReaderPart → ReaderPart
 part_after views s (Meter scope) p = p
-part_after views s (Build meter about now) p = built views (scope_of s.meters meter) about now p
-part_after views s (Record n v l) p = part_sent s.next (Record n v l) p
-part_after views s (Bind n l) p = part_sent s.next (Bind n l) p
-part_after views s (RecordBound h v) p = part_sent s.next (RecordBound h v) p
-part_after views s (Unbind h) p = part_sent s.next (Unbind h) p
-part_after views s (Collect r now os) p = part_sent s.next (Collect r now os) p
+part_after views s (Build meter about now) p = part_after_build views (scope_of s.meters meter) about now p
+part_after views s (Record n v l) p = part_after_call s.next (Record n v l) p
+part_after views s (Bind n l) p = part_after_call s.next (Bind n l) p
+part_after views s (RecordBound h v) p = part_after_call s.next (RecordBound h v) p
+part_after views s (Unbind h) p = part_after_call s.next (Unbind h) p
+part_after views s (Collect r now os) p = part_after_call s.next (Collect r now os) p
 part_after views s Flush p = p
 part_after views s Shutdown p = p
 
@@ -95,13 +95,13 @@ others q r e = eqb-false q r (unnot (q == r) e)
 pub concerned : (views : Views) (s : Shared) (call : Call) (ps : List ReaderPart) (r : ℕ) (p : ReaderPart) → slice_get ps r ≡ Some p → is_others r call ≡ false
     → slice_get (readers_after views s call ps) r ≡ Some (part_after views s call p)
 concerned views s (Meter scope) ps r p h m = h
-concerned views s (Build meter about now) ps r p h m = get_map (built views (scope_of s.meters meter) about now) ps r p h
-concerned views s (Record n v l) ps r p h m = get_map (part_sent s.next (Record n v l)) ps r p h
-concerned views s (Bind n l) ps r p h m = get_map (part_sent s.next (Bind n l)) ps r p h
-concerned views s (RecordBound k v) ps r p h m = get_map (part_sent s.next (RecordBound k v)) ps r p h
-concerned views s (Unbind k) ps r p h m = get_map (part_sent s.next (Unbind k)) ps r p h
+concerned views s (Build meter about now) ps r p h m = get_map (part_after_build views (scope_of s.meters meter) about now) ps r p h
+concerned views s (Record n v l) ps r p h m = get_map (part_after_call s.next (Record n v l)) ps r p h
+concerned views s (Bind n l) ps r p h m = get_map (part_after_call s.next (Bind n l)) ps r p h
+concerned views s (RecordBound k v) ps r p h m = get_map (part_after_call s.next (RecordBound k v)) ps r p h
+concerned views s (Unbind k) ps r p h m = get_map (part_after_call s.next (Unbind k)) ps r p h
 concerned views s (Collect q now os) ps r p h m =
-    ap (λ n. slice_get (changed_at n (part_sent s.next (Collect q now os)) ps) r) (mine q r m) ∙ get_changed r (part_sent s.next (Collect q now os)) ps p h
+    ap (λ n. slice_get (changed_at n (part_after_call s.next (Collect q now os)) ps) r) (mine q r m) ∙ get_changed r (part_after_call s.next (Collect q now os)) ps p h
 concerned views s Flush ps r p h m = h
 concerned views s Shutdown ps r p h m = h
 
@@ -114,12 +114,12 @@ unconcerned views s (Record n v l) ps r m = absurd (false≢true m)
 unconcerned views s (Bind n l) ps r m = absurd (false≢true m)
 unconcerned views s (RecordBound k v) ps r m = absurd (false≢true m)
 unconcerned views s (Unbind k) ps r m = absurd (false≢true m)
-unconcerned views s (Collect q now os) ps r m = (get_other q r (part_sent s.next (Collect q now os)) ps (others q r m), refl)
+unconcerned views s (Collect q now os) ps r m = (get_other q r (part_after_call s.next (Collect q now os)) ps (others q r m), refl)
 unconcerned views s Flush ps r m = absurd (false≢true m)
 unconcerned views s Shutdown ps r m = absurd (false≢true m)
 
 -- the only reader moves in the same way
-lone : (views : Views) (s : Shared) (call : Call) (p : ReaderPart) → readers_after views s (renumbered call) (p ∷ []) ≡ part_after views s call p ∷ []
+lone : (views : Views) (s : Shared) (call : Call) (p : ReaderPart) → readers_after views s (renumbered_call call) (p ∷ []) ≡ part_after views s call p ∷ []
 lone views s (Meter scope) p = refl
 lone views s (Build meter about now) p = refl
 lone views s (Record n v l) p = refl
@@ -130,7 +130,7 @@ lone views s (Collect q now os) p = refl
 lone views s Flush p = refl
 lone views s Shutdown p = refl
 
-lone_shared : (s : Shared) (call : Call) → shared_after s (renumbered call) ≡ shared_after s call
+lone_shared : (s : Shared) (call : Call) → shared_after s (renumbered_call call) ≡ shared_after s call
 lone_shared s (Meter scope) = refl
 lone_shared s (Build meter about now) = refl
 lone_shared s (Record n v l) = refl
@@ -142,7 +142,7 @@ lone_shared s Flush = refl
 lone_shared s Shutdown = refl
 
 -- the same refusal, and the same answer
-lone_refusal : (s : Shared) (n r : ℕ) (call : Call) → nat_lt r n ≡ true → is_others r call ≡ false → refusal s n call ≡ refusal s 1 (renumbered call)
+lone_refusal : (s : Shared) (n r : ℕ) (call : Call) → nat_lt r n ≡ true → is_others r call ≡ false → refusal s n call ≡ refusal s 1 (renumbered_call call)
 lone_refusal s n r (Meter scope) h m = refl
 lone_refusal s n r (Build meter about now) h m = refl
 lone_refusal s n r (Record k v l) h m = refl
@@ -153,7 +153,7 @@ lone_refusal s n r (Collect q now os) h m = ap (λ b. cond b (refusal s 1 (Colle
 lone_refusal s n r Flush h m = refl
 lone_refusal s n r Shutdown h m = refl
 
-lone_answer : (st : State) (call : Call) (r : ℕ) (p : ReaderPart) → slice_get st.readers r ≡ Some p → is_others r call ≡ false → answer_of st call ≡ answer_of (alone p st) (renumbered call)
+lone_answer : (st : State) (call : Call) (r : ℕ) (p : ReaderPart) → slice_get st.readers r ≡ Some p → is_others r call ≡ false → answer_of st call ≡ answer_of (with_one_reader p st) (renumbered_call call)
 lone_answer st (Meter scope) r p h m = refl
 lone_answer st (Build meter about now) r p h m = refl
 lone_answer st (Record k v l) r p h m = refl
@@ -166,15 +166,15 @@ lone_answer st Shutdown r p h m = refl
 
 -- the reader in a state, and the state of that reader alone
 abbrev Follows : ℕ → State → State → Type 0
-Follows r new single = (p : ReaderPart) × (slice_get new.readers r ≡ Some p) × (alone p new ≡ single)
+Follows r new single = (p : ReaderPart) × (slice_get new.readers r ≡ Some p) × (with_one_reader p new ≡ single)
 
 step_alone : (views : Views) (st : State) (call : Call) (r : ℕ) (p : ReaderPart) → slice_get st.readers r ≡ Some p → is_others r call ≡ false
-    → Follows r (after views st call) (after views (alone p st) (renumbered call)) × (reply_of st call ≡ reply_of (alone p st) (renumbered call))
-step_alone views st call r p h m = go (refusal st.shared (length st.readers) call) (refusal st.shared 1 (renumbered call)) (lone_refusal st.shared (length st.readers) r call (get_within st.readers r p h) m)
+    → Follows r (after views st call) (after views (with_one_reader p st) (renumbered_call call)) × (reply_of st call ≡ reply_of (with_one_reader p st) (renumbered_call call))
+step_alone views st call r p h m = go (refusal st.shared (length st.readers) call) (refusal st.shared 1 (renumbered_call call)) (lone_refusal st.shared (length st.readers) r call (get_within st.readers r p h) m)
   where
     go : (f g : Option Fault) → f ≡ g
-        → Follows r (after_by f st (accepted_after views st call)) (after_by g (alone p st) (accepted_after views (alone p st) (renumbered call)))
-        × (reply_by f (answer_of st call) ≡ reply_by g (answer_of (alone p st) (renumbered call)))
+        → Follows r (after_by f st (accepted_after views st call)) (after_by g (with_one_reader p st) (accepted_after views (with_one_reader p st) (renumbered_call call)))
+        × (reply_by f (answer_of st call) ≡ reply_by g (answer_of (with_one_reader p st) (renumbered_call call)))
     go None None e = (
       (
         part_after views st.shared call p,
@@ -187,16 +187,16 @@ step_alone views st call r p h m = go (refusal st.shared (length st.readers) cal
     go (Some f) None e = absurd (cc)
     go (Some f) (Some g) e = ((p, h, refl), ap (λ (x : Fault). Reply.Refused x) (some_is f g e))
 
-step_unseen : (views : Views) (st : State) (call : Call) (r : ℕ) (p : ReaderPart) → slice_get st.readers r ≡ Some p → is_others r call ≡ true → Follows r (after views st call) (alone p st)
+step_unseen : (views : Views) (st : State) (call : Call) (r : ℕ) (p : ReaderPart) → slice_get st.readers r ≡ Some p → is_others r call ≡ true → Follows r (after views st call) (with_one_reader p st)
 step_unseen views st call r p h m = go (refusal st.shared (length st.readers) call)
   where
-    go : (f : Option Fault) → Follows r (after_by f st (accepted_after views st call)) (alone p st)
+    go : (f : Option Fault) → Follows r (after_by f st (accepted_after views st call)) (with_one_reader p st)
     go None =
         let u = unconcerned views st.shared call st.readers r m in
         (p, u.0 ∙ h, (λ i. record { shared = u.1 i; readers = p ∷ [] }))
     go (Some f) = (p, h, refl)
 
-asks_same : (call : Call) → asks_readers (renumbered call) ≡ asks_readers call
+asks_same : (call : Call) → asks_readers (renumbered_call call) ≡ asks_readers call
 asks_same (Meter scope) = refl
 asks_same (Build meter about now) = refl
 asks_same (Record n v l) = refl
@@ -222,7 +222,7 @@ join views old mid call reply calls replies s ih r p h = ⊎_elim short long s
 
     -- the claim once it is known whether the call is looked at
     Claim : Bool → Type 0
-    Claim b = cond b L (cond (asks_readers call) L (reply ∷ L)) ≡ without_asking (cond b O (renumbered call ∷ O)) (replies_of views (alone p old) (cond b O (renumbered call ∷ O)))
+    Claim b = cond b L (cond (asks_readers call) L (reply ∷ L)) ≡ without_asking (cond b O (renumbered_call call ∷ O)) (replies_of views (with_one_reader p old) (cond b O (renumbered_call call ∷ O)))
 
     Same : State → Type 0
     Same st = EachAsAlone views st calls replies
@@ -237,18 +237,18 @@ join views old mid call reply calls replies s ih r p h = ⊎_elim short long s
 
     -- what is left of the reply and of the reply alone
     Kept : Bool → Bool → Type 0
-    Kept a b = cond a L (reply ∷ L) ≡ cond b (without_asking O (replies_of views (after views (alone p old) (renumbered call)) O)) (reply_of (alone p old) (renumbered call) ∷ without_asking O (replies_of views (after views (alone p old) (renumbered call)) O))
+    Kept a b = cond a L (reply ∷ L) ≡ cond b (without_asking O (replies_of views (after views (with_one_reader p old) (renumbered_call call)) O)) (reply_of (with_one_reader p old) (renumbered_call call) ∷ without_asking O (replies_of views (after views (with_one_reader p old) (renumbered_call call)) O))
 
     seen : Same (after views old call) → (asks_readers call ≡ true) ⊎ (reply ≡ reply_of old call) → is_others r call ≡ false → Claim (false || is_others r call)
     seen later w e =
         let f = step_alone views old call r p h e in
-        let rest : L ≡ without_asking O (replies_of views (after views (alone p old) (renumbered call)) O) = later r f.0.0 f.0.1 ∙ ap (λ st. without_asking O (replies_of views st O)) f.0.2 in
+        let rest : L ≡ without_asking O (replies_of views (after views (with_one_reader p old) (renumbered_call call)) O) = later r f.0.0 f.0.1 ∙ ap (λ st. without_asking O (replies_of views st O)) f.0.2 in
         subst Claim (sym e) (⊎_elim
-        (λ a. subst (λ b. Kept b (asks_readers (renumbered call))) (sym a) (subst (Kept true) (sym (asks_same call ∙ a)) rest))
+        (λ a. subst (λ b. Kept b (asks_readers (renumbered_call call))) (sym a) (subst (Kept true) (sym (asks_same call ∙ a)) rest))
         (λ q. subst (Kept (asks_readers call)) (sym (asks_same call)) (both (asks_readers call) rest (q ∙ f.1)))
         w)
       where
-        both : (b : Bool) → L ≡ without_asking O (replies_of views (after views (alone p old) (renumbered call)) O) → reply ≡ reply_of (alone p old) (renumbered call) → Kept b b
+        both : (b : Bool) → L ≡ without_asking O (replies_of views (after views (with_one_reader p old) (renumbered_call call)) O) → reply ≡ reply_of (with_one_reader p old) (renumbered_call call) → Kept b b
         both true e q = e
         both false e q = λ i. q i ∷ e i
 

@@ -8,22 +8,22 @@ use Rattle.otel_data.specs.declared.aggregated.AggregatedMetrics.{AggregatedMetr
 use Rattle.otel_data.specs.declared.aggregated.MetricData.{MetricData}
 use Rattle.otel_data.specs.declared.collections.Metric.{Metric}
 use Rattle.otel_data.specs.declared.collections.ResourceMetrics.{ResourceMetrics}
-use Rattle.otel_model_stream.specs.Folds.{wrapped}
+use Rattle.otel_model_stream.specs.Folds.{wrap}
 use Rattle.otel_model_stream.specs.Totals.{recorded_total, points_total}
 use Rattle.otel_model.specs.Calls.{Observed, Call, Collect, Reply}
 use Rattle.otel_model.specs.Collections.{ScopedMetric, number_of_points, collection}
 use Rattle.otel_model.specs.Demands.{Demand, ReaderAnswers, Views}
 use Rattle.otel_model.specs.Streams.{is_drained, is_delta, aggregate_of}
-use Rattle.otel_model.specs.Sent.{observed}
-use Rattle.otel_model.specs.History.{made, meters_in, builds_in, streams_of, feeds_by, history, points_with}
+use Rattle.otel_model.specs.Sent.{observed_events}
+use Rattle.otel_model.specs.History.{made_calls, meters_in, builds_in, streams_of, feeds_by, history, points_with}
 
 -- ======== totals of points ========
 -- what the points of a metric add up to, modulo 2^64: a sum adds up the bits of its values, a histogram its counts, a
 -- gauge nothing
 abbrev pub data_total : {T : Type 0} → (T → ℕ) → MetricData T → ℕ
 data_total bits (MetricData.Gauge gauge) = 0
-data_total bits (MetricData.Sum sum) = wrapped (sum_by (λ p. bits p.value) sum.data_points)
-data_total bits (MetricData.Histogram histogram) = wrapped (sum_by (λ p. p.count) histogram.data_points)
+data_total bits (MetricData.Sum sum) = wrap (sum_by (λ p. bits p.value) sum.data_points)
+data_total bits (MetricData.Histogram histogram) = wrap (sum_by (λ p. p.count) histogram.data_points)
 
 -- of either number type
 abbrev pub content_total : AggregatedMetrics → ℕ
@@ -44,7 +44,7 @@ OfCollection = List Call → ℕ → List Observed → ResourceMetrics → Type 
 abbrev pub OfEachCollection : OfCollection → ℕ → List Call → List Reply → Type 0
 OfEachCollection P r calls replies = (earlier later : List Call) (answered rest : List Reply) (now : ℕ) (os : List Observed) (c : ResourceMetrics)
     → calls ≡ earlier ++ Collect r now os ∷ later → replies ≡ answered ++ Reply.Collected c ∷ rest → length answered ≡ length earlier
-    → P (made earlier answered) now os c
+    → P (made_calls earlier answered) now os c
 
 -- the metric is of the demanded stream, and this can be said of both
 pub record IsMetricOf (P : Demand → Metric → Type 0) (d : Demand) (m : ScopedMetric) : Type 0 where
@@ -74,9 +74,9 @@ HasFewPoints views answers r before os d m = number_of_points m.content ≤ d.li
 
 -- its points add up to those of the stream's window, with the observations, if these are not differences
 abbrev pub ShowsWindow : Views → ReaderAnswers → ℕ → OfMetric
-ShowsWindow views answers r before os d m = is_drained d ≡ false → metric_total m ≡ wrapped (points_total (points_with views answers r d before os))
+ShowsWindow views answers r before os d m = is_drained d ≡ false → metric_total m ≡ wrap (points_total (points_with views answers r d before os))
 
 -- the points of a cumulative stream add up to all that was recorded before, with the observations
 abbrev pub ShowsAll : Views → ReaderAnswers → ℕ → OfMetric
 ShowsAll views answers r before os d m = is_drained d ≡ false → is_delta answers d ≡ false
-    → metric_total m ≡ wrapped (recorded_total (aggregate_of d) (history views answers r d before ++ observed (feeds_by views answers before) d os))
+    → metric_total m ≡ wrap (recorded_total (aggregate_of d) (history views answers r d before ++ observed_events (feeds_by views answers before) d os))

@@ -14,8 +14,8 @@ abbrev pub Text : Type 0
 Text = List ℕ
 
 -- a text with its ASCII letters lowered
-abbrev pub lowered : Text → Text
-lowered t = map (λ b. cond (is_within 65 90 b) (b + 32) b) t
+abbrev pub ascii_lowercase : Text → Text
+ascii_lowercase t = map (λ b. cond (is_within 65 90 b) (b + 32) b) t
 
 -- what an option holds, or else the value given
 abbrev pub or_else : {X : Type 0} → Option X → X → X

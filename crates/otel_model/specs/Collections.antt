@@ -12,7 +12,7 @@ use Rattle.otel_data.specs.declared.collections.ResourceMetrics.{ResourceMetrics
 use Rattle.otel_data.specs.declared.collections.ScopeMetrics.{ScopeMetrics}
 use Rattle.otel_model_stream.specs.Events.{Point}
 pub use Rattle.otel_model_stream.specs.Observed.{value_before, less, difference}
-pub use Rattle.otel_model_stream.specs.Data.{value_of, spread_of, natural, signed_of, gauge_point, sum_point, histogram_point, gauge_of, sum_of, histogram_of}
+pub use Rattle.otel_model_stream.specs.Data.{value_of, spread_of, natural_of, signed_of, gauge_point, sum_point, histogram_point, gauge_of, sum_of, histogram_of}
 use Rattle.otel_model.specs.Demands.{Aggregation, ReaderAnswers, Demand}
 use Rattle.otel_model.specs.Streams.{is_drained, is_delta, is_monotonic_kind}
 
@@ -30,11 +30,11 @@ differences answers d before ps = cond (shows_differences answers d) (map (diffe
 module _ {T : Type 0} (of_bits : ℕ → T) (of_whole : ℤ → T) where
   -- as the aggregation says. `Drop` and `Default` make no stream
   abbrev pub data_by : Temporality → Bool → Aggregation → ℕ → ℕ → List Point → MetricData T
-  data_by temporality is_monotonic Aggregation.Drop since now ps = sum_of of_bits of_whole temporality is_monotonic since now ps
-  data_by temporality is_monotonic Aggregation.Default since now ps = sum_of of_bits of_whole temporality is_monotonic since now ps
-  data_by temporality is_monotonic Aggregation.Sum since now ps = sum_of of_bits of_whole temporality is_monotonic since now ps
-  data_by temporality is_monotonic Aggregation.LastValue since now ps = gauge_of of_bits of_whole since now ps
-  data_by temporality is_monotonic (Aggregation.ExplicitBucketHistogram bounds m) since now ps = histogram_of of_bits of_whole temporality bounds since now ps
+  data_by temporality is_monotonic Aggregation.Drop start now ps = sum_of of_bits of_whole temporality is_monotonic start now ps
+  data_by temporality is_monotonic Aggregation.Default start now ps = sum_of of_bits of_whole temporality is_monotonic start now ps
+  data_by temporality is_monotonic Aggregation.Sum start now ps = sum_of of_bits of_whole temporality is_monotonic start now ps
+  data_by temporality is_monotonic Aggregation.LastValue start now ps = gauge_of of_bits of_whole start now ps
+  data_by temporality is_monotonic (Aggregation.ExplicitBucketHistogram bounds m) start now ps = histogram_of of_bits of_whole temporality bounds start now ps
 
 -- ======== metrics ========
 -- what a collection says of a stream's temporality
@@ -42,21 +42,21 @@ abbrev pub exported_temporality : ReaderAnswers → Demand → Temporality
 exported_temporality answers d = cond (is_delta answers d) Delta Cumulative
 
 -- the points of a stream, as numbers of its type: signed is `i64`, else `u64`
-abbrev pub aggregated : Bool → Temporality → Bool → Aggregation → ℕ → ℕ → List Point → AggregatedMetrics
-aggregated false temporality is_monotonic a since now ps = AggregatedMetrics.U64 (data_by (λ n. n) natural temporality is_monotonic a since now ps)
-aggregated true temporality is_monotonic a since now ps = AggregatedMetrics.I64 (data_by signed_of (λ z. z) temporality is_monotonic a since now ps)
+abbrev pub aggregated_metrics : Bool → Temporality → Bool → Aggregation → ℕ → ℕ → List Point → AggregatedMetrics
+aggregated_metrics false temporality is_monotonic a start now ps = AggregatedMetrics.U64 (data_by (λ n. n) natural_of temporality is_monotonic a start now ps)
+aggregated_metrics true temporality is_monotonic a start now ps = AggregatedMetrics.I64 (data_by signed_of (λ z. z) temporality is_monotonic a start now ps)
 
 -- of a demand
 abbrev pub content_of : ReaderAnswers → Demand → ℕ → ℕ → List Point → AggregatedMetrics
-content_of answers d since now ps = aggregated d.identity.signed (exported_temporality answers d) (is_monotonic_kind d.identity.kind) d.aggregation since now ps
+content_of answers d start now ps = aggregated_metrics d.identity.signed (exported_temporality answers d) (is_monotonic_kind d.identity.kind) d.aggregation start now ps
 
 -- the metric of a stream: its spelling, the rest of its name from its identity, its points, its moments
 abbrev pub metric : ReaderAnswers → ℕ → ℕ → List Point → Demand → List Point → Metric
-metric answers now since before d ps = record {
+metric answers now start before d ps = record {
   name = d.spelling;
   description = d.identity.description;
   unit = d.identity.unit;
-  content = content_of answers d since now (differences answers d before ps);
+  content = content_of answers d start now (differences answers d before ps);
 }
 
 -- how many points a metric has

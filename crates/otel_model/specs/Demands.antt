@@ -11,7 +11,7 @@ use Rattle.otel_common.specs.declared.scopes.InstrumentationScope.{Instrumentati
 pub use Rattle.otel_common.specs.declared.metrics.Aggregation.{Aggregation}
 pub use Rattle.otel_common.specs.declared.metrics.Aggregation.TheVariants.{Drop, Default, Sum, LastValue, ExplicitBucketHistogram}
 pub use Rattle.otel_common.specs.Aggregations.{is_valid}
-pub use Rattle.otel_stream.specs.Answers.{kinds, ReaderAnswers, answers_by, preferring, no_answer, answer_for}
+pub use Rattle.otel_stream.specs.Answers.{kinds, ReaderAnswers, answers_by, answers_preferring, no_answer, answer_for}
 pub use Rattle.otel_stream.specs.Compatible.{fits}
 pub use Rattle.otel_stream.specs.Preferences.{temporality_preference}
 pub use Rattle.otel_stream.specs.Settings.{nothing_said}
@@ -21,7 +21,7 @@ pub use Rattle.otel_stream.specs.declared.demand.Identity.{Identity}
 pub use Rattle.otel_stream.specs.declared.instrument.Instrument.{Instrument}
 pub use Rattle.otel_stream.specs.declared.stream_spec.StreamSpec.{StreamSpec}
 use Rattle.otel_model.specs.Checks.{is_good_name, optional_unit_fault, rises}
-use Rattle.otel_model.specs.Calls.{Text, lowered, or_else, InstrumentKind, Counter, UpDownCounter, Histogram, ObservableCounter, ObservableUpDownCounter, Gauge, ObservableGauge, kind_eq, About}
+use Rattle.otel_model.specs.Calls.{Text, ascii_lowercase, or_else, InstrumentKind, Counter, UpDownCounter, Histogram, ObservableCounter, ObservableUpDownCounter, Gauge, ObservableGauge, kind_eq, About}
 
 -- ======== identities ========
 -- whether two identities are the same
@@ -83,10 +83,10 @@ with_own kind own a = a
 
 -- the aggregation of a demand: what the view gives, where it isn't `Default`; for `Default` the reader's
 -- default; where none is given that default with the histogram's own bounds
-abbrev pub resolved : ReaderAnswers → About → Option Aggregation → Aggregation
-resolved answers about None = with_own about.kind about.bounds (reader_default answers about.kind)
-resolved answers about (Some Default) = reader_default answers about.kind
-resolved answers about (Some a) = a
+abbrev pub resolved_aggregation : ReaderAnswers → About → Option Aggregation → Aggregation
+resolved_aggregation answers about None = with_own about.kind about.bounds (reader_default answers about.kind)
+resolved_aggregation answers about (Some Default) = reader_default answers about.kind
+resolved_aggregation answers about (Some a) = a
 
 -- an absent description or unit of an instrument is the empty text
 abbrev pub description_of : About → Text
@@ -113,10 +113,10 @@ demand_of answers scope about s = record {
     signed = about.signed;
     description = or_else s.description (description_of about);
     unit = or_else s.unit (unit_of about);
-    name = lowered (or_else s.name about.name);
+    name = ascii_lowercase (or_else s.name about.name);
   };
   spelling = or_else s.name about.name;
-  aggregation = resolved answers about s.aggregation;
+  aggregation = resolved_aggregation answers about s.aggregation;
   allow = s.allow;
   limit = or_else s.limit (or_else (answer_for answers about.kind).limit default_limit);
 }
@@ -199,5 +199,5 @@ each_once seen [] = []
 each_once seen (x ∷ xs) = cond (has_identity seen x) (each_once seen xs) (x ∷ each_once (x ∷ seen) xs)
 
 -- the streams that an instrument with these compatible demands feeds, each once
-abbrev pub fed : (Identity → Bool) → List Demand → List Identity
-fed dropped ds = filter (λ x. not (dropped x)) (each_once [] (map (λ (d : Demand). d.identity) ds))
+abbrev pub fed_identities : (Identity → Bool) → List Demand → List Identity
+fed_identities dropped ds = filter (λ x. not (dropped x)) (each_once [] (map (λ (d : Demand). d.identity) ds))

@@ -9,10 +9,10 @@ use Rattle.otel_model_stream.specs.Windows.{Window, opening, window, points_of}
 use Rattle.otel_model.specs.Resources.{Resource}
 use Rattle.otel_data.specs.declared.collections.ResourceMetrics.{ResourceMetrics}
 use Rattle.otel_model.specs.Calls.{About, Observed, Call, Meter, Build, Record, Bind, RecordBound, Unbind, Collect, Flush, Shutdown, Fault, OutOfMemory, UnknownMeter, UnknownInstrument, UnknownHandle, UnknownReader, WrongNumber, WrongKind, AlreadyShutdown, ReaderShutDown, ReadersFailed, Exhausted, LedgerFull, UseWorker, WorkersMissing, Reply}
-use Rattle.otel_model.specs.Demands.{Identity, Demand, Views, ReaderAnswers, is_known, is_dropped, is_drop, demands_on, fed}
+use Rattle.otel_model.specs.Demands.{Identity, Demand, Views, ReaderAnswers, is_known, is_dropped, is_drop, demands_on, fed_identities}
 use Rattle.otel_model.specs.Streams.{is_delta, kind_of, aggregate_of}
 use Rattle.otel_model.specs.Collections.{metric, collection}
-use Rattle.otel_model.specs.Sent.{has_scope, scope_of, observed, sent}
+use Rattle.otel_model.specs.Sent.{has_scope, scope_of, observed_events, sent_events}
 
 -- ======== the calls that count ========
 abbrev pub is_shutdown : Call → Bool
@@ -53,10 +53,10 @@ counts call (Reply.Collected c) = true
 counts call (Reply.Refused f) = is_shutdown call && is_failed f
 
 -- those that were not refused, and a shutdown that a reader failed
-abbrev pub made : List Call → List Reply → List Call
-made [] replies = []
-made (call ∷ calls) [] = []
-made (call ∷ calls) (reply ∷ replies) = cond (counts call reply) (call ∷ made calls replies) (made calls replies)
+abbrev pub made_calls : List Call → List Reply → List Call
+made_calls [] replies = []
+made_calls (call ∷ calls) [] = []
+made_calls (call ∷ calls) (reply ∷ replies) = cond (counts call reply) (call ∷ made_calls calls replies) (made_calls calls replies)
 
 -- what the elements give one after another, each seen with those before it
 abbrev pub gather : {Y X : Type 0} → (List Y → Y → List X) → List Y → List Y → List X
@@ -150,7 +150,7 @@ streams_of views answers is = filter (λ d. not (is_drop d.aggregation)) (firsts
 abbrev pub feeds_of : Views → ReaderAnswers → List Demand → List Built → List (List Identity)
 feeds_of views answers earlier [] = []
 feeds_of views answers earlier (i ∷ is) =
-    fed (is_dropped (earlier ++ demands_after views answers earlier i)) (demands_after views answers earlier i)
+    fed_identities (is_dropped (earlier ++ demands_after views answers earlier i)) (demands_after views answers earlier i)
     ∷ feeds_of views answers (earlier ++ demands_after views answers earlier i) is
 
 -- all compatible demands, and what feeds what, after these calls
@@ -183,7 +183,7 @@ concerns r Shutdown = true
 abbrev pub events_at : Views → ReaderAnswers → ℕ → Demand → List Call → Call → List Event
 events_at views answers r d before call =
     cond (is_demanded views answers d before)
-    (cond (concerns r call) (sent (feeds_by views answers before) (binds_in before) d call) []) []
+    (cond (concerns r call) (sent_events (feeds_by views answers before) (binds_in before) d call) []) []
 
 -- all events of the stream
 abbrev pub history : Views → ReaderAnswers → ℕ → Demand → List Call → List Event
@@ -203,7 +203,7 @@ window_points answers d es = points_of (aggregate_of d) (kind_of answers d) d.li
 
 -- the points after these calls and the observations of a collection
 abbrev pub points_with : Views → ReaderAnswers → ℕ → Demand → List Call → List Observed → List Point
-points_with views answers r d before os = window_points answers d (history views answers r d before ++ observed (feeds_by views answers before) d os)
+points_with views answers r d before os = window_points answers d (history views answers r d before ++ observed_events (feeds_by views answers before) d os)
 
 -- the points that a collection shows of a stream
 abbrev pub shown_by : Views → ReaderAnswers → ℕ → Demand → List Call → Call → List (List Point)
@@ -294,7 +294,7 @@ collected_by r Flush reply = []
 collected_by r Shutdown reply = []
 
 -- of a list of calls with these replies
-abbrev pub given : ℕ → List Call → List Reply → List ResourceMetrics
-given r [] replies = []
-given r (call ∷ calls) [] = []
-given r (call ∷ calls) (reply ∷ replies) = collected_by r call reply ++ given r calls replies
+abbrev pub given_collections : ℕ → List Call → List Reply → List ResourceMetrics
+given_collections r [] replies = []
+given_collections r (call ∷ calls) [] = []
+given_collections r (call ∷ calls) (reply ∷ replies) = collected_by r call reply ++ given_collections r calls replies

@@ -3,10 +3,10 @@ use Rattle.std.specs.Prelude.{◌≡◌, ℕ, ◌+◌, ◌≤◌, true, false, L
 use Rattle.otel_model_stream.specs.Entries.{Entry}
 use Rattle.otel_model_stream.specs.Sets.{AttributeSet}
 use Rattle.otel_model_stream.specs.Events.{Event}
-use Rattle.otel_model_stream.specs.Folds.{wrapped}
+use Rattle.otel_model_stream.specs.Folds.{wrap}
 use Rattle.otel_model_stream.specs.Machine.{points}
 use Rattle.otel_model_stream.specs.Totals.{recorded_total, points_total}
-use Rattle.otel_model_stream.specs.Windows.{Window, places_of, uncounted_of, counted}
+use Rattle.otel_model_stream.specs.Windows.{Window, places_of, uncounted_of, sets_that_count}
 use Rattle.otel_model.specs.Resources.{Resource}
 use Rattle.otel_model.specs.Calls.{is_observable, Call, Reply}
 use Rattle.otel_model.specs.Collections.{differences}
@@ -17,7 +17,7 @@ use Rattle.otel_model.specs.Sent.{is_fed}
 use Rattle.otel_model.specs.Machine.{new_state}
 use Rattle.otel_model.specs.Steps.{Step, Run, replies_of}
 use Rattle.otel_model.specs.Only.{only, replies_left, without_asking, EachAsAlone}
-use Rattle.otel_model.specs.History.{made, builds_in, streams_of, feeds_of, history, window_after, window_points, reported_of, collections_of, given}
+use Rattle.otel_model.specs.History.{made_calls, builds_in, streams_of, feeds_of, history, window_after, window_points, reported_of, collections_of, given_collections}
 use Rattle.otel_model.specs.Totals.{exported_in, recorded_in}
 use Rattle.otel_model.specs.Accepted.{accepted_for}
 use Rattle.otel_model.specs.Answered.{OfMetric, OfEachMetric, HasFewPoints, ShowsWindow, ShowsAll}
@@ -75,7 +75,7 @@ AreNumbered ns (k ∷ ks) (x ∷ xs) = (slice_get ns k ≡ Some x) × AreNumbere
 -- each reader's streams are the first demands, that do not drop, of the builds made
 abbrev pub HasStreamsOfBuilds : OfReader
 HasStreamsOfBuilds views resource calls replies new r answers part =
-    map (λ (s : Stream). s.demand) part.streams ≡ streams_of views answers (builds_in (made calls replies))
+    map (λ (s : Stream). s.demand) part.streams ≡ streams_of views answers (builds_in (made_calls calls replies))
 
 -- after each run
 abbrev pub AreStreamsOfBuilds : Type 0
@@ -84,7 +84,7 @@ AreStreamsOfBuilds = OfEachReader HasStreamsOfBuilds
 -- each instrument feeds the streams of its compatible demands, each once
 abbrev pub HasFeedsOfBuilds : OfReader
 HasFeedsOfBuilds views resource calls replies new r answers part =
-    part.feeds ≡ feeds_of views answers [] (builds_in (made calls replies))
+    part.feeds ≡ feeds_of views answers [] (builds_in (made_calls calls replies))
 
 -- after each run
 abbrev pub AreFeedsOfBuilds : Type 0
@@ -109,7 +109,7 @@ AreFeedsStreams = OfEachReader (λ views resource calls replies new r answers pa
 abbrev pub HasPlacesOfHistories : OfReader
 HasPlacesOfHistories views resource calls replies new r answers part =
     map (λ (s : Stream). map (λ (e : Entry). e.set) s.machine.table.entries) part.streams
-    ≡ map (λ (d : Demand). places_of d.limit (window_after views answers r d (made calls replies))) (streams_of views answers (builds_in (made calls replies)))
+    ≡ map (λ (d : Demand). places_of d.limit (window_after views answers r d (made_calls calls replies))) (streams_of views answers (builds_in (made_calls calls replies)))
 
 -- after each run
 abbrev pub ArePlacesOfHistories : Type 0
@@ -117,13 +117,13 @@ ArePlacesOfHistories = OfEachReader HasPlacesOfHistories
 
 -- the places of a window that count
 abbrev pub counted_places : ℕ → Window → List AttributeSet
-counted_places limit w = counted (uncounted_of limit w) (places_of limit w)
+counted_places limit w = sets_that_count (uncounted_of limit w) (places_of limit w)
 
 -- and the counted ones are those that the window counts
 abbrev pub HasCountedOfHistories : OfReader
 HasCountedOfHistories views resource calls replies new r answers part =
     map (λ (s : Stream). map (λ (e : Entry). e.set) (filter (λ (e : Entry). e.counted) s.machine.table.entries)) part.streams
-    ≡ map (λ (d : Demand). counted_places d.limit (window_after views answers r d (made calls replies))) (streams_of views answers (builds_in (made calls replies)))
+    ≡ map (λ (d : Demand). counted_places d.limit (window_after views answers r d (made_calls calls replies))) (streams_of views answers (builds_in (made_calls calls replies)))
 
 -- after each run
 abbrev pub AreCountedOfHistories : Type 0
@@ -131,7 +131,7 @@ AreCountedOfHistories = OfEachReader HasCountedOfHistories
 
 -- each collection has the resource, scopes, headings, moments and points that are read off the calls
 abbrev pub IsGivenCollections : Views → Resource → ℕ → List Call → List Reply → ℕ → ReaderAnswers → Type 0
-IsGivenCollections views resource identity calls replies r answers = given r calls replies ≡ collections_of views resource answers r (made calls replies)
+IsGivenCollections views resource identity calls replies r answers = given_collections r calls replies ≡ collections_of views resource answers r (made_calls calls replies)
 
 -- by each reader of each run
 abbrev pub AreCollectionsOfHistories : Type 0
@@ -153,7 +153,7 @@ OfEachStream P = OfEachReader (λ views resource calls replies new r answers par
 -- the totals that a stream keeps are those of its history, modulo 2^64
 abbrev pub HasRecordedTotal : OfStream
 HasRecordedTotal views calls replies new r answers part s =
-    s.recorded ≡ wrapped (recorded_in views answers r s.demand (made calls replies))
+    s.recorded ≡ wrap (recorded_in views answers r s.demand (made_calls calls replies))
 
 -- after each run
 abbrev pub IsRecordedTotal : Type 0
@@ -162,7 +162,7 @@ IsRecordedTotal = OfEachStream HasRecordedTotal
 -- and what it exported
 abbrev pub HasExportedTotal : OfStream
 HasExportedTotal views calls replies new r answers part s =
-    s.exported ≡ wrapped (exported_in views answers r s.demand (made calls replies))
+    s.exported ≡ wrap (exported_in views answers r s.demand (made_calls calls replies))
 
 -- after each run
 abbrev pub IsExportedTotal : Type 0
@@ -171,7 +171,7 @@ IsExportedTotal = OfEachStream HasExportedTotal
 -- what is pending are the points of its window
 abbrev pub HasPendingPoints : OfStream
 HasPendingPoints views calls replies new r answers part s =
-    points (kind_of answers s.demand) s.machine ≡ window_points answers s.demand (history views answers r s.demand (made calls replies))
+    points (kind_of answers s.demand) s.machine ≡ window_points answers s.demand (history views answers r s.demand (made_calls calls replies))
 
 -- after each run
 abbrev pub ArePendingPoints : Type 0
@@ -182,8 +182,8 @@ ArePendingPoints = OfEachStream HasPendingPoints
 abbrev pub Conserves : OfStream
 Conserves views calls replies new r answers part s =
     is_drained s.demand ≡ false
-    → wrapped (recorded_in views answers r s.demand (made calls replies))
-    ≡ wrapped (exported_in views answers r s.demand (made calls replies) + points_total (window_points answers s.demand (history views answers r s.demand (made calls replies))))
+    → wrap (recorded_in views answers r s.demand (made_calls calls replies))
+    ≡ wrap (exported_in views answers r s.demand (made_calls calls replies) + points_total (window_points answers s.demand (history views answers r s.demand (made_calls calls replies))))
 
 -- after each run
 abbrev pub IsConserved : Type 0
@@ -193,7 +193,7 @@ IsConserved = OfEachStream Conserves
 abbrev pub KeepsBalance : OfStream
 KeepsBalance views calls replies new r answers part s =
     is_drained s.demand ≡ false
-    → s.recorded ≡ wrapped (s.exported + points_total (points (kind_of answers s.demand) s.machine))
+    → s.recorded ≡ wrap (s.exported + points_total (points (kind_of answers s.demand) s.machine))
 
 -- after each run
 abbrev pub IsBalanceKept : Type 0
@@ -203,7 +203,7 @@ IsBalanceKept = OfEachStream KeepsBalance
 abbrev pub HasAccepted : OfStream
 HasAccepted views calls replies new r answers part s =
     is_observable s.demand.identity.kind ≡ false
-    → s.recorded ≡ wrapped (accepted_for (aggregate_of s.demand) s.demand.identity part.feeds new.shared.instruments)
+    → s.recorded ≡ wrap (accepted_for (aggregate_of s.demand) s.demand.identity part.feeds new.shared.instruments)
 
 -- after each run
 abbrev pub IsAccepted : Type 0
@@ -234,7 +234,7 @@ IsAllAnswered = OfAnsweredMetrics ShowsAll
 abbrev pub IsAllShown : Type 0
 IsAllShown = (views : Views) (answers : ReaderAnswers) (r : ℕ) (d : Demand) (calls : List Call) (events : List Event)
     → is_drained d ≡ false → is_delta answers d ≡ false
-    → wrapped (points_total (window_points answers d (history views answers r d calls ++ events))) ≡ wrapped (recorded_total (aggregate_of d) (history views answers r d calls ++ events))
+    → wrap (points_total (window_points answers d (history views answers r d calls ++ events))) ≡ wrap (recorded_total (aggregate_of d) (history views answers r d calls ++ events))
 
 -- there are at most the limit and two points of a stream
 abbrev pub ArePointsFew : Type 0

@@ -3,19 +3,19 @@
 use Rattle.std.specs.Prelude.{ℕ, ◌+◌, ◌==◌, true, false, cond, List, [], ◌∷◌, ◌++◌, map, fold, Option, Some, None}
 use Rattle.otel_common.specs.declared.scopes.InstrumentationScope.{InstrumentationScope}
 use Rattle.otel_model_stream.specs.Sets.{AttributeSet}
-use Rattle.otel_model_stream.specs.Folds.{Aggregate, Amount, wrapped}
+use Rattle.otel_model_stream.specs.Folds.{Aggregate, Amount, wrap}
 use Rattle.otel_model_stream.specs.Events.{Event, Kind, Point, held_by}
 pub use Rattle.otel_model_stream.specs.Lists.{changed_at}
 use Rattle.otel_model_stream.specs.Machine.{Machine, begin, step, run, points}
 use Rattle.otel_model_stream.specs.Totals.{size, points_total}
 use Rattle.otel_model.specs.Resources.{Resource}
 use Rattle.otel_model.specs.Calls.{About, Observed, Call, Meter, Build, Record, Bind, RecordBound, Unbind, Collect, Flush, Shutdown}
-use Rattle.otel_model.specs.Demands.{Identity, Views, ReaderAnswers, Demand, is_known, is_dropped, is_drop, demands_on, fed}
+use Rattle.otel_model.specs.Demands.{Identity, Views, ReaderAnswers, Demand, is_known, is_dropped, is_drop, demands_on, fed_identities}
 use Rattle.otel_model.specs.Streams.{is_delta, kind_of, aggregate_of}
 use Rattle.otel_model.specs.Collections.{shows_differences}
 use Rattle.otel_model.specs.State.{InstrumentState, LiveHandle, Shared, Stream, ReaderPart, State}
 use Rattle.otel_model.specs.Refusals.{instrument_held}
-use Rattle.otel_model.specs.Sent.{has_scope, scope_of, observed, sent}
+use Rattle.otel_model.specs.Sent.{has_scope, scope_of, observed_events, sent_events}
 
 -- ======== what is shared ========
 -- the same scope gives the same meter
@@ -27,13 +27,13 @@ abbrev pub new_instrument : About → InstrumentState
 new_instrument about = record { kind = about.kind; signed = about.signed; count = 0; sum = 0 }
 
 -- one record more; also an instrument that ignores its records accepts them
-abbrev pub accepted : Amount → InstrumentState → InstrumentState
-accepted v i = record i { count = wrapped (i.count + 1); sum = wrapped (i.sum + v.bits) }
+abbrev pub instrument_after_record : Amount → InstrumentState → InstrumentState
+instrument_after_record v i = record i { count = wrap (i.count + 1); sum = wrap (i.sum + v.bits) }
 
 -- one record more at the instrument of a handle
 abbrev pub accepted_by : Option ℕ → Amount → List InstrumentState → List InstrumentState
 accepted_by None v is = is
-accepted_by (Some n) v is = changed_at n (accepted v) is
+accepted_by (Some n) v is = changed_at n (instrument_after_record v) is
 
 -- the live handles without this one
 abbrev pub without_handle : ℕ → List LiveHandle → List LiveHandle
@@ -44,7 +44,7 @@ without_handle h (p ∷ ps) = cond (p.0 == h) ps (p ∷ without_handle h ps)
 abbrev pub shared_after : Shared → Call → Shared
 shared_after s (Meter scope) = record s { meters = cond s.shut s.meters (with_meter scope s.meters) }
 shared_after s (Build meter about now) = record s { instruments = s.instruments ++ new_instrument about ∷ [] }
-shared_after s (Record n v l) = record s { instruments = changed_at n (accepted v.amount) s.instruments }
+shared_after s (Record n v l) = record s { instruments = changed_at n (instrument_after_record v.amount) s.instruments }
 shared_after s (Bind n l) = record s { live = s.live ++ (s.next, n) ∷ []; next = s.next + 1 }
 shared_after s (RecordBound h v) = record s { instruments = accepted_by (instrument_held h s.live) v.amount s.instruments }
 shared_after s (Unbind h) = record s { live = without_handle h s.live }
@@ -58,19 +58,19 @@ machine_after answers d es m = run (aggregate_of d) (kind_of answers d) d.limit 
 
 -- what a stream shows at a collection, once the observations are in
 abbrev pub points_at : ReaderAnswers → List (List Identity) → List Observed → Stream → List Point
-points_at answers feeds os s = points (kind_of answers s.demand) (machine_after answers s.demand (observed feeds s.demand os) s.machine)
+points_at answers feeds os s = points (kind_of answers s.demand) (machine_after answers s.demand (observed_events feeds s.demand os) s.machine)
 
 -- a collection of a delta stream makes its moment the new start
-abbrev pub since_after : ReaderAnswers → Demand → Call → ℕ → ℕ
-since_after answers d (Meter scope) since = since
-since_after answers d (Build meter about now) since = since
-since_after answers d (Record n v l) since = since
-since_after answers d (Bind n l) since = since
-since_after answers d (RecordBound h v) since = since
-since_after answers d (Unbind h) since = since
-since_after answers d (Collect r now os) since = cond (is_delta answers d) now since
-since_after answers d Flush since = since
-since_after answers d Shutdown since = since
+abbrev pub start_after : ReaderAnswers → Demand → Call → ℕ → ℕ
+start_after answers d (Meter scope) start = start
+start_after answers d (Build meter about now) start = start
+start_after answers d (Record n v l) start = start
+start_after answers d (Bind n l) start = start
+start_after answers d (RecordBound h v) start = start
+start_after answers d (Unbind h) start = start
+start_after answers d (Collect r now os) start = cond (is_delta answers d) now start
+start_after answers d Flush start = start
+start_after answers d Shutdown start = start
 
 -- what the last collection showed of a stream whose differences are shown
 abbrev pub reported_after : ReaderAnswers → List (List Identity) → Call → Stream → List Point
@@ -91,9 +91,9 @@ if_held (Some g) more total = more
 
 -- the total of what was recorded, one event more
 abbrev pub recorded_with : Aggregate → Machine → ℕ → Event → ℕ
-recorded_with σ m total (Event.Record s v) = wrapped (total + size σ v)
+recorded_with σ m total (Event.Record s v) = wrap (total + size σ v)
 recorded_with σ m total (Event.Bind h s) = total
-recorded_with σ m total (Event.RecordBound h v) = if_held (held_by h m.live) (wrapped (total + size σ v)) total
+recorded_with σ m total (Event.RecordBound h v) = if_held (held_by h m.live) (wrap (total + size σ v)) total
 recorded_with σ m total (Event.Unbind h) = total
 recorded_with σ m total Event.Collect = total
 
@@ -114,7 +114,7 @@ exported_after answers feeds (Record n v l) s = s.exported
 exported_after answers feeds (Bind n l) s = s.exported
 exported_after answers feeds (RecordBound h v) s = s.exported
 exported_after answers feeds (Unbind h) s = s.exported
-exported_after answers feeds (Collect r now os) s = cond (is_delta answers s.demand) (wrapped (s.exported + points_total (points_at answers feeds os s))) s.exported
+exported_after answers feeds (Collect r now os) s = cond (is_delta answers s.demand) (wrap (s.exported + points_total (points_at answers feeds os s))) s.exported
 exported_after answers feeds Flush s = s.exported
 exported_after answers feeds Shutdown s = s.exported
 
@@ -122,16 +122,16 @@ exported_after answers feeds Shutdown s = s.exported
 abbrev pub stream_after : ReaderAnswers → List (List Identity) → ℕ → Call → Stream → Stream
 stream_after answers feeds next call s = record {
   demand = s.demand;
-  machine = machine_after answers s.demand (sent feeds next s.demand call) s.machine;
-  since = since_after answers s.demand call s.since;
+  machine = machine_after answers s.demand (sent_events feeds next s.demand call) s.machine;
+  start = start_after answers s.demand call s.start;
   reported = reported_after answers feeds call s;
-  recorded = recorded_after answers (sent feeds next s.demand call) s;
+  recorded = recorded_after answers (sent_events feeds next s.demand call) s;
   exported = exported_after answers feeds call s;
 }
 
 -- ======== a build ========
 abbrev pub new_stream : ℕ → Demand → Stream
-new_stream now d = record { demand = d; machine = begin (aggregate_of d); since = now; reported = []; recorded = 0; exported = 0 }
+new_stream now d = record { demand = d; machine = begin (aggregate_of d); start = now; reported = []; recorded = 0; exported = 0 }
 
 -- the table of fates keeps the first demand of each identity
 abbrev pub enter : List Demand → Demand → List Demand
@@ -142,8 +142,8 @@ abbrev pub make : ℕ → List Demand → List Stream → Demand → List Stream
 make now fates ss d = cond (is_known fates d.identity) ss (ss ++ cond (is_drop d.aggregation) [] (new_stream now d ∷ []))
 
 -- a reader's part after one demand
-abbrev pub demanded : ℕ → ReaderPart → Demand → ReaderPart
-demanded now p d = record p { fates = enter p.fates d; streams = make now p.fates p.streams d }
+abbrev pub part_after_demand : ℕ → ReaderPart → Demand → ReaderPart
+part_after_demand now p d = record p { fates = enter p.fates d; streams = make now p.fates p.streams d }
 
 -- the demands of a build, of which the table of fates tells what was dropped
 abbrev pub build_demands : Views → ReaderPart → Option InstrumentationScope → About → List Demand
@@ -151,25 +151,25 @@ build_demands views p scope about = demands_on (λ ds. is_dropped (fold enter p.
 
 -- and the streams that the new instrument feeds
 abbrev pub with_feeds : List Demand → ReaderPart → ReaderPart
-with_feeds ds p = record p { feeds = p.feeds ++ fed (is_dropped p.fates) ds ∷ [] }
+with_feeds ds p = record p { feeds = p.feeds ++ fed_identities (is_dropped p.fates) ds ∷ [] }
 
 -- a reader's part after a build
-abbrev pub built : Views → Option InstrumentationScope → About → ℕ → ReaderPart → ReaderPart
-built views scope about now p = with_feeds (build_demands views p scope about) (fold (demanded now) p (build_demands views p scope about))
+abbrev pub part_after_build : Views → Option InstrumentationScope → About → ℕ → ReaderPart → ReaderPart
+part_after_build views scope about now p = with_feeds (build_demands views p scope about) (fold (part_after_demand now) p (build_demands views p scope about))
 
 -- ======== all readers: each by itself, and a collection its reader alone ========
-abbrev pub part_sent : ℕ → Call → ReaderPart → ReaderPart
-part_sent next call p = record p { streams = map (stream_after p.answers p.feeds next call) p.streams }
+abbrev pub part_after_call : ℕ → Call → ReaderPart → ReaderPart
+part_after_call next call p = record p { streams = map (stream_after p.answers p.feeds next call) p.streams }
 
 -- all readers' parts after a call that isn't refused
 abbrev pub readers_after : Views → Shared → Call → List ReaderPart → List ReaderPart
 readers_after views s (Meter scope) ps = ps
-readers_after views s (Build meter about now) ps = map (built views (scope_of s.meters meter) about now) ps
-readers_after views s (Record n v l) ps = map (part_sent s.next (Record n v l)) ps
-readers_after views s (Bind n l) ps = map (part_sent s.next (Bind n l)) ps
-readers_after views s (RecordBound h v) ps = map (part_sent s.next (RecordBound h v)) ps
-readers_after views s (Unbind h) ps = map (part_sent s.next (Unbind h)) ps
-readers_after views s (Collect r now os) ps = changed_at r (part_sent s.next (Collect r now os)) ps
+readers_after views s (Build meter about now) ps = map (part_after_build views (scope_of s.meters meter) about now) ps
+readers_after views s (Record n v l) ps = map (part_after_call s.next (Record n v l)) ps
+readers_after views s (Bind n l) ps = map (part_after_call s.next (Bind n l)) ps
+readers_after views s (RecordBound h v) ps = map (part_after_call s.next (RecordBound h v)) ps
+readers_after views s (Unbind h) ps = map (part_after_call s.next (Unbind h)) ps
+readers_after views s (Collect r now os) ps = changed_at r (part_after_call s.next (Collect r now os)) ps
 readers_after views s Flush ps = ps
 readers_after views s Shutdown ps = ps
 

@@ -6,8 +6,8 @@ use Rattle.otel_model.specs.State.{ReaderPart, State}
 use Rattle.otel_model.specs.Steps.{asks_readers, replies_of}
 
 -- the provider with one reader's part alone
-abbrev pub alone : ReaderPart → State → State
-alone part st = record { shared = st.shared; readers = part ∷ [] }
+abbrev pub with_one_reader : ReaderPart → State → State
+with_one_reader part st = record { shared = st.shared; readers = part ∷ [] }
 
 -- whether the reply says that memory was refused
 abbrev pub is_short : Reply → Bool
@@ -44,22 +44,22 @@ is_others r Flush = false
 is_others r Shutdown = false
 
 -- a collection names the only reader
-abbrev pub renumbered : Call → Call
-renumbered (Meter scope) = Meter scope
-renumbered (Build meter about now) = Build meter about now
-renumbered (Record n v l) = Record n v l
-renumbered (Bind n l) = Bind n l
-renumbered (RecordBound h v) = RecordBound h v
-renumbered (Unbind h) = Unbind h
-renumbered (Collect q now os) = Collect 0 now os
-renumbered Flush = Flush
-renumbered Shutdown = Shutdown
+abbrev pub renumbered_call : Call → Call
+renumbered_call (Meter scope) = Meter scope
+renumbered_call (Build meter about now) = Build meter about now
+renumbered_call (Record n v l) = Record n v l
+renumbered_call (Bind n l) = Bind n l
+renumbered_call (RecordBound h v) = RecordBound h v
+renumbered_call (Unbind h) = Unbind h
+renumbered_call (Collect q now os) = Collect 0 now os
+renumbered_call Flush = Flush
+renumbered_call Shutdown = Shutdown
 
 -- the calls without those refused for memory and the collections of other readers
 abbrev pub only : ℕ → List Call → List Reply → List Call
 only r [] replies = []
 only r (call ∷ calls) [] = []
-only r (call ∷ calls) (reply ∷ replies) = cond (is_short reply || is_others r call) (only r calls replies) (renumbered call ∷ only r calls replies)
+only r (call ∷ calls) (reply ∷ replies) = cond (is_short reply || is_others r call) (only r calls replies) (renumbered_call call ∷ only r calls replies)
 
 -- the replies to these calls, but those to flush and shutdown
 abbrev pub replies_left : ℕ → List Call → List Reply → List Reply
@@ -76,4 +76,4 @@ without_asking (call ∷ calls) (reply ∷ replies) = cond (asks_readers call) (
 -- to each reader the replies are those that it would get as the only one, where memory is never refused
 abbrev pub EachAsAlone : Views → State → List Call → List Reply → Type 0
 EachAsAlone views old calls replies = (r : ℕ) (part : ReaderPart) → slice_get old.readers r ≡ Some part →
-    replies_left r calls replies ≡ without_asking (only r calls replies) (replies_of views (alone part old) (only r calls replies))
+    replies_left r calls replies ≡ without_asking (only r calls replies) (replies_of views (with_one_reader part old) (only r calls replies))

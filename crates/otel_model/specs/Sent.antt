@@ -29,18 +29,18 @@ abbrev pub set_for : Demand → List KeyValue → AttributeSet
 set_for d l = set_of d.allow l
 
 -- observations of the instruments that feed the stream, as records
-abbrev pub observed : List (List Identity) → Demand → List Observed → List Event
-observed feeds d [] = []
-observed feeds d (o ∷ os) = cond (is_fed feeds o.instrument d.identity) (Event.Record (set_for d o.attributes) o.value.amount ∷ observed feeds d os) (observed feeds d os)
+abbrev pub observed_events : List (List Identity) → Demand → List Observed → List Event
+observed_events feeds d [] = []
+observed_events feeds d (o ∷ os) = cond (is_fed feeds o.instrument d.identity) (Event.Record (set_for d o.attributes) o.value.amount ∷ observed_events feeds d os) (observed_events feeds d os)
 
 -- what a call sends to a stream of the reader; `next` is the number that a bind gives
-abbrev pub sent : List (List Identity) → ℕ → Demand → Call → List Event
-sent feeds next d (Meter scope) = []
-sent feeds next d (Build meter about now) = []
-sent feeds next d (Record n v l) = cond (is_fed feeds n d.identity) (Event.Record (set_for d l) v.amount ∷ []) []
-sent feeds next d (Bind n l) = cond (is_fed feeds n d.identity) (Event.Bind next (set_for d l) ∷ []) []
-sent feeds next d (RecordBound h v) = Event.RecordBound h v.amount ∷ []
-sent feeds next d (Unbind h) = Event.Unbind h ∷ []
-sent feeds next d (Collect r now os) = observed feeds d os ++ Event.Collect ∷ []
-sent feeds next d Flush = []
-sent feeds next d Shutdown = []
+abbrev pub sent_events : List (List Identity) → ℕ → Demand → Call → List Event
+sent_events feeds next d (Meter scope) = []
+sent_events feeds next d (Build meter about now) = []
+sent_events feeds next d (Record n v l) = cond (is_fed feeds n d.identity) (Event.Record (set_for d l) v.amount ∷ []) []
+sent_events feeds next d (Bind n l) = cond (is_fed feeds n d.identity) (Event.Bind next (set_for d l) ∷ []) []
+sent_events feeds next d (RecordBound h v) = Event.RecordBound h v.amount ∷ []
+sent_events feeds next d (Unbind h) = Event.Unbind h ∷ []
+sent_events feeds next d (Collect r now os) = observed_events feeds d os ++ Event.Collect ∷ []
+sent_events feeds next d Flush = []
+sent_events feeds next d Shutdown = []

@@ -34,7 +34,7 @@ pub record Shared : Type 0 where
 pub record Stream : Type 0 where
   pub demand : Demand
   pub machine : Machine
-  pub since : ℕ
+  pub start : ℕ
   pub reported : List Point
   pub recorded : ℕ
   pub exported : ℕ

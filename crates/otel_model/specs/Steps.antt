@@ -19,7 +19,7 @@ number_from k scope (m ∷ ms) = cond (scope_eq m scope) (Some k) (number_from (
 -- the collection of a reader
 abbrev pub collect_from : Shared → ℕ → List Observed → ReaderPart → ResourceMetrics
 collect_from s now os p = collection s.resource s.meters
-    (map (λ (q : Stream). (q.demand.identity.scope, metric p.answers now q.since q.reported q.demand (points_at p.answers p.feeds os q))) p.streams)
+    (map (λ (q : Stream). (q.demand.identity.scope, metric p.answers now q.start q.reported q.demand (points_at p.answers p.feeds os q))) p.streams)
 
 -- of a reader that is there
 abbrev pub collect_reply : Shared → ℕ → List Observed → Option ReaderPart → Reply

@@ -5,9 +5,9 @@ use Rattle.std.specs.List.{list_any}
 use Rattle.std.proofs.lemmas.Bool.{false≢true}
 use Rattle.std.proofs.lemmas.List.{append-nil, map-append}
 use Rattle.otel_common.specs.declared.scopes.InstrumentationScope.{InstrumentationScope}
-use Rattle.otel_model.specs.Calls.{Text, lowered, or_else, About, InstrumentKind, Counter, UpDownCounter, Histogram, ObservableCounter, ObservableUpDownCounter, Gauge, ObservableGauge}
-use Rattle.otel_model.specs.Demands.{Identity, identity_eq, Demand, Views, View, ReaderAnswers, StreamSpec, nothing_said, Aggregation, Drop, Default, Sum, LastValue, ExplicitBucketHistogram, fits, with_bounds, with_own, reader_default, resolved, instrument_of, demand_of, own_demand, add_answer, view_demands, is_compatible, fate_of, is_drop_fate, is_dropped, is_known, is_empty, needs_own, demands_with, demands_on, is_good, has_identity, each_once, fed}
-use Rattle.otel_model.specs.History.{Built, demands_after, feeds_of, builds_in, made}
+use Rattle.otel_model.specs.Calls.{Text, ascii_lowercase, or_else, About, InstrumentKind, Counter, UpDownCounter, Histogram, ObservableCounter, ObservableUpDownCounter, Gauge, ObservableGauge}
+use Rattle.otel_model.specs.Demands.{Identity, identity_eq, Demand, Views, View, ReaderAnswers, StreamSpec, nothing_said, Aggregation, Drop, Default, Sum, LastValue, ExplicitBucketHistogram, fits, with_bounds, with_own, reader_default, resolved_aggregation, instrument_of, demand_of, own_demand, add_answer, view_demands, is_compatible, fate_of, is_drop_fate, is_dropped, is_known, is_empty, needs_own, demands_with, demands_on, is_good, has_identity, each_once, fed_identities}
+use Rattle.otel_model.specs.History.{Built, demands_after, feeds_of, builds_in, made_calls}
 use Rattle.otel_model_laws.specs.Builds.{AreAlike, AlikeFeedTheSame}
 use Rattle.otel_model.proofs.Gather.{known_here}
 use Rattle.otel_model.proofs.Runs.{feeds_law}
@@ -96,7 +96,7 @@ plainly answers kind None = reader_default answers kind
 plainly answers kind (Some Default) = reader_default answers kind
 plainly answers kind (Some a) = a
 
-fits_plainly : (answers : ReaderAnswers) (about : About) (o : Option Aggregation) → fits about.kind (resolved answers about o) ≡ fits about.kind (plainly answers about.kind o)
+fits_plainly : (answers : ReaderAnswers) (about : About) (o : Option Aggregation) → fits about.kind (resolved_aggregation answers about o) ≡ fits about.kind (plainly answers about.kind o)
 fits_plainly answers about None = fits_own about.kind about.kind about.bounds (reader_default answers about.kind)
 fits_plainly answers about (Some Default) = refl
 fits_plainly answers about (Some Drop) = refl
@@ -104,7 +104,7 @@ fits_plainly answers about (Some Sum) = refl
 fits_plainly answers about (Some LastValue) = refl
 fits_plainly answers about (Some (ExplicitBucketHistogram bounds m)) = refl
 
-same_name : (o : Option Text) (s t : Text) → lowered s ≡ lowered t → lowered (or_else o s) ≡ lowered (or_else o t)
+same_name : (o : Option Text) (s t : Text) → ascii_lowercase s ≡ ascii_lowercase t → ascii_lowercase (or_else o s) ≡ ascii_lowercase (or_else o t)
 same_name None s t e = e
 same_name (Some n) s t e = refl
 
@@ -240,13 +240,13 @@ module _ (views : Views) (answers : ReaderAnswers) where
 
     -- the streams that the second feeds are those that the first feeds
     same_fed : (earlier more : List Demand)
-        → fed (is_dropped (earlier ++ with_own_demand earlier h.scope i.about)) (with_own_demand earlier h.scope i.about)
-        ≡ fed (is_dropped (((earlier ++ with_own_demand earlier h.scope i.about) ++ more) ++ with_own_demand ((earlier ++ with_own_demand earlier h.scope i.about) ++ more) h.scope j.about)) (with_own_demand ((earlier ++ with_own_demand earlier h.scope i.about) ++ more) h.scope j.about)
+        → fed_identities (is_dropped (earlier ++ with_own_demand earlier h.scope i.about)) (with_own_demand earlier h.scope i.about)
+        ≡ fed_identities (is_dropped (((earlier ++ with_own_demand earlier h.scope i.about) ++ more) ++ with_own_demand ((earlier ++ with_own_demand earlier h.scope i.about) ++ more) h.scope j.about)) (with_own_demand ((earlier ++ with_own_demand earlier h.scope i.about) ++ more) h.scope j.about)
     same_fed earlier more =
         once_alike (is_dropped known) (is_dropped (known ++ (more ++ later))) [] (ids first)
         (all_weaker (λ x. is_known known x ≡ true) (λ x. is_dropped known x ≡ is_dropped (known ++ (more ++ later)) x) (ids first) (λ x e. sym (dropped_stays known (more ++ later) x e)) (known_all earlier first))
         ∙ ((λ k. filter (λ x. not (is_dropped (known ++ (more ++ later)) x)) (each_once [] (same_all earlier more k)))
-        ∙ ap (λ l. fed (is_dropped l) later) (sym (append_assoc known more later)))
+        ∙ ap (λ l. fed_identities (is_dropped l) later) (sym (append_assoc known more later)))
       where
         first : List Demand
         first = with_own_demand earlier h.scope i.about
@@ -259,11 +259,11 @@ module _ (views : Views) (answers : ReaderAnswers) where
 
   -- ======== in a list of builds ========
   abbrev fed_at : List Demand → Built → List Identity
-  fed_at earlier i = fed (is_dropped (earlier ++ demands_after views answers earlier i)) (demands_after views answers earlier i)
+  fed_at earlier i = fed_identities (is_dropped (earlier ++ demands_after views answers earlier i)) (demands_after views answers earlier i)
 
   fed_good : (earlier : List Demand) (i : Built) (scope : InstrumentationScope) → i.scope ≡ Some scope → is_good i.about ≡ true
-      → fed_at earlier i ≡ fed (is_dropped (earlier ++ with_own_demand earlier scope i.about)) (with_own_demand earlier scope i.about)
-  fed_good earlier i scope e g = ap (λ ds. fed (is_dropped (earlier ++ ds)) ds) (good_demands earlier i scope e g)
+      → fed_at earlier i ≡ fed_identities (is_dropped (earlier ++ with_own_demand earlier scope i.about)) (with_own_demand earlier scope i.about)
+  fed_good earlier i scope e g = ap (λ ds. fed_identities (is_dropped (earlier ++ ds)) ds) (good_demands earlier i scope e g)
 
   same_at : (i j : Built) → AreAlike views i j → (earlier more : List Demand) → fed_at earlier i ≡ fed_at ((earlier ++ demands_after views answers earlier i) ++ more) j
   same_at i j h earlier more =
@@ -313,4 +313,4 @@ module _ (views : Views) (answers : ReaderAnswers) where
 pub alike_law : AlikeFeedTheSame
 alike_law views resource identity readers calls replies new run r answers part g p m n i j e f h =
     let same = feeds_law views resource identity readers calls replies new run r answers part g p in
-    ap (λ fs. slice_get fs m) same ∙ (both_at views answers [] (builds_in (made calls replies)) m n i j e f h ∙ sym (ap (λ fs. slice_get fs n) same))
+    ap (λ fs. slice_get fs m) same ∙ (both_at views answers [] (builds_in (made_calls calls replies)) m n i j e f h ∙ sym (ap (λ fs. slice_get fs n) same))

@@ -5,14 +5,14 @@ use Rattle.std.proofs.lemmas.Bool.{eqb-true, cases_Bool, true≢false, false≢t
 use Rattle.std.proofs.lemmas.List.{map-append}
 use Rattle.std.proofs.lemmas.List.Elements.{filter-append}
 use Rattle.std.proofs.Math.Nat.{mod-add-mod, add-mod-mod}
-use Rattle.otel_model_stream.specs.Folds.{Aggregate, Sum, LastValue, Histogram, Amount, wrapped}
+use Rattle.otel_model_stream.specs.Folds.{Aggregate, Sum, LastValue, Histogram, Amount, wrap}
 use Rattle.otel_model_stream.specs.Totals.{size, has_number, without_number}
 use Rattle.otel_model.specs.Calls.{About}
 use Rattle.otel_model.specs.Demands.{Identity, has_identity}
 use Rattle.otel_model.specs.State.{InstrumentState, LiveHandle}
 use Rattle.otel_model.specs.Refusals.{instrument_held}
 use Rattle.otel_model.specs.Sent.{is_fed}
-use Rattle.otel_model.specs.Machine.{new_instrument, accepted, changed_at, without_handle}
+use Rattle.otel_model.specs.Machine.{new_instrument, instrument_after_record, changed_at, without_handle}
 use Rattle.otel_model.specs.Accepted.{accepted_amount, accepted_for}
 use Rattle.otel_model.proofs.Gather.{cond_same}
 use Rattle.otel_model.proofs.Single.{some_is}
@@ -20,7 +20,7 @@ pub use Rattle.otel_model_laws.specs.Lawful.{EachOf, kinds_of, handles_of, AreDi
 use Rattle.otel_model_laws.proofs.Plus.{zero_plus, exchanged, grouped}
 
 -- ======== what is accepted ========
-amount_more : (σ : Aggregate) (v : Amount) (i : InstrumentState) → accepted_amount σ (accepted v i) ≡ wrapped (accepted_amount σ i + size σ v)
+amount_more : (σ : Aggregate) (v : Amount) (i : InstrumentState) → accepted_amount σ (instrument_after_record v i) ≡ wrap (accepted_amount σ i + size σ v)
 amount_more Sum v i = refl
 amount_more LastValue v i = refl
 amount_more (Histogram bounds m s) v i = refl
@@ -35,32 +35,32 @@ module _ (σ : Aggregate) (x : Identity) (v : Amount) where
   total feeds is = accepted_for σ x feeds is
 
   -- an instrument that does not feed the stream
-  pub not_fed : (feeds : List (List Identity)) (is : List InstrumentState) (n : ℕ) → is_fed feeds n x ≡ false → accepted_for σ x feeds (changed_at n (accepted v) is) ≡ accepted_for σ x feeds is
+  pub not_fed : (feeds : List (List Identity)) (is : List InstrumentState) (n : ℕ) → is_fed feeds n x ≡ false → accepted_for σ x feeds (changed_at n (instrument_after_record v) is) ≡ accepted_for σ x feeds is
   not_fed [] is n e = refl
   not_fed (xs ∷ feeds) [] n e = refl
   not_fed (xs ∷ feeds) (i ∷ is) zero e =
-      ap (λ b. cond b (accepted_amount σ (accepted v i)) 0 + total feeds is) e ∙ sym (ap (λ b. cond b (accepted_amount σ i) 0 + total feeds is) e)
+      ap (λ b. cond b (accepted_amount σ (instrument_after_record v i)) 0 + total feeds is) e ∙ sym (ap (λ b. cond b (accepted_amount σ i) 0 + total feeds is) e)
   not_fed (xs ∷ feeds) (i ∷ is) (suc n) e = ap (λ k. cond (has_identity xs x) (accepted_amount σ i) 0 + k) (not_fed feeds is n e)
 
   -- one that does
-  first_more : (a r s : ℕ) → wrapped (wrapped (a + s) + r) ≡ wrapped ((a + r) + s)
-  first_more a r s = mod-add-mod (a + s) (2 ^ 64) r ∙ ap wrapped (exchanged a s r)
+  first_more : (a r s : ℕ) → wrap (wrap (a + s) + r) ≡ wrap ((a + r) + s)
+  first_more a r s = mod-add-mod (a + s) (2 ^ 64) r ∙ ap wrap (exchanged a s r)
 
-  later_more : (a r r' s : ℕ) → wrapped r' ≡ wrapped (r + s) → wrapped (a + r') ≡ wrapped ((a + r) + s)
+  later_more : (a r r' s : ℕ) → wrap r' ≡ wrap (r + s) → wrap (a + r') ≡ wrap ((a + r) + s)
   later_more a r r' s e =
-      sym (add-mod-mod a r' (2 ^ 64)) ∙ (ap (λ k. wrapped (a + k)) e ∙ (add-mod-mod a (r + s) (2 ^ 64) ∙ ap wrapped (grouped a r s)))
+      sym (add-mod-mod a r' (2 ^ 64)) ∙ (ap (λ k. wrap (a + k)) e ∙ (add-mod-mod a (r + s) (2 ^ 64) ∙ ap wrap (grouped a r s)))
 
   pub when_fed : (feeds : List (List Identity)) (is : List InstrumentState) (n : ℕ) (i : InstrumentState) → is_fed feeds n x ≡ true → slice_get is n ≡ Some i
-      → wrapped (accepted_for σ x feeds (changed_at n (accepted v) is)) ≡ wrapped (accepted_for σ x feeds is + size σ v)
+      → wrap (accepted_for σ x feeds (changed_at n (instrument_after_record v) is)) ≡ wrap (accepted_for σ x feeds is + size σ v)
   when_fed [] is n i e g = absurd (false≢true e)
   when_fed (xs ∷ feeds) [] n i e g = absurd (cc)
   when_fed (xs ∷ feeds) (j ∷ is) zero i e g =
-      ap (λ b. wrapped (cond b (accepted_amount σ (accepted v j)) 0 + total feeds is)) e
-      ∙ (ap (λ k. wrapped (k + total feeds is)) (amount_more σ v j)
+      ap (λ b. wrap (cond b (accepted_amount σ (instrument_after_record v j)) 0 + total feeds is)) e
+      ∙ (ap (λ k. wrap (k + total feeds is)) (amount_more σ v j)
       ∙ (first_more (accepted_amount σ j) (total feeds is) (size σ v)
-      ∙ sym (ap (λ b. wrapped ((cond b (accepted_amount σ j) 0 + total feeds is) + size σ v)) e)))
+      ∙ sym (ap (λ b. wrap ((cond b (accepted_amount σ j) 0 + total feeds is) + size σ v)) e)))
   when_fed (xs ∷ feeds) (j ∷ is) (suc n) i e g =
-      later_more (cond (has_identity xs x) (accepted_amount σ j) 0) (total feeds is) (total feeds (changed_at n (accepted v) is)) (size σ v) (when_fed feeds is n i e g)
+      later_more (cond (has_identity xs x) (accepted_amount σ j) 0) (total feeds is) (total feeds (changed_at n (instrument_after_record v) is)) (size σ v) (when_fed feeds is n i e g)
 
 -- a new instrument accepted nothing
 pub new_adds_nothing : (σ : Aggregate) (x : Identity) (feeds : List (List Identity)) (is : List InstrumentState) (f : List Identity) (about : About) → length feeds ≡ length is
@@ -77,7 +77,7 @@ nothing_accepted σ x (xs ∷ feeds) [] e = refl
 nothing_accepted σ x (xs ∷ feeds) (i ∷ is) e =
     ap (λ b. cond b (accepted_amount σ i) 0 + accepted_for σ x feeds is) (e 0) ∙ (zero_plus (accepted_for σ x feeds is) ∙ nothing_accepted σ x feeds is (λ n. e (suc n)))
 
-pub same_kinds : (n : ℕ) (v : Amount) (is : List InstrumentState) → kinds_of (changed_at n (accepted v) is) ≡ kinds_of is
+pub same_kinds : (n : ℕ) (v : Amount) (is : List InstrumentState) → kinds_of (changed_at n (instrument_after_record v) is) ≡ kinds_of is
 same_kinds n v [] = refl
 same_kinds zero v (i ∷ is) = refl
 same_kinds (suc n) v (i ∷ is) = ap (λ l. i.kind ∷ l) (same_kinds n v is)

@@ -3,8 +3,8 @@ use Rattle.std.proofs.Common.{◌≡◌, ⊎_elim, ℕ, zero, suc, Bool, true, f
 use Rattle.std.specs.Prelude.{filter, not, slice_get}
 use Rattle.std.proofs.lemmas.Bool.{cases_Bool, true≢false, false≢true, or_parts}
 use Rattle.std.proofs.lemmas.List.{append-nil}
-use Rattle.otel_model.specs.Demands.{Identity, identity_eq, Demand, Views, ReaderAnswers, fate_of, is_drop, is_drop_fate, is_dropped, is_known, has_identity, each_once, fed}
-use Rattle.otel_model.specs.History.{Built, firsts, demands_after, demands_of, streams_of, feeds_of, builds_in, made}
+use Rattle.otel_model.specs.Demands.{Identity, identity_eq, Demand, Views, ReaderAnswers, fate_of, is_drop, is_drop_fate, is_dropped, is_known, has_identity, each_once, fed_identities}
+use Rattle.otel_model.specs.History.{Built, firsts, demands_after, demands_of, streams_of, feeds_of, builds_in, made_calls}
 use Rattle.otel_model.specs.Sent.{is_fed}
 use Rattle.otel_model.specs.State.{Stream}
 use Rattle.otel_model.specs.Laws.{AreApart, AreStreamsApart, AreFeedsApart, AreFeedsStreams}
@@ -56,7 +56,7 @@ filter_apart p (x ∷ xs) a = go (p x) (absent_filtered p xs x a.0) (filter_apar
     go true f g = (f, g)
     go false f g = g
 
-fed_apart : (dropped : Identity → Bool) (ds : List Demand) → AreApart (fed dropped ds)
+fed_apart : (dropped : Identity → Bool) (ds : List Demand) → AreApart (fed_identities dropped ds)
 fed_apart dropped ds = filter_apart (λ x. not (dropped x)) (each_once [] (ids ds)) (once_apart [] (ids ds))
 
 feeds_apart : (views : Views) (answers : ReaderAnswers) (earlier : List Demand) (is : List Built) (n : ℕ) (xs : List Identity) → slice_get (feeds_of views answers earlier is) n ≡ Some xs → AreApart xs
@@ -154,16 +154,16 @@ names_are ss = sym (map_both (λ (d : Demand). d.identity) (λ (s : Stream). s.d
 
 pub streams_apart_law : AreStreamsApart
 streams_apart_law views resource identity readers calls replies new run r answers part h g =
-    let is = builds_in (made calls replies) in
+    let is = builds_in (made_calls calls replies) in
     let same : map (λ (s : Stream). s.demand.identity) part.streams ≡ ids (streams_of views answers is) = names_are part.streams ∙ ap ids (streams_law views resource identity readers calls replies new run r answers part h g) in
     subst AreApart (sym same) (streams_apart views answers is)
 
 pub feeds_apart_law : AreFeedsApart
 feeds_apart_law views resource identity readers calls replies new run r answers part h g n xs e =
-    feeds_apart views answers [] (builds_in (made calls replies)) n xs (sym (ap (λ fs. slice_get fs n) (feeds_law views resource identity readers calls replies new run r answers part h g)) ∙ e)
+    feeds_apart views answers [] (builds_in (made_calls calls replies)) n xs (sym (ap (λ fs. slice_get fs n) (feeds_law views resource identity readers calls replies new run r answers part h g)) ∙ e)
 
 pub feeds_streams_law : AreFeedsStreams
 feeds_streams_law views resource identity readers calls replies new run r answers part h g n x e =
-    let is = builds_in (made calls replies) in
+    let is = builds_in (made_calls calls replies) in
     ap (λ l. has_identity l x) (names_are part.streams ∙ ap ids (streams_law views resource identity readers calls replies new run r answers part h g))
     ∙ fed_is_stream views answers is n x (sym (ap (λ fs. is_fed fs n x) (feeds_law views resource identity readers calls replies new run r answers part h g)) ∙ e)

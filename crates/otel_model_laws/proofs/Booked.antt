@@ -5,17 +5,17 @@ use Rattle.std.proofs.lemmas.Bool.{cases_Bool, true≢false, false≢true}
 use Rattle.std.proofs.lemmas.List.{append-nil, length_push, map-append}
 use Rattle.std.proofs.Math.Nat.{mod-add-mod}
 use Rattle.otel_model_stream.specs.Sets.{AttributeSet}
-use Rattle.otel_model_stream.specs.Folds.{Aggregate, Amount, wrapped, sample_of}
+use Rattle.otel_model_stream.specs.Folds.{Aggregate, Amount, wrap, sample_of}
 use Rattle.otel_model_stream.specs.Events.{Event, held_by}
 use Rattle.otel_model_stream.specs.Machine.{Machine, run, through}
 use Rattle.otel_model_stream.specs.Totals.{size, has_number, without_number}
 use Rattle.otel_model.specs.Calls.{InstrumentKind, Counter, UpDownCounter, Histogram, ObservableCounter, ObservableUpDownCounter, Gauge, ObservableGauge, is_observable, About, Observed, Call, Meter, Build, Record, Bind, RecordBound, Unbind, Collect, Flush, Shutdown, Fault, UnknownReader, ReaderShutDown, WrongKind}
-use Rattle.otel_model.specs.Demands.{Identity, Demand, Views, ReaderAnswers, is_dropped, fed}
+use Rattle.otel_model.specs.Demands.{Identity, Demand, Views, ReaderAnswers, is_dropped, fed_identities}
 use Rattle.otel_model.specs.Streams.{is_sum, observes_sums, is_drained, is_delta, kind_of, aggregate_of}
 use Rattle.otel_model.specs.State.{InstrumentState, LiveHandle, Shared, Stream, ReaderPart}
 use Rattle.otel_model.specs.Refusals.{refusal, record_refusal, bind_refusal, instrument_held, handle_refusal, held_refusal, number_refusal, observation_refusal, observations_refusal, first_fault}
-use Rattle.otel_model.specs.Sent.{scope_of, is_fed, set_for, observed}
-use Rattle.otel_model.specs.Machine.{new_instrument, accepted, changed_at, accepted_by, without_handle, shared_after, if_held, recorded_with, recorded_over, stream_after, new_stream, demanded, build_demands, with_feeds, built, part_sent, readers_after, accepted_after, new_part, new_state}
+use Rattle.otel_model.specs.Sent.{scope_of, is_fed, set_for, observed_events}
+use Rattle.otel_model.specs.Machine.{new_instrument, instrument_after_record, changed_at, accepted_by, without_handle, shared_after, if_held, recorded_with, recorded_over, stream_after, new_stream, part_after_demand, build_demands, with_feeds, part_after_build, part_after_call, readers_after, accepted_after, new_part, new_state}
 use Rattle.otel_model.specs.Steps.{after_by}
 use Rattle.otel_model.specs.Accepted.{accepted_for}
 use Rattle.otel_model.specs.Laws.{IsAccepted}
@@ -51,7 +51,7 @@ handle_there (Some n) is given e = let q = held_there (slice_get is n) given e i
 
 accepted_number : (o : Option ℕ) (v : Amount) (is : List InstrumentState) → length (accepted_by o v is) ≡ length is
 accepted_number None v is = refl
-accepted_number (Some n) v is = same_number n (accepted v) is
+accepted_number (Some n) v is = same_number n (instrument_after_record v) is
 
 less_weaker : (a b c : ℕ) → a < b → c ≡ b + 1 → a < c
 less_weaker a b c h e = omega arith
@@ -74,8 +74,8 @@ shared_sound s readers (Build meter about now) e a = record {
   distinct = a.distinct;
 }
 shared_sound s readers (Record n v l) e a = record {
-  bound = each_weaker (λ (p : LiveHandle). p.1 < length s.instruments) (λ (p : LiveHandle). p.1 < length (changed_at n (accepted v.amount) s.instruments)) s.live
-      (λ p h. same_bound p.1 (length s.instruments) (length (changed_at n (accepted v.amount) s.instruments)) (same_number n (accepted v.amount) s.instruments) h) a.bound;
+  bound = each_weaker (λ (p : LiveHandle). p.1 < length s.instruments) (λ (p : LiveHandle). p.1 < length (changed_at n (instrument_after_record v.amount) s.instruments)) s.live
+      (λ p h. same_bound p.1 (length s.instruments) (length (changed_at n (instrument_after_record v.amount) s.instruments)) (same_number n (instrument_after_record v.amount) s.instruments) h) a.bound;
   below = a.below;
   distinct = a.distinct;
 }
@@ -130,21 +130,21 @@ module _ (answers : ReaderAnswers) (feeds : List (List Identity)) (live : List L
   ran es = run (aggregate_of q.demand) (kind_of answers q.demand) q.demand.limit q.machine es
 
   record_stream : (n : ℕ) (v : Amount) (s : AttributeSet) (i : InstrumentState) → slice_get is n ≡ Some i
-      → q.recorded ≡ wrapped (accepted_for (aggregate_of q.demand) q.demand.identity feeds is)
+      → q.recorded ≡ wrap (accepted_for (aggregate_of q.demand) q.demand.identity feeds is)
       → (numbers (ran (cond (is_fed feeds n q.demand.identity) (Event.Record s v ∷ []) [])).live ≡ numbers q.machine.live)
-      × (over (cond (is_fed feeds n q.demand.identity) (Event.Record s v ∷ []) []) ≡ wrapped (accepted_for (aggregate_of q.demand) q.demand.identity feeds (changed_at n (accepted v) is)))
+      × (over (cond (is_fed feeds n q.demand.identity) (Event.Record s v ∷ []) []) ≡ wrap (accepted_for (aggregate_of q.demand) q.demand.identity feeds (changed_at n (instrument_after_record v) is)))
   record_stream n v s i e r = go (is_fed feeds n q.demand.identity) refl
     where
       go : (b : Bool) → is_fed feeds n q.demand.identity ≡ b
           → (numbers (ran (cond b (Event.Record s v ∷ []) [])).live ≡ numbers q.machine.live)
-          × (over (cond b (Event.Record s v ∷ []) []) ≡ wrapped (accepted_for (aggregate_of q.demand) q.demand.identity feeds (changed_at n (accepted v) is)))
+          × (over (cond b (Event.Record s v ∷ []) []) ≡ wrap (accepted_for (aggregate_of q.demand) q.demand.identity feeds (changed_at n (instrument_after_record v) is)))
       go true t = (
         refl,
-        ap (λ k. wrapped (k + size σ v)) r
+        ap (λ k. wrap (k + size σ v)) r
             ∙ (mod-add-mod (accepted_for σ x feeds is) (2 ^ 64) (size σ v)
             ∙ sym (when_fed σ x v feeds is n i t e)),
       )
-      go false t = (refl, r ∙ sym (ap wrapped (not_fed σ x v feeds is n t)))
+      go false t = (refl, r ∙ sym (ap wrap (not_fed σ x v feeds is n t)))
 
   bind_stream : (next n : ℕ) (s : AttributeSet) → numbers q.machine.live ≡ held_for feeds q.demand.identity live
       → (numbers (ran (cond (is_fed feeds n q.demand.identity) (Event.Bind next s ∷ []) [])).live ≡ held_for feeds q.demand.identity (live ++ (next, n) ∷ []))
@@ -158,20 +158,20 @@ module _ (answers : ReaderAnswers) (feeds : List (List Identity)) (live : List L
       go false = (sym (append-nil (numbers q.machine.live)), refl)
 
   bound_stream : (h n : ℕ) (v : Amount) (i : InstrumentState) → AreDistinct live → instrument_held h live ≡ Some n → slice_get is n ≡ Some i
-      → numbers q.machine.live ≡ held_for feeds q.demand.identity live → q.recorded ≡ wrapped (accepted_for (aggregate_of q.demand) q.demand.identity feeds is)
+      → numbers q.machine.live ≡ held_for feeds q.demand.identity live → q.recorded ≡ wrap (accepted_for (aggregate_of q.demand) q.demand.identity feeds is)
       → (numbers (ran (Event.RecordBound h v ∷ [])).live ≡ numbers q.machine.live)
-      × (over (Event.RecordBound h v ∷ []) ≡ wrapped (accepted_for (aggregate_of q.demand) q.demand.identity feeds (accepted_by (instrument_held h live) v is)))
+      × (over (Event.RecordBound h v ∷ []) ≡ wrap (accepted_for (aggregate_of q.demand) q.demand.identity feeds (accepted_by (instrument_held h live) v is)))
   bound_stream h n v i d o e l r =
       let g = go (held_by h q.machine.live) (sym (held_is h q.machine.live) ∙ (ap (has_number h) l ∙ held_when_fed feeds x h n live d o)) in
-      (g.0, g.1 ∙ sym (ap (λ k. wrapped (accepted_for σ x feeds (accepted_by k v is))) o))
+      (g.0, g.1 ∙ sym (ap (λ k. wrap (accepted_for σ x feeds (accepted_by k v is))) o))
     where
       go : (k : Option AttributeSet) → is_some k ≡ is_fed feeds n q.demand.identity
           → (numbers (through k (sample_of σ v) q.machine).live ≡ numbers q.machine.live)
-          × (if_held k (wrapped (q.recorded + size σ v)) q.recorded ≡ wrapped (accepted_for (aggregate_of q.demand) q.demand.identity feeds (changed_at n (accepted v) is)))
-      go None t = (refl, r ∙ sym (ap wrapped (not_fed σ x v feeds is n (sym t))))
+          × (if_held k (wrap (q.recorded + size σ v)) q.recorded ≡ wrap (accepted_for (aggregate_of q.demand) q.demand.identity feeds (changed_at n (instrument_after_record v) is)))
+      go None t = (refl, r ∙ sym (ap wrap (not_fed σ x v feeds is n (sym t))))
       go (Some g) t = (
         refl,
-        ap (λ k. wrapped (k + size σ v)) r
+        ap (λ k. wrap (k + size σ v)) r
             ∙ (mod-add-mod (accepted_for σ x feeds is) (2 ^ 64) (size σ v)
             ∙ sym (when_fed σ x v feeds is n i (sym t) e)),
       )
@@ -185,7 +185,7 @@ module _ (answers : ReaderAnswers) (feeds : List (List Identity)) (live : List L
   -- observations go to other streams
   unobserved : is_observable q.demand.identity.kind ≡ false
       → ((n : ℕ) (k : InstrumentKind) → is_fed feeds n q.demand.identity ≡ true → slice_get (kinds_of is) n ≡ Some k → is_observable k ≡ is_observable q.demand.identity.kind)
-      → (os : List Observed) → observations_refusal is os ≡ None → observed feeds q.demand os ≡ []
+      → (os : List Observed) → observations_refusal is os ≡ None → observed_events feeds q.demand os ≡ []
   unobserved sync kinds [] e = refl
   unobserved sync kinds (o ∷ os) e =
       let parts = both_none (observation_refusal (slice_get is o.instrument) o.value.signed) (observations_refusal is os) e in
@@ -203,8 +203,8 @@ module _ (answers : ReaderAnswers) (feeds : List (List Identity)) (live : List L
       seen None given e = absurd (cc)
       seen (Some i) given e = (i, refl, seen_kind i given (is_observable i.kind) refl e)
 
-      go : (b : Bool) → is_fed feeds o.instrument q.demand.identity ≡ b → (i : InstrumentState) × (slice_get is o.instrument ≡ Some i) × (is_observable i.kind ≡ true) → observed feeds q.demand os ≡ []
-          → cond b (Event.Record (set_for q.demand o.attributes) o.value.amount ∷ observed feeds q.demand os) (observed feeds q.demand os) ≡ []
+      go : (b : Bool) → is_fed feeds o.instrument q.demand.identity ≡ b → (i : InstrumentState) × (slice_get is o.instrument ≡ Some i) × (is_observable i.kind ≡ true) → observed_events feeds q.demand os ≡ []
+          → cond b (Event.Record (set_for q.demand o.attributes) o.value.amount ∷ observed_events feeds q.demand os) (observed_events feeds q.demand os) ≡ []
       go true t s ih = absurd (true≢false (sym s.2 ∙ (kinds o.instrument s.0.kind t (get_map (λ (i : InstrumentState). i.kind) is o.instrument s.0 s.1) ∙ sync)))
       go false t s ih = ih
 
@@ -218,7 +218,7 @@ module _ (answers : ReaderAnswers) (feeds : List (List Identity)) (live : List L
 -- ======== a reader's part ========
 -- a call that only sends to the streams
 sent_sound : (live live' : List LiveHandle) (is is' : List InstrumentState) (p : ReaderPart) (next : ℕ) (c : Call) → PartIsLawful live is p → kinds_of is' ≡ kinds_of is → length is' ≡ length is
-    → ((q : Stream) → IsAccounted p.feeds live is q → IsAccounted p.feeds live' is' (stream_after p.answers p.feeds next c q)) → PartIsLawful live' is' (part_sent next c p)
+    → ((q : Stream) → IsAccounted p.feeds live is q → IsAccounted p.feeds live' is' (stream_after p.answers p.feeds next c q)) → PartIsLawful live' is' (part_after_call next c p)
 sent_sound live live' is is' p next c a k l each = record {
   known = a.known;
   kinds = λ n y j f g. a.kinds n y j f (sym (ap (λ ks. slice_get ks n) k) ∙ g);
@@ -229,7 +229,7 @@ sent_sound live live' is is' p next c a k l each = record {
 
 -- a build
 with_sound : (live : List LiveHandle) (is : List InstrumentState) (p : ReaderPart) (ds : List Demand) (about : About) (now : ℕ) → PartIsLawful live is p → EachOf (λ (h : LiveHandle). h.1 < length is) live
-    → EachOf (λ (d : Demand). d.identity.kind ≡ about.kind) ds → PartIsLawful live (is ++ new_instrument about ∷ []) (with_feeds ds (fold (demanded now) p ds))
+    → EachOf (λ (d : Demand). d.identity.kind ≡ about.kind) ds → PartIsLawful live (is ++ new_instrument about ∷ []) (with_feeds ds (fold (part_after_demand now) p ds))
 with_sound live is p ds about now a b k = record {
   known = λ n y f. ⊎_elim
       (λ t. known_after now ds p y (a.known n y t))
@@ -242,18 +242,18 @@ with_sound live is p ds about now a b k = record {
   as_many = ap (λ (l : List (List Identity)). length (l ++ new ∷ [])) (same_feeds now ds p) ∙ (length_push p.feeds new ∙ (ap (λ m. m + 1) a.as_many ∙ sym (length_push is (new_instrument about))));
   streams = subst (λ fs. EachOf (IsAccounted (fs ++ new ∷ []) live (is ++ new_instrument about ∷ [])) after.streams) (sym (same_feeds now ds p))
       (each_weaker (IsAccounted p.feeds live is) (IsAccounted (p.feeds ++ new ∷ []) live (is ++ new_instrument about ∷ [])) after.streams
-      (λ q h sync. ((h sync).0 ∙ sym (held_before p.feeds new q.demand.identity live below), (h sync).1 ∙ sym (ap wrapped (new_adds_nothing (aggregate_of q.demand) q.demand.identity p.feeds is new about a.as_many))))
+      (λ q h sync. ((h sync).0 ∙ sym (held_before p.feeds new q.demand.identity live below), (h sync).1 ∙ sym (ap wrap (new_adds_nothing (aggregate_of q.demand) q.demand.identity p.feeds is new about a.as_many))))
       (streams_after now (IsAccounted p.feeds live is) (λ y. (n : ℕ) × (is_fed p.feeds n y ≡ true)) begun ds p (λ y h. a.known h.0 y h.1) a.streams));
   of_events = subst (λ answers. EachOf (IsOfEvents answers) after.streams) (sym (same_answers now ds p)) (streams_after now (IsOfEvents p.answers) (λ y. ⊥) (λ d h. events_at_first p.answers now d) ds p (λ y h. absurd h) a.of_events);
 }
   where
     after : ReaderPart
-    after = fold (demanded now) p ds
+    after = fold (part_after_demand now) p ds
 
     new : List Identity
-    new = fed (is_dropped (fold (demanded now) p ds).fates) ds
+    new = fed_identities (is_dropped (fold (part_after_demand now) p ds).fates) ds
 
-    feed : (n : ℕ) (y : Identity) → is_fed ((fold (demanded now) p ds).feeds ++ new ∷ []) n y ≡ true → is_fed (p.feeds ++ new ∷ []) n y ≡ true
+    feed : (n : ℕ) (y : Identity) → is_fed ((fold (part_after_demand now) p ds).feeds ++ new ∷ []) n y ≡ true → is_fed (p.feeds ++ new ∷ []) n y ≡ true
     feed n y f = sym (ap (λ (l : List (List Identity)). is_fed (l ++ new ∷ []) n y) (same_feeds now ds p)) ∙ f
 
     length_kinds : (is : List InstrumentState) → length (kinds_of is) ≡ length is
@@ -267,7 +267,7 @@ with_sound live is p ds about now a b k = record {
     unfed y h n = ⊎_elim (λ t. absurd (h (n, t))) (λ t. t) (cases_Bool (is_fed p.feeds n y))
 
     begun : (d : Demand) → ((n : ℕ) × (is_fed p.feeds n d.identity ≡ true) → ⊥) → IsAccounted p.feeds live is (new_stream now d)
-    begun d h sync = (sym (none_held p.feeds d.identity live (unfed d.identity h)), sym (ap wrapped (nothing_accepted (aggregate_of d) d.identity p.feeds is (unfed d.identity h))))
+    begun d h sync = (sym (none_held p.feeds d.identity live (unfed d.identity h)), sym (ap wrap (nothing_accepted (aggregate_of d) d.identity p.feeds is (unfed d.identity h))))
 
 observed_fine : (s : Shared) (readers r now : ℕ) (os : List Observed) → refusal s readers (Collect r now os) ≡ None → observations_refusal s.instruments os ≡ None
 observed_fine s readers r now os e = go (nat_lt r readers) s.shut e
@@ -284,7 +284,7 @@ part_sound views s readers (Build meter about now) p e h a =
     with_sound s.live s.instruments p (build_demands views p (scope_of s.meters meter) about) about now a h.bound (demands_kind (λ ds. is_dropped (fold Rattle.otel_model.specs.Machine.enter p.fates ds)) views p.answers (scope_of s.meters meter) about)
 part_sound views s readers (Record n v l) p e h a =
     let there = recorded_there (slice_get s.instruments n) v.signed e in
-    sent_sound s.live s.live s.instruments (changed_at n (accepted v.amount) s.instruments) p s.next (Record n v l) a (same_kinds n v.amount s.instruments) (same_number n (accepted v.amount) s.instruments)
+    sent_sound s.live s.live s.instruments (changed_at n (instrument_after_record v.amount) s.instruments) p s.next (Record n v l) a (same_kinds n v.amount s.instruments) (same_number n (instrument_after_record v.amount) s.instruments)
     (λ q old sync.
     let g = record_stream p.answers p.feeds s.live s.instruments q n v.amount (set_for q.demand l) there.0 there.1 (old sync).1 in
     (g.0 ∙ (old sync).0, g.1))
@@ -307,7 +307,7 @@ part_sound views s readers (Unbind k) p e h a =
 part_sound views s readers (Collect r now os) p e h a =
     sent_sound s.live s.live s.instruments s.instruments p s.next (Collect r now os) a refl refl
     (λ q old sync.
-    let g = collect_stream p.answers p.feeds s.live s.instruments q sync (observed p.feeds q.demand os)
+    let g = collect_stream p.answers p.feeds s.live s.instruments q sync (observed_events p.feeds q.demand os)
     (unobserved p.answers p.feeds s.live s.instruments q sync (λ n k f t. a.kinds n q.demand.identity k f t) os (observed_fine s readers r now os e)) in
     (g.0 ∙ (old sync).0, g.1 ∙ (old sync).1))
 part_sound views s readers Flush p e h a = a
@@ -324,17 +324,17 @@ parts_lawful : (views : Views) (s : Shared) (readers : ℕ) (c : Call) (ps : Lis
     → EachOf (PartIsLawful (shared_after s c).live (shared_after s c).instruments) (readers_after views s c ps)
 parts_lawful views s readers (Meter scope) ps e h a = a
 parts_lawful views s readers (Build meter about now) ps e h a =
-    each_map (PartIsLawful s.live s.instruments) (PartIsLawful s.live (s.instruments ++ new_instrument about ∷ [])) (built views (scope_of s.meters meter) about now) ps (λ p q. part_sound views s readers (Build meter about now) p e h q) a
+    each_map (PartIsLawful s.live s.instruments) (PartIsLawful s.live (s.instruments ++ new_instrument about ∷ [])) (part_after_build views (scope_of s.meters meter) about now) ps (λ p q. part_sound views s readers (Build meter about now) p e h q) a
 parts_lawful views s readers (Record n v l) ps e h a =
-    each_map (PartIsLawful s.live s.instruments) (PartIsLawful s.live (changed_at n (accepted v.amount) s.instruments)) (part_sent s.next (Record n v l)) ps (λ p q. part_sound views s readers (Record n v l) p e h q) a
+    each_map (PartIsLawful s.live s.instruments) (PartIsLawful s.live (changed_at n (instrument_after_record v.amount) s.instruments)) (part_after_call s.next (Record n v l)) ps (λ p q. part_sound views s readers (Record n v l) p e h q) a
 parts_lawful views s readers (Bind n l) ps e h a =
-    each_map (PartIsLawful s.live s.instruments) (PartIsLawful (s.live ++ (s.next, n) ∷ []) s.instruments) (part_sent s.next (Bind n l)) ps (λ p q. part_sound views s readers (Bind n l) p e h q) a
+    each_map (PartIsLawful s.live s.instruments) (PartIsLawful (s.live ++ (s.next, n) ∷ []) s.instruments) (part_after_call s.next (Bind n l)) ps (λ p q. part_sound views s readers (Bind n l) p e h q) a
 parts_lawful views s readers (RecordBound k v) ps e h a =
-    each_map (PartIsLawful s.live s.instruments) (PartIsLawful s.live (accepted_by (instrument_held k s.live) v.amount s.instruments)) (part_sent s.next (RecordBound k v)) ps (λ p q. part_sound views s readers (RecordBound k v) p e h q) a
+    each_map (PartIsLawful s.live s.instruments) (PartIsLawful s.live (accepted_by (instrument_held k s.live) v.amount s.instruments)) (part_after_call s.next (RecordBound k v)) ps (λ p q. part_sound views s readers (RecordBound k v) p e h q) a
 parts_lawful views s readers (Unbind k) ps e h a =
-    each_map (PartIsLawful s.live s.instruments) (PartIsLawful (without_handle k s.live) s.instruments) (part_sent s.next (Unbind k)) ps (λ p q. part_sound views s readers (Unbind k) p e h q) a
+    each_map (PartIsLawful s.live s.instruments) (PartIsLawful (without_handle k s.live) s.instruments) (part_after_call s.next (Unbind k)) ps (λ p q. part_sound views s readers (Unbind k) p e h q) a
 parts_lawful views s readers (Collect r now os) ps e h a =
-    each_changed (PartIsLawful s.live s.instruments) (PartIsLawful s.live s.instruments) (part_sent s.next (Collect r now os)) r ps (λ p q. part_sound views s readers (Collect r now os) p e h q) (λ p q. q) a
+    each_changed (PartIsLawful s.live s.instruments) (PartIsLawful s.live s.instruments) (part_after_call s.next (Collect r now os)) r ps (λ p q. part_sound views s readers (Collect r now os) p e h q) (λ p q. q) a
 parts_lawful views s readers Flush ps e h a = a
 parts_lawful views s readers Shutdown ps e h a = a
 

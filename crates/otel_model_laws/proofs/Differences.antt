@@ -4,7 +4,7 @@ use Rattle.std.specs.Prelude.{◌-◌, ◌^◌, slice_get, filter}
 use Rattle.std.proofs.lemmas.Bool.{and_parts}
 use Rattle.std.proofs.Math.Nat.{mod-add-mod, add-mod-mod, add-mod_right, mod-lt}
 use Rattle.otel_model_stream.specs.Sets.{AttributeSet, none_set}
-use Rattle.otel_model_stream.specs.Folds.{wrapped, fold_of}
+use Rattle.otel_model_stream.specs.Folds.{wrap, fold_of}
 use Rattle.otel_model_stream.specs.Events.{Point}
 use Rattle.otel_model_stream.specs.Windows.{records_of, is_hit, shown_places, values_of, point}
 use Rattle.otel_model.specs.Collections.{value_of, value_before, less, difference}
@@ -22,11 +22,11 @@ filled n w m h = omega arith
 below : (n m : ℕ) → n < m → n ≤ m
 below n m h = omega arith
 
-less_more : (n before : ℕ) → wrapped (less n before + before) ≡ wrapped n
+less_more : (n before : ℕ) → wrap (less n before + before) ≡ wrap n
 less_more n before =
-    mod-add-mod (n + (2 ^ 64 - wrapped before)) (2 ^ 64) before
-    ∙ (sym (add-mod-mod (n + (2 ^ 64 - wrapped before)) before (2 ^ 64))
-    ∙ (ap wrapped (filled n (wrapped before) (2 ^ 64) (below (wrapped before) (2 ^ 64) (mod-lt before (omega arith))))
+    mod-add-mod (n + (2 ^ 64 - wrap before)) (2 ^ 64) before
+    ∙ (sym (add-mod-mod (n + (2 ^ 64 - wrap before)) before (2 ^ 64))
+    ∙ (ap wrap (filled n (wrap before) (2 ^ 64) (below (wrap before) (2 ^ 64) (mod-lt before (omega arith))))
     ∙ add-mod_right n (2 ^ 64)))
 
 -- what is mapped stands at the same place
@@ -45,6 +45,6 @@ differences_law views answers r d calls events e k p g =
     let shown : slice_get (map (difference before) (window_points answers d es)) k ≡ Some p = sym (λ i. slice_get (cond (e i) (map (difference before) (window_points answers d es)) (window_points answers d es)) k) ∙ g in
     let z = get_in (difference before) (window_points answers d es) k p shown in
     let x = get_of_map (point (aggregate_of d) rs) sets k z.0 z.1 in
-    let P : Point → Type 0 = λ p. wrapped (value_of p.1 + value_before before p.0) ≡ wrapped (last_observed answers d es p.0) in
+    let P : Point → Type 0 = λ p. wrap (value_of p.1 + value_before before p.0) ≡ wrap (last_observed answers d es p.0) in
     subst P (sym (z.2 ∙ ap (difference before) x.1))
-    (less_more (value_of (fold_of (aggregate_of d) (values_of rs x.0))) (value_before before x.0) ∙ ap (λ σ. wrapped (value_of (fold_of σ (values_of rs x.0)))) (drained_last d both.0))
+    (less_more (value_of (fold_of (aggregate_of d) (values_of rs x.0))) (value_before before x.0) ∙ ap (λ σ. wrap (value_of (fold_of σ (values_of rs x.0)))) (drained_last d both.0))

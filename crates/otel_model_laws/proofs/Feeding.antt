@@ -5,10 +5,10 @@ use Rattle.std.proofs.lemmas.Bool.{true≢false, false≢true}
 use Rattle.std.proofs.lemmas.List.{append-nil}
 use Rattle.otel_common.specs.declared.scopes.InstrumentationScope.{InstrumentationScope}
 use Rattle.otel_model.specs.Calls.{About, InstrumentKind}
-use Rattle.otel_model.specs.Demands.{Identity, identity_eq, Demand, Views, ReaderAnswers, instrument_of, StreamSpec, own_demand, add_answer, view_demands, is_compatible, needs_own, demands_with, demands_on, is_good, is_known, is_drop, has_identity, each_once, fed}
+use Rattle.otel_model.specs.Demands.{Identity, identity_eq, Demand, Views, ReaderAnswers, instrument_of, StreamSpec, own_demand, add_answer, view_demands, is_compatible, needs_own, demands_with, demands_on, is_good, is_known, is_drop, has_identity, each_once, fed_identities}
 use Rattle.otel_model.specs.State.{Stream, ReaderPart, LiveHandle}
 use Rattle.otel_model.specs.Sent.{is_fed}
-use Rattle.otel_model.specs.Machine.{new_stream, enter, demanded}
+use Rattle.otel_model.specs.Machine.{new_stream, enter, part_after_demand}
 use Rattle.otel_model.proofs.Gather.{identity_eq_true, identity_eq_self, known-append}
 use Rattle.otel_model.proofs.Single.{some_is}
 use Rattle.otel_model_laws.proofs.Amounts.{EachOf, each_push, held_for, handles_of}
@@ -87,7 +87,7 @@ ids_known : (ds : List Demand) (x : Identity) → has_identity (map (λ (d : Dem
 ids_known [] x = refl
 ids_known (d ∷ ds) x = ap (λ b. identity_eq d.identity x || b) (ids_known ds x)
 
-pub fed_demanded : (dropped : Identity → Bool) (ds : List Demand) (x : Identity) → has_identity (fed dropped ds) x ≡ true → is_known ds x ≡ true
+pub fed_demanded : (dropped : Identity → Bool) (ds : List Demand) (x : Identity) → has_identity (fed_identities dropped ds) x ≡ true → is_known ds x ≡ true
 fed_demanded dropped ds x e =
     sym (ids_known ds x) ∙ from_once [] (map (λ (d : Demand). d.identity) ds) x (from_filter (λ x. not (dropped x)) (each_once [] (map (λ (d : Demand). d.identity) ds)) x e)
 
@@ -148,30 +148,30 @@ known_now fates d = go (is_known fates d.identity) refl
     go false e = known-append fates (d ∷ []) d.identity ∙ or_right (is_known fates d.identity) (is_known (d ∷ []) d.identity) (or_left (identity_eq d.identity d.identity) false (identity_eq_self d.identity))
 
 module _ (now : ℕ) where
-  pub known_after : (ds : List Demand) (p : ReaderPart) (x : Identity) → is_known p.fates x ≡ true → is_known (fold (demanded now) p ds).fates x ≡ true
+  pub known_after : (ds : List Demand) (p : ReaderPart) (x : Identity) → is_known p.fates x ≡ true → is_known (fold (part_after_demand now) p ds).fates x ≡ true
   known_after [] p x e = e
-  known_after (d ∷ ds) p x e = known_after ds (demanded now p d) x (known_more p.fates d x e)
+  known_after (d ∷ ds) p x e = known_after ds (part_after_demand now p d) x (known_more p.fates d x e)
 
-  pub demanded_known : (ds : List Demand) (p : ReaderPart) (x : Identity) → is_known ds x ≡ true → is_known (fold (demanded now) p ds).fates x ≡ true
+  pub demanded_known : (ds : List Demand) (p : ReaderPart) (x : Identity) → is_known ds x ≡ true → is_known (fold (part_after_demand now) p ds).fates x ≡ true
   demanded_known [] p x e = absurd (false≢true e)
   demanded_known (d ∷ ds) p x e = ⊎_elim
-      (λ t. known_after ds (demanded now p d) x (ap (is_known (enter p.fates d)) (sym (identity_eq_true d.identity x t)) ∙ known_now p.fates d))
-      (λ t. demanded_known ds (demanded now p d) x t)
+      (λ t. known_after ds (part_after_demand now p d) x (ap (is_known (enter p.fates d)) (sym (identity_eq_true d.identity x t)) ∙ known_now p.fates d))
+      (λ t. demanded_known ds (part_after_demand now p d) x t)
       (is_one (identity_eq d.identity x) (is_known ds x) e)
 
-  pub same_answers : (ds : List Demand) (p : ReaderPart) → (fold (demanded now) p ds).answers ≡ p.answers
+  pub same_answers : (ds : List Demand) (p : ReaderPart) → (fold (part_after_demand now) p ds).answers ≡ p.answers
   same_answers [] p = refl
-  same_answers (d ∷ ds) p = same_answers ds (demanded now p d)
+  same_answers (d ∷ ds) p = same_answers ds (part_after_demand now p d)
 
-  pub same_feeds : (ds : List Demand) (p : ReaderPart) → (fold (demanded now) p ds).feeds ≡ p.feeds
+  pub same_feeds : (ds : List Demand) (p : ReaderPart) → (fold (part_after_demand now) p ds).feeds ≡ p.feeds
   same_feeds [] p = refl
-  same_feeds (d ∷ ds) p = same_feeds ds (demanded now p d)
+  same_feeds (d ∷ ds) p = same_feeds ds (part_after_demand now p d)
 
   -- what holds of the streams and of each new one holds after the demands. A new one was unknown
   pub streams_after : (Q : Stream → Type 0) (known : Identity → Type 0) → ((d : Demand) → (known d.identity → ⊥) → Q (new_stream now d))
-      → (ds : List Demand) (p : ReaderPart) → ((x : Identity) → known x → is_known p.fates x ≡ true) → EachOf Q p.streams → EachOf Q (fold (demanded now) p ds).streams
+      → (ds : List Demand) (p : ReaderPart) → ((x : Identity) → known x → is_known p.fates x ≡ true) → EachOf Q p.streams → EachOf Q (fold (part_after_demand now) p ds).streams
   streams_after Q known new [] p k a = a
-  streams_after Q known new (d ∷ ds) p k a = streams_after Q known new ds (demanded now p d) (λ x h. known_more p.fates d x (k x h)) (go (is_known p.fates d.identity) refl)
+  streams_after Q known new (d ∷ ds) p k a = streams_after Q known new ds (part_after_demand now p d) (λ x h. known_more p.fates d x (k x h)) (go (is_known p.fates d.identity) refl)
     where
       added : (b : Bool) → (known d.identity → ⊥) → EachOf Q (p.streams ++ cond b [] (new_stream now d ∷ []))
       added true h = subst (EachOf Q) (sym (append-nil p.streams)) a

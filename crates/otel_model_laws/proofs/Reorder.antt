@@ -11,14 +11,14 @@ use Rattle.otel_common.specs.Equality.{bytes_eq}
 use Rattle.otel_common.specs.declared.attributes.KeyValue.{KeyValue}
 use Rattle.otel_common.proofs.CanonLaws.{value_at, value_at-canon, canon-same, key_cmp-IsAntisymmetric}
 use Rattle.otel_common.proofs.Permuting.{canon-permutation}
-use Rattle.otel_model_stream.specs.Sets.{AllowList, kept, set_of}
+use Rattle.otel_model_stream.specs.Sets.{AllowList, allowed_part, set_of}
 use Rattle.otel_model_stream.specs.Events.{Event}
 use Rattle.otel_model.specs.Calls.{Number, Observed, Call, Record, Bind, Collect, OutOfMemory, UnknownMeter, UnknownInstrument, UnknownHandle, UnknownReader, WrongNumber, WrongKind, AlreadyShutdown, ReaderShutDown, ReadersFailed, Exhausted, LedgerFull, UseWorker, WorkersMissing, Reply}
 use Rattle.otel_model.specs.Demands.{Identity, Demand, ReaderAnswers, Views}
 use Rattle.otel_model.specs.State.{InstrumentState, Shared, Stream, ReaderPart, State}
 use Rattle.otel_model.specs.Refusals.{refusal, observation_refusal, observations_refusal, first_fault}
-use Rattle.otel_model.specs.Sent.{is_fed, set_for, observed, sent}
-use Rattle.otel_model.specs.Machine.{machine_after, since_after, points_at, reported_after, recorded_after, exported_after, stream_after, part_sent, changed_at, accepted_after, shared_after}
+use Rattle.otel_model.specs.Sent.{is_fed, set_for, observed_events, sent_events}
+use Rattle.otel_model.specs.Machine.{machine_after, start_after, points_at, reported_after, recorded_after, exported_after, stream_after, part_after_call, changed_at, accepted_after, shared_after}
 use Rattle.otel_model.specs.Steps.{collect_from, collect_reply, answer_of, reply_by, after_by, reply_of, after, takes_memory, asks_readers, Step, Run}
 use Rattle.otel_model_laws.specs.Orders.{IsReordered, RecordsInAnyOrder, BindsInAnyOrder, ObservationsInAnyOrder}
 
@@ -27,7 +27,7 @@ abbrev is_kept : List (List ℕ) → List ℕ → Bool
 is_kept allow key = list_any (bytes_eq key) allow
 
 -- what is kept answers at the keys that are kept
-value_at-kept : (allow : List (List ℕ)) (l : List KeyValue) (q : List ℕ) → value_at q (kept (Some allow) l) ≡ cond (is_kept allow q) (value_at q l) None
+value_at-kept : (allow : List (List ℕ)) (l : List KeyValue) (q : List ℕ) → value_at q (allowed_part (Some allow) l) ≡ cond (is_kept allow q) (value_at q l) None
 value_at-kept allow [] q = sym (same (is_kept allow q))
   where
     same : (b : Bool) → cond b (value_at q []) None ≡ None
@@ -35,30 +35,30 @@ value_at-kept allow [] q = sym (same (is_kept allow q))
     same false = refl
 value_at-kept allow (p ∷ l) q = ⊎_elim (here (value_at-kept allow l q)) (elsewhere (value_at-kept allow l q)) (cases_Bool (eq_by_cmp key_cmp q p.key))
   where
-    found : (b : Bool) → eq_by_cmp key_cmp q p.key ≡ true → value_at q (kept (Some allow) l) ≡ cond b (value_at q l) None
-        → value_at q (cond b (p ∷ kept (Some allow) l) (kept (Some allow) l)) ≡ cond b (Some p.value) None
-    found true e ih = λ i. cond (e i) (Some p.value) (value_at q (kept (Some allow) l))
+    found : (b : Bool) → eq_by_cmp key_cmp q p.key ≡ true → value_at q (allowed_part (Some allow) l) ≡ cond b (value_at q l) None
+        → value_at q (cond b (p ∷ allowed_part (Some allow) l) (allowed_part (Some allow) l)) ≡ cond b (Some p.value) None
+    found true e ih = λ i. cond (e i) (Some p.value) (value_at q (allowed_part (Some allow) l))
     found false e ih = ih
 
-    passed : (b : Bool) → eq_by_cmp key_cmp q p.key ≡ false → value_at q (cond b (p ∷ kept (Some allow) l) (kept (Some allow) l)) ≡ value_at q (kept (Some allow) l)
-    passed true e = λ i. cond (e i) (Some p.value) (value_at q (kept (Some allow) l))
+    passed : (b : Bool) → eq_by_cmp key_cmp q p.key ≡ false → value_at q (cond b (p ∷ allowed_part (Some allow) l) (allowed_part (Some allow) l)) ≡ value_at q (allowed_part (Some allow) l)
+    passed true e = λ i. cond (e i) (Some p.value) (value_at q (allowed_part (Some allow) l))
     passed false e = refl
 
     same_key : eq_by_cmp key_cmp q p.key ≡ true → is_kept allow p.key ≡ is_kept allow q
     same_key e = ap (is_kept allow) (sym (key_cmp-IsAntisymmetric q p.key ((Equal-is (key_cmp q p.key)).0 e)))
 
-    here : value_at q (kept (Some allow) l) ≡ cond (is_kept allow q) (value_at q l) None → eq_by_cmp key_cmp q p.key ≡ true → value_at q (kept (Some allow) (p ∷ l)) ≡ cond (is_kept allow q) (value_at q (p ∷ l)) None
+    here : value_at q (allowed_part (Some allow) l) ≡ cond (is_kept allow q) (value_at q l) None → eq_by_cmp key_cmp q p.key ≡ true → value_at q (allowed_part (Some allow) (p ∷ l)) ≡ cond (is_kept allow q) (value_at q (p ∷ l)) None
     here ih e =
         found (is_kept allow p.key) e (ih ∙ ap (λ b. cond b (value_at q l) None) (sym (same_key e)))
         ∙ (ap (λ b. cond b (Some p.value) None) (same_key e) ∙ sym (λ i. cond (is_kept allow q) (cond (e i) (Some p.value) (value_at q l)) None))
 
-    elsewhere : value_at q (kept (Some allow) l) ≡ cond (is_kept allow q) (value_at q l) None → eq_by_cmp key_cmp q p.key ≡ false → value_at q (kept (Some allow) (p ∷ l)) ≡ cond (is_kept allow q) (value_at q (p ∷ l)) None
+    elsewhere : value_at q (allowed_part (Some allow) l) ≡ cond (is_kept allow q) (value_at q l) None → eq_by_cmp key_cmp q p.key ≡ false → value_at q (allowed_part (Some allow) (p ∷ l)) ≡ cond (is_kept allow q) (value_at q (p ∷ l)) None
     elsewhere ih e = passed (is_kept allow p.key) e ∙ (ih ∙ sym (λ i. cond (is_kept allow q) (cond (e i) (Some p.value) (value_at q l)) None))
 
 -- lists with one canonical form give one set, whatever is kept of them
 set-same : (allow : AllowList) (l m : List KeyValue) → canon l ≡ canon m → set_of allow l ≡ set_of allow m
 set-same None l m e = e
-set-same (Some allow) l m e = canon-same (kept (Some allow) l) (kept (Some allow) m)
+set-same (Some allow) l m e = canon-same (allowed_part (Some allow) l) (allowed_part (Some allow) m)
     (λ q. value_at-kept allow l q ∙ (ap (λ o. cond (is_kept allow q) o None) (sym (value_at-canon l q) ∙ (ap (value_at q) e ∙ value_at-canon m q)) ∙ sym (value_at-kept allow m q)))
 
 pub set-reordered : (l m : List KeyValue) → IsReordered l m → (d : Demand) → set_for d l ≡ set_for d m
@@ -109,13 +109,13 @@ alike_run c e h views old new (b ∷ before) later (reply ∷ replies) run = (ru
 -- ======== records and binds ========
 -- a stream that is sent the same
 stream_alike : (answers : ReaderAnswers) (feeds : List (List Identity)) (next : ℕ) (c e : Call) (s : Stream)
-    → sent feeds next s.demand c ≡ sent feeds next s.demand e → since_after answers s.demand c s.since ≡ since_after answers s.demand e s.since
+    → sent_events feeds next s.demand c ≡ sent_events feeds next s.demand e → start_after answers s.demand c s.start ≡ start_after answers s.demand e s.start
     → reported_after answers feeds c s ≡ reported_after answers feeds e s → exported_after answers feeds c s ≡ exported_after answers feeds e s
     → stream_after answers feeds next c s ≡ stream_after answers feeds next e s
 stream_alike answers feeds next c e s k m p q = λ i. record {
   demand = s.demand;
   machine = machine_after answers s.demand (k i) s.machine;
-  since = m i;
+  start = m i;
   reported = p i;
   recorded = recorded_after answers (k i) s;
   exported = q i;
@@ -125,7 +125,7 @@ pub map_alike : {A B : Type 0} (f g : A → B) (xs : List A) → ((x : A) → f 
 map_alike f g [] e = refl
 map_alike f g (x ∷ xs) e = λ i. e x i ∷ map_alike f g xs e i
 
-part_alike : (next : ℕ) (c e : Call) → ((answers : ReaderAnswers) (feeds : List (List Identity)) (s : Stream) → stream_after answers feeds next c s ≡ stream_after answers feeds next e s) → (p : ReaderPart) → part_sent next c p ≡ part_sent next e p
+part_alike : (next : ℕ) (c e : Call) → ((answers : ReaderAnswers) (feeds : List (List Identity)) (s : Stream) → stream_after answers feeds next c s ≡ stream_after answers feeds next e s) → (p : ReaderPart) → part_after_call next c p ≡ part_after_call next e p
 part_alike next c e h p = λ i. record p { streams = map_alike (stream_after p.answers p.feeds next c) (stream_after p.answers p.feeds next e) p.streams (h p.answers p.feeds) i }
 
 no_length : (l m : List KeyValue) → IsReordered l m → length m ≡ length l
@@ -143,7 +143,7 @@ record_alike n v l m h = record {
   answered = λ st. refl;
   left = λ views st. λ i. record {
     shared = shared_after st.shared (Record n v l);
-    readers = map_alike (part_sent st.shared.next (Record n v l)) (part_sent st.shared.next (Record n v m)) st.readers (part_alike st.shared.next (Record n v l) (Record n v m) (λ answers feeds s. stream_alike answers feeds st.shared.next (Record n v l) (Record n v m) s
+    readers = map_alike (part_after_call st.shared.next (Record n v l)) (part_after_call st.shared.next (Record n v m)) st.readers (part_alike st.shared.next (Record n v l) (Record n v m) (λ answers feeds s. stream_alike answers feeds st.shared.next (Record n v l) (Record n v m) s
         (λ i. cond (is_fed feeds n s.demand.identity) (Event.Record (set-reordered l m h s.demand i) v.amount ∷ []) []) refl refl refl)) i;
   };
   memory = record_memory n v l m (no_length l m h);
@@ -156,7 +156,7 @@ bind_alike n l m h = record {
   answered = λ st. refl;
   left = λ views st. λ i. record {
     shared = shared_after st.shared (Bind n l);
-    readers = map_alike (part_sent st.shared.next (Bind n l)) (part_sent st.shared.next (Bind n m)) st.readers (part_alike st.shared.next (Bind n l) (Bind n m) (λ answers feeds s. stream_alike answers feeds st.shared.next (Bind n l) (Bind n m) s
+    readers = map_alike (part_after_call st.shared.next (Bind n l)) (part_after_call st.shared.next (Bind n m)) st.readers (part_alike st.shared.next (Bind n l) (Bind n m) (λ answers feeds s. stream_alike answers feeds st.shared.next (Bind n l) (Bind n m) s
         (λ i. cond (is_fed feeds n s.demand.identity) (Event.Bind st.shared.next (set-reordered l m h s.demand i) ∷ []) []) refl refl refl)) i;
   };
   memory = refl;
@@ -171,8 +171,8 @@ module _ (os ps : List Observed) (o : Observed) (m : List KeyValue) (h : IsReord
   abbrev those : List Observed
   those = os ++ record o { attributes = m } ∷ ps
 
-  observed_alike : (feeds : List (List Identity)) (d : Demand) (os : List Observed) → observed feeds d (os ++ o ∷ ps) ≡ observed feeds d (os ++ record o { attributes = m } ∷ ps)
-  observed_alike feeds d [] = λ i. cond (is_fed feeds o.instrument d.identity) (Event.Record (set-reordered o.attributes m h d i) o.value.amount ∷ observed feeds d ps) (observed feeds d ps)
+  observed_alike : (feeds : List (List Identity)) (d : Demand) (os : List Observed) → observed_events feeds d (os ++ o ∷ ps) ≡ observed_events feeds d (os ++ record o { attributes = m } ∷ ps)
+  observed_alike feeds d [] = λ i. cond (is_fed feeds o.instrument d.identity) (Event.Record (set-reordered o.attributes m h d i) o.value.amount ∷ observed_events feeds d ps) (observed_events feeds d ps)
   observed_alike feeds d (q ∷ qs) = λ i. cond (is_fed feeds q.instrument d.identity) (Event.Record (set_for d q.attributes) q.value.amount ∷ observed_alike feeds d qs i) (observed_alike feeds d qs i)
 
   refused_alike : (is : List InstrumentState) (os : List Observed) → observations_refusal is (os ++ o ∷ ps) ≡ observations_refusal is (os ++ record o { attributes = m } ∷ ps)
@@ -191,7 +191,7 @@ module _ (os ps : List Observed) (o : Observed) (m : List KeyValue) (h : IsReord
       readers = same_change r st.readers (part_alike st.shared.next (Collect r now these) (Collect r now those) (λ answers feeds s. stream_alike answers feeds st.shared.next (Collect r now these) (Collect r now those) s
           (λ i. observed_alike feeds s.demand os i ++ Event.Collect ∷ []) refl
           (λ i. cond (Rattle.otel_model.specs.Collections.shows_differences answers s.demand) (points_alike answers feeds s i) s.reported)
-          (λ i. cond (Rattle.otel_model.specs.Streams.is_delta answers s.demand) (Rattle.otel_model_stream.specs.Folds.wrapped (s.exported + Rattle.otel_model_stream.specs.Totals.points_total (points_alike answers feeds s i))) s.exported))) i;
+          (λ i. cond (Rattle.otel_model.specs.Streams.is_delta answers s.demand) (Rattle.otel_model_stream.specs.Folds.wrap (s.exported + Rattle.otel_model_stream.specs.Totals.points_total (points_alike answers feeds s i))) s.exported))) i;
     };
     memory = refl;
     asks = refl;
@@ -204,7 +204,7 @@ module _ (os ps : List Observed) (o : Observed) (m : List KeyValue) (h : IsReord
 
       same_collection : (s : Shared) (p : ReaderPart) → collect_from s now these p ≡ collect_from s now those p
       same_collection s p = λ i. Rattle.otel_model.specs.Collections.collection s.resource s.meters
-          (map_alike _ _ p.streams (λ (q : Stream). ap (λ ps. let m : Rattle.otel_model.specs.Collections.ScopedMetric = (q.demand.identity.scope, Rattle.otel_model.specs.Collections.metric p.answers now q.since q.reported q.demand ps) in m) (points_alike p.answers p.feeds q)) i)
+          (map_alike _ _ p.streams (λ (q : Stream). ap (λ ps. let m : Rattle.otel_model.specs.Collections.ScopedMetric = (q.demand.identity.scope, Rattle.otel_model.specs.Collections.metric p.answers now q.start q.reported q.demand ps) in m) (points_alike p.answers p.feeds q)) i)
 
       same_reply : (s : Shared) (o : Option ReaderPart) → collect_reply s now these o ≡ collect_reply s now those o
       same_reply s None = refl

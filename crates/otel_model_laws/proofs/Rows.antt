@@ -16,10 +16,10 @@ use Rattle.otel_data.specs.declared.points.SumDataPoint.{SumDataPoint}
 use Rattle.otel_model_stream.specs.Sets.{AttributeSet}
 use Rattle.otel_model.specs.Resources.{Resource, empty_resource}
 use Rattle.otel_model.specs.Calls.{Text, InstrumentKind, kind_number, Number, About, Observed, Call, Meter, Build, Record, Reply}
-use Rattle.otel_model.specs.Demands.{Aggregation, StreamSpec, View, Views, Answer, ReaderAnswers, Temporality, Cumulative, Delta, LowMemory, preferring, nothing_said}
+use Rattle.otel_model.specs.Demands.{Aggregation, StreamSpec, View, Views, Answer, ReaderAnswers, Temporality, Cumulative, Delta, LowMemory, answers_preferring, nothing_said}
 use Rattle.otel_model.specs.Machine.{changed_at, new_state}
 use Rattle.otel_model.specs.Steps.{replies_of}
-use Rattle.otel_model.specs.History.{collections_of, given, made}
+use Rattle.otel_model.specs.History.{collections_of, given_collections, made_calls}
 
 -- ======== instruments and values ========
 abbrev pub a : Text
@@ -81,13 +81,13 @@ aggregating aggregation = record nothing_said { aggregation = Some aggregation }
 
 -- ======== readers ========
 abbrev pub cumulative : ReaderAnswers
-cumulative = preferring Cumulative
+cumulative = answers_preferring Cumulative
 
 abbrev pub delta : ReaderAnswers
-delta = preferring Delta
+delta = answers_preferring Delta
 
 abbrev pub low_memory : ReaderAnswers
-low_memory = preferring LowMemory
+low_memory = answers_preferring LowMemory
 
 abbrev pub but_for : InstrumentKind → (Answer → Answer) → ReaderAnswers → ReaderAnswers
 but_for kind f answers = changed_at (kind_number kind) f answers
@@ -164,11 +164,11 @@ replies_at resource views readers calls = replies_of views (new_state resource 0
 
 -- reader r's collections by the machine
 abbrev given_at : Resource → Views → List ReaderAnswers → ℕ → List Call → List ResourceMetrics
-given_at resource views readers r calls = given r calls (replies_at resource views readers calls)
+given_at resource views readers r calls = given_collections r calls (replies_at resource views readers calls)
 
 -- and as they are read off the calls that count by these replies
 abbrev read_at : Resource → Views → List ReaderAnswers → ℕ → ReaderAnswers → List Call → List ResourceMetrics
-read_at resource views readers r answers calls = collections_of views resource answers r (made calls (replies_at resource views readers calls))
+read_at resource views readers r answers calls = collections_of views resource answers r (made_calls calls (replies_at resource views readers calls))
 
 -- both are these collections of the only reader
 abbrev pub Gives : Resource → Views → ReaderAnswers → List Call → List ResourceMetrics → Type 0

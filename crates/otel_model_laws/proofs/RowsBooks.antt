@@ -3,7 +3,7 @@ use Rattle.std.specs.Prelude.{◌≡◌, ℕ, ℤ, pos, negsuc, [], ◌∷◌, �
 use Rattle.std.proofs.Common.{refl}
 use Rattle.otel_model_stream.specs.Folds.{Amount}
 use Rattle.otel_model.specs.Calls.{Record, RecordBound, Unbind, Bind, UnknownInstrument, Reply}
-use Rattle.otel_model_laws.specs.Shares.{Book, empty_book, booked, booked_each, booked_by, sum_of_shares}
+use Rattle.otel_model_laws.specs.Shares.{Book, empty_book, book_after_record, booked_each, booked_by, sum_of_shares}
 use Rattle.otel_model_laws.proofs.Rows.{u64}
 
 abbrev amount : ℕ → ℤ → Amount
@@ -31,7 +31,7 @@ pub through_handle : booked_by (Unbind 0) Reply.Done (booked_by (RecordBound 0 (
 through_handle = refl
 
 -- sums do not wrap; -1 has the greatest bits
-pub not_wrapped : booked (amount 18446744073709551615 (negsuc 0)) (booked (natural_amount 18446744073709551615) empty_book) ≡ record { count = 2; sum = 36893488147419103230 }
+pub not_wrapped : book_after_record (amount 18446744073709551615 (negsuc 0)) (book_after_record (natural_amount 18446744073709551615) empty_book) ≡ record { count = 2; sum = 36893488147419103230 }
 not_wrapped = refl
 
 pub no_shares : sum_of_shares [] ≡ record { count = 0; sum = 0 }

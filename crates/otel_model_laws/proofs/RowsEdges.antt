@@ -13,7 +13,7 @@ use Rattle.otel_model.specs.State.{State}
 use Rattle.otel_model.specs.Machine.{new_instrument, new_state}
 use Rattle.otel_model.specs.Steps.{reply_of, after, Step}
 use Rattle.otel_model.specs.Only.{only}
-use Rattle.otel_model.specs.History.{made}
+use Rattle.otel_model.specs.History.{made_calls}
 use Rattle.otel_model_laws.proofs.Rows.{a, m, about, with_own_bounds, u64, i64, x1, y1, pair, if_named, limited, named, aggregating, but_for, default_of, cumulative, delta, AloneShows, replies, one, delta_sum, cumulative_sum, last_values, cumulative_histogram, delta_histogram, spread, on, add, observe}
 
 -- ======== sets and places ========
@@ -141,7 +141,7 @@ pub row_26_second : reply_of (after [] three Shutdown) Shutdown ≡ Reply.Refuse
 row_26_second = refl
 
 -- a shutdown that a reader failed counts as made, a flush that one failed does not, nor what was refused
-pub calls_made : made (Shutdown ∷ Flush ∷ add 1 [] ∷ Bind 0 [] ∷ []) (Reply.Refused (ReadersFailed 1 0) ∷ Reply.Refused (ReadersFailed 1 0) ∷ Reply.Done ∷ Reply.Refused OutOfMemory ∷ []) ≡ Shutdown ∷ add 1 [] ∷ []
+pub calls_made : made_calls (Shutdown ∷ Flush ∷ add 1 [] ∷ Bind 0 [] ∷ []) (Reply.Refused (ReadersFailed 1 0) ∷ Reply.Refused (ReadersFailed 1 0) ∷ Reply.Done ∷ Reply.Refused OutOfMemory ∷ []) ≡ Shutdown ∷ add 1 [] ∷ []
 calls_made = refl
 
 -- what reader 1 sees: not what was refused for memory, not another reader's collection, and its own as reader 0

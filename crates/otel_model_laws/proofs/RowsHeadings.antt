@@ -45,24 +45,24 @@ module _ {T : Type 0} where
   abbrev wide_value : List ℤ → AttributeSet → ℕ → T → T → T → List ℕ → HistogramDataPoint T
   wide_value bounds set count sum least greatest counts = record { attributes = set; exemplars = []; bounds = bounds; bucket_counts = counts; count = count; min = Some least; max = Some greatest; sum = sum }
 
-  -- from the moment `since` to the moment `now`
+  -- from the moment `start` to the moment `now`
   abbrev gauge_data : ℕ → ℕ → List (GaugeDataPoint T) → MetricData T
-  gauge_data since now points = Gauge (record { data_points = points; start_time = since; time = now })
+  gauge_data start now points = Gauge (record { data_points = points; start_time = start; time = now })
 
   abbrev rising_sum_data : ℕ → ℕ → List (SumDataPoint T) → MetricData T
-  rising_sum_data since now points = Sum (record { data_points = points; start_time = since; time = now; temporality = Cumulative; is_monotonic = true })
+  rising_sum_data start now points = Sum (record { data_points = points; start_time = start; time = now; temporality = Cumulative; is_monotonic = true })
 
   abbrev plain_sum_data : ℕ → ℕ → List (SumDataPoint T) → MetricData T
-  plain_sum_data since now points = Sum (record { data_points = points; start_time = since; time = now; temporality = Cumulative; is_monotonic = false })
+  plain_sum_data start now points = Sum (record { data_points = points; start_time = start; time = now; temporality = Cumulative; is_monotonic = false })
 
   abbrev rising_delta_data : ℕ → ℕ → List (SumDataPoint T) → MetricData T
-  rising_delta_data since now points = Sum (record { data_points = points; start_time = since; time = now; temporality = Delta; is_monotonic = true })
+  rising_delta_data start now points = Sum (record { data_points = points; start_time = start; time = now; temporality = Delta; is_monotonic = true })
 
   abbrev histogram_data : ℕ → ℕ → List (HistogramDataPoint T) → MetricData T
-  histogram_data since now points = Histogram (record { data_points = points; start_time = since; time = now; temporality = Cumulative })
+  histogram_data start now points = Histogram (record { data_points = points; start_time = start; time = now; temporality = Cumulative })
 
   abbrev delta_histogram_data : ℕ → ℕ → List (HistogramDataPoint T) → MetricData T
-  delta_histogram_data since now points = Histogram (record { data_points = points; start_time = since; time = now; temporality = Delta })
+  delta_histogram_data start now points = Histogram (record { data_points = points; start_time = start; time = now; temporality = Delta })
 
 abbrev metric_of : Text → Text → Text → AggregatedMetrics → Metric
 metric_of name description unit content = record { name = name; description = description; unit = unit; content = content }

@@ -4,7 +4,7 @@ use Rattle.std.proofs.Common.{refl}
 use Rattle.otel_common.specs.Canonical.{canon}
 use Rattle.otel_common.specs.declared.attributes.KeyValue.{KeyValue}
 use Rattle.otel_common.specs.declared.attributes.Value.TheVariants as value
-use Rattle.otel_model.specs.Resources.{Resource, empty_resource, merged, resource_of, with_attribute, with_attributes, with_service_name, with_schema_url}
+use Rattle.otel_model.specs.Resources.{Resource, empty_resource, merged_resource, resource_of, with_attribute, with_attributes, with_service_name, with_schema_url}
 
 -- ======== merges ========
 abbrev text : ℕ → List ℕ → KeyValue
@@ -19,25 +19,25 @@ u2 = Some (117 ∷ 50 ∷ [])
 abbrev with_url : Option (List ℕ) → Resource
 with_url url = record { attributes = []; schema_url = url }
 
-pub row_20 : (merged (record { attributes = text 97 [] ∷ text 98 (codes "b-value") ∷ text 100 (codes "d-value") ∷ []; schema_url = None })
+pub row_20 : (merged_resource (record { attributes = text 97 [] ∷ text 98 (codes "b-value") ∷ text 100 (codes "d-value") ∷ []; schema_url = None })
     (record { attributes = text 97 (codes "a-value") ∷ text 99 (codes "c-value") ∷ text 100 [] ∷ []; schema_url = None })).attributes
     ≡ text 97 (codes "a-value") ∷ text 98 (codes "b-value") ∷ text 99 (codes "c-value") ∷ text 100 [] ∷ []
 unfolding canon
 row_20 = refl
 
-pub row_20_two : (merged (with_url u1) (with_url u2)).schema_url ≡ None
+pub row_20_two : (merged_resource (with_url u1) (with_url u2)).schema_url ≡ None
 row_20_two = refl
 
-pub row_20_second : (merged (with_url None) (with_url u2)).schema_url ≡ u2
+pub row_20_second : (merged_resource (with_url None) (with_url u2)).schema_url ≡ u2
 row_20_second = refl
 
-pub row_20_first : (merged (with_url u1) (with_url None)).schema_url ≡ u1
+pub row_20_first : (merged_resource (with_url u1) (with_url None)).schema_url ≡ u1
 row_20_first = refl
 
-pub same_url : (merged (with_url u1) (with_url u1)).schema_url ≡ u1
+pub same_url : (merged_resource (with_url u1) (with_url u1)).schema_url ≡ u1
 same_url = refl
 
-pub no_url : (merged (with_url None) (with_url None)).schema_url ≡ None
+pub no_url : (merged_resource (with_url None) (with_url None)).schema_url ≡ None
 no_url = refl
 
 -- empty values win too, and the URL stays beside the attributes
@@ -53,15 +53,15 @@ key_b = text 107 (codes "b")
 abbrev key_a : KeyValue
 key_a = text 107 (codes "a")
 
-pub empty_value_wins : (merged (record { attributes = a_final ∷ []; schema_url = u1 }) (record { attributes = a_empty ∷ []; schema_url = None })) ≡ record { attributes = a_empty ∷ []; schema_url = u1 }
+pub empty_value_wins : (merged_resource (record { attributes = a_final ∷ []; schema_url = u1 }) (record { attributes = a_empty ∷ []; schema_url = None })) ≡ record { attributes = a_empty ∷ []; schema_url = u1 }
 unfolding canon
 empty_value_wins = refl
 
-pub missing_attributes : merged (with_url u1) (record { attributes = key_b ∷ []; schema_url = None }) ≡ record { attributes = key_b ∷ []; schema_url = u1 }
+pub missing_attributes : merged_resource (with_url u1) (record { attributes = key_b ∷ []; schema_url = None }) ≡ record { attributes = key_b ∷ []; schema_url = u1 }
 unfolding canon
 missing_attributes = refl
 
-pub both_have_attributes : merged (record { attributes = key_a ∷ []; schema_url = u1 }) (record { attributes = key_b ∷ []; schema_url = u2 }) ≡ record { attributes = key_b ∷ []; schema_url = None }
+pub both_have_attributes : merged_resource (record { attributes = key_a ∷ []; schema_url = u1 }) (record { attributes = key_b ∷ []; schema_url = u2 }) ≡ record { attributes = key_b ∷ []; schema_url = None }
 unfolding canon
 both_have_attributes = refl
 

@@ -4,20 +4,20 @@ use Rattle.std.specs.Prelude.{◌^◌, sum_by}
 use Rattle.std.proofs.lemmas.List.{length_push}
 use Rattle.std.proofs.lemmas.List.Sums.{sum_by_push, sum_by-cons}
 use Rattle.std.proofs.Math.Nat.{mod-add-mod}
-use Rattle.otel_model_stream.specs.Folds.{Amount, wrapped}
+use Rattle.otel_model_stream.specs.Folds.{Amount, wrap}
 use Rattle.otel_model.specs.Machine.{changed_at}
 use Rattle.otel_model_laws.specs.Books.{count_in, sum_in, one_each, bits_of, added_by, if_done}
-use Rattle.otel_model_laws.specs.Shares.{Book, booked, BookedOneByOne, BookFollowsCalls, SharesAddUp}
+use Rattle.otel_model_laws.specs.Shares.{Book, book_after_record, BookedOneByOne, BookFollowsCalls, SharesAddUp}
 use Rattle.otel_model_laws.proofs.Accepting.{call_law}
 use Rattle.otel_model_laws.proofs.Plus.{plus_zero, exchanged, grouped}
 
 -- what a call adds is added to the book
-more : (new old first book k : ℕ) → wrapped new ≡ wrapped (old + k) → wrapped old ≡ wrapped (first + book) → wrapped new ≡ wrapped (first + (book + k))
+more : (new old first book k : ℕ) → wrap new ≡ wrap (old + k) → wrap old ≡ wrap (first + book) → wrap new ≡ wrap (first + (book + k))
 more new old first book k e f =
     e ∙ (sym (mod-add-mod old (2 ^ 64) k)
-    ∙ (ap (λ m. wrapped (m + k)) f
+    ∙ (ap (λ m. wrap (m + k)) f
     ∙ (mod-add-mod (first + book) (2 ^ 64) k
-    ∙ ap wrapped (sym (grouped first book k)))))
+    ∙ ap wrap (sym (grouped first book k)))))
 
 pub book_law : BookFollowsCalls
 book_law views first book old call reply new s b = record {
@@ -35,8 +35,8 @@ one_share f g k e (s ∷ shares) (suc n) h =
 
 pub shares_law : SharesAddUp
 shares_law shares n v h = λ i. record {
-  count = one_share (λ (share : Book). share.count) (booked v) 1 (λ share. refl) shares n h i;
-  sum = one_share (λ (share : Book). share.sum) (booked v) v.bits (λ share. refl) shares n h i;
+  count = one_share (λ (share : Book). share.count) (book_after_record v) 1 (λ share. refl) shares n h i;
+  sum = one_share (λ (share : Book). share.sum) (book_after_record v) v.bits (λ share. refl) shares n h i;
 }
 
 one_longer : (vs : List Amount) (v : Amount) (k : ℕ) → k + length (vs ++ v ∷ []) ≡ (k + length vs) + 1

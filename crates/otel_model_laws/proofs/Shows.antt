@@ -2,7 +2,7 @@
 use Rattle.std.proofs.Common.{◌≡◌, ℕ, ◌+◌, Bool, true, false, List, [], ◌∷◌, ◌++◌, map, refl, sym, ◌∙◌, ap, cond, subst}
 use Rattle.std.specs.Prelude.{fold}
 use Rattle.otel_common.specs.declared.attributes.KeyValue.{KeyValue}
-use Rattle.otel_model_stream.specs.Folds.{wrapped, sample_of}
+use Rattle.otel_model_stream.specs.Folds.{wrap, sample_of}
 use Rattle.otel_model_stream.specs.Events.{Event}
 use Rattle.otel_model_stream.specs.Machine.{through, let_go}
 use Rattle.otel_model_stream.specs.Totals.{size}
@@ -19,7 +19,7 @@ use Rattle.otel_model.specs.Calls.{Observed, RecordBound, Unbind}
 use Rattle.otel_model.specs.Demands.{Demand, has_identity}
 use Rattle.otel_model.specs.Streams.{is_delta, kind_of}
 use Rattle.otel_model.specs.Collections.{shows_differences}
-use Rattle.otel_model.specs.Sent.{observed}
+use Rattle.otel_model.specs.Sent.{observed_events}
 use Rattle.otel_model.specs.Machine.{points_at, changed_at}
 use Rattle.otel_model.specs.Laws.{AreApart, AreNumbered, names}
 use Rattle.otel_model.proofs.Follow.{run_append, recorded_append}
@@ -53,7 +53,7 @@ binds_by_number answers feeds next n l ss ks k a b =
 
 pub unheld_rests : UnheldRests
 unheld_rests answers feeds next h v s e = (
-  λ i. record s { machine = through (e i) (sample_of (aggregate_of s.demand) v.amount) s.machine; recorded = if_held (e i) (wrapped (s.recorded + size (aggregate_of s.demand) v.amount)) s.recorded },
+  λ i. record s { machine = through (e i) (sample_of (aggregate_of s.demand) v.amount) s.machine; recorded = if_held (e i) (wrap (s.recorded + size (aggregate_of s.demand) v.amount)) s.recorded },
   λ i. record s { machine = let_go (e i) h s.machine },
 )
 
@@ -86,11 +86,11 @@ handles_by_number answers feeds next h v ss ks xs k a b only = (
 -- ======== collections ========
 pub collects_after : CollectsAfterObservations
 collects_after answers feeds next r now os s = λ i. record s {
-  machine = run_append (aggregate_of s.demand) (kind_of answers s.demand) s.demand.limit s.machine (observed feeds s.demand os) (Event.Collect ∷ []) i;
-  since = cond (is_delta answers s.demand) now s.since;
+  machine = run_append (aggregate_of s.demand) (kind_of answers s.demand) s.demand.limit s.machine (observed_events feeds s.demand os) (Event.Collect ∷ []) i;
+  start = cond (is_delta answers s.demand) now s.start;
   reported = cond (shows_differences answers s.demand) (points_at answers feeds os s) s.reported;
-  recorded = recorded_append (aggregate_of s.demand) (kind_of answers s.demand) s.demand.limit s.machine s.recorded (observed feeds s.demand os) (Event.Collect ∷ []) i;
-  exported = cond (is_delta answers s.demand) (wrapped (s.exported + points_total (points_at answers feeds os s))) s.exported;
+  recorded = recorded_append (aggregate_of s.demand) (kind_of answers s.demand) s.demand.limit s.machine s.recorded (observed_events feeds s.demand os) (Event.Collect ∷ []) i;
+  exported = cond (is_delta answers s.demand) (wrap (s.exported + points_total (points_at answers feeds os s))) s.exported;
 }
 
 -- events one after another
@@ -101,12 +101,12 @@ with_more answers es fs s = λ i. record s {
 }
 
 abbrev with_observed : ReaderAnswers → List (List Identity) → List Observed → Stream → Stream
-with_observed answers feeds os s = stream_with answers (observed feeds s.demand os) s
+with_observed answers feeds os s = stream_with answers (observed_events feeds s.demand os) s
 
-observed_first : (feeds : List (List Identity)) (d : Demand) (o : Observed) (os : List Observed) → observed feeds d (o ∷ []) ++ observed feeds d os ≡ observed feeds d (o ∷ os)
+observed_first : (feeds : List (List Identity)) (d : Demand) (o : Observed) (os : List Observed) → observed_events feeds d (o ∷ []) ++ observed_events feeds d os ≡ observed_events feeds d (o ∷ os)
 observed_first feeds d o os = go (is_fed feeds o.instrument d.identity)
   where
-    go : (b : Bool) → cond b (Event.Record (set_for d o.attributes) o.value.amount ∷ []) [] ++ observed feeds d os ≡ cond b (Event.Record (set_for d o.attributes) o.value.amount ∷ observed feeds d os) (observed feeds d os)
+    go : (b : Bool) → cond b (Event.Record (set_for d o.attributes) o.value.amount ∷ []) [] ++ observed_events feeds d os ≡ cond b (Event.Record (set_for d o.attributes) o.value.amount ∷ observed_events feeds d os) (observed_events feeds d os)
     go true = refl
     go false = refl
 
@@ -134,4 +134,4 @@ observations_by_number answers feeds numbers_of (o ∷ os) ss k a b =
     ∙ (observations_by_number answers feeds numbers_of os (map (with_observed answers feeds (o ∷ [])) ss)
     (λ n. subst (λ ns. AreNumbered ns (numbers_of n) (fed_by feeds n)) (sym same) (k n)) a (subst AreApart (sym same) b)
     ∙ map_both (with_observed answers feeds os) (with_observed answers feeds (o ∷ [])) (with_observed answers feeds (o ∷ os)) ss
-    (λ s. with_more answers (observed feeds s.demand (o ∷ [])) (observed feeds s.demand os) s ∙ ap (λ es. stream_with answers es s) (observed_first feeds s.demand o os)))
+    (λ s. with_more answers (observed_events feeds s.demand (o ∷ [])) (observed_events feeds s.demand os) s ∙ ap (λ es. stream_with answers es s) (observed_first feeds s.demand o os)))

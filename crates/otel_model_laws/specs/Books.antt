@@ -1,6 +1,6 @@
 -- How many records a provider's instruments accepted, and the sum of their values, modulo 2^64, over calls.
 use Rattle.std.specs.Prelude.{◌≡◌, ℕ, ◌+◌, List, [], ◌∷◌, sum_by}
-use Rattle.otel_model_stream.specs.Folds.{Amount, wrapped}
+use Rattle.otel_model_stream.specs.Folds.{Amount, wrap}
 use Rattle.otel_model.specs.Calls.{Call, Meter, Build, Record, Bind, RecordBound, Unbind, Collect, Flush, Shutdown, Reply}
 use Rattle.otel_model.specs.Demands.{Views}
 use Rattle.otel_model.specs.State.{InstrumentState, State}
@@ -52,9 +52,9 @@ added_among amount (call ∷ calls) (reply ∷ replies) = if_done reply (added_b
 -- a call that is answered by `Done` adds its record and its value, and no other call adds anything
 abbrev pub EachCallIsBooked : Type 0
 EachCallIsBooked = (views : Views) (old : State) (call : Call) (reply : Reply) (new : State) → Step views old call reply new
-    → (wrapped (count_in new) ≡ wrapped (count_in old + if_done reply (added_by one_each call))) × (wrapped (sum_in new) ≡ wrapped (sum_in old + if_done reply (added_by bits_of call)))
+    → (wrap (count_in new) ≡ wrap (count_in old + if_done reply (added_by one_each call))) × (wrap (sum_in new) ≡ wrap (sum_in old + if_done reply (added_by bits_of call)))
 
 -- so over a run
 abbrev pub EachRunIsBooked : Type 0
 EachRunIsBooked = (views : Views) (old : State) (calls : List Call) (replies : List Reply) (new : State) → Run views old calls replies new
-    → (wrapped (count_in new) ≡ wrapped (count_in old + added_among one_each calls replies)) × (wrapped (sum_in new) ≡ wrapped (sum_in old + added_among bits_of calls replies))
+    → (wrap (count_in new) ≡ wrap (count_in old + added_among one_each calls replies)) × (wrap (sum_in new) ≡ wrap (sum_in old + added_among bits_of calls replies))

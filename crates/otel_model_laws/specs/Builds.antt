@@ -1,9 +1,9 @@
 -- Two builds of the same streams (Metrics SDK, "Duplicate instrument registration").
 use Rattle.std.specs.Prelude.{◌≡◌, ℕ, true, map, Some, slice_get}
 use Rattle.otel_common.specs.declared.scopes.InstrumentationScope.{InstrumentationScope}
-use Rattle.otel_model.specs.Calls.{lowered}
+use Rattle.otel_model.specs.Calls.{ascii_lowercase}
 use Rattle.otel_model.specs.Demands.{View, Views, instrument_of, description_of, unit_of, is_good}
-use Rattle.otel_model.specs.History.{Built, builds_in, made}
+use Rattle.otel_model.specs.History.{Built, builds_in, made_calls}
 use Rattle.otel_model.specs.Laws.{OfEachReader}
 
 -- two good builds on the meters of one scope, so before a shutdown, that agree in kind, number type,
@@ -18,11 +18,11 @@ pub record AreAlike (views : Views) (i j : Built) : Type 0 where
   pub signed : i.about.signed ≡ j.about.signed
   pub description : description_of i.about ≡ description_of j.about
   pub unit : unit_of i.about ≡ unit_of j.about
-  pub name : lowered i.about.name ≡ lowered j.about.name
+  pub name : ascii_lowercase i.about.name ≡ ascii_lowercase j.about.name
   pub answers : map (λ (view : View). view (instrument_of scope i.about)) views ≡ map (λ (view : View). view (instrument_of scope j.about)) views
 
 -- they feed the same streams
 abbrev pub AlikeFeedTheSame : Type 0
 AlikeFeedTheSame = OfEachReader (λ views resource calls replies new r answers part.
-    (m n : ℕ) (i j : Built) → slice_get (builds_in (made calls replies)) m ≡ Some i → slice_get (builds_in (made calls replies)) n ≡ Some j → AreAlike views i j
+    (m n : ℕ) (i j : Built) → slice_get (builds_in (made_calls calls replies)) m ≡ Some i → slice_get (builds_in (made_calls calls replies)) n ≡ Some j → AreAlike views i j
     → slice_get part.feeds m ≡ slice_get part.feeds n)

@@ -2,7 +2,7 @@
 use Rattle.std.specs.Prelude.{◌≡◌, ℕ, ◌+◌, ◌<◌, true, false, cond, List, [], ◌∷◌, map, filter, length, Some, slice_get, sum_by}
 pub use Rattle.std.specs.List.{AllByRecursion as EachOf}
 use Rattle.otel_model_stream.specs.Events.{Event, Handles}
-use Rattle.otel_model_stream.specs.Folds.{wrapped}
+use Rattle.otel_model_stream.specs.Folds.{wrap}
 use Rattle.otel_model_stream.specs.Machine.{begin, run, answers as points_given, points}
 use Rattle.otel_model_stream.specs.Totals.{has_number, points_total}
 use Rattle.otel_model.specs.Resources.{Resource}
@@ -18,11 +18,11 @@ use Rattle.otel_model.specs.Accepted.{accepted_for}
 -- ======== balances ========
 -- what a stream recorded is what it exported and what is pending, modulo 2^64
 abbrev pub IsBalanced : ReaderAnswers → Stream → Type 0
-IsBalanced answers q = is_drained q.demand ≡ false → q.recorded ≡ wrapped (q.exported + points_total (points (kind_of answers q.demand) q.machine))
+IsBalanced answers q = is_drained q.demand ≡ false → q.recorded ≡ wrap (q.exported + points_total (points (kind_of answers q.demand) q.machine))
 
 -- and what the instruments that feed it accepted
 abbrev pub IsPaidFor : List (List Identity) → List InstrumentState → Stream → Type 0
-IsPaidFor feeds is q = is_observable q.demand.identity.kind ≡ false → q.recorded ≡ wrapped (accepted_for (aggregate_of q.demand) q.demand.identity feeds is)
+IsPaidFor feeds is q = is_observable q.demand.identity.kind ≡ false → q.recorded ≡ wrap (accepted_for (aggregate_of q.demand) q.demand.identity feeds is)
 
 -- both, of each stream of each reader
 abbrev pub Balances : State → Type 0
@@ -54,14 +54,14 @@ held_for feeds x live = handles_of (filter (λ (p : LiveHandle). is_fed feeds p.
 -- a synchronous stream's handles are those, and it is paid for
 abbrev pub IsAccounted : List (List Identity) → List LiveHandle → List InstrumentState → Stream → Type 0
 IsAccounted feeds live is q = is_observable q.demand.identity.kind ≡ false
-    → (numbers q.machine.live ≡ held_for feeds q.demand.identity live) × (q.recorded ≡ wrapped (accepted_for (aggregate_of q.demand) q.demand.identity feeds is))
+    → (numbers q.machine.live ≡ held_for feeds q.demand.identity live) × (q.recorded ≡ wrap (accepted_for (aggregate_of q.demand) q.demand.identity feeds is))
 
 -- a stream is what some list of events made of it
 pub record IsOfEvents (answers : ReaderAnswers) (q : Stream) : Type 0 where
   pub events : List Event
   pub machine : q.machine ≡ run (aggregate_of q.demand) (kind_of answers q.demand) q.demand.limit (begin (aggregate_of q.demand)) events
   pub recorded : q.recorded ≡ recorded_over (aggregate_of q.demand) (kind_of answers q.demand) q.demand.limit (begin (aggregate_of q.demand)) 0 events
-  pub exported : q.exported ≡ cond (is_delta answers q.demand) (wrapped (sum_by points_total (points_given (aggregate_of q.demand) (kind_of answers q.demand) q.demand.limit (begin (aggregate_of q.demand)) events))) 0
+  pub exported : q.exported ≡ cond (is_delta answers q.demand) (wrap (sum_by points_total (points_given (aggregate_of q.demand) (kind_of answers q.demand) q.demand.limit (begin (aggregate_of q.demand)) events))) 0
 
 -- ======== readers, providers ========
 abbrev pub kinds_of : List InstrumentState → List InstrumentKind

@@ -4,7 +4,7 @@ use Rattle.std.specs.List.Sorted.{IsPermutation}
 use Rattle.otel_common.specs.Canonical.{HasDistinctKeys}
 use Rattle.otel_common.specs.declared.attributes.KeyValue.{KeyValue}
 use Rattle.otel_model_stream.specs.Sets.{AttributeSet}
-use Rattle.otel_model_stream.specs.Folds.{LastValue, wrapped, fold_of}
+use Rattle.otel_model_stream.specs.Folds.{LastValue, wrap, fold_of}
 use Rattle.otel_model_stream.specs.Events.{Event, Point}
 use Rattle.otel_model_stream.specs.Windows.{records_of, values_of}
 use Rattle.otel_model.specs.Calls.{Number, Observed, Call, Record, Bind, Collect, Reply}
@@ -43,4 +43,4 @@ last_observed answers d events set = value_of (fold_of LastValue (values_of (rec
 abbrev pub AreDifferences : Type 0
 AreDifferences = (views : Views) (answers : ReaderAnswers) (r : ℕ) (d : Demand) (calls : List Call) (events : List Event) → shows_differences answers d ≡ true
     → (k : ℕ) (p : Point) → slice_get (differences answers d (reported_of views answers r d calls) (window_points answers d (history views answers r d calls ++ events))) k ≡ Some p
-    → wrapped (value_of p.1 + value_before (reported_of views answers r d calls) p.0) ≡ wrapped (last_observed answers d (history views answers r d calls ++ events) p.0)
+    → wrap (value_of p.1 + value_before (reported_of views answers r d calls) p.0) ≡ wrap (last_observed answers d (history views answers r d calls ++ events) p.0)

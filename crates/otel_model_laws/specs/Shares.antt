@@ -1,6 +1,6 @@
 -- The book of the records that workers make, and the share of each worker, as whole numbers.
 use Rattle.std.specs.Prelude.{◌≡◌, ℕ, ◌+◌, ◌<◌, List, [], ◌∷◌, ◌++◌, length, sum_by}
-use Rattle.otel_model_stream.specs.Folds.{Amount, wrapped}
+use Rattle.otel_model_stream.specs.Folds.{Amount, wrap}
 use Rattle.otel_model.specs.Calls.{Call, Reply}
 use Rattle.otel_model.specs.Demands.{Views}
 use Rattle.otel_model.specs.Machine.{changed_at}
@@ -18,8 +18,8 @@ abbrev pub empty_book : Book
 empty_book = record { count = 0; sum = 0 }
 
 -- one record more
-abbrev pub booked : Amount → Book → Book
-booked v book = record { count = book.count + 1; sum = book.sum + v.bits }
+abbrev pub book_after_record : Amount → Book → Book
+book_after_record v book = record { count = book.count + 1; sum = book.sum + v.bits }
 
 -- these records more
 abbrev pub booked_each : List Amount → Book → Book
@@ -35,12 +35,12 @@ booked_by call reply book = record { count = book.count + if_done reply (added_b
 
 -- to book a list of records is to book them one after another
 abbrev pub BookedOneByOne : Type 0
-BookedOneByOne = (vs : List Amount) (v : Amount) (book : Book) → (booked_each [] book ≡ book) × (booked_each (vs ++ v ∷ []) book ≡ booked v (booked_each vs book))
+BookedOneByOne = (vs : List Amount) (v : Amount) (book : Book) → (booked_each [] book ≡ book) × (booked_each (vs ++ v ∷ []) book ≡ book_after_record v (booked_each vs book))
 
 -- what all instruments accepted is what they had accepted at first and the book, modulo 2^64
 pub record IsBooked (first book : Book) (st : State) : Type 0 where
-  pub count : wrapped (count_in st) ≡ wrapped (first.count + book.count)
-  pub sum : wrapped (sum_in st) ≡ wrapped (first.sum + book.sum)
+  pub count : wrap (count_in st) ≡ wrap (first.count + book.count)
+  pub sum : wrap (sum_in st) ≡ wrap (first.sum + book.sum)
 
 -- it stays so from call to call
 abbrev pub BookFollowsCalls : Type 0
@@ -49,4 +49,4 @@ BookFollowsCalls = (views : Views) (first book : Book) (old : State) (call : Cal
 
 -- a record more in one share is a record more in all shares together
 abbrev pub SharesAddUp : Type 0
-SharesAddUp = (shares : List Book) (n : ℕ) (v : Amount) → n < length shares → sum_of_shares (changed_at n (booked v) shares) ≡ booked v (sum_of_shares shares)
+SharesAddUp = (shares : List Book) (n : ℕ) (v : Amount) → n < length shares → sum_of_shares (changed_at n (book_after_record v) shares) ≡ book_after_record v (sum_of_shares shares)

@@ -2,15 +2,15 @@
 use Rattle.std.specs.Prelude.{◌≡◌, ℕ, ◌+◌, false, cond, List, [], ◌∷◌, map, fold, None, slice_get}
 use Rattle.otel_common.specs.declared.attributes.KeyValue.{KeyValue}
 use Rattle.otel_model_stream.specs.Events.{Event, held_by}
-use Rattle.otel_model_stream.specs.Folds.{wrapped}
-use Rattle.otel_model_stream.specs.Machine.{collected, points}
+use Rattle.otel_model_stream.specs.Folds.{wrap}
+use Rattle.otel_model_stream.specs.Machine.{machine_after_collection, points}
 use Rattle.otel_model_stream.specs.Totals.{points_total}
 use Rattle.otel_model.specs.Calls.{Number, Observed, Record, Bind, RecordBound, Unbind, Collect, or_else}
 use Rattle.otel_model.specs.Demands.{Identity, ReaderAnswers, has_identity}
 use Rattle.otel_model.specs.Streams.{is_delta, kind_of}
 use Rattle.otel_model.specs.Collections.{shows_differences}
 use Rattle.otel_model.specs.State.{Stream}
-use Rattle.otel_model.specs.Sent.{set_for, observed}
+use Rattle.otel_model.specs.Sent.{set_for, observed_events}
 use Rattle.otel_model.specs.Machine.{machine_after, recorded_after, changed_at, stream_after}
 use Rattle.otel_model.specs.Laws.{AreApart, AreNumbered, names}
 use Rattle.otel_model_laws.specs.Lawful.{EachOf}
@@ -64,16 +64,16 @@ HandlesByNumber = (answers : ReaderAnswers) (feeds : List (List Identity)) (next
 -- a stream after a collection, its observations having been recorded
 abbrev pub stream_collected : ReaderAnswers → ℕ → Stream → Stream
 stream_collected answers now s = record s {
-  machine = collected (kind_of answers s.demand) s.machine;
-  since = cond (is_delta answers s.demand) now s.since;
+  machine = machine_after_collection (kind_of answers s.demand) s.machine;
+  start = cond (is_delta answers s.demand) now s.start;
   reported = cond (shows_differences answers s.demand) (points (kind_of answers s.demand) s.machine) s.reported;
-  exported = cond (is_delta answers s.demand) (wrapped (s.exported + points_total (points (kind_of answers s.demand) s.machine))) s.exported;
+  exported = cond (is_delta answers s.demand) (wrap (s.exported + points_total (points (kind_of answers s.demand) s.machine))) s.exported;
 }
 
 -- a collection is its observations, and then the collection itself
 abbrev pub CollectsAfterObservations : Type 0
 CollectsAfterObservations = (answers : ReaderAnswers) (feeds : List (List Identity)) (next r now : ℕ) (os : List Observed) (s : Stream)
-    → stream_after answers feeds next (Collect r now os) s ≡ stream_collected answers now (stream_with answers (observed feeds s.demand os) s)
+    → stream_after answers feeds next (Collect r now os) s ≡ stream_collected answers now (stream_with answers (observed_events feeds s.demand os) s)
 
 -- to record the observations one after another, each into the streams that its instrument feeds, is to
 -- record them in each stream. `numbers_of` gives the numbers of the streams that an instrument feeds
@@ -81,4 +81,4 @@ abbrev pub ObservationsByNumber : Type 0
 ObservationsByNumber = (answers : ReaderAnswers) (feeds : List (List Identity)) (numbers_of : ℕ → List ℕ) (os : List Observed) (ss : List Stream)
     → ((n : ℕ) → AreNumbered (names ss) (numbers_of n) (fed_by feeds n)) → ((n : ℕ) → AreApart (fed_by feeds n)) → AreApart (names ss)
     → fold (λ (ss : List Stream) (o : Observed). fold (λ (ss : List Stream) k. changed_at k (stream_recorded answers o.value o.attributes) ss) ss (numbers_of o.instrument)) ss os
-    ≡ map (λ (s : Stream). stream_with answers (observed feeds s.demand os) s) ss
+    ≡ map (λ (s : Stream). stream_with answers (observed_events feeds s.demand os) s) ss

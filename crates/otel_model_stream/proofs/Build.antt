@@ -10,9 +10,9 @@ use Rattle.otel_common.specs.Equality.{set_eq}
 use Rattle.otel_model_stream.specs.Sets.{AttributeSet, none_set, over_set}
 use Rattle.otel_model_stream.specs.Folds.{Aggregate, Amount, empty_of, sample_of, fold_of}
 use Rattle.otel_model_stream.specs.Events.{Handles, held_by, without}
-use Rattle.otel_model_stream.specs.Entries.{Entry, Table, fresh, has, number_counted, placed, entry_for, on, write, take_handle, drop_handle, at_entry}
+use Rattle.otel_model_stream.specs.Entries.{Entry, Table, new_entry, has, number_counted, entries_with_place, entry_for, on, write, take_handle, drop_handle, at_entry}
 use Rattle.otel_model_stream.specs.Machine.{Machine, hold, let_go}
-use Rattle.otel_model_stream.specs.Windows.{is_in, counted, is_hit, is_held, values_of}
+use Rattle.otel_model_stream.specs.Windows.{is_in, sets_that_count, is_hit, is_held, values_of}
 use Rattle.otel_model_stream.proofs.Sets.{set_eq_self, over_apart}
 use Rattle.otel_model_stream.proofs.Lists.{is_in_same, same_sym, or_true, or_false}
 use Rattle.otel_model_stream.proofs.FoldLaws.{fold_of-none, fold_of-push}
@@ -52,12 +52,12 @@ pub has_built : (σ : Aggregate) (u : Bool) (rs : Pairs) (hs : Handles) (s : Att
 has_built σ u rs hs s [] = refl
 has_built σ u rs hs s (x ∷ p) = ap (λ b. set_eq x s || b) (has_built σ u rs hs s p)
 
-pub count_built : (σ : Aggregate) (u : Bool) (rs : Pairs) (hs : Handles) (p : List AttributeSet) → number_counted (map (entry σ u rs hs) p) ≡ length (counted u p)
+pub count_built : (σ : Aggregate) (u : Bool) (rs : Pairs) (hs : Handles) (p : List AttributeSet) → number_counted (map (entry σ u rs hs) p) ≡ length (sets_that_count u p)
 count_built σ u rs hs [] = refl
 count_built σ u rs hs (x ∷ p) = go (not (u && set_eq x over_set)) (count_built σ u rs hs p)
   where
-    go : (b : Bool) → number_counted (map (entry σ u rs hs) p) ≡ length (counted u p)
-        → length (cond b (entry σ u rs hs x ∷ filter (λ e. e.counted) (map (entry σ u rs hs) p)) (filter (λ e. e.counted) (map (entry σ u rs hs) p))) ≡ length (cond b (x ∷ counted u p) (counted u p))
+    go : (b : Bool) → number_counted (map (entry σ u rs hs) p) ≡ length (sets_that_count u p)
+        → length (cond b (entry σ u rs hs x ∷ filter (λ e. e.counted) (map (entry σ u rs hs) p)) (filter (λ e. e.counted) (map (entry σ u rs hs) p))) ≡ length (cond b (x ∷ sets_that_count u p) (sets_that_count u p))
     go true ih = ap suc ih
     go false ih = ih
 
@@ -168,7 +168,7 @@ no_handles (r ∷ hs) x e =
     let q = or_parts (set_eq r.1 x) (is_held hs x) e in
     sum_by-cons (λ (p : ℕ × AttributeSet). cond (set_eq p.1 x) 1 0) r hs ∙ rw (q.0, no_handles hs x q.1) refl
 
-fresh_is : (σ : Aggregate) (c d : Bool) (rs : Pairs) (hs : Handles) (x : AttributeSet) → is_hit rs x ≡ false → is_held hs x ≡ false → c ≡ d → fresh (empty_of σ) x c ≡ item σ d rs hs x
+fresh_is : (σ : Aggregate) (c d : Bool) (rs : Pairs) (hs : Handles) (x : AttributeSet) → is_hit rs x ≡ false → is_held hs x ≡ false → c ≡ d → new_entry (empty_of σ) x c ≡ item σ d rs hs x
 fresh_is σ c d rs hs x e f same = λ i. record { set = x; counted = same i; updated = sym e i; fold = sym (ap (fold_of σ) (no_values rs x e) ∙ fold_of-none σ) i; handles = sym (no_handles hs x f) i }
 
 -- where the overflow set has no place, the flag is not looked at
@@ -199,26 +199,26 @@ entries_for σ rs hs q = map (entry σ q.1 rs hs) q.0
 
 -- the machine's entries by the same four tests
 abbrev placed_by : (a b c d : Bool) → Aggregate → AttributeSet → List Entry → List Entry
-placed_by a b c d σ s es = cond a es (cond b es (cond c (es ++ fresh (empty_of σ) s true ∷ []) (cond d es (es ++ fresh (empty_of σ) over_set false ∷ []))))
+placed_by a b c d σ s es = cond a es (cond b es (cond c (es ++ new_entry (empty_of σ) s true ∷ []) (cond d es (es ++ new_entry (empty_of σ) over_set false ∷ []))))
 
 pub places_one : (σ : Aggregate) (limit : ℕ) (s : AttributeSet) (p : List AttributeSet) (u : Bool) (rs : Pairs) (hs : Handles) → (u ≡ true → is_in over_set p ≡ true) → AreHitsPlaced p rs → AreHandlesPlaced p hs
-    → placed limit (empty_of σ) s (map (entry σ u rs hs) p) ≡ entries_for σ rs hs (grown limit s p u)
+    → entries_with_place limit (empty_of σ) s (map (entry σ u rs hs) p) ≡ entries_for σ rs hs (grown limit s p u)
 places_one σ limit s p u rs hs over hits helds =
     (λ i. placed_by (set_eq s none_set) (has_built σ u rs hs s p i) (nat_lt (count_built σ u rs hs p i) limit) (has_built σ u rs hs over_set p i) σ s (map (entry σ u rs hs) p))
-    ∙ go (set_eq s none_set) (is_in s p) (nat_lt (length (counted u p)) limit) (is_in over_set p) counted_place overflow_place
+    ∙ go (set_eq s none_set) (is_in s p) (nat_lt (length (sets_that_count u p)) limit) (is_in over_set p) counted_place overflow_place
   where
-    counted_place : set_eq s none_set ≡ false → is_in s p ≡ false → map (entry σ u rs hs) p ++ fresh (empty_of σ) s true ∷ [] ≡ map (entry σ u rs hs) (p ++ s ∷ [])
+    counted_place : set_eq s none_set ≡ false → is_in s p ≡ false → map (entry σ u rs hs) p ++ new_entry (empty_of σ) s true ∷ [] ≡ map (entry σ u rs hs) (p ++ s ∷ [])
     counted_place a b =
         ap (λ e. map (entry σ u rs hs) p ++ e ∷ []) (fresh_is σ true (counts u s) rs hs s (hits s a b) (helds s a b) (sym (counts_new u s p over b)))
         ∙ sym (map-append (entry σ u rs hs) p (s ∷ []))
 
-    overflow_place : is_in over_set p ≡ false → map (entry σ u rs hs) p ++ fresh (empty_of σ) over_set false ∷ [] ≡ map (entry σ true rs hs) (p ++ over_set ∷ [])
+    overflow_place : is_in over_set p ≡ false → map (entry σ u rs hs) p ++ new_entry (empty_of σ) over_set false ∷ [] ≡ map (entry σ true rs hs) (p ++ over_set ∷ [])
     overflow_place m =
         (λ i. flag_unread σ u true rs hs p m i ++ fresh_is σ false (counts true over_set) rs hs over_set (hits over_set over_apart m) (helds over_set over_apart m) (sym (ap not (set_eq_self over_set))) i ∷ [])
         ∙ sym (map-append (entry σ true rs hs) p (over_set ∷ []))
 
-    go : (a b c d : Bool) → (a ≡ false → b ≡ false → map (entry σ u rs hs) p ++ fresh (empty_of σ) s true ∷ [] ≡ map (entry σ u rs hs) (p ++ s ∷ []))
-        → (d ≡ false → map (entry σ u rs hs) p ++ fresh (empty_of σ) over_set false ∷ [] ≡ map (entry σ true rs hs) (p ++ over_set ∷ []))
+    go : (a b c d : Bool) → (a ≡ false → b ≡ false → map (entry σ u rs hs) p ++ new_entry (empty_of σ) s true ∷ [] ≡ map (entry σ u rs hs) (p ++ s ∷ []))
+        → (d ≡ false → map (entry σ u rs hs) p ++ new_entry (empty_of σ) over_set false ∷ [] ≡ map (entry σ true rs hs) (p ++ over_set ∷ []))
         → placed_by a b c d σ s (map (entry σ u rs hs) p) ≡ entries_for σ rs hs (grown_by a b c d s p u)
     go true b c d f g = refl
     go false true c d f g = refl

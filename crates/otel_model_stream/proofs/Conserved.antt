@@ -4,9 +4,9 @@ use Rattle.std.specs.Prelude.{filter, sum_by}
 use Rattle.std.proofs.lemmas.List.{append-nil, map-append, length-map}
 use Rattle.std.proofs.lemmas.List.Sums.{sum_by-cons, sum_by-append, length-filter, count_by-le-length}
 use Rattle.otel_model_stream.specs.Sets.{AttributeSet, none_set}
-use Rattle.otel_model_stream.specs.Folds.{Aggregate, Amount, wrapped}
+use Rattle.otel_model_stream.specs.Folds.{Aggregate, Amount, wrap}
 use Rattle.otel_model_stream.specs.Events.{Event, Record, Bind, RecordBound, Unbind, Collect, Kind, Delta, Cumulative, Drained, held_by, without}
-use Rattle.otel_model_stream.specs.Windows.{Window, live, records, by_handle, places_of, uncounted_of, goal_of, live_of, records_of, is_hit, point, points_of, first, cut, opening, more, window, collections}
+use Rattle.otel_model_stream.specs.Windows.{Window, live_handles, records, by_handle, places_of, uncounted_of, goal_of, live_of, records_of, is_hit, point, points_of, first, cut, opening, more, window, collections}
 use Rattle.otel_model_stream.specs.Totals.{size, without_number, recorded_from, recorded_total, points_total}
 use Rattle.otel_model_stream.proofs.Places.{IsLawful}
 use Rattle.otel_model_stream.proofs.Steps.{IsSound, live_more, records_more}
@@ -51,7 +51,7 @@ module _ (σ : Aggregate) where
   Adds limit w e = (es : List Event) → pending_of limit (more w e) + recorded_from (size σ) (live_numbers limit (more w e)) es ≡ pending_of limit w + recorded_from (size σ) (live_numbers limit w) (e ∷ es)
 
   adds : (limit : ℕ) (w : Window) (e : Event) → IsLawful w.start → (es : List Event)
-      → (pending_of limit (more w e) + recorded_from (size σ) (live_numbers limit (more w e)) es ≡ (pending_of limit w + amount σ (records (goal_of limit (more w e)) (live_of limit w) (e ∷ []))) + recorded_from (size σ) (numbers (live (goal_of limit (more w e)) (live_of limit w) (e ∷ []))) es)
+      → (pending_of limit (more w e) + recorded_from (size σ) (live_numbers limit (more w e)) es ≡ (pending_of limit w + amount σ (records (goal_of limit (more w e)) (live_of limit w) (e ∷ []))) + recorded_from (size σ) (numbers (live_handles (goal_of limit (more w e)) (live_of limit w) (e ∷ []))) es)
   adds limit w e l es =
       λ i. ((ap (amount σ) (records_more limit w e l) ∙ sum_by-append (λ (r : AttributeSet × Amount). size σ r.1) (records_of limit w) (records (goal_of limit (more w e)) (live_of limit w) (e ∷ []))) i)
       + recorded_from (size σ) (numbers (live_more limit w e l i)) es
@@ -75,17 +75,17 @@ module _ (σ : Aggregate) where
       omega (arith, adds limit w (Unbind h) l es)
 
   pub conserved : (limit : ℕ) (w : Window) (es : List Event) → IsSound limit w → IsTidy limit (facts limit w)
-      → wrapped (sum_by points_total (collections σ Delta limit w es) + pending_of limit (window Delta limit w es)) ≡ wrapped (pending_of limit w + recorded_from (size σ) (live_numbers limit w) es)
-  conserved limit w [] a t = ap wrapped (zero_plus (pending_of limit w))
-  conserved limit w (Record s v ∷ es) a t = conserved limit (more w (Record s v)) es (sound_record limit w s v a) (tidy_record limit w s v a.lawful t) ∙ ap wrapped (adds_record limit w s v a.lawful es)
-  conserved limit w (Bind h s ∷ es) a t = conserved limit (more w (Bind h s)) es (sound_bind limit w h s a) (tidy_bind limit w h s a.lawful t) ∙ ap wrapped (adds_bind limit w h s a.lawful es)
-  conserved limit w (RecordBound h v ∷ es) a t = conserved limit (more w (RecordBound h v)) es (sound_through limit w h v a) (tidy_through limit w h v a.lawful t) ∙ ap wrapped (adds_through limit w h v a.lawful es)
-  conserved limit w (Unbind h ∷ es) a t = conserved limit (more w (Unbind h)) es (sound_let_go limit w h a) (tidy_let_go limit w h a.lawful t) ∙ ap wrapped (adds_let_go limit w h a.lawful es)
+      → wrap (sum_by points_total (collections σ Delta limit w es) + pending_of limit (window Delta limit w es)) ≡ wrap (pending_of limit w + recorded_from (size σ) (live_numbers limit w) es)
+  conserved limit w [] a t = ap wrap (zero_plus (pending_of limit w))
+  conserved limit w (Record s v ∷ es) a t = conserved limit (more w (Record s v)) es (sound_record limit w s v a) (tidy_record limit w s v a.lawful t) ∙ ap wrap (adds_record limit w s v a.lawful es)
+  conserved limit w (Bind h s ∷ es) a t = conserved limit (more w (Bind h s)) es (sound_bind limit w h s a) (tidy_bind limit w h s a.lawful t) ∙ ap wrap (adds_bind limit w h s a.lawful es)
+  conserved limit w (RecordBound h v ∷ es) a t = conserved limit (more w (RecordBound h v)) es (sound_through limit w h v a) (tidy_through limit w h v a.lawful t) ∙ ap wrap (adds_through limit w h v a.lawful es)
+  conserved limit w (Unbind h ∷ es) a t = conserved limit (more w (Unbind h)) es (sound_let_go limit w h a) (tidy_let_go limit w h a.lawful t) ∙ ap wrap (adds_let_go limit w h a.lawful es)
   conserved limit w (Collect ∷ es) a t =
       let ih = conserved limit (cut Delta limit w) es (sound_cut Delta limit w a) (tidy_cut Delta limit w t) in
-      ap wrapped (regroup (points_total (points_of σ Delta limit w)) (sum_by points_total (collections σ Delta limit (cut Delta limit w) es)) (pending_of limit (window Delta limit (cut Delta limit w) es)) _ (sum_by-cons points_total (points_of σ Delta limit w) (collections σ Delta limit (cut Delta limit w) es)))
+      ap wrap (regroup (points_total (points_of σ Delta limit w)) (sum_by points_total (collections σ Delta limit (cut Delta limit w) es)) (pending_of limit (window Delta limit (cut Delta limit w) es)) _ (sum_by-cons points_total (points_of σ Delta limit w) (collections σ Delta limit (cut Delta limit w) es)))
       ∙ (mod_both _ _ _ _ (window_total σ Delta limit w a t) ih
-      ∙ ap (λ n. wrapped (pending_of limit w + n)) (none_plus (recorded_from (size σ) (live_numbers limit w) es)))
+      ∙ ap (λ n. wrap (pending_of limit w + n)) (none_plus (recorded_from (size σ) (live_numbers limit w) es)))
 
   pub shown_whole : (limit : ℕ) (w : Window) (es : List Event) → IsSound limit w → IsTidy limit (facts limit w)
       → pending_of limit (window Cumulative limit w es) ≡ pending_of limit w + recorded_from (size σ) (live_numbers limit w) es
@@ -99,18 +99,18 @@ module _ (σ : Aggregate) where
   -- ======== from the start ========
   -- a delta stream: what its collections gave and what is pending is what was recorded
   pub delta_total : (limit : ℕ) (es : List Event)
-      → wrapped (sum_by points_total (collections σ Delta limit opening es) + points_total (points_of σ Delta limit (window Delta limit opening es))) ≡ wrapped (recorded_total σ es)
+      → wrap (sum_by points_total (collections σ Delta limit opening es) + points_total (points_of σ Delta limit (window Delta limit opening es))) ≡ wrap (recorded_total σ es)
   delta_total limit es =
       let r = reached Delta limit opening es (sound_opening limit) (tidy_opening limit) in
       mod_both _ _ _ _ refl (window_total σ Delta limit (window Delta limit opening es) r.0 r.1)
-      ∙ (conserved limit opening es (sound_opening limit) (tidy_opening limit) ∙ ap wrapped (none_plus (recorded_total σ es)))
+      ∙ (conserved limit opening es (sound_opening limit) (tidy_opening limit) ∙ ap wrap (none_plus (recorded_total σ es)))
 
   -- a cumulative one: its points hold all that was recorded
-  pub cumulative_total : (limit : ℕ) (es : List Event) → wrapped (points_total (points_of σ Cumulative limit (window Cumulative limit opening es))) ≡ wrapped (recorded_total σ es)
+  pub cumulative_total : (limit : ℕ) (es : List Event) → wrap (points_total (points_of σ Cumulative limit (window Cumulative limit opening es))) ≡ wrap (recorded_total σ es)
   cumulative_total limit es =
       let r = reached Cumulative limit opening es (sound_opening limit) (tidy_opening limit) in
       window_total σ Cumulative limit (window Cumulative limit opening es) r.0 r.1
-      ∙ ap wrapped (shown_whole limit opening es (sound_opening limit) (tidy_opening limit) ∙ none_plus (recorded_total σ es))
+      ∙ ap wrap (shown_whole limit opening es (sound_opening limit) (tidy_opening limit) ∙ none_plus (recorded_total σ es))
 
 -- ======== the number of points ========
 few_filter : (f : AttributeSet → Bool) (l : List AttributeSet) → length (filter f l) ≤ length l

@@ -5,9 +5,9 @@ use Rattle.std.proofs.lemmas.Bool.Decides.{nat_tests}
 use Rattle.std.proofs.lemmas.Int.{ints, int_min_is, int_max_is}
 use Rattle.std.proofs.lemmas.List.{map-append, append-nil, length-replicate}
 use Rattle.std.proofs.lemmas.List.Sums.{sum_by_push}
-use Rattle.otel_model_stream.specs.Folds.{Aggregate, Sum, LastValue, Histogram, Amount, Sample, Spread, Fold, Total, Last, Spreads, wrapped, recorded, counted_in, counts_from, last_bits, least_of, greatest_of, lesser, greater, no_spread, buckets_of, empty_of, sample_of, folded, fold_of}
+use Rattle.otel_model_stream.specs.Folds.{Aggregate, Sum, LastValue, Histogram, Amount, Sample, Spread, Fold, Total, Last, Spreads, wrap, record_fold, counted_in, counts_from, last_bits, least_of, greatest_of, lesser, greater, no_spread, buckets_of, empty_of, sample_of, fold_samples, fold_of}
 
-pub wrapped-add : (m n : ℕ) → wrapped (wrapped m + n) ≡ wrapped (m + n)
+pub wrapped-add : (m n : ℕ) → wrap (wrap m + n) ≡ wrap (m + n)
 wrapped-add m n = omega arith
 
 -- ======== one record more ========
@@ -42,7 +42,7 @@ counts-before a (suc n) vs v h =
     let other : nat_eq v.bucket a ≡ false = grind (arith, nat_tests) in
     let none : count_by (λ (w : Sample). nat_eq w.bucket a) (vs ++ v ∷ []) ≡ count_by (λ (w : Sample). nat_eq w.bucket a) vs =
     sum_by_push (λ (w : Sample). cond (nat_eq w.bucket a) 1 0) vs v ∙ ap (λ b. count_by (λ (w : Sample). nat_eq w.bucket a) vs + cond b 1 0) other ∙ omega arith in
-    ap (λ k. wrapped k ∷ counts_from (a + 1) n (vs ++ v ∷ [])) none ∙ ap (λ l. wrapped (count_by (λ (w : Sample). nat_eq w.bucket a) vs) ∷ l) (counts-before (a + 1) n vs v (omega arith))
+    ap (λ k. wrap k ∷ counts_from (a + 1) n (vs ++ v ∷ [])) none ∙ ap (λ l. wrap (count_by (λ (w : Sample). nat_eq w.bucket a) vs) ∷ l) (counts-before (a + 1) n vs v (omega arith))
 
 counts-push : (a n : ℕ) (vs : List Sample) (v : Sample) (k : ℕ) → v.bucket ≡ a + k → counts_from a n (vs ++ v ∷ []) ≡ counted_in (counts_from a n vs) k
 counts-push a zero vs v k e = refl
@@ -50,16 +50,16 @@ counts-push a (suc n) vs v zero e =
     let same : nat_eq v.bucket a ≡ true = grind (arith, nat_tests) in
     let one : count_by (λ (w : Sample). nat_eq w.bucket a) (vs ++ v ∷ []) ≡ count_by (λ (w : Sample). nat_eq w.bucket a) vs + 1 =
     sum_by_push (λ (w : Sample). cond (nat_eq w.bucket a) 1 0) vs v ∙ ap (λ b. count_by (λ (w : Sample). nat_eq w.bucket a) vs + cond b 1 0) same in
-    ap (λ m. wrapped m ∷ counts_from (a + 1) n (vs ++ v ∷ [])) one ∙ ap (λ m. m ∷ counts_from (a + 1) n (vs ++ v ∷ [])) (sym (wrapped-add (count_by (λ (w : Sample). nat_eq w.bucket a) vs) 1))
-    ∙ ap (λ l. wrapped (wrapped (count_by (λ (w : Sample). nat_eq w.bucket a) vs) + 1) ∷ l) (counts-before (a + 1) n vs v (omega arith))
+    ap (λ m. wrap m ∷ counts_from (a + 1) n (vs ++ v ∷ [])) one ∙ ap (λ m. m ∷ counts_from (a + 1) n (vs ++ v ∷ [])) (sym (wrapped-add (count_by (λ (w : Sample). nat_eq w.bucket a) vs) 1))
+    ∙ ap (λ l. wrap (wrap (count_by (λ (w : Sample). nat_eq w.bucket a) vs) + 1) ∷ l) (counts-before (a + 1) n vs v (omega arith))
 counts-push a (suc n) vs v (suc k) e =
     let other : nat_eq v.bucket a ≡ false = grind (arith, nat_tests) in
     let none : count_by (λ (w : Sample). nat_eq w.bucket a) (vs ++ v ∷ []) ≡ count_by (λ (w : Sample). nat_eq w.bucket a) vs =
     sum_by_push (λ (w : Sample). cond (nat_eq w.bucket a) 1 0) vs v ∙ ap (λ b. count_by (λ (w : Sample). nat_eq w.bucket a) vs + cond b 1 0) other ∙ omega arith in
-    ap (λ m. wrapped m ∷ counts_from (a + 1) n (vs ++ v ∷ [])) none ∙ ap (λ l. wrapped (count_by (λ (w : Sample). nat_eq w.bucket a) vs) ∷ l) (counts-push (a + 1) n vs v k (omega arith))
+    ap (λ m. wrap m ∷ counts_from (a + 1) n (vs ++ v ∷ [])) none ∙ ap (λ l. wrap (count_by (λ (w : Sample). nat_eq w.bucket a) vs) ∷ l) (counts-push (a + 1) n vs v k (omega arith))
 
-sum-push : (vs : List Sample) (v : Sample) → wrapped (sum_by (λ (w : Sample). w.bits) (vs ++ v ∷ [])) ≡ wrapped (wrapped (sum_by (λ (w : Sample). w.bits) vs) + v.bits)
-sum-push vs v = ap wrapped (sum_by_push (λ (w : Sample). w.bits) vs v) ∙ sym (wrapped-add (sum_by (λ (w : Sample). w.bits) vs) v.bits)
+sum-push : (vs : List Sample) (v : Sample) → wrap (sum_by (λ (w : Sample). w.bits) (vs ++ v ∷ [])) ≡ wrap (wrap (sum_by (λ (w : Sample). w.bits) vs) + v.bits)
+sum-push vs v = ap wrap (sum_by_push (λ (w : Sample). w.bits) vs v) ∙ sym (wrapped-add (sum_by (λ (w : Sample). w.bits) vs) v.bits)
 
 -- what is kept or never kept, with one more
 kept_or : {A : Type 0} (b : Bool) (f : A → A) (x y z : A) → y ≡ f x → cond b y z ≡ cond b (f (cond b x z)) (cond b x z)
@@ -72,15 +72,15 @@ folded_least s vs = cond s.has_min_max (least_of (map (λ v. v.wide) vs)) None
 abbrev folded_greatest : Spread → List Sample → Option ℤ
 folded_greatest s vs = cond s.has_min_max (greatest_of (map (λ v. v.wide) vs)) None
 
-pub folded-push : (empty : Fold) (vs : List Sample) (v : Sample) → folded empty (vs ++ v ∷ []) ≡ recorded (folded empty vs) v
+pub folded-push : (empty : Fold) (vs : List Sample) (v : Sample) → fold_samples empty (vs ++ v ∷ []) ≡ record_fold (fold_samples empty vs) v
 folded-push (Total _) vs v = ap Total (sum-push vs v)
 folded-push (Last _) vs v = ap Last (last-push vs v)
 folded-push (Spreads s) vs v =
-    let count : wrapped (length (vs ++ v ∷ [])) ≡ wrapped (wrapped (length vs) + 1) = ap wrapped (length-append vs (v ∷ [])) ∙ sym (wrapped-add (length vs) 1) in
+    let count : wrap (length (vs ++ v ∷ [])) ≡ wrap (wrap (length vs) + 1) = ap wrap (length-append vs (v ∷ [])) ∙ sym (wrapped-add (length vs) 1) in
     let wides : map (λ (w : Sample). w.wide) (vs ++ v ∷ []) ≡ map (λ (w : Sample). w.wide) vs ++ v.wide ∷ [] = map-append (λ (w : Sample). w.wide) vs (v ∷ []) in
     let least : cond s.has_min_max (least_of (map (λ (w : Sample). w.wide) (vs ++ v ∷ []))) None ≡ cond s.has_min_max (lesser (folded_least s vs) v.wide) (folded_least s vs) = kept_or s.has_min_max (λ o. lesser o v.wide) _ _ None (ap least_of wides ∙ least-push (map (λ (w : Sample). w.wide) vs) v.wide) in
     let greatest : cond s.has_min_max (greatest_of (map (λ (w : Sample). w.wide) (vs ++ v ∷ []))) None ≡ cond s.has_min_max (greater (folded_greatest s vs) v.wide) (folded_greatest s vs) = kept_or s.has_min_max (λ o. greater o v.wide) _ _ None (ap greatest_of wides ∙ greatest-push (map (λ (w : Sample). w.wide) vs) v.wide) in
-    let sum = kept_or s.has_sum (λ n. wrapped (n + v.bits)) _ _ 0 (sum-push vs v) in
+    let sum = kept_or s.has_sum (λ n. wrap (n + v.bits)) _ _ 0 (sum-push vs v) in
     let counts : counts_from 0 (length s.counts) (vs ++ v ∷ []) ≡ counted_in (counts_from 0 (length s.counts) vs) v.bucket = counts-push 0 (length s.counts) vs v v.bucket (omega arith) in
     (λ j. Spreads (record { has_min_max = s.has_min_max; has_sum = s.has_sum; count = count j; sum = sum j; least = least j; greatest = greatest j; counts = counts j }))
 
@@ -107,15 +107,15 @@ fold_of-none (Histogram bounds m s) = λ i. Spreads (record {
 })
 
 -- ======== one by one ========
-folded-more : (empty : Fold) (vs ws : List Sample) → fold recorded (folded empty vs) ws ≡ folded empty (vs ++ ws)
-folded-more empty vs [] = ap (folded empty) (sym (append-nil vs))
+folded-more : (empty : Fold) (vs ws : List Sample) → fold record_fold (fold_samples empty vs) ws ≡ fold_samples empty (vs ++ ws)
+folded-more empty vs [] = ap (fold_samples empty) (sym (append-nil vs))
 folded-more empty vs (w ∷ ws) =
-    ap (λ f. fold recorded f ws) (sym (folded-push empty vs w))
-    ∙ (folded-more empty (vs ++ w ∷ []) ws ∙ ap (folded empty) (append_assoc vs (w ∷ []) ws))
+    ap (λ f. fold record_fold f ws) (sym (folded-push empty vs w))
+    ∙ (folded-more empty (vs ++ w ∷ []) ws ∙ ap (fold_samples empty) (append_assoc vs (w ∷ []) ws))
 
-pub fold_is : (σ : Aggregate) (vs : List Amount) → fold recorded (empty_of σ) (map (sample_of σ) vs) ≡ fold_of σ vs
-fold_is σ vs = ap (λ f. fold recorded f (map (sample_of σ) vs)) (sym (fold_of-none σ)) ∙ folded-more (empty_of σ) [] (map (sample_of σ) vs)
+pub fold_is : (σ : Aggregate) (vs : List Amount) → fold record_fold (empty_of σ) (map (sample_of σ) vs) ≡ fold_of σ vs
+fold_is σ vs = ap (λ f. fold record_fold f (map (sample_of σ) vs)) (sym (fold_of-none σ)) ∙ folded-more (empty_of σ) [] (map (sample_of σ) vs)
 
 -- one more value
-pub fold_of-push : (σ : Aggregate) (vs : List Amount) (v : Amount) → fold_of σ (vs ++ v ∷ []) ≡ recorded (fold_of σ vs) (sample_of σ v)
-fold_of-push σ vs v = ap (folded (empty_of σ)) (map-append (sample_of σ) vs (v ∷ [])) ∙ folded-push (empty_of σ) (map (sample_of σ) vs) (sample_of σ v)
+pub fold_of-push : (σ : Aggregate) (vs : List Amount) (v : Amount) → fold_of σ (vs ++ v ∷ []) ≡ record_fold (fold_of σ vs) (sample_of σ v)
+fold_of-push σ vs v = ap (fold_samples (empty_of σ)) (map-append (sample_of σ) vs (v ∷ [])) ∙ folded-push (empty_of σ) (map (sample_of σ) vs) (sample_of σ v)

@@ -6,7 +6,7 @@ use Rattle.std.proofs.lemmas.List.{append-nil}
 use Rattle.otel_common.specs.Equality.{set_eq}
 use Rattle.otel_model_stream.specs.Sets.{AttributeSet, none_set, over_set}
 use Rattle.otel_model_stream.specs.Events.{Event, Record, Bind, RecordBound, Unbind, Collect, Handles, held_by, without}
-use Rattle.otel_model_stream.specs.Windows.{Start, is_in, mentions, newcomers, counted, room, admitted, overflows, places, uncounted_now, goal, live, records, by_handle}
+use Rattle.otel_model_stream.specs.Windows.{Start, is_in, mentions, newcomers, sets_that_count, room, admitted_sets, overflows, places, uncounted_now, goal, live_handles, records, by_handle}
 use Rattle.otel_model_stream.proofs.Sets.{set_eq_true}
 use Rattle.otel_model_stream.proofs.Lists.{same_eq, is_in-append, is_in_left, is_in_right, is_in_same, or_true}
 use Rattle.otel_model_stream.proofs.Places.{grown_by, grown, full, open_sets, places_push, IsLawful, no_newcomer}
@@ -24,9 +24,9 @@ target_over p s = ap (λ b. cond (set_eq s none_set) none_set (cond b s over_set
 pub goal_is_target : (limit : ℕ) (start : Start) (ms : List AttributeSet) (s : AttributeSet) → goal limit start ms s ≡ target (places limit start ms) s
 goal_is_target limit start ms s = go (overflows limit start ms)
   where
-    go : (b : Bool) → target (start.sets ++ admitted limit start ms) s ≡ target ((start.sets ++ admitted limit start ms) ++ cond b (over_set ∷ []) []) s
-    go true = sym (target_over (start.sets ++ admitted limit start ms) s)
-    go false = ap (λ p. target p s) (sym (append-nil (start.sets ++ admitted limit start ms)))
+    go : (b : Bool) → target (start.sets ++ admitted_sets limit start ms) s ≡ target ((start.sets ++ admitted_sets limit start ms) ++ cond b (over_set ∷ []) []) s
+    go true = sym (target_over (start.sets ++ admitted_sets limit start ms) s)
+    go false = ap (λ p. target p s) (sym (append-nil (start.sets ++ admitted_sets limit start ms)))
 
 -- a set that was mentioned was there or is a newcomer
 pub newcomers_has : (s : AttributeSet) (seen ms : List AttributeSet) → is_in s ms ≡ true → set_eq s none_set ≡ false → is_in s (seen ++ newcomers seen ms) ≡ true
@@ -50,10 +50,10 @@ newcomers_has s seen (t ∷ ms) m e =
         (λ h. ap (is_in s) (sym (append_assoc seen (t ∷ []) (newcomers (seen ++ t ∷ []) ms))) ∙ ih' h)
         w
 
-pub stable : (limit : ℕ) (t : AttributeSet) (p : List AttributeSet) (u : Bool) (s : AttributeSet) → (set_eq s none_set ≡ false → is_in s p ≡ false → limit ≤ length (counted u p)) → target (grown limit t p u).0 s ≡ target p s
-stable limit t p u s settled = go (set_eq t none_set) (is_in t p) (nat_lt (length (counted u p)) limit) (is_in over_set p) (λ e. kept (ltb-true (length (counted u p)) limit e))
+pub stable : (limit : ℕ) (t : AttributeSet) (p : List AttributeSet) (u : Bool) (s : AttributeSet) → (set_eq s none_set ≡ false → is_in s p ≡ false → limit ≤ length (sets_that_count u p)) → target (grown limit t p u).0 s ≡ target p s
+stable limit t p u s settled = go (set_eq t none_set) (is_in t p) (nat_lt (length (sets_that_count u p)) limit) (is_in over_set p) (λ e. kept (ltb-true (length (sets_that_count u p)) limit e))
   where
-    kept : length (counted u p) < limit → target (p ++ t ∷ []) s ≡ target p s
+    kept : length (sets_that_count u p) < limit → target (p ++ t ∷ []) s ≡ target p s
     kept l = ⊎_elim (λ e. rw e refl) (λ e. ⊎_elim (λ f. rw (is_in_left s p (t ∷ []) f, f) refl) (λ f. absurd (omega (arith, settled e f))) (cases_Bool (is_in s p))) (cases_Bool (set_eq s none_set))
 
     go : (a b c d : Bool) → (c ≡ true → target (p ++ t ∷ []) s ≡ target p s) → target (grown_by a b c d t p u).0 s ≡ target p s
@@ -74,7 +74,7 @@ goal_stays limit start ms t s lawful m =
     n : List AttributeSet
     n = newcomers start.sets ms
 
-    settled : set_eq s none_set ≡ false → is_in s (places limit start ms) ≡ false → limit ≤ length (counted (uncounted_now limit start ms) (places limit start ms))
+    settled : set_eq s none_set ≡ false → is_in s (places limit start ms) ≡ false → limit ≤ length (sets_that_count (uncounted_now limit start ms) (places limit start ms))
     settled e f = ⊎_elim
         (λ h. (full limit start (newcomers start.sets ms) h (λ u. no_newcomer over_set start.sets ms (lawful u))).1)
         (λ h. absurd (true≢false (sym (newcomers_has s start.sets ms m e) ∙ (ap (is_in s) (sym (open_sets limit start (newcomers start.sets ms) h)) ∙ f))))
@@ -89,7 +89,7 @@ mentions-append (RecordBound h v ∷ es) fs = mentions-append es fs
 mentions-append (Unbind h ∷ es) fs = mentions-append es fs
 mentions-append (Collect ∷ es) fs = mentions-append es fs
 
-pub live-append : (g : AttributeSet → AttributeSet) (hs : Handles) (es fs : List Event) → live g hs (es ++ fs) ≡ live g (live g hs es) fs
+pub live-append : (g : AttributeSet → AttributeSet) (hs : Handles) (es fs : List Event) → live_handles g hs (es ++ fs) ≡ live_handles g (live_handles g hs es) fs
 live-append g hs [] fs = refl
 live-append g hs (Record s v ∷ es) fs = live-append g hs es fs
 live-append g hs (Bind h s ∷ es) fs = live-append g (hs ++ (h, g s) ∷ []) es fs
@@ -97,13 +97,13 @@ live-append g hs (RecordBound h v ∷ es) fs = live-append g hs es fs
 live-append g hs (Unbind h ∷ es) fs = live-append g (without h hs) es fs
 live-append g hs (Collect ∷ es) fs = live-append g hs es fs
 
-pub records-append : (g : AttributeSet → AttributeSet) (hs : Handles) (es fs : List Event) → records g hs (es ++ fs) ≡ records g hs es ++ records g (live g hs es) fs
+pub records-append : (g : AttributeSet → AttributeSet) (hs : Handles) (es fs : List Event) → records g hs (es ++ fs) ≡ records g hs es ++ records g (live_handles g hs es) fs
 records-append g hs [] fs = refl
 records-append g hs (Record s v ∷ es) fs = ap (λ l. (g s, v) ∷ l) (records-append g hs es fs)
 records-append g hs (Bind h s ∷ es) fs = records-append g (hs ++ (h, g s) ∷ []) es fs
 records-append g hs (RecordBound h v ∷ es) fs =
     ap (λ l. by_handle (held_by h hs) v ++ l) (records-append g hs es fs)
-    ∙ sym (append_assoc (by_handle (held_by h hs) v) (records g hs es) (records g (live g hs es) fs))
+    ∙ sym (append_assoc (by_handle (held_by h hs) v) (records g hs es) (records g (live_handles g hs es) fs))
 records-append g hs (Unbind h ∷ es) fs = records-append g (without h hs) es fs
 records-append g hs (Collect ∷ es) fs = records-append g hs es fs
 
@@ -117,11 +117,11 @@ here s ms = ap (λ b. b || is_in s ms) (same_eq s s refl)
 later : (g g' : AttributeSet → AttributeSet) (t : AttributeSet) (es : List Event) → ((s : AttributeSet) → is_in s (t ∷ mentions es) ≡ true → g s ≡ g' s) → Agree g g' es
 later g g' t es a s m = a s (ap (λ b. set_eq t s || b) m ∙ or_true (set_eq t s))
 
-pub live_agree : (g g' : AttributeSet → AttributeSet) (hs : Handles) (es : List Event) → Agree g g' es → live g hs es ≡ live g' hs es
+pub live_agree : (g g' : AttributeSet → AttributeSet) (hs : Handles) (es : List Event) → Agree g g' es → live_handles g hs es ≡ live_handles g' hs es
 live_agree g g' hs [] a = refl
 live_agree g g' hs (Record s v ∷ es) a = live_agree g g' hs es (later g g' s es a)
 live_agree g g' hs (Bind h s ∷ es) a =
-    ap (λ x. live g (hs ++ (h, x) ∷ []) es) (a s (here s (mentions es))) ∙ live_agree g g' (hs ++ (h, g' s) ∷ []) es (later g g' s es a)
+    ap (λ x. live_handles g (hs ++ (h, x) ∷ []) es) (a s (here s (mentions es))) ∙ live_agree g g' (hs ++ (h, g' s) ∷ []) es (later g g' s es a)
 live_agree g g' hs (RecordBound h v ∷ es) a = live_agree g g' hs es a
 live_agree g g' hs (Unbind h ∷ es) a = live_agree g g' (without h hs) es a
 live_agree g g' hs (Collect ∷ es) a = live_agree g g' hs es a

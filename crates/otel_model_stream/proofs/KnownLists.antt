@@ -15,8 +15,8 @@ use Rattle.otel_common.specs.Equality.{set_eq, key_value_eq_equiv}
 use Rattle.otel_common.specs.declared.attributes.KeyValue.{KeyValue}
 use Rattle.otel_model_stream.specs.Sets.{AttributeSet, none_set, over_set}
 use Rattle.otel_model_stream.specs.Folds.{Fold, Sample}
-use Rattle.otel_model_stream.specs.Entries.{Entry, fresh, is_of, has, AreCanonical, number_counted, placed, place, entry_for, on, at_entry, write, take_handle, drop_handle, stays, reset}
-use Rattle.otel_model_stream.specs.Maps.{MapState, KnownMap, knows, keys, is_admitted, given_with, measured_list, bound_list, collected_known, evicted_known, drained_known, updated_bound, unbound, AreListed}
+use Rattle.otel_model_stream.specs.Entries.{Entry, new_entry, is_of, has, AreCanonical, number_counted, entries_with_place, place, entry_for, on, at_entry, write, take_handle, drop_handle, stays, reset}
+use Rattle.otel_model_stream.specs.Maps.{MapState, KnownMap, knows, keys, is_admitted, given_with, measured_list, bound_list, collected_known, evicted_known, drained_known, updated_bound, unbound_map, AreListed}
 use Rattle.otel_model_stream.proofs.Sets.{set_eq_true, set_eq_self}
 use Rattle.otel_model_stream.proofs.Lists.{or_false, same_sym}
 
@@ -50,34 +50,34 @@ has-append : (s : AttributeSet) (es : List Entry) (e : Entry) → has s (es ++ e
 has-append s es e = list_any-append (is_of s) es (e ∷ [])
 
 -- a set that has an entry keeps it when another gets a place
-has-placed : (limit : ℕ) (empty : Fold) (t s : AttributeSet) (es : List Entry) → has s es ≡ true → has s (placed limit empty t es) ≡ true
+has-placed : (limit : ℕ) (empty : Fold) (t s : AttributeSet) (es : List Entry) → has s es ≡ true → has s (entries_with_place limit empty t es) ≡ true
 has-placed limit empty t s es h = go (set_eq t none_set) (has t es) (nat_lt (number_counted es) limit) (has over_set es)
   where
     more : (e : Entry) → has s (es ++ e ∷ []) ≡ true
     more e = has-append s es e ∙ left (has s es) (is_of s e || false) h
 
-    go : (a b c d : Bool) → has s (cond a es (cond b es (cond c (es ++ fresh empty t true ∷ []) (cond d es (es ++ fresh empty over_set false ∷ []))))) ≡ true
+    go : (a b c d : Bool) → has s (cond a es (cond b es (cond c (es ++ new_entry empty t true ∷ []) (cond d es (es ++ new_entry empty over_set false ∷ []))))) ≡ true
     go true b c d = h
     go false true c d = h
-    go false false true d = more (fresh empty t true)
+    go false false true d = more (new_entry empty t true)
     go false false false true = h
-    go false false false false = more (fresh empty over_set false)
+    go false false false false = more (new_entry empty over_set false)
 
 -- an admitted set has an entry then
-has-admitted : (s : AttributeSet) (m : MapState) → is_admitted s m ≡ true → has s (placed m.limit m.empty s m.table.entries) ≡ true
+has-admitted : (s : AttributeSet) (m : MapState) → is_admitted s m ≡ true → has s (entries_with_place m.limit m.empty s m.table.entries) ≡ true
 has-admitted s m a = go (set_eq s none_set) (has s es) (nat_lt (number_counted es) m.limit) (has over_set es) a
   where
     es : List Entry
     es = m.table.entries
 
-    go : (a b c d : Bool) → (not a && (not b && c)) ≡ true → has s (cond a es (cond b es (cond c (es ++ fresh m.empty s true ∷ []) (cond d es (es ++ fresh m.empty over_set false ∷ []))))) ≡ true
+    go : (a b c d : Bool) → (not a && (not b && c)) ≡ true → has s (cond a es (cond b es (cond c (es ++ new_entry m.empty s true ∷ []) (cond d es (es ++ new_entry m.empty over_set false ∷ []))))) ≡ true
     go true b c d e = absurd (false≢true e)
     go false true c d e = absurd (false≢true e)
     go false false false d e = absurd (false≢true e)
-    go false false true d e = has-append s es (fresh m.empty s true) ∙ right (has s es) (set_eq s s || false) (left (set_eq s s) false (set_eq_self s))
+    go false false true d e = has-append s es (new_entry m.empty s true) ∙ right (has s es) (set_eq s s || false) (left (set_eq s s) false (set_eq_self s))
 
 -- and the limit counts it, and counts no other
-pub counted_admitted : (s : AttributeSet) (m : MapState) → number_counted (placed m.limit m.empty s m.table.entries) ≡ number_counted m.table.entries + cond (is_admitted s m) 1 0
+pub counted_admitted : (s : AttributeSet) (m : MapState) → number_counted (entries_with_place m.limit m.empty s m.table.entries) ≡ number_counted m.table.entries + cond (is_admitted s m) 1 0
 counted_admitted s m = go (set_eq s none_set) (has s es) (nat_lt (number_counted es) m.limit) (has over_set es)
   where
     es : List Entry
@@ -86,12 +86,12 @@ counted_admitted s m = go (set_eq s none_set) (has s es) (nat_lt (number_counted
     more : (e : Entry) → number_counted (es ++ e ∷ []) ≡ number_counted es + number_counted (e ∷ [])
     more e = ap length (filter-append (λ (x : Entry). x.counted) es (e ∷ [])) ∙ length-append (filter (λ (x : Entry). x.counted) es) (filter (λ (x : Entry). x.counted) (e ∷ []))
 
-    go : (a b c d : Bool) → number_counted (cond a es (cond b es (cond c (es ++ fresh m.empty s true ∷ []) (cond d es (es ++ fresh m.empty over_set false ∷ []))))) ≡ number_counted es + cond (not a && (not b && c)) 1 0
+    go : (a b c d : Bool) → number_counted (cond a es (cond b es (cond c (es ++ new_entry m.empty s true ∷ []) (cond d es (es ++ new_entry m.empty over_set false ∷ []))))) ≡ number_counted es + cond (not a && (not b && c)) 1 0
     go true b c d = omega arith
     go false true c d = omega arith
-    go false false true d = more (fresh m.empty s true)
+    go false false true d = more (new_entry m.empty s true)
     go false false false true = omega arith
-    go false false false false = more (fresh m.empty over_set false)
+    go false false false false = more (new_entry m.empty over_set false)
 
 -- and had none before
 absent : (s : AttributeSet) (m : MapState) → is_admitted s m ≡ true → has s m.table.entries ≡ false
@@ -154,7 +154,7 @@ canonical p (e ∷ es) all h = go (is_of p e) refl h (canonical p es all.1)
 -- the set gets a place, and an entry is changed
 module _ (l : List KeyValue) (k : KnownMap) (g : AttributeSet) (f : Entry → Entry) (same : KeepsSet f) where
   abbrev at_place : List Entry
-  at_place = placed k.map_state.limit k.map_state.empty (canon l) k.map_state.table.entries
+  at_place = entries_with_place k.map_state.limit k.map_state.empty (canon l) k.map_state.table.entries
 
   abbrev after : KnownMap
   after = record {
@@ -316,12 +316,12 @@ listed_on g f same k listed = record {
 pub listed_updated : (g : AttributeSet) (v : Sample) (k : KnownMap) → AreListed k → AreListed (record k { map_state = updated_bound g v k.map_state })
 listed_updated g v k listed = let l = listed_on g (write v) (λ e. refl) k listed in record { placed = l.placed; apart = l.apart }
 
-pub listed_unbound : (g : AttributeSet) (k : KnownMap) → AreListed k → AreListed (record k { map_state = unbound g k.map_state })
+pub listed_unbound : (g : AttributeSet) (k : KnownMap) → AreListed k → AreListed (record k { map_state = unbound_map g k.map_state })
 listed_unbound g k listed = let l = listed_on g drop_handle (λ e. refl) k listed in record { placed = l.placed; apart = l.apart }
 
 -- the set of a list gets a place
 listed_place : (l : List KeyValue) (k : KnownMap) (es : List Entry) → AreListed k
-    → ((s : AttributeSet) → has s (placed k.map_state.limit k.map_state.empty (canon l) k.map_state.table.entries) ≡ true → has s es ≡ true)
+    → ((s : AttributeSet) → has s (entries_with_place k.map_state.limit k.map_state.empty (canon l) k.map_state.table.entries) ≡ true → has s es ≡ true)
     → AllByRecursion (λ p. has (canon p) es ≡ true) (given_with l k) × IsDistinct set_eq (map canon (given_with l k))
 listed_place l k es listed grows = go (is_admitted (canon l) k.map_state && not (set_eq (canon l) l)) refl
   where
@@ -347,12 +347,12 @@ listed_place l k es listed grows = go (is_admitted (canon l) k.map_state && not 
 
 pub listed_measured : (l : List KeyValue) (v : Sample) (k : KnownMap) → AreListed k → AreListed (measured_list l v k)
 listed_measured l v k listed =
-    let es : List Entry = placed k.map_state.limit k.map_state.empty (canon l) k.map_state.table.entries in
+    let es : List Entry = entries_with_place k.map_state.limit k.map_state.empty (canon l) k.map_state.table.entries in
     let q = listed_place l k (measured_list l v k).map_state.table.entries listed (λ s h. has-on s (entry_for (canon l) es) (write v) (λ e. refl) es ∙ h) in
     record { placed = q.0; apart = q.1 }
 
 pub listed_bound : (l : List KeyValue) (k : KnownMap) → AreListed k → AreListed (bound_list l k)
 listed_bound l k listed =
-    let es : List Entry = placed k.map_state.limit k.map_state.empty (canon l) k.map_state.table.entries in
+    let es : List Entry = entries_with_place k.map_state.limit k.map_state.empty (canon l) k.map_state.table.entries in
     let q = listed_place l k (bound_list l k).map_state.table.entries listed (λ s h. has-on s (entry_for (canon l) es) take_handle (λ e. refl) es ∙ h) in
     record { placed = q.0; apart = q.1 }

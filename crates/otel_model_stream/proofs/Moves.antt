@@ -6,7 +6,7 @@ use Rattle.otel_model_stream.specs.Sets.{AttributeSet, none_set, over_set}
 use Rattle.otel_model_stream.specs.Folds.{Aggregate, Amount, empty_of, sample_of}
 use Rattle.otel_model_stream.specs.Events.{Event, Record, Bind, RecordBound, Unbind, Handles, held_by, without}
 use Rattle.otel_model_stream.specs.Entries.{write, at_entry, place, recorded_at}
-use Rattle.otel_model_stream.specs.Machine.{Machine, hold, bound, through, let_go}
+use Rattle.otel_model_stream.specs.Machine.{Machine, hold, bind_handle, through, let_go}
 use Rattle.otel_model_stream.specs.Windows.{Window, is_in, mentions, newcomers, by_handle, places_of, uncounted_of, goal_of, live_of, records_of, more}
 use Rattle.otel_model_stream.proofs.Places.{Grown, grown, both, places_push, IsLawful}
 use Rattle.otel_model_stream.proofs.Build.{Pairs, target, item, table_of, built, goal_built, writes, holds, lets_go, AreHitsPlaced, AreHandlesPlaced, places_one}
@@ -53,10 +53,10 @@ moves_record σ limit s v p u rs hs over hits helds =
     ∙ writes σ q.0 q.1 rs hs (target q.0 s) v)
 
 moves_bind : (σ : Aggregate) (limit h : ℕ) (s : AttributeSet) (p : List AttributeSet) (u : Bool) (rs : Pairs) (hs : Handles) → (u ≡ true → is_in over_set p ≡ true) → AreHitsPlaced p rs → AreHandlesPlaced p hs
-    → bound h s (record { table = place limit (empty_of σ) s (table_of σ p u rs hs); live = hs }) ≡ built σ (grown limit s p u).0 (grown limit s p u).1 rs (hs ++ (h, target (grown limit s p u).0 s) ∷ [])
+    → bind_handle h s (record { table = place limit (empty_of σ) s (table_of σ p u rs hs); live = hs }) ≡ built σ (grown limit s p u).0 (grown limit s p u).1 rs (hs ++ (h, target (grown limit s p u).0 s) ∷ [])
 moves_bind σ limit h s p u rs hs over hits helds =
     let q : Grown = grown limit s p u in
-    ap (λ t. bound h s (record { table = t; live = hs })) (places_mention σ limit s p u rs hs over hits helds)
+    ap (λ t. bind_handle h s (record { table = t; live = hs })) (places_mention σ limit s p u rs hs over hits helds)
     ∙ (ap (λ g. hold h g (built σ q.0 q.1 rs hs)) (goal_built σ q.0 q.1 rs hs s)
     ∙ holds σ q.0 q.1 rs hs h (target q.0 s))
 
@@ -134,7 +134,7 @@ step_record σ limit w s v sound =
     ∙ ap (made_of σ) (sym (facts_record limit w s v sound.lawful))
 
 pub step_bind : (σ : Aggregate) (limit : ℕ) (w : Window) (h : ℕ) (s : AttributeSet) → IsSound limit w
-    → bound h s (record (summary σ limit w) { table = place limit (empty_of σ) s (summary σ limit w).table }) ≡ summary σ limit (more w (Bind h s))
+    → bind_handle h s (record (summary σ limit w) { table = place limit (empty_of σ) s (summary σ limit w).table }) ≡ summary σ limit (more w (Bind h s))
 step_bind σ limit w h s sound =
     moves_bind σ limit h s (places_of limit w) (uncounted_of limit w) (records_of limit w) (live_of limit w) sound.over sound.hits sound.helds
     ∙ ap (made_of σ) (sym (facts_bind limit w h s sound.lawful))

@@ -8,7 +8,7 @@ use Rattle.std.proofs.lemmas.List.Elements.{filter-append}
 use Rattle.std.proofs.lemmas.List.Sums.{length-filter, count_by-le-length}
 use Rattle.otel_common.specs.Equality.{set_eq}
 use Rattle.otel_model_stream.specs.Sets.{AttributeSet, none_set, over_set}
-use Rattle.otel_model_stream.specs.Windows.{Start, is_in, newcomers, counted, room, places, uncounted_now}
+use Rattle.otel_model_stream.specs.Windows.{Start, is_in, newcomers, sets_that_count, room, places, uncounted_now}
 use Rattle.otel_model_stream.proofs.Sets.{set_eq_self}
 use Rattle.otel_model_stream.proofs.Lists.{is_in_here, is_in_left, is_in_right, is_in_take, is_in_same, or_true, or_false, kept_by}
 
@@ -47,7 +47,7 @@ no_newcomer y seen (m ∷ ms) h =
     go false true f ih ih' = ih
     go false false f ih ih' = head (set_eq m y) _ f ih'
 
-pub counted_all : (u : Bool) (xs : List AttributeSet) → (u ≡ true → is_in over_set xs ≡ false) → counted u xs ≡ xs
+pub counted_all : (u : Bool) (xs : List AttributeSet) → (u ≡ true → is_in over_set xs ≡ false) → sets_that_count u xs ≡ xs
 counted_all u [] h = refl
 counted_all false (x ∷ xs) h = ap (λ l. x ∷ l) (counted_all false xs (λ e. absurd (false≢true e)))
 counted_all true (x ∷ xs) h =
@@ -64,7 +64,7 @@ grown_by a b c d s p u = cond a (p, u) (cond b (p, u) (cond c (p ++ s ∷ [], u)
 
 -- what a mention of s does to the places p with the flag u
 abbrev pub grown : ℕ → AttributeSet → List AttributeSet → Bool → Grown
-grown limit s p u = grown_by (set_eq s none_set) (is_in s p) (nat_lt (length (counted u p)) limit) (is_in over_set p) s p u
+grown limit s p u = grown_by (set_eq s none_set) (is_in s p) (nat_lt (length (sets_that_count u p)) limit) (is_in over_set p) s p u
 
 -- ======== one more mention ========
 -- the places and the flag, for these newcomers n
@@ -96,8 +96,8 @@ module _ (limit : ℕ) (start : Start) where
   pub open_flag : (n : List AttributeSet) → length n ≤ space → flag_with n ≡ flag
   open_flag n h = rw (open_overflows n h) (or_false flag)
 
-  pub size_plain : (u : Bool) (a : List AttributeSet) → (u ≡ true → is_in over_set a ≡ false) → length (counted u (begun ++ a)) ≡ length (counted u begun) + length a
-  size_plain u a h = ap length (filter-append (λ s. not (u && set_eq s over_set)) begun a) ∙ (length-append (counted u begun) (counted u a) ∙ ap (λ l. length (counted u begun) + length l) (counted_all u a h))
+  pub size_plain : (u : Bool) (a : List AttributeSet) → (u ≡ true → is_in over_set a ≡ false) → length (sets_that_count u (begun ++ a)) ≡ length (sets_that_count u begun) + length a
+  size_plain u a h = ap length (filter-append (λ s. not (u && set_eq s over_set)) begun a) ∙ (length-append (sets_that_count u begun) (sets_that_count u a) ∙ ap (λ l. length (sets_that_count u begun) + length l) (counted_all u a h))
 
   pub full_in : (n : List AttributeSet) → space < length n → is_in over_set (begun ++ take space n) ≡ true → (sets_with n ≡ begun ++ take space n) × (flag_with n ≡ flag)
   full_in n h e =
@@ -110,10 +110,10 @@ module _ (limit : ℕ) (start : Start) where
       (ap (λ b. (begun ++ take space n) ++ cond b (over_set ∷ []) []) o, ap (λ b. flag || b) o ∙ or_true flag)
 
   abbrev pub IsFull : List AttributeSet → Type 0
-  IsFull n = (is_in over_set (sets_with n) ≡ true) × (limit ≤ length (counted (flag_with n) (sets_with n)))
+  IsFull n = (is_in over_set (sets_with n) ≡ true) × (limit ≤ length (sets_that_count (flag_with n) (sets_with n)))
 
-  size_over : (xs : List AttributeSet) → is_in over_set xs ≡ false → length (counted true (xs ++ over_set ∷ [])) ≡ length xs
-  size_over xs h = ap length (filter-append (λ s. not (true && set_eq s over_set)) xs (over_set ∷ []) ∙ (ap (λ b. counted true xs ++ cond (not b) (over_set ∷ []) []) (set_eq_self over_set) ∙ (append-nil (counted true xs) ∙ counted_all true xs (λ _. h))))
+  size_over : (xs : List AttributeSet) → is_in over_set xs ≡ false → length (sets_that_count true (xs ++ over_set ∷ [])) ≡ length xs
+  size_over xs h = ap length (filter-append (λ s. not (true && set_eq s over_set)) xs (over_set ∷ []) ∙ (ap (λ b. sets_that_count true xs ++ cond (not b) (over_set ∷ []) []) (set_eq_self over_set) ∙ (append-nil (sets_that_count true xs) ∙ counted_all true xs (λ _. h))))
 
   pub full : (n : List AttributeSet) → space < length n → (flag ≡ true → is_in over_set n ≡ false) → IsFull n
   full n h new = ⊎_elim (inside n h new) (outside n h) (cases_Bool (is_in over_set (begun ++ take space n)))
@@ -129,7 +129,7 @@ module _ (limit : ℕ) (start : Start) where
       outside n h e =
           let p = full_out n h e in
           let long = length-take-le space n (omega arith) in
-          let few : length (counted flag begun) ≤ length begun = rw (length-filter (λ s. not (flag && set_eq s over_set)) begun) (count_by-le-length (λ s. not (flag && set_eq s over_set)) begun) in
+          let few : length (sets_that_count flag begun) ≤ length begun = rw (length-filter (λ s. not (flag && set_eq s over_set)) begun) (count_by-le-length (λ s. not (flag && set_eq s over_set)) begun) in
           let size = size_over (begun ++ take space n) e in
           (ap (is_in over_set) p.0 ∙ is_in_right over_set (begun ++ take space n) (over_set ∷ []) is_in_here, rw (p.0, p.1, size, length-append begun (take space n), long) (omega arith))
 
@@ -141,7 +141,7 @@ module _ (limit : ℕ) (start : Start) where
   grow s n = grown limit s (sets_with n) (flag_with n)
 
   pub stay : (n : List AttributeSet) (s : AttributeSet) → IsFull n → grow s n ≡ both n
-  stay n s f = kept_by (set_eq s none_set) (is_in s (sets_with n)) _ _ (sets_with n, flag_with n) _ _ (le-ltb (length (counted (flag_with n) (sets_with n))) limit f.1) f.0
+  stay n s f = kept_by (set_eq s none_set) (is_in s (sets_with n)) _ _ (sets_with n, flag_with n) _ _ (le-ltb (length (sets_that_count (flag_with n) (sets_with n))) limit f.1) f.0
 
   grow_open : (n : List AttributeSet) (s : AttributeSet) → length n ≤ space → grow s n ≡ grown limit s (begun ++ n) flag
   grow_open n s h = λ i. grown limit s (open_sets n h i) (open_flag n h i)
@@ -177,7 +177,7 @@ module _ (limit : ℕ) (start : Start) where
   new_open n s new e f h =
       let h' : length (n ++ s ∷ []) ≤ space = omega (arith, length-append n (s ∷ [])) in
       let h'' : length n ≤ space = omega arith in
-      let fits : nat_lt (length (counted flag (begun ++ n))) limit ≡ true = lt-ltb (length (counted flag (begun ++ n))) limit (omega (arith, size_plain flag n new)) in
+      let fits : nat_lt (length (sets_that_count flag (begun ++ n))) limit ≡ true = lt-ltb (length (sets_that_count flag (begun ++ n))) limit (omega (arith, size_plain flag n new)) in
       let grows : grown limit s (begun ++ n) flag ≡ ((begun ++ n) ++ s ∷ [], flag) = rw (e, f, fits) refl in
       (λ i. (open_sets (n ++ s ∷ []) h' i, open_flag (n ++ s ∷ []) h' i)) ∙ ((λ i. (sym (append_assoc begun n (s ∷ [])) i, flag)) ∙ sym (grow_open n s h'' ∙ grows))
 
@@ -193,8 +193,8 @@ module _ (limit : ℕ) (start : Start) where
       room' : length n ≤ space
       room' = omega arith
 
-      size : nat_lt (length (counted flag (begun ++ n))) limit ≡ false
-      size = le-ltb (length (counted flag (begun ++ n))) limit (omega (arith, size_plain flag n new))
+      size : nat_lt (length (sets_that_count flag (begun ++ n))) limit ≡ false
+      size = le-ltb (length (sets_that_count flag (begun ++ n))) limit (omega (arith, size_plain flag n new))
 
       inside : is_in over_set (begun ++ n) ≡ true → both (n ++ s ∷ []) ≡ grow s n
       inside m =

@@ -8,10 +8,10 @@ use Rattle.otel_common.specs.Equality.{bytes_eq}
 use Rattle.otel_common.specs.declared.attributes.KeyValue.{KeyValue}
 use Rattle.otel_common.specs.declared.attributes.Value.TheVariants as value
 use Rattle.otel_common.proofs.CanonLaws.{key_cmp-IsAntisymmetric, canon-unique}
-use Rattle.otel_model_stream.specs.Sets.{AttributeSet, none_set, over_set, kept, set_of}
+use Rattle.otel_model_stream.specs.Sets.{AttributeSet, none_set, over_set, allowed_part, set_of}
 use Rattle.otel_model_stream.specs.Folds.{Aggregate, Sum, LastValue, Histogram, Amount, Sample, Total, Last, Spreads, sample_of}
 use Rattle.otel_model_stream.specs.Events.{Event, Record, Bind, RecordBound, Unbind, Collect, Kind, Delta, Cumulative, Point}
-use Rattle.otel_model_stream.specs.Maps.{MapState, new_map, bound_map, bound_to, updated_bound, unbound, readonly_points, resetting_points, draining_points, evicted_map, KnownMap, without_lists, knows, keys, measured_list, bound_list, evicted_known, drained_known}
+use Rattle.otel_model_stream.specs.Maps.{MapState, new_map, bound_map, bound_to, updated_bound, unbound_map, readonly_points, resetting_points, draining_points, evicted_map, KnownMap, without_lists, knows, keys, measured_list, bound_list, evicted_known, drained_known}
 use Rattle.otel_model_stream.specs.Machine.{begin, answers}
 use Rattle.otel_model_stream.specs.Windows.{opening, collections}
 
@@ -194,7 +194,7 @@ row_10 = (
 )
 
 -- an empty allow-list keeps nothing
-none_kept : (l : AttributeSet) → kept (Some []) l ≡ [] → set_of (Some []) l ≡ none_set
+none_kept : (l : AttributeSet) → allowed_part (Some []) l ≡ [] → set_of (Some []) l ≡ none_set
 none_kept l e = ap canon e ∙ sym (canon-unique [] [] tt (λ q. refl))
 
 abbrev two : AttributeSet → AttributeSet → List Event
@@ -216,8 +216,8 @@ held_twice = bound_map x1 (bound_map x1 sums)
 
 -- two handles are of one entry, which stays until both are let go
 pub two_handles : (held_twice.table.entries ≡ record { set = x1; counted = true; updated = false; fold = Total 0; handles = 2 } ∷ [])
-    × (length (evicted_map (unbound x1 held_twice)).table.entries ≡ 1)
-    × ((evicted_map (unbound x1 (unbound x1 held_twice))).table.entries ≡ [])
+    × (length (evicted_map (unbound_map x1 held_twice)).table.entries ≡ 1)
+    × ((evicted_map (unbound_map x1 (unbound_map x1 held_twice))).table.entries ≡ [])
 two_handles = (refl, refl, refl)
 
 -- the handle of a set past the limit is of the overflow entry, and of one with an entry its own
@@ -240,7 +240,7 @@ pub handle_of_none : (bound_to none_set sums ≡ none_set)
     × (held_none.table.entries ≡ [])
     × (readonly_points held_none ≡ [])
     × (readonly_points (updated_bound none_set (sample_of Sum (amount 4)) held_none) ≡ sum none_set 4 ∷ [])
-    × ((unbound none_set held_none).table.none.handles ≡ 0)
+    × ((unbound_map none_set held_none).table.none.handles ≡ 0)
 handle_of_none = (refl, refl, refl, refl, refl, refl)
 
 -- ======== what a map knows ========

@@ -8,7 +8,7 @@ use Rattle.otel_model_stream.specs.Sets.{AttributeSet, none_set, over_set}
 use Rattle.otel_model_stream.specs.Folds.{Aggregate}
 use Rattle.otel_model_stream.specs.Events.{Event, Record, Bind, RecordBound, Unbind, Collect}
 use Rattle.otel_model_stream.specs.Machine.{Machine}
-use Rattle.otel_model_stream.specs.Windows.{Window, is_in, mentions, counted, goal, live, records, places_of, uncounted_of, goal_of, live_of, records_of, more}
+use Rattle.otel_model_stream.specs.Windows.{Window, is_in, mentions, sets_that_count, goal, live_handles, records, places_of, uncounted_of, goal_of, live_of, records_of, more}
 use Rattle.otel_model_stream.proofs.Sets.{set_eq_self}
 use Rattle.otel_model_stream.proofs.Lists.{is_in_here, same_eq, is_in_left, is_in_right}
 use Rattle.otel_model_stream.proofs.Places.{grown_by, grown, IsLawful}
@@ -27,7 +27,7 @@ pub record IsSound (limit : ℕ) (w : Window) : Type 0 where
 
 -- ======== what a mention does to the places ========
 pub grown_keeps : (limit : ℕ) (s : AttributeSet) (p : List AttributeSet) (u : Bool) (x : AttributeSet) → is_in x p ≡ true → is_in x (grown limit s p u).0 ≡ true
-grown_keeps limit s p u x m = go (set_eq s none_set) (is_in s p) (nat_lt (length (counted u p)) limit) (is_in over_set p)
+grown_keeps limit s p u x m = go (set_eq s none_set) (is_in s p) (nat_lt (length (sets_that_count u p)) limit) (is_in over_set p)
   where
     go : (a b c d : Bool) → is_in x (grown_by a b c d s p u).0 ≡ true
     go true b c d = m
@@ -37,7 +37,7 @@ grown_keeps limit s p u x m = go (set_eq s none_set) (is_in s p) (nat_lt (length
     go false false false false = is_in_left x p (over_set ∷ []) m
 
 pub grown_over : (limit : ℕ) (s : AttributeSet) (p : List AttributeSet) (u : Bool) → (u ≡ true → is_in over_set p ≡ true) → (grown limit s p u).1 ≡ true → is_in over_set (grown limit s p u).0 ≡ true
-grown_over limit s p u h = go (set_eq s none_set) (is_in s p) (nat_lt (length (counted u p)) limit) (is_in over_set p)
+grown_over limit s p u h = go (set_eq s none_set) (is_in s p) (nat_lt (length (sets_that_count u p)) limit) (is_in over_set p)
   where
     go : (a b c d : Bool) → (grown_by a b c d s p u).1 ≡ true → is_in over_set (grown_by a b c d s p u).0 ≡ true
     go true b c d = h
@@ -74,7 +74,7 @@ lands limit s p u = ⊎_elim at_none at_set (cases_Bool (set_eq s none_set))
 
     at_set : set_eq s none_set ≡ false → Lands (grown limit s p u).0 (target (grown limit s p u).0 s)
     at_set e =
-        let free : Bool = nat_lt (length (counted u p)) limit in
+        let free : Bool = nat_lt (length (sets_that_count u p)) limit in
         subst (λ a. Lands (grown_by a (is_in s p) free (is_in over_set p) s p u).0 (target (grown_by a (is_in s p) free (is_in over_set p) s p u).0 s)) (sym e)
         (go (is_in s p) free (is_in over_set p) e refl refl)
 
@@ -92,10 +92,10 @@ agrees limit w e lawful s m = ap (λ ms. goal limit w.start ms s) (mentions-appe
     go (Unbind h) = quiet
     go Collect = quiet
 
-pub live_more : (limit : ℕ) (w : Window) (e : Event) → IsLawful w.start → live_of limit (more w e) ≡ live (goal_of limit (more w e)) (live_of limit w) (e ∷ [])
+pub live_more : (limit : ℕ) (w : Window) (e : Event) → IsLawful w.start → live_of limit (more w e) ≡ live_handles (goal_of limit (more w e)) (live_of limit w) (e ∷ [])
 live_more limit w e lawful =
     live-append (goal_of limit (more w e)) w.start.held w.events (e ∷ [])
-    ∙ ap (λ hs. live (goal_of limit (more w e)) hs (e ∷ [])) (live_agree (goal_of limit (more w e)) (goal_of limit w) w.start.held w.events (agrees limit w e lawful))
+    ∙ ap (λ hs. live_handles (goal_of limit (more w e)) hs (e ∷ [])) (live_agree (goal_of limit (more w e)) (goal_of limit w) w.start.held w.events (agrees limit w e lawful))
 
 pub records_more : (limit : ℕ) (w : Window) (e : Event) → IsLawful w.start → records_of limit (more w e) ≡ records_of limit w ++ records (goal_of limit (more w e)) (live_of limit w) (e ∷ [])
 records_more limit w e lawful =

@@ -8,7 +8,7 @@ use Rattle.otel_common.specs.Equality.{set_eq}
 use Rattle.otel_model_stream.specs.Sets.{AttributeSet, none_set, over_set}
 use Rattle.otel_model_stream.specs.Folds.{Amount}
 use Rattle.otel_model_stream.specs.Events.{Record, Bind, RecordBound, Unbind, Kind, Delta, Cumulative, Drained}
-use Rattle.otel_model_stream.specs.Windows.{Start, Window, is_in, counted, places_of, uncounted_of, live_of, records_of, is_hit, is_held, first, next, cut, more}
+use Rattle.otel_model_stream.specs.Windows.{Start, Window, is_in, sets_that_count, places_of, uncounted_of, live_of, records_of, is_hit, is_held, first, next, cut, more}
 use Rattle.otel_model_stream.proofs.Sets.{set_eq_true, set_eq_self, over_apart}
 use Rattle.otel_model_stream.proofs.Lists.{is_in-append, same_sym}
 use Rattle.otel_model_stream.proofs.Places.{grown_by, IsLawful, counted_all}
@@ -21,7 +21,7 @@ IsDistinct (x ∷ xs) = (is_in x xs ≡ false) × IsDistinct xs
 
 pub record IsTidy (limit : ℕ) (f : Facts) : Type 0 where
   pub distinct : IsDistinct (none_set ∷ f.0)
-  pub few : length (counted f.1 f.0) ≤ limit
+  pub few : length (sets_that_count f.1 f.0) ≤ limit
 
 turned : (x y : AttributeSet) → set_eq x y ≡ false → set_eq y x ≡ false
 turned x y e = same_sym y x ∙ e
@@ -39,26 +39,26 @@ AreDistinctPlaces p = IsDistinct (none_set ∷ p)
 push : (p : List AttributeSet) (y : AttributeSet) → AreDistinctPlaces p → set_eq y none_set ≡ false → is_in y p ≡ false → AreDistinctPlaces (p ++ y ∷ [])
 push p y d n m = distinct_push (none_set ∷ p) y d (λ i. turned y none_set n i || m i)
 
-one_more : (u : Bool) (p : List AttributeSet) (s : AttributeSet) → length (counted u (p ++ s ∷ [])) ≤ length (counted u p) + 1
-one_more u p s = rw (filter-append (λ x. not (u && set_eq x over_set)) p (s ∷ []), length-append (counted u p) (counted u (s ∷ []))) (short (not (u && set_eq s over_set)))
+one_more : (u : Bool) (p : List AttributeSet) (s : AttributeSet) → length (sets_that_count u (p ++ s ∷ [])) ≤ length (sets_that_count u p) + 1
+one_more u p s = rw (filter-append (λ x. not (u && set_eq x over_set)) p (s ∷ []), length-append (sets_that_count u p) (sets_that_count u (s ∷ []))) (short (not (u && set_eq s over_set)))
   where
-    short : (b : Bool) → length (counted u p) + length (cond b (s ∷ []) []) ≤ length (counted u p) + 1
+    short : (b : Bool) → length (sets_that_count u p) + length (cond b (s ∷ []) []) ≤ length (sets_that_count u p) + 1
     short true = omega arith
     short false = omega arith
 
-over_more : (u : Bool) (p : List AttributeSet) → is_in over_set p ≡ false → length (counted true (p ++ over_set ∷ [])) ≡ length (counted u p)
+over_more : (u : Bool) (p : List AttributeSet) → is_in over_set p ≡ false → length (sets_that_count true (p ++ over_set ∷ [])) ≡ length (sets_that_count u p)
 over_more u p m =
-    ap length (filter-append (λ x. not (true && set_eq x over_set)) p (over_set ∷ []) ∙ (ap (λ b. counted true p ++ cond (not b) (over_set ∷ []) []) (set_eq_self over_set) ∙ (append-nil (counted true p) ∙ counted_all true p (λ _. m))))
+    ap length (filter-append (λ x. not (true && set_eq x over_set)) p (over_set ∷ []) ∙ (ap (λ b. sets_that_count true p ++ cond (not b) (over_set ∷ []) []) (set_eq_self over_set) ∙ (append-nil (sets_that_count true p) ∙ counted_all true p (λ _. m))))
     ∙ ap length (sym (counted_all u p (λ _. m)))
 
 tidy_mention : (limit : ℕ) (s : AttributeSet) (f : Facts) → IsTidy limit f → IsTidy limit (mention_facts limit s f)
-tidy_mention limit s f t = go (set_eq s none_set) (is_in s f.0) (nat_lt (length (counted f.1 f.0)) limit) (is_in over_set f.0) refl refl refl refl
+tidy_mention limit s f t = go (set_eq s none_set) (is_in s f.0) (nat_lt (length (sets_that_count f.1 f.0)) limit) (is_in over_set f.0) refl refl refl refl
   where
-    go : (a b c d : Bool) → set_eq s none_set ≡ a → is_in s f.0 ≡ b → nat_lt (length (counted f.1 f.0)) limit ≡ c → is_in over_set f.0 ≡ d
+    go : (a b c d : Bool) → set_eq s none_set ≡ a → is_in s f.0 ≡ b → nat_lt (length (sets_that_count f.1 f.0)) limit ≡ c → is_in over_set f.0 ≡ d
         → IsTidy limit ((grown_by a b c d s f.0 f.1).0, (grown_by a b c d s f.0 f.1).1, f.2, f.3)
     go true b c d e g h k = record { distinct = t.distinct; few = t.few }
     go false true c d e g h k = record { distinct = t.distinct; few = t.few }
-    go false false true d e g h k = record { distinct = push f.0 s t.distinct e g; few = omega (arith, one_more f.1 f.0 s, ltb-true (length (counted f.1 f.0)) limit h) }
+    go false false true d e g h k = record { distinct = push f.0 s t.distinct e g; few = omega (arith, one_more f.1 f.0 s, ltb-true (length (sets_that_count f.1 f.0)) limit h) }
     go false false false true e g h k = record { distinct = t.distinct; few = t.few }
     go false false false false e g h k = record { distinct = push f.0 over_set t.distinct over_apart k; few = omega (arith, over_more f.1 f.0 k, t.few) }
 
@@ -107,7 +107,7 @@ fewer g f (y ∷ p) = go (f y) (fewer g f p)
     go true ih = inner (g y) (filter g (filter f p)) (filter g p) ih
     go false ih = wider (g y) (filter g (filter f p)) (filter g p) ih
 
-pub tidy_start : (limit : ℕ) (start : Start) → IsDistinct (none_set ∷ start.sets) → length (counted start.uncounted start.sets) ≤ limit → IsTidy limit (facts limit (starting start))
+pub tidy_start : (limit : ℕ) (start : Start) → IsDistinct (none_set ∷ start.sets) → length (sets_that_count start.uncounted start.sets) ≤ limit → IsTidy limit (facts limit (starting start))
 tidy_start limit start d f = subst (IsTidy limit) (sym (facts_start limit start)) (record { distinct = d; few = f })
 
 pub tidy_cut : (kind : Kind) (limit : ℕ) (w : Window) → IsTidy limit (facts limit w) → IsTidy limit (facts limit (cut kind limit w))
@@ -120,13 +120,13 @@ tidy_cut Cumulative limit w t = t
 tidy_cut Drained limit w t = tidy_start limit first (refl, tt) (omega arith)
 
 -- ======== how many points ========
-pub places_few : (u : Bool) (p : List AttributeSet) → IsDistinct p → length p ≤ length (counted u p) + 1
+pub places_few : (u : Bool) (p : List AttributeSet) → IsDistinct p → length p ≤ length (sets_that_count u p) + 1
 places_few u [] d = omega arith
 places_few u (x ∷ p) d = go (u && set_eq x over_set) refl (places_few u p d.1)
   where
-    go : (b : Bool) → (u && set_eq x over_set) ≡ b → length p ≤ length (counted u p) + 1 → suc (length p) ≤ length (cond (not b) (x ∷ counted u p) (counted u p)) + 1
+    go : (b : Bool) → (u && set_eq x over_set) ≡ b → length p ≤ length (sets_that_count u p) + 1 → suc (length p) ≤ length (cond (not b) (x ∷ sets_that_count u p) (sets_that_count u p)) + 1
     go false e ih = omega arith
     go true e ih =
         let q = and_parts u (set_eq x over_set) e in
-        let same : length (counted u p) ≡ length p = ap length (counted_all u p (λ _. ap (λ z. is_in z p) (sym (set_eq_true x over_set q.1)) ∙ d.0)) in
+        let same : length (sets_that_count u p) ≡ length p = ap length (counted_all u p (λ _. ap (λ z. is_in z p) (sym (set_eq_true x over_set q.1)) ∙ d.0)) in
         omega arith

@@ -5,7 +5,7 @@ use Rattle.std.proofs.lemmas.Bool.{or_parts, false≢true, true≢false, cases_B
 use Rattle.std.proofs.lemmas.List.Sums.{sum_by-cons, sum_by-append}
 use Rattle.otel_common.specs.Equality.{set_eq}
 use Rattle.otel_model_stream.specs.Sets.{AttributeSet, none_set}
-use Rattle.otel_model_stream.specs.Folds.{Aggregate, Amount, wrapped}
+use Rattle.otel_model_stream.specs.Folds.{Aggregate, Amount, wrap}
 use Rattle.otel_model_stream.specs.Events.{Kind, Delta, Cumulative, Drained, Handles, held_by, without, Point}
 use Rattle.otel_model_stream.specs.Windows.{Window, is_in, by_handle, places_of, records_of, is_hit, values_of, point, points_of}
 use Rattle.otel_model_stream.specs.Totals.{size, weight, has_number, without_number, points_total}
@@ -29,7 +29,7 @@ numbers-without h (q ∷ hs) = go (q.0 == h) (numbers-without h hs)
     go true ih = refl
     go false ih = ap (λ l. q.0 ∷ l) ih
 
-pub mod_both : (a b c d : ℕ) → wrapped a ≡ wrapped c → wrapped b ≡ wrapped d → wrapped (a + b) ≡ wrapped (c + d)
+pub mod_both : (a b c d : ℕ) → wrap a ≡ wrap c → wrap b ≡ wrap d → wrap (a + b) ≡ wrap (c + d)
 mod_both a b c d e f = omega arith
 
 -- of distinct sets, a set is at most one
@@ -104,12 +104,12 @@ module _ (σ : Aggregate) where
       omega (arith, amount-cons r rs)
 
   -- ======== the points of a window ========
-  total_map : (rs : Pairs) (l : List AttributeSet) → wrapped (points_total (map (point σ rs) l)) ≡ wrapped (sum_by (share rs) l)
+  total_map : (rs : Pairs) (l : List AttributeSet) → wrap (points_total (map (point σ rs) l)) ≡ wrap (sum_by (share rs) l)
   total_map rs [] = refl
   total_map rs (x ∷ l) =
-      ap wrapped (sum_by-cons (λ (q : Point). weight q.1) (point σ rs x) (map (point σ rs) l))
+      ap wrap (sum_by-cons (λ (q : Point). weight q.1) (point σ rs x) (map (point σ rs) l))
       ∙ (mod_both _ _ _ _ (weighs σ (values_of rs x)) (total_map rs l)
-      ∙ ap wrapped (sym (sum_by-cons (share rs) x l)))
+      ∙ ap wrap (sym (sum_by-cons (share rs) x l)))
 
   total_filter : (rs : Pairs) (l : List AttributeSet) → sum_by (share rs) (filter (is_hit rs) l) ≡ sum_by (share rs) l
   total_filter rs [] = refl
@@ -126,14 +126,14 @@ module _ (σ : Aggregate) where
       (λ n. ⊎_elim (λ m. ap (λ b. set_eq none_set x || b) m ∙ or_true (set_eq none_set x)) (λ m. absurd (true≢false (sym e ∙ a.hits x n m))) (cases_Bool (is_in x (places_of limit w))))
       (cases_Bool (set_eq x none_set))
 
-  pub window_total : (kind : Kind) (limit : ℕ) (w : Window) → IsSound limit w → IsTidy limit (facts limit w) → wrapped (points_total (points_of σ kind limit w)) ≡ wrapped (amount (records_of limit w))
+  pub window_total : (kind : Kind) (limit : ℕ) (w : Window) → IsSound limit w → IsTidy limit (facts limit w) → wrap (points_total (points_of σ kind limit w)) ≡ wrap (amount (records_of limit w))
   window_total kind limit w a t = go kind
     where
       all : sum_by (share (records_of limit w)) (none_set ∷ places_of limit w) ≡ amount (records_of limit w)
       all = sum_values (none_set ∷ places_of limit w) (records_of limit w) t.distinct (hits_in limit w a)
 
       shown_part : (l : List AttributeSet) → sum_by (share (records_of limit w)) l ≡ sum_by (share (records_of limit w)) (places_of limit w)
-          → wrapped (points_total (map (point σ (records_of limit w)) (filter (is_hit (records_of limit w)) (none_set ∷ []) ++ l))) ≡ wrapped (amount (records_of limit w))
+          → wrap (points_total (map (point σ (records_of limit w)) (filter (is_hit (records_of limit w)) (none_set ∷ []) ++ l))) ≡ wrap (amount (records_of limit w))
       shown_part l e =
           let same : sum_by (share (records_of limit w)) (filter (is_hit (records_of limit w)) (none_set ∷ []) ++ l) ≡ amount (records_of limit w) = omega (
             arith,
@@ -143,9 +143,9 @@ module _ (σ : Aggregate) where
             e,
             all,
           ) in
-          total_map (records_of limit w) (filter (is_hit (records_of limit w)) (none_set ∷ []) ++ l) ∙ ap wrapped same
+          total_map (records_of limit w) (filter (is_hit (records_of limit w)) (none_set ∷ []) ++ l) ∙ ap wrap same
 
-      go : (kind : Kind) → wrapped (points_total (points_of σ kind limit w)) ≡ wrapped (amount (records_of limit w))
+      go : (kind : Kind) → wrap (points_total (points_of σ kind limit w)) ≡ wrap (amount (records_of limit w))
       go Delta = shown_part (filter (is_hit (records_of limit w)) (places_of limit w)) (total_filter (records_of limit w) (places_of limit w))
       go Cumulative = shown_part (places_of limit w) refl
       go Drained = shown_part (places_of limit w) refl

@@ -7,9 +7,9 @@ use Rattle.otel_common.specs.Equality.{set_eq}
 use Rattle.otel_model_stream.specs.Sets.{AttributeSet, none_set, over_set}
 use Rattle.otel_model_stream.specs.Folds.{Aggregate}
 use Rattle.otel_model_stream.specs.Events.{Event, Record, Bind, RecordBound, Unbind, Collect, Kind, Delta, Cumulative, Drained, Handles}
-use Rattle.otel_model_stream.specs.Entries.{Entry, reset, stays, shown}
-use Rattle.otel_model_stream.specs.Machine.{Machine, begin, collected, points, run, answers}
-use Rattle.otel_model_stream.specs.Windows.{Window, is_in, counted, places_of, uncounted_of, live_of, records_of, is_hit, is_held, values_of, point, points_of, first, next, cut, opening, more, window, collections}
+use Rattle.otel_model_stream.specs.Entries.{Entry, reset, stays, point_of_entry}
+use Rattle.otel_model_stream.specs.Machine.{Machine, begin, machine_after_collection, points, run, answers}
+use Rattle.otel_model_stream.specs.Windows.{Window, is_in, sets_that_count, places_of, uncounted_of, live_of, records_of, is_hit, is_held, values_of, point, points_of, first, next, cut, opening, more, window, collections}
 use Rattle.otel_model_stream.proofs.Sets.{set_eq_true, set_eq_self}
 use Rattle.otel_model_stream.proofs.Lists.{or_true}
 use Rattle.otel_model_stream.proofs.Clearing.{cleared_list}
@@ -51,25 +51,25 @@ kept_entries σ u rs hs (x ∷ p) =
     go true ih = λ i. reset_item σ (counts u x) rs hs x i ∷ ih i
     go false ih = ih
 
-shown_hits : (σ : Aggregate) (u : Bool) (rs : Pairs) (hs : Handles) (p : List AttributeSet) → map shown (filter (λ e. false || e.updated) (map (entry σ u rs hs) p)) ≡ map (point σ rs) (filter (is_hit rs) p)
+shown_hits : (σ : Aggregate) (u : Bool) (rs : Pairs) (hs : Handles) (p : List AttributeSet) → map point_of_entry (filter (λ e. false || e.updated) (map (entry σ u rs hs) p)) ≡ map (point σ rs) (filter (is_hit rs) p)
 shown_hits σ u rs hs [] = refl
 shown_hits σ u rs hs (x ∷ p) = go (is_hit rs x) (shown_hits σ u rs hs p)
   where
-    go : (b : Bool) → map shown (filter (λ e. false || e.updated) (map (entry σ u rs hs) p)) ≡ map (point σ rs) (filter (is_hit rs) p)
-        → map shown (cond b (entry σ u rs hs x ∷ filter (λ e. false || e.updated) (map (entry σ u rs hs) p)) (filter (λ e. false || e.updated) (map (entry σ u rs hs) p))) ≡ map (point σ rs) (cond b (x ∷ filter (is_hit rs) p) (filter (is_hit rs) p))
+    go : (b : Bool) → map point_of_entry (filter (λ e. false || e.updated) (map (entry σ u rs hs) p)) ≡ map (point σ rs) (filter (is_hit rs) p)
+        → map point_of_entry (cond b (entry σ u rs hs x ∷ filter (λ e. false || e.updated) (map (entry σ u rs hs) p)) (filter (λ e. false || e.updated) (map (entry σ u rs hs) p))) ≡ map (point σ rs) (cond b (x ∷ filter (is_hit rs) p) (filter (is_hit rs) p))
     go true ih = ap (λ l. point σ rs x ∷ l) ih
     go false ih = ih
 
-shown_all : (σ : Aggregate) (u : Bool) (rs : Pairs) (hs : Handles) (p : List AttributeSet) → map shown (filter (λ e. true || e.updated) (map (entry σ u rs hs) p)) ≡ map (point σ rs) p
+shown_all : (σ : Aggregate) (u : Bool) (rs : Pairs) (hs : Handles) (p : List AttributeSet) → map point_of_entry (filter (λ e. true || e.updated) (map (entry σ u rs hs) p)) ≡ map (point σ rs) p
 shown_all σ u rs hs [] = refl
 shown_all σ u rs hs (x ∷ p) = ap (λ l. point σ rs x ∷ l) (shown_all σ u rs hs p)
 
 -- the empty set's point stands first, if it has one
-shown_first : (σ : Aggregate) (rs : Pairs) (hs : Handles) (es : List Entry) (l : List AttributeSet) → map shown es ≡ map (point σ rs) l
-    → map shown (filter (λ e. e.updated) (item σ false rs hs none_set ∷ []) ++ es) ≡ map (point σ rs) (filter (is_hit rs) (none_set ∷ []) ++ l)
+shown_first : (σ : Aggregate) (rs : Pairs) (hs : Handles) (es : List Entry) (l : List AttributeSet) → map point_of_entry es ≡ map (point σ rs) l
+    → map point_of_entry (filter (λ e. e.updated) (item σ false rs hs none_set ∷ []) ++ es) ≡ map (point σ rs) (filter (is_hit rs) (none_set ∷ []) ++ l)
 shown_first σ rs hs es l same = go (is_hit rs none_set)
   where
-    go : (b : Bool) → map shown (cond b (item σ false rs hs none_set ∷ []) [] ++ es) ≡ map (point σ rs) (cond b (none_set ∷ []) [] ++ l)
+    go : (b : Bool) → map point_of_entry (cond b (item σ false rs hs none_set ∷ []) [] ++ es) ≡ map (point σ rs) (cond b (none_set ∷ []) [] ++ l)
     go true = ap (λ ps. point σ rs none_set ∷ ps) same
     go false = same
 
@@ -78,7 +78,7 @@ same_points σ Delta limit w = shown_first σ (records_of limit w) (live_of limi
 same_points σ Cumulative limit w = shown_first σ (records_of limit w) (live_of limit w) _ _ (shown_all σ (uncounted_of limit w) (records_of limit w) (live_of limit w) (places_of limit w))
 same_points σ Drained limit w = shown_first σ (records_of limit w) (live_of limit w) _ _ (shown_all σ (uncounted_of limit w) (records_of limit w) (live_of limit w) (places_of limit w))
 
-pub same_cut : (σ : Aggregate) (kind : Kind) (limit : ℕ) (w : Window) → collected kind (summary σ limit w) ≡ summary σ limit (cut kind limit w)
+pub same_cut : (σ : Aggregate) (kind : Kind) (limit : ℕ) (w : Window) → machine_after_collection kind (summary σ limit w) ≡ summary σ limit (cut kind limit w)
 same_cut σ Delta limit w =
     (λ i. record {
       table = record {
@@ -150,12 +150,12 @@ sets_of : (σ : Aggregate) (u : Bool) (rs : Pairs) (hs : Handles) (p : List Attr
 sets_of σ u rs hs [] = refl
 sets_of σ u rs hs (x ∷ p) = ap (λ l. x ∷ l) (sets_of σ u rs hs p)
 
-counted_sets : (σ : Aggregate) (u : Bool) (rs : Pairs) (hs : Handles) (p : List AttributeSet) → map (λ (e : Entry). e.set) (filter (λ e. e.counted) (map (entry σ u rs hs) p)) ≡ counted u p
+counted_sets : (σ : Aggregate) (u : Bool) (rs : Pairs) (hs : Handles) (p : List AttributeSet) → map (λ (e : Entry). e.set) (filter (λ e. e.counted) (map (entry σ u rs hs) p)) ≡ sets_that_count u p
 counted_sets σ u rs hs [] = refl
 counted_sets σ u rs hs (x ∷ p) = go (counts u x) (counted_sets σ u rs hs p)
   where
-    go : (b : Bool) → map (λ (e : Entry). e.set) (filter (λ e. e.counted) (map (entry σ u rs hs) p)) ≡ counted u p
-        → map (λ (e : Entry). e.set) (cond b (entry σ u rs hs x ∷ filter (λ e. e.counted) (map (entry σ u rs hs) p)) (filter (λ e. e.counted) (map (entry σ u rs hs) p))) ≡ cond b (x ∷ counted u p) (counted u p)
+    go : (b : Bool) → map (λ (e : Entry). e.set) (filter (λ e. e.counted) (map (entry σ u rs hs) p)) ≡ sets_that_count u p
+        → map (λ (e : Entry). e.set) (cond b (entry σ u rs hs x ∷ filter (λ e. e.counted) (map (entry σ u rs hs) p)) (filter (λ e. e.counted) (map (entry σ u rs hs) p))) ≡ cond b (x ∷ sets_that_count u p) (sets_that_count u p)
     go true ih = ap (λ l. x ∷ l) ih
     go false ih = ih
 
@@ -182,7 +182,7 @@ places_are σ kind limit es =
     ap (λ (m : Machine). map (λ (e : Entry). e.set) m.table.entries) (run_is σ kind limit es)
     ∙ sets_of σ (uncounted_of limit (window kind limit opening es)) (records_of limit (window kind limit opening es)) (live_of limit (window kind limit opening es)) (places_of limit (window kind limit opening es))
 
-pub counted_are : (σ : Aggregate) (kind : Kind) (limit : ℕ) (es : List Event) → map (λ (e : Entry). e.set) (filter (λ e. e.counted) (run σ kind limit (begin σ) es).table.entries) ≡ counted (uncounted_of limit (window kind limit opening es)) (places_of limit (window kind limit opening es))
+pub counted_are : (σ : Aggregate) (kind : Kind) (limit : ℕ) (es : List Event) → map (λ (e : Entry). e.set) (filter (λ e. e.counted) (run σ kind limit (begin σ) es).table.entries) ≡ sets_that_count (uncounted_of limit (window kind limit opening es)) (places_of limit (window kind limit opening es))
 counted_are σ kind limit es =
     ap (λ (m : Machine). map (λ (e : Entry). e.set) (filter (λ e. e.counted) m.table.entries)) (run_is σ kind limit es)
     ∙ counted_sets σ (uncounted_of limit (window kind limit opening es)) (records_of limit (window kind limit opening es)) (live_of limit (window kind limit opening es)) (places_of limit (window kind limit opening es))

@@ -24,9 +24,9 @@ spread_of (Spreads s) = s
 
 -- ======== numbers ========
 -- the number of type `u64` that a whole number is
-abbrev pub natural : ℤ → ℕ
-natural (pos n) = n
-natural (negsuc n) = 0
+abbrev pub natural_of : ℤ → ℕ
+natural_of (pos n) = n
+natural_of (negsuc n) = 0
 
 -- the number of type `i64` with these 64 bits
 abbrev pub signed_of : ℕ → ℤ
@@ -53,22 +53,22 @@ module _ {T : Type 0} (of_bits : ℕ → T) (of_whole : ℤ → T) where
     sum = of_bits (spread_of p.1).sum;
   }
 
-  -- since the moment `since`, collected at the moment `now`
+  -- since the moment `start`, collected at the moment `now`
   abbrev pub gauge : ℕ → ℕ → List Point → Gauge T
-  gauge since now ps = record { data_points = map gauge_point ps; start_time = since; time = now }
+  gauge start now ps = record { data_points = map gauge_point ps; start_time = start; time = now }
 
   abbrev pub sum : Temporality → Bool → ℕ → ℕ → List Point → Sum T
-  sum temporality is_monotonic since now ps = record { data_points = map sum_point ps; start_time = since; time = now; temporality = temporality; is_monotonic = is_monotonic }
+  sum temporality is_monotonic start now ps = record { data_points = map sum_point ps; start_time = start; time = now; temporality = temporality; is_monotonic = is_monotonic }
 
   abbrev pub histogram : Temporality → List ℤ → ℕ → ℕ → List Point → Histogram T
-  histogram temporality bounds since now ps = record { data_points = map (histogram_point bounds) ps; start_time = since; time = now; temporality = temporality }
+  histogram temporality bounds start now ps = record { data_points = map (histogram_point bounds) ps; start_time = start; time = now; temporality = temporality }
 
   -- as the points of one metric
   abbrev pub gauge_of : ℕ → ℕ → List Point → MetricData T
-  gauge_of since now ps = MetricData.Gauge (gauge since now ps)
+  gauge_of start now ps = MetricData.Gauge (gauge start now ps)
 
   abbrev pub sum_of : Temporality → Bool → ℕ → ℕ → List Point → MetricData T
-  sum_of temporality is_monotonic since now ps = MetricData.Sum (sum temporality is_monotonic since now ps)
+  sum_of temporality is_monotonic start now ps = MetricData.Sum (sum temporality is_monotonic start now ps)
 
   abbrev pub histogram_of : Temporality → List ℤ → ℕ → ℕ → List Point → MetricData T
-  histogram_of temporality bounds since now ps = MetricData.Histogram (histogram temporality bounds since now ps)
+  histogram_of temporality bounds start now ps = MetricData.Histogram (histogram temporality bounds start now ps)

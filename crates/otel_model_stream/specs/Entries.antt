@@ -5,7 +5,7 @@ use Rattle.std.specs.List.{list_any, AllByRecursion}
 use Rattle.otel_common.specs.Canonical.{canon}
 use Rattle.otel_common.specs.Equality.{set_eq}
 use Rattle.otel_model_stream.specs.Sets.{AttributeSet, none_set, over_set}
-use Rattle.otel_model_stream.specs.Folds.{Fold, Sample, recorded, cleared}
+use Rattle.otel_model_stream.specs.Folds.{Fold, Sample, record_fold, clear_fold}
 pub use Rattle.otel_model_stream.specs.Events.{Point}
 
 -- what is kept for a set: whether the limit counts it, whether it was updated since its making or
@@ -23,12 +23,12 @@ pub record Table : Type 0 where
   pub entries : List Entry
 
 -- an entry with no records, `empty` being what no records come to
-abbrev pub fresh : Fold → AttributeSet → Bool → Entry
-fresh empty s counted = record { set = s; counted = counted; updated = false; fold = empty; handles = 0 }
+abbrev pub new_entry : Fold → AttributeSet → Bool → Entry
+new_entry empty s counted = record { set = s; counted = counted; updated = false; fold = empty; handles = 0 }
 
 -- the table of a new stream
 abbrev pub new_table : Fold → Table
-new_table empty = record { none = fresh empty none_set false; entries = [] }
+new_table empty = record { none = new_entry empty none_set false; entries = [] }
 
 -- whether this is the entry of the set s
 abbrev pub is_of : AttributeSet → Entry → Bool
@@ -48,12 +48,12 @@ number_counted es = length (filter (λ e. e.counted) es)
 
 -- the entries once the set has a place: a set that has an entry uses it; a new one gets a counted
 -- entry while their number is below the limit, and otherwise the overflow entry is there for it
-abbrev pub placed : ℕ → Fold → AttributeSet → List Entry → List Entry
-placed limit empty s es =
+abbrev pub entries_with_place : ℕ → Fold → AttributeSet → List Entry → List Entry
+entries_with_place limit empty s es =
     cond (set_eq s none_set) es
     (cond (has s es) es
-    (cond (nat_lt (number_counted es) limit) (es ++ fresh empty s true ∷ [])
-    (cond (has over_set es) es (es ++ fresh empty over_set false ∷ []))))
+    (cond (nat_lt (number_counted es) limit) (es ++ new_entry empty s true ∷ [])
+    (cond (has over_set es) es (es ++ new_entry empty over_set false ∷ []))))
 
 -- the set of the entry that s uses then
 abbrev pub entry_for : AttributeSet → List Entry → AttributeSet
@@ -65,7 +65,7 @@ on g f e = cond (is_of g e) (f e) e
 
 -- a record more
 abbrev pub write : Sample → Entry → Entry
-write v e = record e { updated = true; fold = recorded e.fold v }
+write v e = record e { updated = true; fold = record_fold e.fold v }
 
 -- a live handle more
 abbrev pub take_handle : Entry → Entry
@@ -77,7 +77,7 @@ drop_handle e = record e { handles = e.handles - 1 }
 
 -- no records since now
 abbrev pub reset : Entry → Entry
-reset e = record e { updated = false; fold = cleared e.fold }
+reset e = record e { updated = false; fold = clear_fold e.fold }
 
 -- the entry of the set g changed by f
 abbrev pub at_entry : AttributeSet → (Entry → Entry) → Table → Table
@@ -85,7 +85,7 @@ at_entry g f m = record { none = on g f m.none; entries = map (on g f) m.entries
 
 -- the table once the set s has a place
 abbrev pub place : ℕ → Fold → AttributeSet → Table → Table
-place limit empty s m = record { none = m.none; entries = placed limit empty s m.entries }
+place limit empty s m = record { none = m.none; entries = entries_with_place limit empty s m.entries }
 
 -- a record of the set s, which has a place
 abbrev pub recorded_at : AttributeSet → Sample → Table → Table
@@ -100,18 +100,18 @@ abbrev pub stays : Entry → Bool
 stays e = e.updated || (nat_lt 0 e.handles || set_eq e.set over_set)
 
 -- what a resetting collection leaves
-abbrev pub evicted : Table → Table
-evicted m = record { none = reset m.none; entries = map reset (filter stays m.entries) }
+abbrev pub evicted_table : Table → Table
+evicted_table m = record { none = reset m.none; entries = map reset (filter stays m.entries) }
 
 -- what a draining collection leaves
-abbrev pub drained : Table → Table
-drained m = record { none = reset m.none; entries = [] }
+abbrev pub drained_table : Table → Table
+drained_table m = record { none = reset m.none; entries = [] }
 
 -- the point of an entry
-abbrev pub shown : Entry → Point
-shown e = (e.set, e.fold)
+abbrev pub point_of_entry : Entry → Point
+point_of_entry e = (e.set, e.fold)
 
 -- the points: the empty set's if it was updated, then those of the entries in order,
 -- of all of them or of the updated ones
 abbrev pub points : Bool → Table → List Point
-points every m = map shown (filter (λ e. e.updated) (m.none ∷ []) ++ filter (λ e. every || e.updated) m.entries)
+points every m = map point_of_entry (filter (λ e. e.updated) (m.none ∷ []) ++ filter (λ e. every || e.updated) m.entries)

@@ -39,8 +39,8 @@ pub data Fold : Type 0 where
   Spreads : Spread → Fold
 
 -- modulo 2^64
-abbrev pub wrapped : ℕ → ℕ
-wrapped n = n % 2 ^ 64
+abbrev pub wrap : ℕ → ℕ
+wrap n = n % 2 ^ 64
 
 -- ======== one record more ========
 -- the lesser of what was least so far and x
@@ -56,7 +56,7 @@ greater (Some y) x = Some (int_max y x)
 -- one more in the bucket; a bucket that isn't there counts nothing
 abbrev pub counted_in : List ℕ → ℕ → List ℕ
 counted_in [] i = []
-counted_in (n ∷ ns) zero = wrapped (n + 1) ∷ ns
+counted_in (n ∷ ns) zero = wrap (n + 1) ∷ ns
 counted_in (n ∷ ns) (suc i) = n ∷ counted_in ns i
 
 -- a histogram with one record more
@@ -64,18 +64,18 @@ abbrev pub record_spread : Spread → Sample → Spread
 record_spread s v = record {
   has_min_max = s.has_min_max;
   has_sum = s.has_sum;
-  count = wrapped (s.count + 1);
-  sum = cond s.has_sum (wrapped (s.sum + v.bits)) s.sum;
+  count = wrap (s.count + 1);
+  sum = cond s.has_sum (wrap (s.sum + v.bits)) s.sum;
   least = cond s.has_min_max (lesser s.least v.wide) s.least;
   greatest = cond s.has_min_max (greater s.greatest v.wide) s.greatest;
   counts = counted_in s.counts v.bucket;
 }
 
 -- a fold with one record more
-abbrev pub recorded : Fold → Sample → Fold
-recorded (Total n) v = Total (wrapped (n + v.bits))
-recorded (Last n) v = Last v.bits
-recorded (Spreads s) v = Spreads (record_spread s v)
+abbrev pub record_fold : Fold → Sample → Fold
+record_fold (Total n) v = Total (wrap (n + v.bits))
+record_fold (Last n) v = Last v.bits
+record_fold (Spreads s) v = Spreads (record_spread s v)
 
 -- ======== no records ========
 -- a histogram without records, of a number of buckets
@@ -83,10 +83,10 @@ abbrev pub no_spread : Bool → Bool → ℕ → Spread
 no_spread has_min_max has_sum n = record { has_min_max = has_min_max; has_sum = has_sum; count = 0; sum = 0; least = None; greatest = None; counts = replicate n 0 }
 
 -- a fold of the same kind without records
-abbrev pub cleared : Fold → Fold
-cleared (Total _) = Total 0
-cleared (Last _) = Last 0
-cleared (Spreads s) = Spreads (no_spread s.has_min_max s.has_sum (length s.counts))
+abbrev pub clear_fold : Fold → Fold
+clear_fold (Total _) = Total 0
+clear_fold (Last _) = Last 0
+clear_fold (Spreads s) = Spreads (no_spread s.has_min_max s.has_sum (length s.counts))
 
 -- how many buckets: none without bounds
 abbrev pub buckets_of : List ℤ → ℕ
@@ -114,19 +114,19 @@ abbrev pub sample_of : Aggregate → Amount → Sample
 sample_of σ v = record { bits = v.bits; wide = v.wide; bucket = bounds_below (bounds_of σ) v.wide }
 
 -- clearing what has no records changes nothing
-pub cleared_no_spread : (m s : Bool) (n : ℕ) → cleared (Spreads (no_spread m s n)) ≡ Spreads (no_spread m s n)
-cleared_no_spread m s n = ap (λ k. Spreads (no_spread m s k)) (length-replicate n 0)
+pub clear_fold_no_spread : (m s : Bool) (n : ℕ) → clear_fold (Spreads (no_spread m s n)) ≡ Spreads (no_spread m s n)
+clear_fold_no_spread m s n = ap (λ k. Spreads (no_spread m s k)) (length-replicate n 0)
 
-pub cleared_empty : (σ : Aggregate) → cleared (empty_of σ) ≡ empty_of σ
-cleared_empty Sum = refl
-cleared_empty LastValue = refl
-cleared_empty (Histogram bounds m s) = cleared_no_spread m s (buckets_of bounds)
+pub clear_fold_empty : (σ : Aggregate) → clear_fold (empty_of σ) ≡ empty_of σ
+clear_fold_empty Sum = refl
+clear_fold_empty LastValue = refl
+clear_fold_empty (Histogram bounds m s) = clear_fold_no_spread m s (buckets_of bounds)
 
 -- ======== said of the whole list of records ========
 -- how many have this bucket, for each of n buckets from a on
 abbrev pub counts_from : ℕ → ℕ → List Sample → List ℕ
 counts_from a zero vs = []
-counts_from a (suc n) vs = wrapped (count_by (λ v. nat_eq v.bucket a) vs) ∷ counts_from (a + 1) n vs
+counts_from a (suc n) vs = wrap (count_by (λ v. nat_eq v.bucket a) vs) ∷ counts_from (a + 1) n vs
 
 -- the bits of the last record, 0 if there is none
 abbrev pub last_bits : List Sample → ℕ
@@ -147,14 +147,14 @@ greatest_of (x ∷ []) = Some x
 greatest_of (x ∷ y ∷ xs) = greater (greatest_of (y ∷ xs)) x
 
 -- what these records come to, the first argument telling of which aggregate
-abbrev pub folded : Fold → List Sample → Fold
-folded (Total _) vs = Total (wrapped (sum_by (λ v. v.bits) vs))
-folded (Last _) vs = Last (last_bits vs)
-folded (Spreads s) vs = Spreads (record {
+abbrev pub fold_samples : Fold → List Sample → Fold
+fold_samples (Total _) vs = Total (wrap (sum_by (λ v. v.bits) vs))
+fold_samples (Last _) vs = Last (last_bits vs)
+fold_samples (Spreads s) vs = Spreads (record {
   has_min_max = s.has_min_max;
   has_sum = s.has_sum;
-  count = wrapped (length vs);
-  sum = cond s.has_sum (wrapped (sum_by (λ v. v.bits) vs)) 0;
+  count = wrap (length vs);
+  sum = cond s.has_sum (wrap (sum_by (λ v. v.bits) vs)) 0;
   least = cond s.has_min_max (least_of (map (λ v. v.wide) vs)) None;
   greatest = cond s.has_min_max (greatest_of (map (λ v. v.wide) vs)) None;
   counts = counts_from 0 (length s.counts) vs;
@@ -162,4 +162,4 @@ folded (Spreads s) vs = Spreads (record {
 
 -- the fold of a list of values
 abbrev pub fold_of : Aggregate → List Amount → Fold
-fold_of σ vs = folded (empty_of σ) (map (sample_of σ) vs)
+fold_of σ vs = fold_samples (empty_of σ) (map (sample_of σ) vs)

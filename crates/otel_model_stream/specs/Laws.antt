@@ -4,12 +4,12 @@ use Rattle.otel_common.specs.Canonical.{canon}
 use Rattle.otel_common.specs.Equality.{set_eq}
 use Rattle.otel_common.specs.declared.attributes.KeyValue.{KeyValue}
 use Rattle.otel_model_stream.specs.Sets.{AttributeSet, none_set}
-use Rattle.otel_model_stream.specs.Folds.{Aggregate, Histogram, Amount, Sample, Fold, Total, Last, Spreads, wrapped, recorded, cleared, empty_of, sample_of, folded, fold_of}
+use Rattle.otel_model_stream.specs.Folds.{Aggregate, Histogram, Amount, Sample, Fold, Total, Last, Spreads, wrap, record_fold, clear_fold, empty_of, sample_of, fold_samples, fold_of}
 use Rattle.otel_model_stream.specs.Events.{Event, Record, Bind, RecordBound, Unbind, Collect, Kind, Delta, Cumulative, Drained, held_by, without}
 use Rattle.otel_model_stream.specs.Entries.{Entry, Table, has, number_counted, AreCanonical}
-use Rattle.otel_model_stream.specs.Maps.{MapState, with_place, measured, bound_map, bound_to, updated_bound, unbound, readonly_points, resetting_points, draining_points, evicted_map, drained_map, KnownMap, without_lists, knows, keys, is_admitted, measured_list, bound_list, evicted_known, drained_known, AreListed}
+use Rattle.otel_model_stream.specs.Maps.{MapState, with_place, measured_map, bound_map, bound_to, updated_bound, unbound_map, readonly_points, resetting_points, draining_points, evicted_map, drained_map, KnownMap, without_lists, knows, keys, is_admitted, measured_list, bound_list, evicted_known, drained_known, AreListed}
 use Rattle.otel_model_stream.specs.Machine.{Machine, begin, step, run, answer, answers, points}
-use Rattle.otel_model_stream.specs.Windows.{opening, window, collections, places_of, points_of, uncounted_of, counted}
+use Rattle.otel_model_stream.specs.Windows.{opening, window, collections, places_of, points_of, uncounted_of, sets_that_count}
 use Rattle.otel_model_stream.specs.Totals.{recorded_total, weight, points_total}
 
 -- ======== the machine and the windows ========
@@ -22,7 +22,7 @@ ArePlacesOfWindows = (σ : Aggregate) (kind : Kind) (limit : ℕ) (events : List
 abbrev pub AreCountedOfWindows : Type 0
 AreCountedOfWindows = (σ : Aggregate) (kind : Kind) (limit : ℕ) (events : List Event) →
     map (λ (e : Entry). e.set) (filter (λ (e : Entry). e.counted) (run σ kind limit (begin σ) events).table.entries)
-    ≡ counted (uncounted_of limit (window kind limit opening events)) (places_of limit (window kind limit opening events))
+    ≡ sets_that_count (uncounted_of limit (window kind limit opening events)) (places_of limit (window kind limit opening events))
 
 -- each collection gives the points of its window
 abbrev pub ArePointsOfWindows : Type 0
@@ -36,11 +36,11 @@ ArePointsNow = (σ : Aggregate) (kind : Kind) (limit : ℕ) (events : List Event
 -- in a delta stream what the collections gave and what is pending is all that was recorded
 abbrev pub IsConserved : Type 0
 IsConserved = (σ : Aggregate) (limit : ℕ) (events : List Event) →
-    wrapped (sum_by points_total (collections σ Delta limit opening events) + points_total (points_of σ Delta limit (window Delta limit opening events))) ≡ wrapped (recorded_total σ events)
+    wrap (sum_by points_total (collections σ Delta limit opening events) + points_total (points_of σ Delta limit (window Delta limit opening events))) ≡ wrap (recorded_total σ events)
 
 -- in a cumulative stream the points hold all that was recorded
 abbrev pub IsAllShown : Type 0
-IsAllShown = (σ : Aggregate) (limit : ℕ) (events : List Event) → wrapped (points_total (points_of σ Cumulative limit (window Cumulative limit opening events))) ≡ wrapped (recorded_total σ events)
+IsAllShown = (σ : Aggregate) (limit : ℕ) (events : List Event) → wrap (points_total (points_of σ Cumulative limit (window Cumulative limit opening events))) ≡ wrap (recorded_total σ events)
 
 -- there are at most two points more than the limit
 abbrev pub ArePointsFew : Type 0
@@ -49,11 +49,11 @@ ArePointsFew = (σ : Aggregate) (kind : Kind) (limit : ℕ) (events : List Event
 -- ======== folds ========
 -- records one after another come to what their whole list comes to
 abbrev pub IsFoldOfList : Type 0
-IsFoldOfList = (σ : Aggregate) (values : List Amount) → fold recorded (empty_of σ) (map (sample_of σ) values) ≡ fold_of σ values
+IsFoldOfList = (σ : Aggregate) (values : List Amount) → fold record_fold (empty_of σ) (map (sample_of σ) values) ≡ fold_of σ values
 
 -- one record more
 abbrev pub IsFoldedByOneMore : Type 0
-IsFoldedByOneMore = (empty : Fold) (records : List Sample) (v : Sample) → folded empty (records ++ v ∷ []) ≡ recorded (folded empty records) v
+IsFoldedByOneMore = (empty : Fold) (records : List Sample) (v : Sample) → fold_samples empty (records ++ v ∷ []) ≡ record_fold (fold_samples empty records) v
 
 -- the bucket counts of a histogram
 abbrev pub bucket_counts : Fold → List ℕ
@@ -64,15 +64,15 @@ bucket_counts (Spreads s) = s.counts
 -- in a histogram with a bound the buckets add up to the count
 abbrev pub AreBucketsCounted : Type 0
 AreBucketsCounted = (bound : ℤ) (bounds : List ℤ) (has_min_max has_sum : Bool) (values : List Amount) →
-    wrapped (sum_by (λ n. n) (bucket_counts (fold_of (Histogram (bound ∷ bounds) has_min_max has_sum) values))) ≡ weight (fold_of (Histogram (bound ∷ bounds) has_min_max has_sum) values)
+    wrap (sum_by (λ n. n) (bucket_counts (fold_of (Histogram (bound ∷ bounds) has_min_max has_sum) values))) ≡ weight (fold_of (Histogram (bound ∷ bounds) has_min_max has_sum) values)
 
 -- clearing forgets all records
 abbrev pub IsForgotten : Type 0
-IsForgotten = (σ : Aggregate) (values : List Amount) → cleared (fold_of σ values) ≡ empty_of σ
+IsForgotten = (σ : Aggregate) (values : List Amount) → clear_fold (fold_of σ values) ≡ empty_of σ
 
 -- clearing what was recorded step by step, from whatever
 abbrev pub IsClearedAlike : Type 0
-IsClearedAlike = (f : Fold) (records : List Sample) → cleared (fold recorded f records) ≡ cleared f
+IsClearedAlike = (f : Fold) (records : List Sample) → clear_fold (fold record_fold f records) ≡ clear_fold f
 
 -- ======== the machine and a bounded map ========
 -- the map of a stream with this aggregate, limit and table
@@ -82,7 +82,7 @@ map_of σ limit table = record { limit = limit; empty = empty_of σ; table = tab
 -- a record is a record of the map
 abbrev pub IsMeasured : Type 0
 IsMeasured = (σ : Aggregate) (kind : Kind) (limit : ℕ) (m : Machine) (s : AttributeSet) (v : Amount) →
-    map_of σ limit (step σ kind limit m (Record s v)).table ≡ measured s (sample_of σ v) (map_of σ limit m.table)
+    map_of σ limit (step σ kind limit m (Record s v)).table ≡ measured_map s (sample_of σ v) (map_of σ limit m.table)
 
 -- a bind is a bind of the map
 abbrev pub IsHeld : Type 0
@@ -102,7 +102,7 @@ IsUpdatedBound = (σ : Aggregate) (kind : Kind) (limit : ℕ) (m : Machine) (h :
 -- the end of a live handle is one of the map
 abbrev pub IsUnbound : Type 0
 IsUnbound = (σ : Aggregate) (kind : Kind) (limit : ℕ) (m : Machine) (h : ℕ) (g : AttributeSet) → held_by h m.live ≡ Some g →
-    (map_of σ limit (step σ kind limit m (Unbind h)).table ≡ unbound g (map_of σ limit m.table)) × ((step σ kind limit m (Unbind h)).live ≡ without h m.live)
+    (map_of σ limit (step σ kind limit m (Unbind h)).table ≡ unbound_map g (map_of σ limit m.table)) × ((step σ kind limit m (Unbind h)).live ≡ without h m.live)
 
 -- what names a handle that isn't live does nothing
 abbrev pub IsIdle : Type 0
@@ -186,7 +186,7 @@ abbrev pub IsListedOnceUpdated : Type 0
 IsListedOnceUpdated = (g : AttributeSet) (v : Sample) (k : KnownMap) → AreListed k → AreListed (record k { map_state = updated_bound g v k.map_state })
 
 abbrev pub IsListedOnceUnbound : Type 0
-IsListedOnceUnbound = (g : AttributeSet) (k : KnownMap) → AreListed k → AreListed (record k { map_state = unbound g k.map_state })
+IsListedOnceUnbound = (g : AttributeSet) (k : KnownMap) → AreListed k → AreListed (record k { map_state = unbound_map g k.map_state })
 
 abbrev pub IsListedOnceEvicted : Type 0
 IsListedOnceEvicted = (k : KnownMap) → AreListed k → AreListed (evicted_known k)

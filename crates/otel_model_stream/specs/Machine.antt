@@ -3,7 +3,7 @@ use Rattle.std.specs.Prelude.{ℕ, List, [], ◌∷◌, ◌++◌, Bool, true, fa
 use Rattle.otel_model_stream.specs.Sets.{AttributeSet}
 use Rattle.otel_model_stream.specs.Folds.{Aggregate, Sample, empty_of, sample_of}
 use Rattle.otel_model_stream.specs.Events.{Event, Record, Bind, RecordBound, Unbind, Collect, Kind, Delta, Cumulative, Drained, Handles, held_by, without, Point}
-use Rattle.otel_model_stream.specs.Entries.{Table, new_table, entry_for, at_entry, write, take_handle, drop_handle, place, recorded_at, evicted, drained, points as points_in}
+use Rattle.otel_model_stream.specs.Entries.{Table, new_table, entry_for, at_entry, write, take_handle, drop_handle, place, recorded_at, evicted_table, drained_table, points as points_in}
 
 -- its state: the entries, and the live handles
 pub record Machine : Type 0 where
@@ -20,8 +20,8 @@ abbrev pub hold : ℕ → AttributeSet → Machine → Machine
 hold h g m = record { table = at_entry g take_handle m.table; live = m.live ++ (h, g) ∷ [] }
 
 -- a handle for the set s, which has a place
-abbrev pub bound : ℕ → AttributeSet → Machine → Machine
-bound h s m = hold h (entry_for s m.table.entries) m
+abbrev pub bind_handle : ℕ → AttributeSet → Machine → Machine
+bind_handle h s m = hold h (entry_for s m.table.entries) m
 
 -- a record through a handle of this set's entry, if there is one
 abbrev pub through : Option AttributeSet → Sample → Machine → Machine
@@ -34,14 +34,14 @@ let_go None h m = m
 let_go (Some g) h m = record { table = at_entry g drop_handle m.table; live = without h m.live }
 
 -- no handle of the empty set's entry is live
-abbrev pub unheld : Table → Table
-unheld t = record t { none = record t.none { handles = 0 } }
+abbrev pub without_none_handles : Table → Table
+without_none_handles t = record t { none = record t.none { handles = 0 } }
 
 -- what a collection leaves. A drained stream keeps no handles: asynchronous instruments have none
-abbrev pub collected : Kind → Machine → Machine
-collected Delta m = record m { table = evicted m.table }
-collected Cumulative m = m
-collected Drained m = record { table = drained (unheld m.table); live = [] }
+abbrev pub machine_after_collection : Kind → Machine → Machine
+machine_after_collection Delta m = record m { table = evicted_table m.table }
+machine_after_collection Cumulative m = m
+machine_after_collection Drained m = record { table = drained_table (without_none_handles m.table); live = [] }
 
 -- whether a collection shows the entries that were not updated
 abbrev pub shows_all : Kind → Bool
@@ -56,10 +56,10 @@ points kind m = points_in (shows_all kind) m.table
 -- the machine after one event
 abbrev pub step : Aggregate → Kind → ℕ → Machine → Event → Machine
 step σ kind limit m (Record s v) = record m { table = recorded_at s (sample_of σ v) (place limit (empty_of σ) s m.table) }
-step σ kind limit m (Bind h s) = bound h s (record m { table = place limit (empty_of σ) s m.table })
+step σ kind limit m (Bind h s) = bind_handle h s (record m { table = place limit (empty_of σ) s m.table })
 step σ kind limit m (RecordBound h v) = through (held_by h m.live) (sample_of σ v) m
 step σ kind limit m (Unbind h) = let_go (held_by h m.live) h m
-step σ kind limit m Collect = collected kind m
+step σ kind limit m Collect = machine_after_collection kind m
 
 -- the points that an event gives: those of a collection
 abbrev pub answer : Kind → Machine → Event → List (List Point)

@@ -7,7 +7,7 @@ use Rattle.otel_common.specs.Equality.{set_eq}
 use Rattle.otel_common.specs.declared.attributes.KeyValue.{KeyValue}
 use Rattle.otel_model_stream.specs.Sets.{AttributeSet, none_set}
 use Rattle.otel_model_stream.specs.Folds.{Fold, Sample}
-use Rattle.otel_model_stream.specs.Entries.{Table, Point, new_table, has, number_counted, entry_for, at_entry, write, drop_handle, place, recorded_at, held_at, evicted, drained, points}
+use Rattle.otel_model_stream.specs.Entries.{Table, Point, new_table, has, number_counted, entry_for, at_entry, write, drop_handle, place, recorded_at, held_at, evicted_table, drained_table, points}
 
 -- what limits it, what no records come to, and its table
 pub record MapState : Type 0 where
@@ -24,8 +24,8 @@ abbrev pub with_place : AttributeSet → MapState → MapState
 with_place s m = record m { table = place m.limit m.empty s m.table }
 
 -- a record of the set
-abbrev pub measured : AttributeSet → Sample → MapState → MapState
-measured s v m = record m { table = recorded_at s v (place m.limit m.empty s m.table) }
+abbrev pub measured_map : AttributeSet → Sample → MapState → MapState
+measured_map s v m = record m { table = recorded_at s v (place m.limit m.empty s m.table) }
 
 -- a bind of the set: it gets a place, and the entry that it uses one live handle more
 abbrev pub bound_map : AttributeSet → MapState → MapState
@@ -40,8 +40,8 @@ abbrev pub updated_bound : AttributeSet → Sample → MapState → MapState
 updated_bound g v m = record m { table = at_entry g (write v) m.table }
 
 -- a live handle less at the entry of the set g
-abbrev pub unbound : AttributeSet → MapState → MapState
-unbound g m = record m { table = at_entry g drop_handle m.table }
+abbrev pub unbound_map : AttributeSet → MapState → MapState
+unbound_map g m = record m { table = at_entry g drop_handle m.table }
 
 -- what a collection that changes nothing shows: the empty set if it was updated, and every other entry
 abbrev pub readonly_points : MapState → List Point
@@ -57,11 +57,11 @@ draining_points m = points true m.table
 
 -- after a resetting collection
 abbrev pub evicted_map : MapState → MapState
-evicted_map m = record m { table = evicted m.table }
+evicted_map m = record m { table = evicted_table m.table }
 
 -- after a draining collection
 abbrev pub drained_map : MapState → MapState
-drained_map m = record m { table = drained m.table }
+drained_map m = record m { table = drained_table m.table }
 
 -- ======== what a map knows ========
 -- a map, and the lists as they were given that it knows besides the sets of its entries
@@ -95,7 +95,7 @@ given_with l k = k.given ++ cond (is_admitted (canon l) k.map_state && not (set_
 
 -- a record of the list
 abbrev pub measured_list : List KeyValue → Sample → KnownMap → KnownMap
-measured_list l v k = record { map_state = measured (canon l) v k.map_state; given = given_with l k }
+measured_list l v k = record { map_state = measured_map (canon l) v k.map_state; given = given_with l k }
 
 -- a bind of the list
 abbrev pub bound_list : List KeyValue → KnownMap → KnownMap

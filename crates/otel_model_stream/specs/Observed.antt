@@ -3,7 +3,7 @@
 use Rattle.std.specs.Prelude.{ℕ, ◌+◌, ◌-◌, ◌^◌, cond, List, [], ◌∷◌, Option, None, Some}
 use Rattle.otel_common.specs.Equality.{set_eq}
 use Rattle.otel_model_stream.specs.Sets.{AttributeSet}
-use Rattle.otel_model_stream.specs.Folds.{Fold, Last, wrapped}
+use Rattle.otel_model_stream.specs.Folds.{Fold, Last, wrap}
 use Rattle.otel_model_stream.specs.Events.{Point}
 use Rattle.otel_model_stream.specs.Totals.{value_of}
 
@@ -19,7 +19,7 @@ value_before (p ∷ ps) x = cond (set_eq p.0 x) (value_of p.1) (value_before ps 
 
 -- one number less another, modulo 2^64
 abbrev pub less : ℕ → ℕ → ℕ
-less n before = wrapped (n + (2 ^ 64 - wrapped before))
+less n before = wrap (n + (2 ^ 64 - wrap before))
 
 -- a point less its value in the collection before
 abbrev pub difference : List Point → Point → Point

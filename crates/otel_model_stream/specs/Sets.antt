@@ -23,10 +23,10 @@ abbrev pub over_set : AttributeSet
 over_set = record { key = codes "otel.metric.overflow"; value = value.Bool true } ∷ []
 
 -- the attributes, in order, whose key is in the list; all of them where there is none
-abbrev pub kept : AllowList → List KeyValue → List KeyValue
-kept None attributes = attributes
-kept (Some allow) attributes = filter (λ p. list_any (bytes_eq p.key) allow) attributes
+abbrev pub allowed_part : AllowList → List KeyValue → List KeyValue
+allowed_part None attributes = attributes
+allowed_part (Some allow) attributes = filter (λ p. list_any (bytes_eq p.key) allow) attributes
 
 -- the set that a record of these attributes has in a stream
 abbrev pub set_of : AllowList → List KeyValue → AttributeSet
-set_of allow attributes = canon (kept allow attributes)
+set_of allow attributes = canon (allowed_part allow attributes)

@@ -39,16 +39,16 @@ newcomers seen [] = []
 newcomers seen (s ∷ ms) = cond (set_eq s none_set || is_in s seen) (newcomers seen ms) (s ∷ newcomers (seen ++ s ∷ []) ms)
 
 -- the sets without the overflow set, if that isn't counted
-abbrev pub counted : Bool → List AttributeSet → List AttributeSet
-counted uncounted sets = filter (λ s. not (uncounted && set_eq s over_set)) sets
+abbrev pub sets_that_count : Bool → List AttributeSet → List AttributeSet
+sets_that_count uncounted sets = filter (λ s. not (uncounted && set_eq s over_set)) sets
 
 -- how many newcomers the limit lets in
 abbrev pub room : ℕ → Start → ℕ
-room limit start = limit - length (counted start.uncounted start.sets)
+room limit start = limit - length (sets_that_count start.uncounted start.sets)
 
 -- the first newcomers, as many as there is room for
-abbrev pub admitted : ℕ → Start → List AttributeSet → List AttributeSet
-admitted limit start ms = take (room limit start) (newcomers start.sets ms)
+abbrev pub admitted_sets : ℕ → Start → List AttributeSet → List AttributeSet
+admitted_sets limit start ms = take (room limit start) (newcomers start.sets ms)
 
 -- whether there are more newcomers than room
 abbrev pub is_left_over : ℕ → Start → List AttributeSet → Bool
@@ -56,12 +56,12 @@ is_left_over limit start ms = nat_lt (room limit start) (length (newcomers start
 
 -- whether the limit makes the overflow set a place
 abbrev pub overflows : ℕ → Start → List AttributeSet → Bool
-overflows limit start ms = is_left_over limit start ms && not (is_in over_set (start.sets ++ admitted limit start ms))
+overflows limit start ms = is_left_over limit start ms && not (is_in over_set (start.sets ++ admitted_sets limit start ms))
 
 -- the sets that have a place once these were mentioned: those at the start, the admitted, and the
 -- overflow set where a newcomer is left over
 abbrev pub places : ℕ → Start → List AttributeSet → List AttributeSet
-places limit start ms = (start.sets ++ admitted limit start ms) ++ cond (overflows limit start ms) (over_set ∷ []) []
+places limit start ms = (start.sets ++ admitted_sets limit start ms) ++ cond (overflows limit start ms) (over_set ∷ []) []
 
 -- whether the overflow set has a place without being counted
 abbrev pub uncounted_now : ℕ → Start → List AttributeSet → Bool
@@ -69,17 +69,17 @@ uncounted_now limit start ms = start.uncounted || overflows limit start ms
 
 -- the goal of a mention of s: the set that it counts for
 abbrev pub goal : ℕ → Start → List AttributeSet → AttributeSet → AttributeSet
-goal limit start ms s = cond (set_eq s none_set) none_set (cond (is_in s (start.sets ++ admitted limit start ms)) s over_set)
+goal limit start ms s = cond (set_eq s none_set) none_set (cond (is_in s (start.sets ++ admitted_sets limit start ms)) s over_set)
 
 -- ======== records ========
 -- the live handles after the events, each with the goal of its bind
-abbrev pub live : (AttributeSet → AttributeSet) → Handles → List Event → Handles
-live g held [] = held
-live g held (Record s v ∷ es) = live g held es
-live g held (Bind h s ∷ es) = live g (held ++ (h, g s) ∷ []) es
-live g held (RecordBound h v ∷ es) = live g held es
-live g held (Unbind h ∷ es) = live g (without h held) es
-live g held (Collect ∷ es) = live g held es
+abbrev pub live_handles : (AttributeSet → AttributeSet) → Handles → List Event → Handles
+live_handles g held [] = held
+live_handles g held (Record s v ∷ es) = live_handles g held es
+live_handles g held (Bind h s ∷ es) = live_handles g (held ++ (h, g s) ∷ []) es
+live_handles g held (RecordBound h v ∷ es) = live_handles g held es
+live_handles g held (Unbind h ∷ es) = live_handles g (without h held) es
+live_handles g held (Collect ∷ es) = live_handles g held es
 
 -- a record through a handle, if it is live
 abbrev pub by_handle : Option AttributeSet → Amount → List (AttributeSet × Amount)
@@ -110,7 +110,7 @@ goal_of limit w = goal limit w.start (mentions w.events)
 
 -- the live handles at its end
 abbrev pub live_of : ℕ → Window → Handles
-live_of limit w = live (goal_of limit w) w.start.held w.events
+live_of limit w = live_handles (goal_of limit w) w.start.held w.events
 
 -- its records, with their goals
 abbrev pub records_of : ℕ → Window → List (AttributeSet × Amount)

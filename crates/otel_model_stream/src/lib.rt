@@ -3,7 +3,7 @@
 #![tactic(auto)]
 
 ghost use Rattle.std.specs.Prelude.{◌≡◌};
-ghost use Rattle.otel_model_stream.specs.Folds.{Aggregate, cleared, empty_of};
+ghost use Rattle.otel_model_stream.specs.Folds.{Aggregate, clear_fold, empty_of};
 ghost use Rattle.otel_model_stream.specs.Laws.{AreBucketsCounted, AreCountedOfWindows, AreKeysFew, ArePlacesOfWindows, ArePointsFew, ArePointsNow, ArePointsOfWindows, IsAllShown, IsClearedAlike, IsConserved, IsCountedOnceAdmitted, IsDrained, IsDraining, IsEmptyKnown, IsEvicted, IsFoldOfList, IsFoldedByOneMore, IsForgotten, IsHandleOfPlace, IsHeld, IsIdle, IsKnownBefore, IsKnownBySet, IsKnownOnceBound, IsKnownOnceMeasured, IsKnownWhilePlaced, IsListedAtFirst, IsListedOnceBound, IsListedOnceDrained, IsListedOnceEvicted, IsListedOnceMeasured, IsListedOnceUnbound, IsListedOnceUpdated, IsMeasured, IsReadonly, IsResetting, IsStillKnown, IsUnbound, IsUpdatedBound};
 
 /// For every list of events the entries are the places of the window so far, those counted are the
@@ -31,7 +31,7 @@ pub fn folds()
 
 /// Clearing forgets all records.
 pub fn clears()
-    ensures nothing { (σ : Aggregate) → cleared (empty_of σ) ≡ empty_of σ }
+    ensures nothing { (σ : Aggregate) → clear_fold (empty_of σ) ≡ empty_of σ }
     ensures list { IsForgotten }
     ensures steps { IsClearedAlike }
 {}

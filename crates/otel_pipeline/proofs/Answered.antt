@@ -8,8 +8,8 @@ use Rattle.otel_model_stream.specs.Sets.{AttributeSet}
 use Rattle.otel_aggregate.specs.Any.{is_signed_value, amount_of}
 use Rattle.otel_model.specs.Demands.{Demand}
 use Rattle.otel_model.specs.Machine.{changed_at}
-use Rattle.otel_pipeline.specs.Pipelines.{all_settled, committed_each, finished_all}
-use Rattle.otel_pipeline.specs.Streams.{Held, committed, committed_by, settled, finished}
+use Rattle.otel_pipeline.specs.Pipelines.{all_without_pending, committed_each, all_after_collection}
+use Rattle.otel_pipeline.specs.Streams.{Held, held_after_commit, committed_by, without_pending, held_after_collection}
 
 -- a change of streams that leaves their demands and whether they reset
 abbrev pub KeepsAnswer : (Held → Held) → Type 0
@@ -35,10 +35,10 @@ commits_if : (b : Bool) (v : Amount) (k : Held) → ((cond b (committed_by k.pen
 commits_if true v k = commits_by v k.pending k
 commits_if false v k = (refl, refl)
 
-pub commits : (value : NumberValue) → KeepsAnswer (committed value)
+pub commits : (value : NumberValue) → KeepsAnswer (held_after_commit value)
 commits value k = commits_if (beq (is_signed_value value) k.stream.demand.identity.signed) (amount_of value) k
 
-pub finishes : (now : ℕ) → KeepsAnswer (finished now)
+pub finishes : (now : ℕ) → KeepsAnswer (held_after_collection now)
 finishes now k = (refl, refl)
 
 module _ (P : Bool → Demand → Type 0) where
@@ -56,23 +56,23 @@ module _ (P : Bool → Demand → Type 0) where
 
   pub answered-committed : (value : NumberValue) (ns : List ℕ) (ks : List Held) → OfAnswer P ks → OfAnswer P (committed_each value ns ks)
   answered-committed value [] ks all = all
-  answered-committed value (n ∷ ns) ks all = answered-committed value ns (changed_at n (committed value) ks) (answered-changed (committed value) (commits value) n ks all)
+  answered-committed value (n ∷ ns) ks all = answered-committed value ns (changed_at n (held_after_commit value) ks) (answered-changed (held_after_commit value) (commits value) n ks all)
 
   -- what is seen but for the sets of the record that is prepared tells it
-  pub answered-settled : (new old : List Held) → all_settled new ≡ all_settled old → OfAnswer P old → OfAnswer P new
+  pub answered-settled : (new old : List Held) → all_without_pending new ≡ all_without_pending old → OfAnswer P old → OfAnswer P new
   answered-settled [] old e all = tt
   answered-settled (a ∷ new) [] e all = absurd (cc)
   answered-settled (a ∷ new) (b ∷ old) e all =
-      let one : settled a ≡ settled b = ap (head_or (settled a)) e in
+      let one : without_pending a ≡ without_pending b = ap (head_or (without_pending a)) e in
       (changed_one b a (ap (λ (k : Held). k.resets) one) (ap (λ (k : Held). k.stream.demand) one) all.0, answered-settled new old (ap tail_of e) all.1)
 
-  pub answered-finished : (now : ℕ) (ks : List Held) → OfAnswer P ks → OfAnswer P (finished_all now ks)
-  answered-finished now ks all = answered-map (finished now) (finishes now) ks all
+  pub answered-finished : (now : ℕ) (ks : List Held) → OfAnswer P ks → OfAnswer P (all_after_collection now ks)
+  answered-finished now ks all = answered-map (held_after_collection now) (finishes now) ks all
 
   pub answered-push : (ks : List Held) (k : Held) → OfAnswer P ks → P k.resets k.stream.demand → OfAnswer P (ks ++ k ∷ [])
   answered-push [] k all is = (is, tt)
   answered-push (m ∷ ks) k all is = (all.0, answered-push ks k all.1 is)
 
-pub settled-finished : (now : ℕ) (ks : List Held) → map (λ (k : Held). settled (finished now k)) ks ≡ all_settled (finished_all now ks)
+pub settled-finished : (now : ℕ) (ks : List Held) → map (λ (k : Held). without_pending (held_after_collection now k)) ks ≡ all_without_pending (all_after_collection now ks)
 settled-finished now [] = refl
-settled-finished now (k ∷ ks) = ap (λ l. settled (finished now k) ∷ l) (settled-finished now ks)
+settled-finished now (k ∷ ks) = ap (λ l. without_pending (held_after_collection now k) ∷ l) (settled-finished now ks)

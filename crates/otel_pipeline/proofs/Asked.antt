@@ -3,14 +3,14 @@ use Rattle.std.proofs.Common.{◌≡◌, ℕ, ◌+◌, Bool, true, false, cond, 
 use Rattle.std.specs.Bool.{beq}
 use Rattle.otel_data.specs.declared.numbers.NumberValue.{NumberValue}
 use Rattle.otel_model_stream.specs.Entries.{Entry, Table, is_of, on, write, place, recorded_at}
-use Rattle.otel_model_stream.specs.Folds.{Amount, Sample, sample_of, wrapped}
+use Rattle.otel_model_stream.specs.Folds.{Amount, Sample, sample_of, wrap}
 use Rattle.otel_model_stream.specs.Sets.{AttributeSet}
 use Rattle.otel_model_stream.specs.Totals.{size}
 use Rattle.otel_model.specs.Demands.{Demand}
 use Rattle.otel_model.specs.Streams.{aggregate_of}
-use Rattle.otel_aggregate.specs.Any.{HeldAny, is_signed_value, amount_of, stream_in, taken, is_taken, with_stream}
+use Rattle.otel_aggregate.specs.Any.{HeldAny, is_signed_value, amount_of, stream_in, any_after_commit, is_taken, with_stream}
 use Rattle.otel_aggregate.specs.Streams.{StreamState, recorded_set, taken_from}
-use Rattle.otel_pipeline.specs.Streams.{Held, IsAsked, asked, held_of, with_record, committed, committed_by}
+use Rattle.otel_pipeline.specs.Streams.{Held, IsAsked, asked_aggregate, held_of, with_record, held_after_commit, committed_by}
 
 -- ======== the aggregate that was asked for ========
 unheld-on : (g : AttributeSet) (v : Sample) (e : Entry) → (on g (write v) e).handles ≡ e.handles
@@ -23,9 +23,9 @@ unheld-on g v e = by (is_of g e)
 -- a record leaves the aggregate the one that was asked for
 pub asked-recorded : (d : Demand) (old : HeldAny) (s : AttributeSet) (v : Amount) → IsAsked d old → IsAsked d (with_stream old (taken_from (Some s) v (stream_in old)))
 asked-recorded d old s v is =
-    let to : recorded_set s v old.state ≡ recorded_set s v (asked d old.state.resets old.state.map_state.table old.state.start) = ap (recorded_set s v) is.state in
+    let to : recorded_set s v old.state ≡ recorded_set s v (asked_aggregate d old.state.resets old.state.map_state.table old.state.start) = ap (recorded_set s v) is.state in
     record {
-      state = to ∙ sym (ap (λ (a : StreamState). asked d a.resets a.map_state.table a.start) to);
+      state = to ∙ sym (ap (λ (a : StreamState). asked_aggregate d a.resets a.map_state.table a.start) to);
       signed = is.signed;
       drains = is.drains;
       unheld = unheld-on _ _ old.state.map_state.table.none ∙ is.unheld;
@@ -37,7 +37,7 @@ asked-if d a true None v is = is
 asked-if d a true (Some s) v is = asked-recorded d a s v is
 asked-if d a false o v is = is
 
-pub asked-taken : (d : Demand) (a new : HeldAny) (value : NumberValue) → IsAsked d a → new ≡ taken value a → IsAsked d new
+pub asked-taken : (d : Demand) (a new : HeldAny) (value : NumberValue) → IsAsked d a → new ≡ any_after_commit value a → IsAsked d new
 asked-taken d a new value is e = subst (IsAsked d) (sym e) (asked-if d a (beq (is_signed_value value) a.is_signed) a.pending (amount_of value) is)
 
 module _ (d : Demand) (a : HeldAny) (value : NumberValue) (recorded exported : ℕ) (is : IsAsked d a) where
@@ -48,41 +48,41 @@ module _ (d : Demand) (a : HeldAny) (value : NumberValue) (recorded exported : �
   held = held_of d a recorded exported
 
   -- the same test, and the same set
-  committed-as : (b : Bool) (o : Option AttributeSet) → beq (is_signed_value value) a.is_signed ≡ b → a.pending ≡ o → committed value held ≡ cond b (committed_by o v held) held
+  committed-as : (b : Bool) (o : Option AttributeSet) → beq (is_signed_value value) a.is_signed ≡ b → a.pending ≡ o → held_after_commit value held ≡ cond b (committed_by o v held) held
   committed-as b o f e =
       ap (λ signed. cond (beq (is_signed_value value) signed) (committed_by a.pending v held) held) (sym is.signed)
       ∙ (ap (λ c. cond c (committed_by a.pending v held) held) f ∙ ap (λ p. cond b (committed_by p v held) held) e)
 
-  taken-as : (b : Bool) (o : Option AttributeSet) → beq (is_signed_value value) a.is_signed ≡ b → a.pending ≡ o → taken value a ≡ cond b (with_stream a (taken_from o v (stream_in a))) a
+  taken-as : (b : Bool) (o : Option AttributeSet) → beq (is_signed_value value) a.is_signed ≡ b → a.pending ≡ o → any_after_commit value a ≡ cond b (with_stream a (taken_from o v (stream_in a))) a
   taken-as b o f e =
       ap (λ c. cond c (with_stream a (taken_from a.pending v (stream_in a))) a) f ∙ ap (λ p. cond b (with_stream a (taken_from p v (stream_in a))) a) e
 
   -- with these entries and this total
   abbrev with_table : Table → ℕ → Held
   with_table t total = record {
-    stream = record { demand = d; machine = record { table = t; live = [] }; since = a.state.start; reported = a.reported; recorded = total; exported = exported };
+    stream = record { demand = d; machine = record { table = t; live = [] }; start = a.state.start; reported = a.reported; recorded = total; exported = exported };
     resets = a.state.resets;
     pending = None;
   }
 
-  record-as : (s : AttributeSet) → held_of d (with_stream a (taken_from (Some s) v (stream_in a))) (wrapped (recorded + size (aggregate_of d) v)) exported ≡ with_record s v held
-  record-as s = ap (λ (st : StreamState). with_table (recorded_at s (sample_of st.aggregate v) (place st.map_state.limit st.map_state.empty s a.state.map_state.table)) (wrapped (recorded + size (aggregate_of d) v))) is.state
+  record-as : (s : AttributeSet) → held_of d (with_stream a (taken_from (Some s) v (stream_in a))) (wrap (recorded + size (aggregate_of d) v)) exported ≡ with_record s v held
+  record-as s = ap (λ (st : StreamState). with_table (recorded_at s (sample_of st.aggregate v) (place st.map_state.limit st.map_state.empty s a.state.map_state.table)) (wrap (recorded + size (aggregate_of d) v))) is.state
 
   then_by : (b : Bool) (o : Option AttributeSet) → beq (is_signed_value value) a.is_signed ≡ b → a.pending ≡ o → (b && is_some o) ≡ true
-      → held_of d (taken value a) (wrapped (recorded + size (aggregate_of d) v)) exported ≡ committed value held
+      → held_of d (any_after_commit value a) (wrap (recorded + size (aggregate_of d) v)) exported ≡ held_after_commit value held
   then_by true (Some s) f e t =
-      ap (λ x. held_of d x (wrapped (recorded + size (aggregate_of d) v)) exported) (taken-as true (Some s) f e) ∙ (record-as s ∙ sym (committed-as true (Some s) f e))
+      ap (λ x. held_of d x (wrap (recorded + size (aggregate_of d) v)) exported) (taken-as true (Some s) f e) ∙ (record-as s ∙ sym (committed-as true (Some s) f e))
   then_by true None f e t = absurd (true≢false (sym t))
   then_by false o f e t = absurd (true≢false (sym t))
 
   else_by : (b : Bool) (o : Option AttributeSet) → beq (is_signed_value value) a.is_signed ≡ b → a.pending ≡ o → (b && is_some o) ≡ false
-      → held_of d (taken value a) recorded exported ≡ committed value held
+      → held_of d (any_after_commit value a) recorded exported ≡ held_after_commit value held
   else_by true (Some s) f e t = absurd (true≢false t)
   else_by true None f e t = ap (λ x. held_of d x recorded exported) (taken-as true None f e) ∙ sym (committed-as true None f e)
   else_by false o f e t = ap (λ x. held_of d x recorded exported) (taken-as false o f e) ∙ sym (committed-as false o f e)
 
-  pub commit-then : (new : HeldAny) → new ≡ taken value a → is_taken value a ≡ true → held_of d new (wrapped (recorded + size (aggregate_of d) v)) exported ≡ committed value held
-  commit-then new e t = ap (λ x. held_of d x (wrapped (recorded + size (aggregate_of d) v)) exported) e ∙ then_by (beq (is_signed_value value) a.is_signed) a.pending refl refl t
+  pub commit-then : (new : HeldAny) → new ≡ any_after_commit value a → is_taken value a ≡ true → held_of d new (wrap (recorded + size (aggregate_of d) v)) exported ≡ held_after_commit value held
+  commit-then new e t = ap (λ x. held_of d x (wrap (recorded + size (aggregate_of d) v)) exported) e ∙ then_by (beq (is_signed_value value) a.is_signed) a.pending refl refl t
 
-  pub commit-else : (new : HeldAny) → new ≡ taken value a → is_taken value a ≡ false → held_of d new recorded exported ≡ committed value held
+  pub commit-else : (new : HeldAny) → new ≡ any_after_commit value a → is_taken value a ≡ false → held_of d new recorded exported ≡ held_after_commit value held
   commit-else new e t = ap (λ x. held_of d x recorded exported) e ∙ else_by (beq (is_signed_value value) a.is_signed) a.pending refl refl t

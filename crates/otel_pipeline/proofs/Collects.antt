@@ -6,14 +6,14 @@ use Rattle.otel_common.specs.declared.scopes.InstrumentationScope.{Instrumentati
 use Rattle.otel_data.specs.declared.collections.Metric.{Metric}
 use Rattle.otel_data.specs.declared.collections.ResourceMetrics.{ResourceMetrics}
 use Rattle.otel_model.specs.Calls as model
-use Rattle.otel_model.specs.Collections.{metric, aggregated, in_scope, has_metrics, ScopedMetric}
+use Rattle.otel_model.specs.Collections.{metric, aggregated_metrics, in_scope, has_metrics, ScopedMetric}
 use Rattle.otel_model.specs.Demands.{Identity, ReaderAnswers}
-use Rattle.otel_model.specs.Machine.{part_sent, points_at, stream_after}
+use Rattle.otel_model.specs.Machine.{part_after_call, points_at, stream_after}
 use Rattle.otel_model.specs.State.{Stream}
 use Rattle.otel_model.specs.Streams.{is_delta, is_monotonic_kind}
-use Rattle.otel_pipeline.specs.Collections.{scoped, all_scoped, scopes_shown, IsCollectedFrom}
-use Rattle.otel_pipeline.specs.Pipelines.{part_by, named, is_streamed, streamed, AreAnswered, all_settled, finished_all}
-use Rattle.otel_pipeline.specs.Streams.{Held, shown_metric, shown_values, settled, finished}
+use Rattle.otel_pipeline.specs.Collections.{scoped_metric, all_scoped, scopes_shown, IsCollectedFrom}
+use Rattle.otel_pipeline.specs.Pipelines.{part_by, named_identities, is_streamed, model_streams, AreAnswered, all_without_pending, all_after_collection}
+use Rattle.otel_pipeline.specs.Streams.{Held, shown_metric, shown_values, without_pending, held_after_collection}
 use Rattle.otel_pipeline.proofs.PipelineLemmas.{part-settled, demands-finished, feeds-same}
 
 module _ (answers : ReaderAnswers) (feeds : List (List Identity)) (now : ℕ) where
@@ -24,80 +24,80 @@ module _ (answers : ReaderAnswers) (feeds : List (List Identity)) (now : ℕ) wh
     name = k.stream.demand.spelling;
     description = k.stream.demand.identity.description;
     unit = k.stream.demand.identity.unit;
-    content = aggregated k.stream.demand.identity.signed (cond delta temporality.Delta temporality.Cumulative) (is_monotonic_kind k.stream.demand.identity.kind) k.stream.demand.aggregation k.stream.since now
+    content = aggregated_metrics k.stream.demand.identity.signed (cond delta temporality.Delta temporality.Cumulative) (is_monotonic_kind k.stream.demand.identity.kind) k.stream.demand.aggregation k.stream.start now
         (shown_values (record { stream = k.stream; resets = delta; pending = k.pending }));
   }
 
   metric-is : (k : Held) → k.resets ≡ is_delta answers k.stream.demand
-      → metric answers now k.stream.since k.stream.reported k.stream.demand (points_at answers feeds [] k.stream) ≡ shown_metric now k
+      → metric answers now k.stream.start k.stream.reported k.stream.demand (points_at answers feeds [] k.stream) ≡ shown_metric now k
   metric-is k is = ap (metric_when k) (sym is)
 
   abbrev scoped_by : Stream → ScopedMetric
-  scoped_by q = (q.demand.identity.scope, metric answers now q.since q.reported q.demand (points_at answers feeds [] q))
+  scoped_by q = (q.demand.identity.scope, metric answers now q.start q.reported q.demand (points_at answers feeds [] q))
 
-  metrics_are : (ks : List Held) → AreAnswered answers ks → map scoped_by (streamed ks) ≡ all_scoped now ks
+  metrics_are : (ks : List Held) → AreAnswered answers ks → map scoped_by (model_streams ks) ≡ all_scoped now ks
   metrics_are [] all = refl
   metrics_are (k ∷ ks) all = by (is_streamed k) (metrics_are ks all.1)
     where
-      by : (b : Bool) → map scoped_by (streamed ks) ≡ all_scoped now ks
-          → map scoped_by (map (λ (h : Held). h.stream) (cond b (k ∷ filter is_streamed ks) (filter is_streamed ks))) ≡ map (scoped now) (cond b (k ∷ filter is_streamed ks) (filter is_streamed ks))
+      by : (b : Bool) → map scoped_by (model_streams ks) ≡ all_scoped now ks
+          → map scoped_by (map (λ (h : Held). h.stream) (cond b (k ∷ filter is_streamed ks) (filter is_streamed ks))) ≡ map (scoped_metric now) (cond b (k ∷ filter is_streamed ks) (filter is_streamed ks))
       by true rest = λ i. (k.stream.demand.identity.scope, metric-is k all.0 i) ∷ rest i
       by false rest = rest
 
   -- ======== what it leaves ========
-  stream-is : (next r : ℕ) (k : Held) → k.resets ≡ is_delta answers k.stream.demand → stream_after answers feeds next (model.Call.Collect r now []) k.stream ≡ (finished now k).stream
-  stream-is next r k is = ap (λ b. (finished now (record { stream = k.stream; resets = b; pending = k.pending })).stream) (sym is)
+  stream-is : (next r : ℕ) (k : Held) → k.resets ≡ is_delta answers k.stream.demand → stream_after answers feeds next (model.Call.Collect r now []) k.stream ≡ (held_after_collection now k).stream
+  stream-is next r k is = ap (λ b. (held_after_collection now (record { stream = k.stream; resets = b; pending = k.pending })).stream) (sym is)
 
-  streams-finished : (next r : ℕ) (ks : List Held) → AreAnswered answers ks → map (stream_after answers feeds next (model.Call.Collect r now [])) (streamed ks) ≡ streamed (finished_all now ks)
+  streams-finished : (next r : ℕ) (ks : List Held) → AreAnswered answers ks → map (stream_after answers feeds next (model.Call.Collect r now [])) (model_streams ks) ≡ model_streams (all_after_collection now ks)
   streams-finished next r [] all = refl
   streams-finished next r (k ∷ ks) all = by (is_streamed k) (streams-finished next r ks all.1)
     where
-      by : (b : Bool) → map (stream_after answers feeds next (model.Call.Collect r now [])) (streamed ks) ≡ streamed (finished_all now ks)
+      by : (b : Bool) → map (stream_after answers feeds next (model.Call.Collect r now [])) (model_streams ks) ≡ model_streams (all_after_collection now ks)
           → map (stream_after answers feeds next (model.Call.Collect r now [])) (map (λ (h : Held). h.stream) (cond b (k ∷ filter is_streamed ks) (filter is_streamed ks)))
-          ≡ map (λ (h : Held). h.stream) (cond b (finished now k ∷ filter is_streamed (finished_all now ks)) (filter is_streamed (finished_all now ks)))
+          ≡ map (λ (h : Held). h.stream) (cond b (held_after_collection now k ∷ filter is_streamed (all_after_collection now ks)) (filter is_streamed (all_after_collection now ks)))
       by true rest = λ i. stream-is next r k all.0 i ∷ rest i
       by false rest = rest
 
 -- which records are prepared makes no difference
-filter-settled : (now : ℕ) (ks : List Held) → all_scoped now (all_settled ks) ≡ all_scoped now ks
+filter-settled : (now : ℕ) (ks : List Held) → all_scoped now (all_without_pending ks) ≡ all_scoped now ks
 filter-settled now [] = refl
 filter-settled now (k ∷ ks) = by (is_streamed k) (filter-settled now ks)
   where
-    by : (b : Bool) → all_scoped now (all_settled ks) ≡ all_scoped now ks
-        → map (scoped now) (cond b (settled k ∷ filter is_streamed (all_settled ks)) (filter is_streamed (all_settled ks))) ≡ map (scoped now) (cond b (k ∷ filter is_streamed ks) (filter is_streamed ks))
-    by true rest = ap (λ l. scoped now k ∷ l) rest
+    by : (b : Bool) → all_scoped now (all_without_pending ks) ≡ all_scoped now ks
+        → map (scoped_metric now) (cond b (without_pending k ∷ filter is_streamed (all_without_pending ks)) (filter is_streamed (all_without_pending ks))) ≡ map (scoped_metric now) (cond b (k ∷ filter is_streamed ks) (filter is_streamed ks))
+    by true rest = ap (λ l. scoped_metric now k ∷ l) rest
     by false rest = rest
 
-pub shown-settled : (now : ℕ) (meters : List InstrumentationScope) (a b : List Held) → all_settled a ≡ all_settled b → scopes_shown now a meters ≡ scopes_shown now b meters
+pub shown-settled : (now : ℕ) (meters : List InstrumentationScope) (a b : List Held) → all_without_pending a ≡ all_without_pending b → scopes_shown now a meters ≡ scopes_shown now b meters
 shown-settled now meters a b e =
     ap (λ (ms : List ScopedMetric). filter has_metrics (map (in_scope ms) meters))
     (sym (filter-settled now a) ∙ (ap (all_scoped now) e ∙ filter-settled now b))
 
-finished-once : (now : ℕ) (ks : List Held) → all_settled (finished_all now (all_settled ks)) ≡ all_settled (finished_all now ks)
+finished-once : (now : ℕ) (ks : List Held) → all_without_pending (all_after_collection now (all_without_pending ks)) ≡ all_without_pending (all_after_collection now ks)
 finished-once now [] = refl
-finished-once now (k ∷ ks) = ap (λ l. settled (finished now k) ∷ l) (finished-once now ks)
+finished-once now (k ∷ ks) = ap (λ l. without_pending (held_after_collection now k) ∷ l) (finished-once now ks)
 
-pub finished-settled : (now : ℕ) (a b : List Held) → all_settled a ≡ all_settled b → all_settled (finished_all now a) ≡ all_settled (finished_all now b)
-finished-settled now a b e = sym (finished-once now a) ∙ (ap (λ ks. all_settled (finished_all now ks)) e ∙ finished-once now b)
+pub finished-settled : (now : ℕ) (a b : List Held) → all_without_pending a ≡ all_without_pending b → all_without_pending (all_after_collection now a) ≡ all_without_pending (all_after_collection now b)
+finished-settled now a b e = sym (finished-once now a) ∙ (ap (λ ks. all_without_pending (all_after_collection now ks)) e ∙ finished-once now b)
 
 -- a collection has the scopes that are shown
 pub collected-is : (resource : Resource) (meters : List InstrumentationScope) (now : ℕ) (answers : ReaderAnswers) (ks : List Held) (feeds : List (List ℕ)) (c : ResourceMetrics) → AreAnswered answers ks
     → c.resource ≡ resource → c.scope_metrics ≡ scopes_shown now ks meters → IsCollectedFrom resource meters now [] (part_by answers ks feeds) c
 collected-is resource meters now answers ks feeds c all r e s to_resource to_meters = λ i. record {
   resource = (r ∙ sym to_resource) i;
-  scope_metrics = (e ∙ λ j. filter has_metrics (map (in_scope (sym (metrics_are answers (map (named ks) feeds) now ks all) j)) (sym to_meters j))) i;
+  scope_metrics = (e ∙ λ j. filter has_metrics (map (in_scope (sym (metrics_are answers (map (named_identities ks) feeds) now ks all) j)) (sym to_meters j))) i;
 }
 
 -- a reader's part after its collection
-pub part-finished : (answers : ReaderAnswers) (next r now : ℕ) (old new : List Held) (feeds : List (List ℕ)) → AreAnswered answers old → all_settled new ≡ all_settled (finished_all now old)
-    → part_by answers new feeds ≡ part_sent next (model.Call.Collect r now []) (part_by answers old feeds)
+pub part-finished : (answers : ReaderAnswers) (next r now : ℕ) (old new : List Held) (feeds : List (List ℕ)) → AreAnswered answers old → all_without_pending new ≡ all_without_pending (all_after_collection now old)
+    → part_by answers new feeds ≡ part_after_call next (model.Call.Collect r now []) (part_by answers old feeds)
 part-finished answers next r now old new feeds all e =
     sym (part-settled answers new feeds)
     ∙ ap (λ ks. part_by answers ks feeds) e
-    ∙ part-settled answers (finished_all now old) feeds
+    ∙ part-settled answers (all_after_collection now old) feeds
     ∙ λ i. record {
       answers = answers;
       fates = demands-finished now old i;
-      streams = sym (streams-finished answers (map (named old) feeds) now next r old all) i;
-      feeds = feeds-same (finished_all now old) old (demands-finished now old) feeds i;
+      streams = sym (streams-finished answers (map (named_identities old) feeds) now next r old all) i;
+      feeds = feeds-same (all_after_collection now old) old (demands-finished now old) feeds i;
     }

@@ -5,11 +5,11 @@ use Rattle.otel_common.specs.declared.metrics.Aggregation.{Aggregation}
 use Rattle.otel_common.specs.declared.metrics.Aggregation.TheVariants.{Drop, Default, Sum, LastValue, ExplicitBucketHistogram}
 use Rattle.otel_common.specs.declared.scopes.InstrumentationScope.{InstrumentationScope}
 use Rattle.otel_model.specs.Calls.{About, InstrumentKind, Counter, UpDownCounter, Histogram, ObservableCounter, ObservableUpDownCounter, Gauge, ObservableGauge, or_else}
-use Rattle.otel_model.specs.Demands.{Demand, ReaderAnswers, StreamSpec, answer_for, default_limit, demand_of, are_good_bounds, is_valid, fits, kind_default, default_from, reader_default, with_bounds, with_own, resolved}
+use Rattle.otel_model.specs.Demands.{Demand, ReaderAnswers, StreamSpec, answer_for, default_limit, demand_of, are_good_bounds, is_valid, fits, kind_default, default_from, reader_default, with_bounds, with_own, resolved_aggregation}
 use Rattle.otel_pipeline.specs.Identities.{identity_with}
 
 -- a demand of these five parts
-pub demand_made : (answers : ReaderAnswers) (scope : InstrumentationScope) (about : About) (s : StreamSpec) (d : Demand) → d.identity ≡ identity_with scope about s → d.spelling ≡ or_else s.name about.name → d.aggregation ≡ resolved answers about s.aggregation → d.allow ≡ s.allow
+pub demand_made : (answers : ReaderAnswers) (scope : InstrumentationScope) (about : About) (s : StreamSpec) (d : Demand) → d.identity ≡ identity_with scope about s → d.spelling ≡ or_else s.name about.name → d.aggregation ≡ resolved_aggregation answers about s.aggregation → d.allow ≡ s.allow
     → d.limit ≡ or_else s.limit (or_else (answer_for answers about.kind).limit default_limit) → d ≡ demand_of answers scope about s
 demand_made answers scope about s d identity spelling aggregation allow limit = λ i. record {
   identity = identity i;
@@ -63,7 +63,7 @@ with_own-valid Gauge own a good held = held
 with_own-valid ObservableGauge own a good held = held
 
 -- good bounds of the instrument and of the settings make no invalid demand
-pub resolved_valid : (answers : ReaderAnswers) (about : About) (set : Option Aggregation) → IfSome set (λ a. is_valid a ≡ true) → are_good_bounds about.kind about.bounds ≡ true → is_valid (resolved answers about set) ≡ true
+pub resolved_valid : (answers : ReaderAnswers) (about : About) (set : Option Aggregation) → IfSome set (λ a. is_valid a ≡ true) → are_good_bounds about.kind about.bounds ≡ true → is_valid (resolved_aggregation answers about set) ≡ true
 resolved_valid answers about None held good = with_own-valid about.kind about.bounds (reader_default answers about.kind) good (default_from-valid about.kind (answer_for answers about.kind).aggregation)
 resolved_valid answers about (Some Default) held good = default_from-valid about.kind (answer_for answers about.kind).aggregation
 resolved_valid answers about (Some Drop) held good = refl

@@ -2,14 +2,14 @@
 use Rattle.std.proofs.Common.{◌≡◌, ◌==◌, ℕ, not, List, [], ◌∷◌, ◌++◌, length, slice_get, refl, ◌∙◌, ap, arith, ne_eqb}
 use Rattle.otel_model.specs.Calls.{or_else}
 use Rattle.otel_model.specs.Demands.{Identity, ReaderAnswers}
-use Rattle.otel_pipeline.specs.Pipelines.{has_stream_at, identity_at, named, part_by, some_stream}
+use Rattle.otel_pipeline.specs.Pipelines.{has_stream_at, identity_at, named_identities, part_by, some_stream}
 use Rattle.otel_pipeline.specs.Streams.{Held}
 use Rattle.otel_pipeline.proofs.Records.{fed-named, HaveStreams, identity_at-is}
 
 -- identities of streams that are there are as many as their numbers
-pub some-named : (ks : List Held) (ns : List ℕ) → HaveStreams ns ks → some_stream (named ks ns) ≡ some_stream ns
+pub some-named : (ks : List Held) (ns : List ℕ) → HaveStreams ns ks → some_stream (named_identities ks ns) ≡ some_stream ns
 some-named ks [] all = refl
-some-named ks (n ∷ ns) all = ap (λ (xs : List Identity). some_stream (xs ++ named ks ns)) (identity_at-is ks n all.0.0 all.0.1)
+some-named ks (n ∷ ns) all = ap (λ (xs : List Identity). some_stream (xs ++ named_identities ks ns)) (identity_at-is ks n all.0.0 all.0.1)
 
 pub streams-fed : (answers : ReaderAnswers) (ks : List Held) (feeds : List (List ℕ)) (n : ℕ) → HaveStreams (or_else (slice_get feeds n) []) ks → has_stream_at n (part_by answers ks feeds) ≡ some_stream (or_else (slice_get feeds n) [])
 streams-fed answers ks feeds n all = ap some_stream (fed-named ks feeds n) ∙ some-named ks (or_else (slice_get feeds n) []) all

@@ -12,15 +12,15 @@ use Rattle.otel_model_stream.specs.Totals.{has_number}
 use Rattle.otel_model.specs.Calls as model
 use Rattle.otel_model.specs.Demands.{Demand, Identity, ReaderAnswers, identity_eq}
 use Rattle.otel_model.specs.Collections.{metric, collection, ScopedMetric}
-use Rattle.otel_model.specs.Machine.{machine_after, part_sent, points_at, recorded_over, stream_after}
-use Rattle.otel_model.specs.Sent.{is_fed, observed, set_for}
+use Rattle.otel_model.specs.Machine.{machine_after, part_after_call, points_at, recorded_over, stream_after}
+use Rattle.otel_model.specs.Sent.{is_fed, observed_events, set_for}
 use Rattle.otel_model.specs.State.{ReaderPart, Shared, Stream}
 use Rattle.otel_model.specs.Steps.{collect_from}
 use Rattle.otel_model.specs.Streams.{aggregate_of, is_delta, kind_of}
 use Rattle.otel_model.proofs.Follow.{run_append, recorded_append}
 use Rattle.otel_pipeline.specs.Collections.{IsCollectedFrom, scopes_shown}
-use Rattle.otel_pipeline.specs.Observations.{observed_of, AreTypedFor, observed_one, changed_in, observing, observed_in, observed_all}
-use Rattle.otel_pipeline.specs.Pipelines.{AreAnswered, AreNumbers, FeedsType, all_settled, fates_of, finished_all, identity_of, named, part_by, stream_identities}
+use Rattle.otel_pipeline.specs.Observations.{observed_of, AreTypedFor, observed_one, changed_in, observing_numbers, observed_in, observed_all}
+use Rattle.otel_pipeline.specs.Pipelines.{AreAnswered, AreNumbers, FeedsType, all_without_pending, fates_of, all_after_collection, identity_of, named_identities, part_by, stream_identities}
 use Rattle.otel_pipeline.specs.Streams.{Held, with_record}
 use Rattle.otel_pipeline.proofs.Collects.{collected-is, part-finished}
 use Rattle.otel_pipeline.proofs.Identities.{are_apart}
@@ -34,7 +34,7 @@ record_of o = model.Call.Record o.instrument o.value o.attributes
 
 -- one record after another
 abbrev pub records_sent : List model.Observed → ReaderPart → ReaderPart
-records_sent os p = fold (λ q o. part_sent 0 (record_of o) q) p os
+records_sent os p = fold (λ q o. part_after_call 0 (record_of o) q) p os
 
 module _ (answers : ReaderAnswers) (feeds : List (List Identity)) where
   abbrev sent_one : Stream → model.Observed → Stream
@@ -45,18 +45,18 @@ module _ (answers : ReaderAnswers) (feeds : List (List Identity)) where
   stream_over es s = record {
     demand = s.demand;
     machine = machine_after answers s.demand es s.machine;
-    since = s.since;
+    start = s.start;
     reported = s.reported;
     recorded = recorded_over (aggregate_of s.demand) (kind_of answers s.demand) s.demand.limit s.machine s.recorded es;
     exported = s.exported;
   }
 
   over_one : (s : Stream) (o : model.Observed) (os : List model.Observed) (b : Bool) → is_fed feeds o.instrument s.demand.identity ≡ b
-      → stream_over (observed feeds s.demand os) (sent_one s o) ≡ stream_over (observed feeds s.demand (o ∷ os)) s
+      → stream_over (observed_events feeds s.demand os) (sent_one s o) ≡ stream_over (observed_events feeds s.demand (o ∷ os)) s
   over_one s o os true e = rw e refl
   over_one s o os false e = rw e refl
 
-  records_over : (os : List model.Observed) (s : Stream) → fold sent_one s os ≡ stream_over (observed feeds s.demand os) s
+  records_over : (os : List model.Observed) (s : Stream) → fold sent_one s os ≡ stream_over (observed_events feeds s.demand os) s
   records_over [] s = refl
   records_over (o ∷ os) s = records_over os (sent_one s o) ∙ over_one s o os (is_fed feeds o.instrument s.demand.identity) refl
 
@@ -66,10 +66,10 @@ module _ (answers : ReaderAnswers) (feeds : List (List Identity)) where
       ap (stream_after answers feeds 0 (model.Call.Collect r now [])) (records_over os s)
       ∙ λ i. record {
         demand = s.demand;
-        machine = sym (run_append (aggregate_of s.demand) (kind_of answers s.demand) s.demand.limit s.machine (observed feeds s.demand os) (Event.Collect ∷ [])) i;
-        since = (stream_after answers feeds 0 (model.Call.Collect r now os) s).since;
+        machine = sym (run_append (aggregate_of s.demand) (kind_of answers s.demand) s.demand.limit s.machine (observed_events feeds s.demand os) (Event.Collect ∷ [])) i;
+        start = (stream_after answers feeds 0 (model.Call.Collect r now os) s).start;
         reported = (stream_after answers feeds 0 (model.Call.Collect r now os) s).reported;
-        recorded = sym (recorded_append (aggregate_of s.demand) (kind_of answers s.demand) s.demand.limit s.machine s.recorded (observed feeds s.demand os) (Event.Collect ∷ [])) i;
+        recorded = sym (recorded_append (aggregate_of s.demand) (kind_of answers s.demand) s.demand.limit s.machine s.recorded (observed_events feeds s.demand os) (Event.Collect ∷ [])) i;
         exported = (stream_after answers feeds 0 (model.Call.Collect r now os) s).exported;
       }
 
@@ -80,7 +80,7 @@ module _ (answers : ReaderAnswers) (feeds : List (List Identity)) where
 
   -- the metric of a stream, with its scope
   abbrev scoped_with : ℕ → List model.Observed → Stream → ScopedMetric
-  scoped_with now os q = (q.demand.identity.scope, metric answers now q.since q.reported q.demand (points_at answers feeds os q))
+  scoped_with now os q = (q.demand.identity.scope, metric answers now q.start q.reported q.demand (points_at answers feeds os q))
 
   shown_after : (now : ℕ) (os : List model.Observed) (ss : List Stream) → map (scoped_with now []) (map (λ s. fold sent_one s os) ss) ≡ map (scoped_with now os) ss
   shown_after now os [] = refl
@@ -100,9 +100,9 @@ module _ (answers : ReaderAnswers) (feeds : List (List Identity)) where
       more [] = refl
       more (z ∷ zs) = ap (λ l. fold sent_one z (o ∷ os) ∷ l) (more zs)
 
-pub collected-sent : (r now : ℕ) (os : List model.Observed) (p : ReaderPart) → part_sent 0 (model.Call.Collect r now []) (records_sent os p) ≡ part_sent 0 (model.Call.Collect r now os) p
+pub collected-sent : (r now : ℕ) (os : List model.Observed) (p : ReaderPart) → part_after_call 0 (model.Call.Collect r now []) (records_sent os p) ≡ part_after_call 0 (model.Call.Collect r now os) p
 collected-sent r now os p =
-    ap (part_sent 0 (model.Call.Collect r now [])) (records_each p.answers p.feeds os p.fates p.streams)
+    ap (part_after_call 0 (model.Call.Collect r now [])) (records_each p.answers p.feeds os p.fates p.streams)
     ∙ λ i. record { answers = p.answers; fates = p.fates; streams = streams_after p.answers p.feeds r now os p.streams i; feeds = p.feeds }
 
 pub collected-from : (s : Shared) (now : ℕ) (os : List model.Observed) (p : ReaderPart) → collect_from s now [] (records_sent os p) ≡ collect_from s now os p
@@ -138,18 +138,18 @@ module _ (o : Observed) (ns : List ℕ) where
 -- demands stay
 pub demands-observed : (feeds : List (List ℕ)) (os : List Observed) (ks : List Held) → fates_of (observed_all feeds os ks) ≡ fates_of ks
 demands-observed feeds [] ks = refl
-demands-observed feeds (o ∷ os) ks = demands-observed feeds os (observed_in feeds ks o) ∙ demands-changed o (observing feeds o) 0 ks
+demands-observed feeds (o ∷ os) ks = demands-observed feeds os (observed_in feeds ks o) ∙ demands-changed o (observing_numbers feeds o) 0 ks
 
 pub answered-observed : (answers : ReaderAnswers) (feeds : List (List ℕ)) (os : List Observed) (ks : List Held) → AreAnswered answers ks → AreAnswered answers (observed_all feeds os ks)
 answered-observed answers feeds [] ks all = all
-answered-observed answers feeds (o ∷ os) ks all = answered-observed answers feeds os (observed_in feeds ks o) (answered_one o (observing feeds o) answers 0 ks all)
+answered-observed answers feeds (o ∷ os) ks all = answered-observed answers feeds os (observed_in feeds ks o) (answered_one o (observing_numbers feeds o) answers 0 ks all)
 
 module _ (answers : ReaderAnswers) (feeds : List (List ℕ)) where
   -- one observation is a record
   one_part : (o : Observed) (ks : List Held) → IsDistinct identity_eq (stream_identities ks) → All (AreNumbers ks) feeds → FeedsType o.instrument (is_signed_value o.value) (part_by answers ks feeds)
-      → part_by answers (observed_in feeds ks o) feeds ≡ part_sent 0 (record_of (observed_of o)) (part_by answers ks feeds)
+      → part_by answers (observed_in feeds ks o) feeds ≡ part_after_call 0 (record_of (observed_of o)) (part_by answers ks feeds)
   one_part o ks apart numbers typed =
-      let same : fates_of (observed_in feeds ks o) ≡ fates_of ks = demands-changed o (observing feeds o) 0 ks in
+      let same : fates_of (observed_in feeds ks o) ≡ fates_of ks = demands-changed o (observing_numbers feeds o) 0 ks in
       λ i. record {
         answers = answers;
         fates = same i;
@@ -157,7 +157,7 @@ module _ (answers : ReaderAnswers) (feeds : List (List ℕ)) where
         feeds = feeds-same (observed_in feeds ks o) ks same feeds i;
       }
     where
-      made : (i : ℕ) (k : Held) → slice_get ks i ≡ Some k → has_number i (observing feeds o) ≡ true → is_fed (map (named ks) feeds) o.instrument (identity_of k) ≡ true
+      made : (i : ℕ) (k : Held) → slice_get ks i ≡ Some k → has_number i (observing_numbers feeds o) ≡ true → is_fed (map (named_identities ks) feeds) o.instrument (identity_of k) ≡ true
           → (with_record (set_for k.stream.demand o.attributes) (amount_of o.value) k).stream ≡ (observed_one o k).stream
       made i k at h fed =
           ap (λ b. (cond b (with_record (set_for k.stream.demand o.attributes) (amount_of o.value) k) k).stream) (sym (typed-fits o.instrument o.value (part_by answers ks feeds) k.stream.demand typed fed))
@@ -174,7 +174,7 @@ module _ (answers : ReaderAnswers) (feeds : List (List ℕ)) where
   all_parts [] ks apart numbers typed = refl
   all_parts (o ∷ os) ks apart numbers typed =
       let next : List Held = observed_in feeds ks o in
-      let same : fates_of next ≡ fates_of ks = demands-changed o (observing feeds o) 0 ks in
+      let same : fates_of next ≡ fates_of ks = demands-changed o (observing_numbers feeds o) 0 ks in
       let ids : stream_identities next ≡ stream_identities ks = identities-same next ks same in
       all_parts os next (subst (IsDistinct identity_eq) (sym ids) apart) (numbers-kept ks next feeds (length-from ks next (sym ids)) numbers)
       (typed_same os next ks same (tail_all (λ q. FeedsType q.instrument (is_signed_value q.value) (part_by answers ks feeds)) o os typed))
@@ -195,8 +195,8 @@ observed-is resource meters now answers os ks feeds c apart numbers typed all r 
 -- and it leaves what the model says
 pub observed-finished : (answers : ReaderAnswers) (r now : ℕ) (os : List Observed) (old new : List Held) (feeds : List (List ℕ))
     → IsDistinct identity_eq (stream_identities old) → All (AreNumbers old) feeds → AreTypedFor os (part_by answers old feeds) → AreAnswered answers old
-    → all_settled new ≡ all_settled (finished_all now (observed_all feeds os old))
-    → part_by answers new feeds ≡ part_sent 0 (model.Call.Collect r now (map observed_of os)) (part_by answers old feeds)
+    → all_without_pending new ≡ all_without_pending (all_after_collection now (observed_all feeds os old))
+    → part_by answers new feeds ≡ part_after_call 0 (model.Call.Collect r now (map observed_of os)) (part_by answers old feeds)
 observed-finished answers r now os old new feeds apart numbers typed all e =
     part-finished answers 0 r now (observed_all feeds os old) new feeds (answered-observed answers feeds os old all) e
-    ∙ (ap (part_sent 0 (model.Call.Collect r now [])) (observed-part answers feeds os old apart numbers typed) ∙ collected-sent r now (map observed_of os) (part_by answers old feeds))
+    ∙ (ap (part_after_call 0 (model.Call.Collect r now [])) (observed-part answers feeds os old apart numbers typed) ∙ collected-sent r now (map observed_of os) (part_by answers old feeds))

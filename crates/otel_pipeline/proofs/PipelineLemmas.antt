@@ -5,25 +5,25 @@ use Rattle.std.proofs.lemmas.List.{length-map}
 use Rattle.otel_data.specs.declared.numbers.NumberValue.{NumberValue}
 use Rattle.otel_model.specs.Demands.{Identity, Demand, ReaderAnswers}
 use Rattle.otel_model.specs.Machine.{changed_at}
-use Rattle.otel_pipeline.specs.Pipelines.{AreNumbers, all_settled, committed_each, fates_of, finished_all, stream_identities, identity_of, part_by, named, identity_at, is_streamed, streamed}
-use Rattle.otel_pipeline.specs.Streams.{Held, committed, settled}
+use Rattle.otel_pipeline.specs.Pipelines.{AreNumbers, all_without_pending, committed_each, fates_of, all_after_collection, stream_identities, identity_of, part_by, named_identities, identity_at, is_streamed, model_streams}
+use Rattle.otel_pipeline.specs.Streams.{Held, held_after_commit, without_pending}
 use Rattle.otel_pipeline.proofs.Answered.{commits}
 
 -- ======== demands stay ========
-pub demands-settled : (ks : List Held) → fates_of (all_settled ks) ≡ fates_of ks
+pub demands-settled : (ks : List Held) → fates_of (all_without_pending ks) ≡ fates_of ks
 demands-settled [] = refl
 demands-settled (k ∷ ks) = ap (λ ds. k.stream.demand ∷ ds) (demands-settled ks)
 
-demands-changed : (value : NumberValue) (n : ℕ) (ks : List Held) → fates_of (changed_at n (committed value) ks) ≡ fates_of ks
+demands-changed : (value : NumberValue) (n : ℕ) (ks : List Held) → fates_of (changed_at n (held_after_commit value) ks) ≡ fates_of ks
 demands-changed value n [] = refl
 demands-changed value zero (k ∷ ks) = ap (λ d. d ∷ fates_of ks) (commits value k).1
 demands-changed value (suc n) (k ∷ ks) = ap (λ ds. k.stream.demand ∷ ds) (demands-changed value n ks)
 
 pub demands-committed : (value : NumberValue) (ns : List ℕ) (ks : List Held) → fates_of (committed_each value ns ks) ≡ fates_of ks
 demands-committed value [] ks = refl
-demands-committed value (n ∷ ns) ks = demands-committed value ns (changed_at n (committed value) ks) ∙ demands-changed value n ks
+demands-committed value (n ∷ ns) ks = demands-committed value ns (changed_at n (held_after_commit value) ks) ∙ demands-changed value n ks
 
-pub demands-finished : (now : ℕ) (ks : List Held) → fates_of (finished_all now ks) ≡ fates_of ks
+pub demands-finished : (now : ℕ) (ks : List Held) → fates_of (all_after_collection now ks) ≡ fates_of ks
 demands-finished now [] = refl
 demands-finished now (k ∷ ks) = ap (λ ds. k.stream.demand ∷ ds) (demands-finished now ks)
 
@@ -44,11 +44,11 @@ identity_at-demands [] n = refl
 identity_at-demands (k ∷ ks) zero = refl
 identity_at-demands (k ∷ ks) (suc n) = identity_at-demands ks n
 
-named-same : (a b : List Held) → fates_of a ≡ fates_of b → (ns : List ℕ) → named a ns ≡ named b ns
+named-same : (a b : List Held) → fates_of a ≡ fates_of b → (ns : List ℕ) → named_identities a ns ≡ named_identities b ns
 named-same a b e [] = refl
 named-same a b e (n ∷ ns) = λ i. (identity_at-demands a n ∙ (ap (λ ds. one_named (slice_get ds n)) e ∙ sym (identity_at-demands b n))) i ++ named-same a b e ns i
 
-pub feeds-same : (a b : List Held) → fates_of a ≡ fates_of b → (feeds : List (List ℕ)) → map (named a) feeds ≡ map (named b) feeds
+pub feeds-same : (a b : List Held) → fates_of a ≡ fates_of b → (feeds : List (List ℕ)) → map (named_identities a) feeds ≡ map (named_identities b) feeds
 feeds-same a b e [] = refl
 feeds-same a b e (ns ∷ feeds) = λ i. named-same a b e ns i ∷ feeds-same a b e feeds i
 
@@ -68,14 +68,14 @@ all_true a b c p q r = λ i. p i && (q i && r i)
 pub part-same : (answers : ReaderAnswers) (a b : List Held) (feeds more : List (List ℕ)) → a ≡ b → feeds ≡ more → part_by answers a feeds ≡ part_by answers b more
 part-same answers a b feeds more e f = λ i. part_by answers (e i) (f i)
 
-streams-settled : (ks : List Held) → streamed (all_settled ks) ≡ streamed ks
+streams-settled : (ks : List Held) → model_streams (all_without_pending ks) ≡ model_streams ks
 streams-settled [] = refl
 streams-settled (k ∷ ks) = by (is_streamed k) (streams-settled ks)
   where
-    by : (b : Bool) → streamed (all_settled ks) ≡ streamed ks
-        → map (λ (h : Held). h.stream) (cond b (settled k ∷ filter is_streamed (all_settled ks)) (filter is_streamed (all_settled ks))) ≡ map (λ (h : Held). h.stream) (cond b (k ∷ filter is_streamed ks) (filter is_streamed ks))
+    by : (b : Bool) → model_streams (all_without_pending ks) ≡ model_streams ks
+        → map (λ (h : Held). h.stream) (cond b (without_pending k ∷ filter is_streamed (all_without_pending ks)) (filter is_streamed (all_without_pending ks))) ≡ map (λ (h : Held). h.stream) (cond b (k ∷ filter is_streamed ks) (filter is_streamed ks))
     by true rest = ap (λ ss. k.stream ∷ ss) rest
     by false rest = rest
 
-pub part-settled : (answers : ReaderAnswers) (ks : List Held) (feeds : List (List ℕ)) → part_by answers (all_settled ks) feeds ≡ part_by answers ks feeds
-part-settled answers ks feeds = λ i. record { answers = answers; fates = demands-settled ks i; streams = streams-settled ks i; feeds = feeds-same (all_settled ks) ks (demands-settled ks) feeds i }
+pub part-settled : (answers : ReaderAnswers) (ks : List Held) (feeds : List (List ℕ)) → part_by answers (all_without_pending ks) feeds ≡ part_by answers ks feeds
+part-settled answers ks feeds = λ i. record { answers = answers; fates = demands-settled ks i; streams = streams-settled ks i; feeds = feeds-same (all_without_pending ks) ks (demands-settled ks) feeds i }

@@ -7,7 +7,7 @@ use Rattle.otel_common.specs.declared.scopes.InstrumentationScope.{Instrumentati
 use Rattle.otel_data.specs.declared.collections.Metric.{Metric}
 use Rattle.otel_data.specs.declared.collections.ScopeMetrics.{ScopeMetrics}
 use Rattle.otel_model.specs.Collections.{has_points, has_metrics}
-use Rattle.otel_pipeline.specs.Collections.{if_shown, joined, shown_one, shown_in, scope_shown, scopes_shown}
+use Rattle.otel_pipeline.specs.Collections.{if_shown, append_each, shown_one, shown_in, scope_shown, scopes_shown}
 use Rattle.otel_pipeline.specs.Pipelines.{is_streamed}
 use Rattle.otel_pipeline.specs.Streams.{Held, shown_metric, if_points}
 use Rattle.otel_pipeline.proofs.Builds.{position-cons}
@@ -15,7 +15,7 @@ use Rattle.otel_pipeline.proofs.Shows.{shown-suc}
 
 -- ======== lists that are joined ========
 -- before the first
-pub joined-none : {A B : Type 0} (f : B → List A) (bs : List B) (n : ℕ) → n ≡ length bs → joined (replicate n []) (map f bs) ≡ map f bs
+pub joined-none : {A B : Type 0} (f : B → List A) (bs : List B) (n : ℕ) → n ≡ length bs → append_each (replicate n []) (map f bs) ≡ map f bs
 joined-none f [] zero e = refl
 joined-none f [] (suc n) e = absurd (omega arith)
 joined-none f (b ∷ bs) zero e = absurd (omega arith)
@@ -25,13 +25,13 @@ pub lists-long : {V : Type 0} (view : V → List Metric) (vs : List V) (n : ℕ)
 lists-long view vs n e = sym (length-map vs view) ∙ (ap length e ∙ length-replicate n [])
 
 -- where nothing is added
-pub joined-nothing : {A B : Type 0} (f : B → List A) (xs : List (List A)) (bs : List B) → ((b : B) → f b ≡ []) → joined xs (map f bs) ≡ xs
+pub joined-nothing : {A B : Type 0} (f : B → List A) (xs : List (List A)) (bs : List B) → ((b : B) → f b ≡ []) → append_each xs (map f bs) ≡ xs
 joined-nothing f [] bs e = refl
 joined-nothing f (x ∷ xs) [] e = refl
 joined-nothing f (x ∷ xs) (b ∷ bs) e = λ i. (ap (λ y. x ++ y) (e b) ∙ append-nil x) i ∷ joined-nothing f xs bs e i
 
 -- and once more
-pub joined-twice : {A B : Type 0} (f g h : B → List A) (xs : List (List A)) (bs : List B) → ((b : B) → h b ≡ f b ++ g b) → joined (joined xs (map f bs)) (map g bs) ≡ joined xs (map h bs)
+pub joined-twice : {A B : Type 0} (f g h : B → List A) (xs : List (List A)) (bs : List B) → ((b : B) → h b ≡ f b ++ g b) → append_each (append_each xs (map f bs)) (map g bs) ≡ append_each xs (map h bs)
 joined-twice f g h [] bs e = refl
 joined-twice f g h (x ∷ xs) [] e = refl
 joined-twice f g h (x ∷ xs) (b ∷ bs) e = λ i. (append_assoc x (f b) (g b) ∙ ap (λ y. x ++ y) (sym (e b))) i ∷ joined-twice f g h xs bs e i
@@ -46,7 +46,7 @@ module _ (s : InstrumentationScope) (c : Bool) (x : Metric) where
   gets_none m e = ap (λ b. if_shown (b && c) x) e
 
   -- no meter is of the scope
-  absent : (xs : List (List Metric)) (ms : List InstrumentationScope) → AllByRecursion (λ m. scope_eq s m ≡ false) ms → joined xs (map gets ms) ≡ xs
+  absent : (xs : List (List Metric)) (ms : List InstrumentationScope) → AllByRecursion (λ m. scope_eq s m ≡ false) ms → append_each xs (map gets ms) ≡ xs
   absent [] ms all = refl
   absent (y ∷ xs) [] all = refl
   absent (y ∷ xs) (m ∷ ms) all = λ i. (ap (λ z. y ++ z) (gets_none m all.0) ∙ append-nil y) i ∷ absent xs ms all.1 i
@@ -60,12 +60,12 @@ module _ (s : InstrumentationScope) (c : Bool) (x : Metric) where
       by false None p rest r = (p, rest refl)
       by false (Some n) p rest r = absurd (cc)
 
-  pub placed-none : (xs : List (List Metric)) (ms : List InstrumentationScope) → position (scope_eq s) ms ≡ None → joined xs (map gets ms) ≡ xs
+  pub placed-none : (xs : List (List Metric)) (ms : List InstrumentationScope) → position (scope_eq s) ms ≡ None → append_each xs (map gets ms) ≡ xs
   placed-none xs ms e = absent xs ms (all_other ms e)
 
   -- the meter of a place is of the scope, and no other is
   pub placed-at : {V : Type 0} (view : V → List Metric) (vs : List V) (ms : List InstrumentationScope) (n : ℕ) (old new : V) → length vs ≡ length ms → IsDistinct scope_eq ms → position (scope_eq s) ms ≡ Some n
-      → old ≡ get_or vs n old → view new ≡ view old ++ if_shown c x → map view (set vs n new) ≡ joined (map view vs) (map gets ms)
+      → old ≡ get_or vs n old → view new ≡ view old ++ if_shown c x → map view (set vs n new) ≡ append_each (map view vs) (map gets ms)
   unfolding IsDistinct
   placed-at view [] [] n old new long apart at is e = absurd (cc)
   placed-at view [] (m ∷ ms) n old new long apart at is e = absurd (omega arith)
@@ -73,8 +73,8 @@ module _ (s : InstrumentationScope) (c : Bool) (x : Metric) where
   placed-at view (v ∷ vs) (m ∷ ms) n old new long apart at is e =
       by (scope_eq s m) (position (scope_eq s) ms) n refl (λ k q is. placed-at view vs ms k old new (omega arith) apart.1 q is e) (sym (position-cons (scope_eq s) m ms) ∙ at) is
     where
-      by : (b : Bool) (o : Option ℕ) (n : ℕ) → scope_eq s m ≡ b → ((k : ℕ) → o ≡ Some k → old ≡ get_or vs k old → map view (set vs k new) ≡ joined (map view vs) (map gets ms)) → cond b (Some 0) (option_map suc o) ≡ Some n
-          → old ≡ get_or (v ∷ vs) n old → map view (set (v ∷ vs) n new) ≡ joined (map view (v ∷ vs)) (map gets (m ∷ ms))
+      by : (b : Bool) (o : Option ℕ) (n : ℕ) → scope_eq s m ≡ b → ((k : ℕ) → o ≡ Some k → old ≡ get_or vs k old → map view (set vs k new) ≡ append_each (map view vs) (map gets ms)) → cond b (Some 0) (option_map suc o) ≡ Some n
+          → old ≡ get_or (v ∷ vs) n old → map view (set (v ∷ vs) n new) ≡ append_each (map view (v ∷ vs)) (map gets (m ∷ ms))
       by true o zero p rest r is = λ i. (e ∙ ap (λ z. view z ++ if_shown c x) is ∙ ap (λ b. view v ++ if_shown (b && c) x) (sym p)) i
           ∷ sym (absent (map view vs) ms (subst (λ (t : InstrumentationScope). AllByRecursion (λ y. scope_eq t y ≡ false) ms) (sym ((scope_eq-Decides s m).0 p)) apart.0)) i
       by true o (suc n) p rest r is = absurd (cc)
@@ -84,11 +84,11 @@ module _ (s : InstrumentationScope) (c : Bool) (x : Metric) where
 
 -- ======== one stream more ========
 -- a stream that drops gives nothing
-pub pushed-dropped : (now : ℕ) (k : Held) (xs : List (List Metric)) (ms : List InstrumentationScope) → is_streamed k ≡ false → joined xs (map (λ m. shown_one m now k) ms) ≡ xs
+pub pushed-dropped : (now : ℕ) (k : Held) (xs : List (List Metric)) (ms : List InstrumentationScope) → is_streamed k ≡ false → append_each xs (map (λ m. shown_one m now k) ms) ≡ xs
 pushed-dropped now k xs ms e = joined-nothing (λ m. shown_one m now k) xs ms (λ m. ap (λ b. if_shown (b && (scope_eq k.stream.demand.identity.scope m && has_points (shown_metric now k))) (shown_metric now k)) e)
 
 -- nor does one without points
-pub pushed-pointless : (now : ℕ) (k : Held) (xs : List (List Metric)) (ms : List InstrumentationScope) → has_points (shown_metric now k) ≡ false → joined xs (map (λ m. shown_one m now k) ms) ≡ xs
+pub pushed-pointless : (now : ℕ) (k : Held) (xs : List (List Metric)) (ms : List InstrumentationScope) → has_points (shown_metric now k) ≡ false → append_each xs (map (λ m. shown_one m now k) ms) ≡ xs
 pushed-pointless now k xs ms e =
     joined-nothing (λ m. shown_one m now k) xs ms
     (λ m. ap (λ b. if_shown (is_streamed k && (scope_eq k.stream.demand.identity.scope m && b)) (shown_metric now k)) e ∙ none (is_streamed k) (scope_eq k.stream.demand.identity.scope m))
@@ -118,25 +118,25 @@ streamed_gets now k e = λ i m. if_shown (e i && (scope_eq k.stream.demand.ident
 
 -- nor does one whose scope has no meter
 pub pushed-nowhere : (now : ℕ) (k : Held) (xs : List (List Metric)) (ms : List InstrumentationScope) → is_streamed k ≡ true → position (scope_eq k.stream.demand.identity.scope) ms ≡ None
-    → joined xs (map (λ m. shown_one m now k) ms) ≡ xs
-pushed-nowhere now k xs ms e at = ap (λ (f : InstrumentationScope → List Metric). joined xs (map f ms)) (streamed_gets now k e) ∙ placed-none k.stream.demand.identity.scope _ _ xs ms at
+    → append_each xs (map (λ m. shown_one m now k) ms) ≡ xs
+pushed-nowhere now k xs ms e at = ap (λ (f : InstrumentationScope → List Metric). append_each xs (map f ms)) (streamed_gets now k e) ∙ placed-none k.stream.demand.identity.scope _ _ xs ms at
 
 -- the others give their metric to the meter of their scope
 pub pushed-at : {V : Type 0} (view : V → List Metric) (now : ℕ) (k : Held) (vs : List V) (ms : List InstrumentationScope) (n : ℕ) (old new : V) → is_streamed k ≡ true → has_points (shown_metric now k) ≡ true
     → length vs ≡ length ms → IsDistinct scope_eq ms → position (scope_eq k.stream.demand.identity.scope) ms ≡ Some n → old ≡ get_or vs n old → view new ≡ view old ++ shown_metric now k ∷ []
-    → map view (set vs n new) ≡ joined (map view vs) (map (λ m. shown_one m now k) ms)
+    → map view (set vs n new) ≡ append_each (map view vs) (map (λ m. shown_one m now k) ms)
 pushed-at view now k vs ms n old new e points long apart at is more =
     placed-at k.stream.demand.identity.scope _ _ view vs ms n old new long apart at is (more ∙ ap (λ b. view old ++ if_shown b (shown_metric now k)) (sym points))
-    ∙ ap (λ (f : InstrumentationScope → List Metric). joined (map view vs) (map f ms)) (sym (streamed_gets now k e))
+    ∙ ap (λ (f : InstrumentationScope → List Metric). append_each (map view vs) (map f ms)) (sym (streamed_gets now k e))
 
 -- one stream's metric more
 pub places-more : (now : ℕ) (done done' all : List (List Metric)) (ks : List Held) (i : ℕ) (k : Held) (ms : List InstrumentationScope) → i < length ks → k ≡ get_or ks i k
-    → done' ≡ joined done (map (λ m. shown_one m now k) ms) → joined done (map (λ m. shown_in m now (drop i ks)) ms) ≡ all → joined done' (map (λ m. shown_in m now (drop (i + 1) ks)) ms) ≡ all
+    → done' ≡ append_each done (map (λ m. shown_one m now k) ms) → append_each done (map (λ m. shown_in m now (drop i ks)) ms) ≡ all → append_each done' (map (λ m. shown_in m now (drop (i + 1) ks)) ms) ≡ all
 places-more now done done' all ks i k ms h at e so_far =
     rw (add-one, e) (joined-twice (λ m. shown_one m now k) (λ m. shown_in m now (drop (suc i) ks)) (λ m. shown_in m now (drop i ks)) done ms (λ m. shown-suc m now ks i k h at) ∙ so_far)
 
 -- no stream is left
-pub places-all : (now : ℕ) (done all : List (List Metric)) (ks : List Held) (i : ℕ) (ms : List InstrumentationScope) → length ks ≤ i → joined done (map (λ m. shown_in m now (drop i ks)) ms) ≡ all → done ≡ all
+pub places-all : (now : ℕ) (done all : List (List Metric)) (ks : List Held) (i : ℕ) (ms : List InstrumentationScope) → length ks ≤ i → append_each done (map (λ m. shown_in m now (drop i ks)) ms) ≡ all → done ≡ all
 places-all now done all ks i ms h so_far =
     sym (joined-nothing (λ m. shown_in m now (drop i ks)) done ms (λ m. ap (shown_in m now) (drop_all i ks h))) ∙ so_far
 

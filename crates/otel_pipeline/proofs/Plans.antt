@@ -18,7 +18,7 @@ use Rattle.otel_model.specs.Streams.{is_delta}
 use Rattle.otel_model.proofs.Gather.{identity_eq_true, identity_eq_self, known-append}
 use Rattle.otel_common.specs.declared.scopes.InstrumentationScope.{InstrumentationScope}
 use Rattle.indexmap.specs.IndexSet.{insert_key, insert_all}
-use Rattle.otel_pipeline.specs.Pipelines.{Piped, Planned, demands_in, dropped_with, part_of, part_by, built, built_by, IsPlanned, IsReadyFor, identity_at, named, identity_of, fates_of, is_streamed, streamed, stream_identities, stream_number, drops_at, with_drop, found_at, counted_from, fed_once, IsPlanOf, AreNumbers}
+use Rattle.otel_pipeline.specs.Pipelines.{Piped, Planned, demands_in, dropped_with, part_of, part_by, piped_after_build, built_by, IsPlanned, IsReadyFor, identity_at, named_identities, identity_of, fates_of, is_streamed, model_streams, stream_identities, stream_number, drops_at, with_drop, found_at, counted_from, fed_once, IsPlanOf, AreNumbers}
 use Rattle.otel_pipeline.specs.Streams.{Held, new_held}
 use Rattle.otel_pipeline.proofs.Answered.{OfAnswer, answered-push}
 use Rattle.otel_pipeline.proofs.Builds.{IsStreamOf, found, known, fate-new, any-position, position-cons, position-within, get-item, drops-is}
@@ -64,12 +64,12 @@ once-push seen (y ∷ xs) x = by (has seen y) refl (λ s. once-push s xs x)
     by false f rest = ap (λ l. y ∷ l) (rest (y ∷ seen) ∙ ap (λ c. model.each_once (y ∷ seen) xs ++ cond c [] (x ∷ [])) (turn (has seen x) (identity_eq y x) (has xs x)))
 
 -- what is fed, with one demand more
-fed-push : (q : Identity → Bool) (ds : List Demand) (d : Demand) → model.fed q (ds ++ d ∷ []) ≡ model.fed q ds ++ cond (q d.identity || has (ids ds) d.identity) [] (d.identity ∷ [])
+fed-push : (q : Identity → Bool) (ds : List Demand) (d : Demand) → model.fed_identities q (ds ++ d ∷ []) ≡ model.fed_identities q ds ++ cond (q d.identity || has (ids ds) d.identity) [] (d.identity ∷ [])
 fed-push q ds d =
     ap (λ xs. filter (λ x. not (q x)) (model.each_once [] xs)) (map-append (λ (d : Demand). d.identity) ds (d ∷ []))
     ∙ (ap (filter (λ x. not (q x))) (once-push [] (ids ds) d.identity)
     ∙ (filter-append (λ x. not (q x)) (model.each_once [] (ids ds)) (cond (has (ids ds) d.identity) [] (d.identity ∷ []))
-    ∙ ap (λ l. model.fed q ds ++ l) (by (has (ids ds) d.identity) (q d.identity))))
+    ∙ ap (λ l. model.fed_identities q ds ++ l) (by (has (ids ds) d.identity) (q d.identity))))
   where
     kept : (c : Bool) → cond (not c) (d.identity ∷ []) [] ≡ cond (c || false) [] (d.identity ∷ [])
     kept true = refl
@@ -133,8 +133,8 @@ module _ (q : Identity → Bool) (x : Identity) (kept : q x ≡ false) where
   kept_has seen (y ∷ xs) = kept_by seen xs y (has seen y) (q y) refl refl (λ s. kept_has s xs)
 
 -- an identity that is not dropped is fed exactly if it is demanded
-fed-has : (q : Identity → Bool) (ds : List Demand) (x : Identity) → q x ≡ false → has (model.fed q ds) x ≡ has (ids ds) x
-fed-has q ds x kept = sym (or_false (has (model.fed q ds) x)) ∙ (kept_has q x kept [] (ids ds) ∙ or_false (has (ids ds) x))
+fed-has : (q : Identity → Bool) (ds : List Demand) (x : Identity) → q x ≡ false → has (model.fed_identities q ds) x ≡ has (ids ds) x
+fed-has q ds x kept = sym (or_false (has (model.fed_identities q ds) x)) ∙ (kept_has q x kept [] (ids ds) ∙ or_false (has (ids ds) x))
 
 -- two that drop the same of what is demanded
 kept-same : (p q : Identity → Bool) (seen xs : List Identity) → ((y : Identity) → has xs y ≡ true → p y ≡ q y) → kept_once p seen xs ≡ kept_once q seen xs
@@ -147,7 +147,7 @@ kept-same p q seen (y ∷ xs) same =
     by true here rest = rest seen
     by false here rest = λ i. cond (not (here i)) (y ∷ rest (y ∷ seen) i) (rest (y ∷ seen) i)
 
-fed-same : (p q : Identity → Bool) (ds : List Demand) → ((y : Identity) → has (ids ds) y ≡ true → p y ≡ q y) → model.fed p ds ≡ model.fed q ds
+fed-same : (p q : Identity → Bool) (ds : List Demand) → ((y : Identity) → has (ids ds) y ≡ true → p y ≡ q y) → model.fed_identities p ds ≡ model.fed_identities q ds
 fed-same p q ds same = kept-same p q [] (ids ds) same
 
 -- whether there is no identity
@@ -189,8 +189,8 @@ kept-empty q seen (y ∷ xs) = by (has seen y) (q y) refl refl (λ s. kept-empty
         ap (λ b. no_identity (cond (not b) (y ∷ kept_once q (y ∷ seen) xs) (kept_once q (y ∷ seen) xs)) && not (list_any (λ x. not (q x)) seen)) f
         ∙ ap (λ b. not (not b || list_any (λ x. not (q x)) xs) && not (list_any (λ x. not (q x)) seen)) (sym f)
 
-pub fed-empty : (q : Identity → Bool) (ds : List Demand) → no_identity (model.fed q ds) ≡ not (list_any (λ (d : Demand). not (q d.identity)) ds)
-fed-empty q ds = sym (and_true (no_identity (model.fed q ds))) ∙ (kept-empty q [] (ids ds) ∙ (and_true (not (list_any (λ x. not (q x)) (ids ds))) ∙ ap not (among ds)))
+pub fed-empty : (q : Identity → Bool) (ds : List Demand) → no_identity (model.fed_identities q ds) ≡ not (list_any (λ (d : Demand). not (q d.identity)) ds)
+fed-empty q ds = sym (and_true (no_identity (model.fed_identities q ds))) ∙ (kept-empty q [] (ids ds) ∙ (and_true (not (list_any (λ x. not (q x)) (ids ds))) ∙ ap not (among ds)))
   where
     and_true : (b : Bool) → (b && true) ≡ b
     and_true true = refl
@@ -236,17 +236,17 @@ fate-known (d ∷ fs) ms y e = by (identity_eq d.identity y) e (λ k. fate-known
 
 -- ======== parts ========
 -- the fates of a part after demands
-pub demanded-fates : (now : ℕ) (p : ReaderPart) (ds : List Demand) → (fold (machine.demanded now) p ds).fates ≡ fold machine.enter p.fates ds
+pub demanded-fates : (now : ℕ) (p : ReaderPart) (ds : List Demand) → (fold (machine.part_after_demand now) p ds).fates ≡ fold machine.enter p.fates ds
 demanded-fates now p [] = refl
-demanded-fates now p (d ∷ ds) = demanded-fates now (machine.demanded now p d) ds
+demanded-fates now p (d ∷ ds) = demanded-fates now (machine.part_after_demand now p d) ds
 
 -- demands leave what is fed
 abbrev fed_by_these : List (List Identity) → ReaderPart → ReaderPart
 fed_by_these feeds p = record { answers = p.answers; fates = p.fates; streams = p.streams; feeds = feeds }
 
-demanded-fed : (now : ℕ) (feeds : List (List Identity)) (p : ReaderPart) (ds : List Demand) → fold (machine.demanded now) (fed_by_these feeds p) ds ≡ fed_by_these feeds (fold (machine.demanded now) p ds)
+demanded-fed : (now : ℕ) (feeds : List (List Identity)) (p : ReaderPart) (ds : List Demand) → fold (machine.part_after_demand now) (fed_by_these feeds p) ds ≡ fed_by_these feeds (fold (machine.part_after_demand now) p ds)
 demanded-fed now feeds p [] = refl
-demanded-fed now feeds p (d ∷ ds) = demanded-fed now feeds (machine.demanded now p d) ds
+demanded-fed now feeds p (d ∷ ds) = demanded-fed now feeds (machine.part_after_demand now p d) ds
 
 -- ======== longer lists of streams ========
 get-append : (ks ms : List Held) (n : ℕ) (m : Held) → slice_get ks n ≡ Some m → slice_get (ks ++ ms) n ≡ Some m
@@ -259,20 +259,20 @@ get-last [] k = refl
 get-last (x ∷ ks) k = get-last ks k
 
 -- the streams there keep their numbers
-named-front : (ks ms : List Held) (ns : List ℕ) → HaveStreams ns ks → named (ks ++ ms) ns ≡ named ks ns
+named-front : (ks ms : List Held) (ns : List ℕ) → HaveStreams ns ks → named_identities (ks ++ ms) ns ≡ named_identities ks ns
 named-front ks ms [] all = refl
 named-front ks ms (n ∷ ns) all =
     λ i. (identity_at-is (ks ++ ms) n (all.0.0) (get-append ks ms n (all.0.0) all.0.1) ∙ sym (identity_at-is ks n (all.0.0) all.0.1)) i ++ named-front ks ms ns all.1 i
 
-named-push : (ks : List Held) (ns : List ℕ) (n : ℕ) (k : Held) → slice_get ks n ≡ Some k → named ks (ns ++ n ∷ []) ≡ named ks ns ++ identity_of k ∷ []
+named-push : (ks : List Held) (ns : List ℕ) (n : ℕ) (k : Held) → slice_get ks n ≡ Some k → named_identities ks (ns ++ n ∷ []) ≡ named_identities ks ns ++ identity_of k ∷ []
 named-push ks [] n k e = ap (λ xs. xs ++ []) (identity_at-is ks n k e)
-named-push ks (m ∷ ns) n k e = ap (λ xs. identity_at ks m ++ xs) (named-push ks ns n k e) ∙ sym (append_assoc (identity_at ks m) (named ks ns) (identity_of k ∷ []))
+named-push ks (m ∷ ns) n k e = ap (λ xs. identity_at ks m ++ xs) (named-push ks ns n k e) ∙ sym (append_assoc (identity_at ks m) (named_identities ks ns) (identity_of k ∷ []))
 
-all_named-front : (ks ms : List Held) (feeds : List (List ℕ)) → All (AreNumbers ks) feeds → map (named (ks ++ ms)) feeds ≡ map (named ks) feeds
+all_named-front : (ks ms : List Held) (feeds : List (List ℕ)) → All (AreNumbers ks) feeds → map (named_identities (ks ++ ms)) feeds ≡ map (named_identities ks) feeds
 all_named-front ks ms [] all = refl
 all_named-front ks ms (ns ∷ feeds) all = λ i. named-front ks ms ns (numbers-named ks ns (all 0 ns (omega arith))) i ∷ all_named-front ks ms feeds (λ j d h. all (suc j) d (omega arith)) i
 
-streamed-push : (ks : List Held) (k : Held) → streamed (ks ++ k ∷ []) ≡ streamed ks ++ cond (is_streamed k) (k.stream ∷ []) []
+streamed-push : (ks : List Held) (k : Held) → model_streams (ks ++ k ∷ []) ≡ model_streams ks ++ cond (is_streamed k) (k.stream ∷ []) []
 streamed-push [] k = by (is_streamed k)
   where
     by : (b : Bool) → map (λ (h : Held). h.stream) (cond b (k ∷ []) []) ≡ cond b (k.stream ∷ []) []
@@ -280,7 +280,7 @@ streamed-push [] k = by (is_streamed k)
     by false = refl
 streamed-push (x ∷ ks) k = by (is_streamed x) (streamed-push ks k)
   where
-    by : (b : Bool) → streamed (ks ++ k ∷ []) ≡ streamed ks ++ cond (is_streamed k) (k.stream ∷ []) []
+    by : (b : Bool) → model_streams (ks ++ k ∷ []) ≡ model_streams ks ++ cond (is_streamed k) (k.stream ∷ []) []
         → map (λ (h : Held). h.stream) (cond b (x ∷ filter is_streamed (ks ++ k ∷ [])) (filter is_streamed (ks ++ k ∷ [])))
         ≡ map (λ (h : Held). h.stream) (cond b (x ∷ filter is_streamed ks) (filter is_streamed ks)) ++ cond (is_streamed k) (k.stream ∷ []) []
     by true rest = ap (λ ss. x.stream ∷ ss) rest
@@ -292,28 +292,28 @@ if_dropped true x = refl
 if_dropped false x = refl
 
 -- a demand that is known changes nothing
-demanded-known : (now : ℕ) (answers : ReaderAnswers) (ks : List Held) (d : Demand) → model.is_known (fates_of ks) d.identity ≡ true → machine.demanded now (part_by answers ks []) d ≡ part_by answers ks []
+demanded-known : (now : ℕ) (answers : ReaderAnswers) (ks : List Held) (d : Demand) → model.is_known (fates_of ks) d.identity ≡ true → machine.part_after_demand now (part_by answers ks []) d ≡ part_by answers ks []
 demanded-known now answers ks d e = λ i. record {
   answers = answers;
   fates = cond (e i) (fates_of ks) (fates_of ks ++ d ∷ []);
-  streams = cond (e i) (streamed ks) (streamed ks ++ cond (model.is_drop d.aggregation) [] (machine.new_stream now d ∷ []));
+  streams = cond (e i) (model_streams ks) (model_streams ks ++ cond (model.is_drop d.aggregation) [] (machine.new_stream now d ∷ []));
   feeds = [];
 }
 
 -- one that isn't makes a stream
 demanded-new : (now : ℕ) (answers : ReaderAnswers) (ks : List Held) (d : Demand) (resets : Bool) → model.is_known (fates_of ks) d.identity ≡ false
-    → machine.demanded now (part_by answers ks []) d ≡ part_by answers (ks ++ new_held resets d now ∷ []) []
+    → machine.part_after_demand now (part_by answers ks []) d ≡ part_by answers (ks ++ new_held resets d now ∷ []) []
 demanded-new now answers ks d resets e =
     (λ i. record {
       answers = answers;
       fates = cond (e i) (fates_of ks) (fates_of ks ++ d ∷ []);
-      streams = cond (e i) (streamed ks) (streamed ks ++ cond (model.is_drop d.aggregation) [] (machine.new_stream now d ∷ []));
+      streams = cond (e i) (model_streams ks) (model_streams ks ++ cond (model.is_drop d.aggregation) [] (machine.new_stream now d ∷ []));
       feeds = [];
     })
     ∙ sym (λ i. record {
       answers = answers;
       fates = map-append (λ (k : Held). k.stream.demand) ks (new_held resets d now ∷ []) i;
-      streams = (streamed-push ks (new_held resets d now) ∙ ap (λ s. streamed ks ++ s) (if_dropped (model.is_drop d.aggregation) (machine.new_stream now d))) i;
+      streams = (streamed-push ks (new_held resets d now) ∙ ap (λ s. model_streams ks ++ s) (if_dropped (model.is_drop d.aggregation) (machine.new_stream now d))) i;
       feeds = [];
     })
 
@@ -359,8 +359,8 @@ module _ (answers : ReaderAnswers) (made : List Held) (now : ℕ) (ds : List Dem
   abbrev after : ReaderPart
   after = part_by answers all []
 
-  after-more : fold (machine.demanded now) part (ds ++ d ∷ []) ≡ machine.demanded now after d
-  after-more = fold-append (machine.demanded now) part ds (d ∷ []) ∙ ap (λ p. machine.demanded now p d) (sym is.streams)
+  after-more : fold (machine.part_after_demand now) part (ds ++ d ∷ []) ≡ machine.part_after_demand now after d
+  after-more = fold-append (machine.part_after_demand now) part ds (d ∷ []) ∙ ap (λ p. machine.part_after_demand now p d) (sym is.streams)
 
   -- a demand of an identity that has a stream, or will have one
   pub plan-known : (n : ℕ) → stream_number d.identity (stream_identities all) ≡ Some n
@@ -377,22 +377,22 @@ module _ (answers : ReaderAnswers) (made : List Held) (now : ℕ) (ds : List Dem
       f = found d.identity all n e
 
       fed : List Identity
-      fed = model.fed dropped ds
+      fed = model.fed_identities dropped ds
 
       -- the number is fed already exactly if the identity is demanded already
       same : dropped d.identity ≡ false → has_number n plan.feeds ≡ has (ids ds) d.identity
       same undropped =
           sym (named-has all (are_apart all is.apart) plan.feeds (numbers-named all plan.feeds is.numbers) n f.held f.at)
-          ∙ (ap (has (named all plan.feeds)) (sym f.is)
+          ∙ (ap (has (named_identities all plan.feeds)) (sym f.is)
           ∙ (ap (λ xs. has xs d.identity) is.feeds ∙ fed-has dropped ds d.identity undropped))
 
-      more : (c h : Bool) → c ≡ h → named all (cond c plan.feeds (plan.feeds ++ n ∷ [])) ≡ fed ++ cond h [] (d.identity ∷ [])
+      more : (c h : Bool) → c ≡ h → named_identities all (cond c plan.feeds (plan.feeds ++ n ∷ [])) ≡ fed ++ cond h [] (d.identity ∷ [])
       more true true q = is.feeds ∙ sym (append-nil fed)
       more false false q = named-push all plan.feeds n f.held f.at ∙ λ i. is.feeds i ++ sym f.is i ∷ []
       more true false q = absurd (true≢false q)
       more false true q = absurd (true≢false (sym q))
 
-      by : (b : Bool) → drops_at all n ≡ b → named all (fed_once b n plan.feeds) ≡ fed ++ cond (dropped d.identity || has (ids ds) d.identity) [] (d.identity ∷ [])
+      by : (b : Bool) → drops_at all n ≡ b → named_identities all (fed_once b n plan.feeds) ≡ fed ++ cond (dropped d.identity || has (ids ds) d.identity) [] (d.identity ∷ [])
       by true t = is.feeds ∙ (sym (append-nil fed) ∙ ap (λ b. fed ++ cond (b || has (ids ds) d.identity) [] (d.identity ∷ [])) (sym (f.drops ∙ t)))
       by false t =
           more (has_number n plan.feeds) (has (ids ds) d.identity) (same (f.drops ∙ t))
@@ -406,10 +406,10 @@ module _ (answers : ReaderAnswers) (made : List Held) (now : ℕ) (ds : List Dem
     numbers = subst (λ (l : List Held). AreNumbers l (fed_once (model.is_drop d.aggregation) (length all) plan.feeds)) longer (numbers-once (all ++ fresh ∷ []) (model.is_drop d.aggregation) (length all) plan.feeds (omega (arith, length-append {A = Held})) numbers-more);
     answered = answered-push (λ resets d. resets ≡ is_delta answers d) plan.added fresh is.answered delta;
     streams = ap (λ (l : List Held). part_by answers l []) (sym longer) ∙ (sym (demanded-new now answers all d resets unknown) ∙ sym after-more);
-    feeds = ap (λ (l : List Held). named l (fed_once (model.is_drop d.aggregation) (length all) plan.feeds)) (sym longer)
+    feeds = ap (λ (l : List Held). named_identities l (fed_once (model.is_drop d.aggregation) (length all) plan.feeds)) (sym longer)
         ∙ (named-new (model.is_drop d.aggregation) refl
         ∙ (sym (fed-push dropped_then ds d)
-        ∙ ap (λ (l : List Held). model.fed (model.is_dropped (fates_of l)) (ds ++ d ∷ [])) longer));
+        ∙ ap (λ (l : List Held). model.fed_identities (model.is_dropped (fates_of l)) (ds ++ d ∷ [])) longer));
   }
     where
       fresh : Held
@@ -443,21 +443,21 @@ module _ (answers : ReaderAnswers) (made : List Held) (now : ℕ) (ds : List Dem
       dropped-new : dropped_then d.identity ≡ model.is_drop d.aggregation
       dropped-new = ap (λ fs. model.is_dropped fs d.identity) longer-fates ∙ fate-new (fates_of all) d unknown
 
-      same_fed : model.fed dropped ds ≡ model.fed dropped_then ds
+      same_fed : model.fed_identities dropped ds ≡ model.fed_identities dropped_then ds
       same_fed = fed-same dropped dropped_then ds
           (λ y h. sym (ap (λ fs. model.is_dropped fs y) longer-fates ∙ fate-known (fates_of all) (d ∷ []) y (known-demanded y ∙ or_true (model.is_known (fates_of made) y) (has (ids ds) y) h)))
 
-      named-old : named (all ++ fresh ∷ []) plan.feeds ≡ model.fed dropped_then ds
+      named-old : named_identities (all ++ fresh ∷ []) plan.feeds ≡ model.fed_identities dropped_then ds
       named-old = named-front all (fresh ∷ []) plan.feeds (numbers-named all plan.feeds is.numbers) ∙ (is.feeds ∙ same_fed)
 
       named-new : (b : Bool) → model.is_drop d.aggregation ≡ b
-          → named (all ++ fresh ∷ []) (fed_once b (length all) plan.feeds) ≡ model.fed dropped_then ds ++ cond (dropped_then d.identity || has (ids ds) d.identity) [] (d.identity ∷ [])
-      named-new true t = named-old ∙ (sym (append-nil _) ∙ ap (λ b. model.fed dropped_then ds ++ cond (b || has (ids ds) d.identity) [] (d.identity ∷ [])) (sym (dropped-new ∙ t)))
+          → named_identities (all ++ fresh ∷ []) (fed_once b (length all) plan.feeds) ≡ model.fed_identities dropped_then ds ++ cond (dropped_then d.identity || has (ids ds) d.identity) [] (d.identity ∷ [])
+      named-new true t = named-old ∙ (sym (append-nil _) ∙ ap (λ b. model.fed_identities dropped_then ds ++ cond (b || has (ids ds) d.identity) [] (d.identity ∷ [])) (sym (dropped-new ∙ t)))
       named-new false t =
-          ap (λ b. named (all ++ fresh ∷ []) (cond b plan.feeds (plan.feeds ++ length all ∷ []))) (number-new all plan.feeds (length all) (omega arith) is.numbers)
+          ap (λ b. named_identities (all ++ fresh ∷ []) (cond b plan.feeds (plan.feeds ++ length all ∷ []))) (number-new all plan.feeds (length all) (omega arith) is.numbers)
           ∙ (named-push (all ++ fresh ∷ []) plan.feeds (length all) fresh (get-last all fresh)
           ∙ ((λ i. named-old i ++ d.identity ∷ [])
-          ∙ λ i. model.fed dropped_then ds ++ cond (sym (dropped-new ∙ t) i || sym undemanded i) [] (d.identity ∷ [])))
+          ∙ λ i. model.fed_identities dropped_then ds ++ cond (sym (dropped-new ∙ t) i || sym undemanded i) [] (d.identity ∷ [])))
 
 -- ======== where an identity is ========
 position-front : {X : Type 0} (p : X → Bool) (xs ys : List X) (n : ℕ) → position p xs ≡ Some n → position p (xs ++ ys) ≡ Some n
@@ -587,11 +587,11 @@ plan-none answers made now apart = record {
 -- ======== a plan that is carried out ========
 -- what was planned, carried out, is what the machine makes of these demands
 pub plan-built : (now : ℕ) (ds : List Demand) (p : Piped) (plan : Planned) → All (AreNumbers p.streams) p.feeds → p.plan ≡ Some plan → IsPlanOf p.answers p.streams now ds plan
-    → part_of (built p) ≡ machine.with_feeds ds (fold (machine.demanded now) (part_of p) ds)
+    → part_of (piped_after_build p) ≡ machine.with_feeds ds (fold (machine.part_after_demand now) (part_of p) ds)
 plan-built now ds p plan numbers e is =
     ap (λ o. part_of (built_by o p)) e
-    ∙ ((λ i. record { answers = p.answers; fates = fates_of ks; streams = streamed ks; feeds = (map-append (named ks) p.feeds (plan.feeds ∷ []) ∙ λ j. all_named-front p.streams plan.added p.feeds numbers j ++ is.feeds j ∷ []) i })
-    ∙ sym (ap (machine.with_feeds ds) (demanded-fed now (map (named p.streams) p.feeds) (part_by p.answers p.streams []) ds ∙ ap (fed_by_these (map (named p.streams) p.feeds)) (sym is.streams))))
+    ∙ ((λ i. record { answers = p.answers; fates = fates_of ks; streams = model_streams ks; feeds = (map-append (named_identities ks) p.feeds (plan.feeds ∷ []) ∙ λ j. all_named-front p.streams plan.added p.feeds numbers j ++ is.feeds j ∷ []) i })
+    ∙ sym (ap (machine.with_feeds ds) (demanded-fed now (map (named_identities p.streams) p.feeds) (part_by p.answers p.streams []) ds ∙ ap (fed_by_these (map (named_identities p.streams) p.feeds)) (sym is.streams))))
   where
     ks : List Held
     ks = p.streams ++ plan.added
@@ -605,12 +605,12 @@ demands-are views (Some scope) about p (inr e) = ap (λ b. cond b (model.demands
 
 -- at all readers
 pub all_built : (views : Views) (scope : Option InstrumentationScope) (about : About) (now : ℕ) (ps : List Piped) → (scope ≡ None ⊎ model.is_good about ≡ true) → All (IsReadyFor views scope about now) ps
-    → map (λ (p : Piped). part_of (built p)) ps ≡ map (machine.built views scope about now) (map part_of ps)
+    → map (λ (p : Piped). part_of (piped_after_build p)) ps ≡ map (machine.part_after_build views scope about now) (map part_of ps)
 all_built views scope about now [] good all = refl
 all_built views scope about now (p ∷ ps) good all =
     let ready = all 0 p (omega arith) in
     λ i. (plan-built now (demands_in (dropped_with p.streams) views p.answers scope about) p ready.planned ready.lawful.numbers ready.plan ready.meets
-    ∙ sym (ap (λ ds. machine.with_feeds ds (fold (machine.demanded now) (part_of p) ds)) (demands-are views scope about p good))) i
+    ∙ sym (ap (λ ds. machine.with_feeds ds (fold (machine.part_after_demand now) (part_of p) ds)) (demands-are views scope about p good))) i
     ∷ all_built views scope about now ps good (λ j d h. all (suc j) d (omega arith)) i
 
 -- what is ready for a build is planned
@@ -662,8 +662,8 @@ room-parts false b c e = absurd (true≢false (sym e))
 
 -- carrying out a plan
 pub built-is : (answers : ReaderAnswers) (ks : List Held) (feeds : List (List ℕ)) (o : Option Planned) (room : Bool) (plan : Planned) → Some plan ≡ o
-    → part_by answers (ks ++ plan.added) (feeds ++ plan.feeds ∷ []) ≡ part_of (built (record { answers = answers; streams = ks; feeds = feeds; plan = o; room = room }))
-built-is answers ks feeds o room plan took = ap (λ (q : Option Planned). part_of (built (record { answers = answers; streams = ks; feeds = feeds; plan = q; room = room }))) took
+    → part_by answers (ks ++ plan.added) (feeds ++ plan.feeds ∷ []) ≡ part_of (piped_after_build (record { answers = answers; streams = ks; feeds = feeds; plan = o; room = room }))
+built-is answers ks feeds o room plan took = ap (λ (q : Option Planned). part_of (piped_after_build (record { answers = answers; streams = ks; feeds = feeds; plan = q; room = room }))) took
 
 pub some_plan : (a b : Planned) → Some a ≡ Some b → a ≡ b
 some_plan a b e = cc

@@ -15,13 +15,13 @@ use Rattle.otel_model_stream.specs.Sets.{AttributeSet}
 use Rattle.otel_model_stream.specs.Totals.{has_number}
 use Rattle.otel_model.specs.Calls.{or_else, Number, Record as RecordCall}
 use Rattle.otel_model.specs.Demands as model
-use Rattle.otel_model.specs.Machine.{stream_after, part_sent}
+use Rattle.otel_model.specs.Machine.{stream_after, part_after_call}
 use Rattle.otel_model.specs.Sent.{is_fed, set_for}
 use Rattle.otel_model.specs.State.{ReaderPart, Stream}
 use Rattle.otel_model.proofs.Gather.{identity_eq_self}
-use Rattle.otel_pipeline.specs.Pipelines.{fates_of, named, identity_at, identity_of, is_streamed, streamed, part_of, Piped, AreNumbers, ArePrepared, IsPrepared, IsPreparedFor, fed_by, recorded, committed_each, FeedsType}
+use Rattle.otel_pipeline.specs.Pipelines.{fates_of, named_identities, identity_at, identity_of, is_streamed, model_streams, part_of, Piped, AreNumbers, ArePrepared, IsPrepared, IsPreparedFor, fed_by, part_after_record, committed_each, FeedsType}
 use Rattle.otel_pipeline.specs.Observations.{changed_in}
-use Rattle.otel_pipeline.specs.Streams.{Held, with_record, committed, committed_by}
+use Rattle.otel_pipeline.specs.Streams.{Held, with_record, held_after_commit, committed_by}
 use Rattle.otel_pipeline.proofs.Answered.{commits}
 use Rattle.otel_pipeline.proofs.Commits.{fold-changed}
 use Rattle.otel_pipeline.proofs.Identities.{AreApart, are_apart}
@@ -39,9 +39,9 @@ committed-if false v k = refl
 abbrev pub fits : NumberValue → model.Demand → Bool
 fits value d = beq (is_signed_value value) d.identity.signed
 
-pub committed-twice : (value : NumberValue) (k : Held) → committed value (committed value k) ≡ committed value k
+pub committed-twice : (value : NumberValue) (k : Held) → held_after_commit value (held_after_commit value k) ≡ held_after_commit value k
 committed-twice value k =
-    ap (λ d. cond (fits value d) (committed_by (committed value k).pending (amount_of value) (committed value k)) (committed value k)) (commits value k).1
+    ap (λ d. cond (fits value d) (committed_by (held_after_commit value k).pending (amount_of value) (held_after_commit value k)) (held_after_commit value k)) (commits value k).1
     ∙ committed-if (fits value k.stream.demand) (amount_of value) k
 
 -- ======== one stream ========
@@ -65,11 +65,11 @@ identity_at-is ks n k e = rw e refl
 
 -- an instrument feeds a stream by identity exactly if it feeds it by number
 pub named-has : (ks : List Held) → AreApart ks → (ns : List ℕ) → HaveStreams ns ks → (i : ℕ) (k : Held) → slice_get ks i ≡ Some k
-    → model.has_identity (named ks ns) (identity_of k) ≡ has_number i ns
+    → model.has_identity (named_identities ks ns) (identity_of k) ≡ has_number i ns
 named-has ks apart [] all i k e = refl
 named-has ks apart (n ∷ ns) all i k e =
     let m = all.0.0 in
-    ap (λ xs. model.has_identity (xs ++ named ks ns) (identity_of k)) (identity_at-is ks n m all.0.1)
+    ap (λ xs. model.has_identity (xs ++ named_identities ks ns) (identity_of k)) (identity_at-is ks n m all.0.1)
     ∙ λ j. same j || named-has ks apart ns all.1 i k e j
   where
     same : model.identity_eq (identity_of (all.0.0)) (identity_of k) ≡ (n == i)
@@ -78,10 +78,10 @@ named-has ks apart (n ∷ ns) all i k e =
         (λ f. f ∙ sym (ne_eqb n i (λ q. true≢false (sym (ap (λ (m : Held). model.identity_eq (identity_of m) (identity_of k)) (some_same _ _ (sym (all.0.1) ∙ ap (slice_get ks) q ∙ e)) ∙ identity_eq_self (identity_of k)) ∙ f))))
         (cases_Bool (model.identity_eq (identity_of (all.0.0)) (identity_of k)))
 
-pub fed-named : (ks : List Held) (feeds : List (List ℕ)) (n : ℕ) → or_else (slice_get (map (named ks) feeds) n) [] ≡ named ks (or_else (slice_get feeds n) [])
-fed-named ks feeds n = ap (λ o. or_else o []) (slice_get-map (named ks) feeds n) ∙ cases (slice_get feeds n)
+pub fed-named : (ks : List Held) (feeds : List (List ℕ)) (n : ℕ) → or_else (slice_get (map (named_identities ks) feeds) n) [] ≡ named_identities ks (or_else (slice_get feeds n) [])
+fed-named ks feeds n = ap (λ o. or_else o []) (slice_get-map (named_identities ks) feeds n) ∙ cases (slice_get feeds n)
   where
-    cases : (o : Option (List ℕ)) → or_else (option_map (named ks) o) [] ≡ named ks (or_else o [])
+    cases : (o : Option (List ℕ)) → or_else (option_map (named_identities ks) o) [] ≡ named_identities ks (or_else o [])
     cases None = refl
     cases (Some ns) = refl
 
@@ -93,41 +93,41 @@ number value = record { signed = is_signed_value value; amount = amount_of value
 module _ (answers : model.ReaderAnswers) (all : List Held) (apart : AreApart all) (feeds : List (List ℕ)) (next n : ℕ) (v : Number) (l : List KeyValue) (f : Held → Held)
     (numbers : HaveStreams (or_else (slice_get feeds n) []) all)
     (keeps : (k : Held) → (f k).stream.demand ≡ k.stream.demand)
-    (made : (i : ℕ) (k : Held) → slice_get all i ≡ Some k → has_number i (or_else (slice_get feeds n) []) ≡ true → is_fed (map (named all) feeds) n (identity_of k) ≡ true → (with_record (set_for k.stream.demand l) v.amount k).stream ≡ (f k).stream) where
+    (made : (i : ℕ) (k : Held) → slice_get all i ≡ Some k → has_number i (or_else (slice_get feeds n) []) ≡ true → is_fed (map (named_identities all) feeds) n (identity_of k) ≡ true → (with_record (set_for k.stream.demand l) v.amount k).stream ≡ (f k).stream) where
   abbrev ns : List ℕ
   ns = or_else (slice_get feeds n) []
 
   abbrev after : Stream → Stream
-  after = stream_after answers (map (named all) feeds) next (RecordCall n v l)
+  after = stream_after answers (map (named_identities all) feeds) next (RecordCall n v l)
 
-  fed_at : (i : ℕ) (k : Held) → slice_get all i ≡ Some k → is_fed (map (named all) feeds) n (identity_of k) ≡ has_number i ns
+  fed_at : (i : ℕ) (k : Held) → slice_get all i ≡ Some k → is_fed (map (named_identities all) feeds) n (identity_of k) ≡ has_number i ns
   fed_at i k at = ap (λ xs. model.has_identity xs (identity_of k)) (fed-named all feeds n) ∙ named-has all apart ns numbers i k at
 
   one_sent : (i : ℕ) (k : Held) → slice_get all i ≡ Some k → (b : Bool) → has_number i ns ≡ b → after k.stream ≡ (cond b (f k) k).stream
   one_sent i k at true h =
-      let fed : is_fed (map (named all) feeds) n (identity_of k) ≡ true = fed_at i k at ∙ h in
-      sent_if answers next n v l (map (named all) feeds) k true fed ∙ made i k at h fed
-  one_sent i k at false h = sent_if answers next n v l (map (named all) feeds) k false (fed_at i k at ∙ h)
+      let fed : is_fed (map (named_identities all) feeds) n (identity_of k) ≡ true = fed_at i k at ∙ h in
+      sent_if answers next n v l (map (named_identities all) feeds) k true fed ∙ made i k at h fed
+  one_sent i k at false h = sent_if answers next n v l (map (named_identities all) feeds) k false (fed_at i k at ∙ h)
 
   kept_streamed : (b : Bool) (k : Held) → is_streamed (cond b (f k) k) ≡ is_streamed k
   kept_streamed true k = ap (λ (d : model.Demand). not (model.is_drop d.aggregation)) (keeps k)
   kept_streamed false k = refl
 
   -- one stream more, whether it drops or not
-  more_sent : (b : Bool) (k m : Held) (ks ms : List Held) → is_streamed k ≡ b → is_streamed m ≡ b → after k.stream ≡ m.stream → map after (streamed ks) ≡ streamed ms
-      → map after (streamed (k ∷ ks)) ≡ streamed (m ∷ ms)
+  more_sent : (b : Bool) (k m : Held) (ks ms : List Held) → is_streamed k ≡ b → is_streamed m ≡ b → after k.stream ≡ m.stream → map after (model_streams ks) ≡ model_streams ms
+      → map after (model_streams (k ∷ ks)) ≡ model_streams (m ∷ ms)
   more_sent true k m ks ms p q e rest = rw (p, q) (λ i. e i ∷ rest i)
   more_sent false k m ks ms p q e rest = rw (p, q) rest
 
   rest_sent : (i : ℕ) (ks : List Held) → ((j : ℕ) (k : Held) → slice_get ks j ≡ Some k → slice_get all (i + j) ≡ Some k)
-      → map after (streamed ks) ≡ streamed (changed_in ns f i ks)
+      → map after (model_streams ks) ≡ model_streams (changed_in ns f i ks)
   rest_sent i [] at = refl
   rest_sent i (k ∷ ks) at =
       more_sent (is_streamed k) k _ ks (changed_in ns f (suc i) ks) refl (kept_streamed (has_number i ns) k)
       (one_sent i k (ap (slice_get all) (omega arith) ∙ at 0 k refl) (has_number i ns) refl)
       (rest_sent (suc i) ks (λ j m e. ap (slice_get all) (omega arith) ∙ at (suc j) m e))
 
-  pub all_sent : map after (streamed all) ≡ streamed (changed_in ns f 0 all)
+  pub all_sent : map after (model_streams all) ≡ model_streams (changed_in ns f 0 all)
   all_sent = rest_sent 0 all (λ j k e. ap (slice_get all) (omega arith) ∙ e)
 
 -- ======== numbers of streams ========
@@ -164,19 +164,19 @@ pub typed-fits : (n : ℕ) (value : NumberValue) (p : ReaderPart) (d : model.Dem
 typed-fits n value p d typed fed = (booleans_Decides (is_signed_value value) d.identity.signed).1 (sym (typed d.identity fed))
 
 pub recorded-sent : (next n : ℕ) (value : NumberValue) (l : List KeyValue) (p : Piped) → IsPreparedFor n l p → FeedsType n (is_signed_value value) (part_of p)
-    → recorded n value p ≡ part_sent next (RecordCall n (number value) l) (part_of p)
+    → part_after_record n value p ≡ part_after_call next (RecordCall n (number value) l) (part_of p)
 recorded-sent next n value l p prepared typed =
     let same : fates_of (committed_each value (fed_by n p) p.streams) ≡ fates_of p.streams = demands-committed value (fed_by n p) p.streams in
     λ i. record {
       answers = p.answers;
       fates = same i;
-      streams = (ap streamed (fold-changed (committed value) (committed-twice value) (fed_by n p) p.streams)
-          ∙ sym (all_sent p.answers p.streams (are_apart p.streams prepared.lawful.apart) p.feeds next n (number value) l (committed value) (fed-numbers p.streams p.feeds n prepared.lawful.numbers) (λ k. (commits value k).1) made)) i;
+      streams = (ap model_streams (fold-changed (held_after_commit value) (committed-twice value) (fed_by n p) p.streams)
+          ∙ sym (all_sent p.answers p.streams (are_apart p.streams prepared.lawful.apart) p.feeds next n (number value) l (held_after_commit value) (fed-numbers p.streams p.feeds n prepared.lawful.numbers) (λ k. (commits value k).1) made)) i;
       feeds = feeds-same (committed_each value (fed_by n p) p.streams) p.streams same p.feeds i;
     }
   where
-    made : (i : ℕ) (k : Held) → slice_get p.streams i ≡ Some k → has_number i (fed_by n p) ≡ true → is_fed (map (named p.streams) p.feeds) n (identity_of k) ≡ true
-        → (with_record (set_for k.stream.demand l) (amount_of value) k).stream ≡ (committed value k).stream
+    made : (i : ℕ) (k : Held) → slice_get p.streams i ≡ Some k → has_number i (fed_by n p) ≡ true → is_fed (map (named_identities p.streams) p.feeds) n (identity_of k) ≡ true
+        → (with_record (set_for k.stream.demand l) (amount_of value) k).stream ≡ (held_after_commit value k).stream
     made i k at h fed =
         ap (λ o. (committed_by o (amount_of value) k).stream) (sym (prepared-at l p.streams (fed_by n p) prepared.prepared i k at h))
         ∙ ap (λ b. (cond b (committed_by k.pending (amount_of value) k) k).stream) (sym (typed-fits n value (part_of p) k.stream.demand typed fed))

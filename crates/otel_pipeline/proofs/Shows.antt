@@ -3,7 +3,7 @@ use Rattle.std.proofs.Common.{◌≡◌, ℕ, zero, suc, ◌<◌, Bool, true, fa
 use Rattle.otel_common.specs.Scopes.{scope_eq}
 use Rattle.otel_common.specs.declared.scopes.InstrumentationScope.{InstrumentationScope}
 use Rattle.otel_model.specs.Collections.{ScopedMetric, in_scope, has_points}
-use Rattle.otel_pipeline.specs.Collections.{scoped, all_scoped, shown_in, shown_one, if_shown}
+use Rattle.otel_pipeline.specs.Collections.{scoped_metric, all_scoped, shown_in, shown_one, if_shown}
 use Rattle.otel_pipeline.specs.Pipelines.{is_streamed}
 use Rattle.otel_pipeline.specs.Streams.{Held}
 
@@ -12,14 +12,14 @@ shown_first true true m xs p e = rw e refl
 shown_first true false m xs p e = rw e refl
 shown_first false b m xs p e = refl
 
-scoped_first : (now : ℕ) (b : Bool) (k : Held) (ks : List Held) → map (scoped now) (cond b (k ∷ ks) ks) ≡ cond b (scoped now k ∷ map (scoped now) ks) (map (scoped now) ks)
+scoped_first : (now : ℕ) (b : Bool) (k : Held) (ks : List Held) → map (scoped_metric now) (cond b (k ∷ ks) ks) ≡ cond b (scoped_metric now k ∷ map (scoped_metric now) ks) (map (scoped_metric now) ks)
 scoped_first now true k ks = refl
 scoped_first now false k ks = refl
 
 pub shown-cons : (scope : InstrumentationScope) (now : ℕ) (k : Held) (ks : List Held) → shown_in scope now (k ∷ ks) ≡ shown_one scope now k ++ shown_in scope now ks
 shown-cons scope now k ks =
     ap (λ ms. (in_scope ms scope).metrics) (scoped_first now (is_streamed k) k (filter is_streamed ks))
-    ∙ shown_first (is_streamed k) _ (scoped now k) (all_scoped now ks) (λ (m : ScopedMetric). scope_eq m.0 scope && has_points m.1) refl
+    ∙ shown_first (is_streamed k) _ (scoped_metric now k) (all_scoped now ks) (λ (m : ScopedMetric). scope_eq m.0 scope && has_points m.1) refl
 
 -- one stream less is left
 pub shown-suc : (scope : InstrumentationScope) (now : ℕ) (ks : List Held) (i : ℕ) (k : Held) → i < length ks → k ≡ get_or ks i k → shown_in scope now (drop i ks) ≡ shown_one scope now k ++ shown_in scope now (drop (suc i) ks)

@@ -10,19 +10,19 @@ use Rattle.otel_model_stream.specs.Folds.{Amount}
 use Rattle.otel_model_stream.specs.Sets.{AttributeSet}
 use Rattle.otel_aggregate.specs.Any.{is_signed_value, amount_of, form_of}
 use Rattle.std.specs.Bool.{beq}
-use Rattle.otel_pipeline.specs.Observations.{AreSavedOf, IsSaved, IsSavedOf, IsUndone, SavedHeld, kept_or, restored, restored_all, restored_if, saved_by}
-use Rattle.otel_pipeline.specs.Pipelines.{all_settled, committed_each}
-use Rattle.otel_pipeline.specs.Streams.{Held, committed, committed_by, settled}
+use Rattle.otel_pipeline.specs.Observations.{AreSavedOf, IsSaved, IsSavedOf, IsUndone, SavedHeld, kept_or, held_after_restore, restored_all, restored_if, saved_by}
+use Rattle.otel_pipeline.specs.Pipelines.{all_without_pending, committed_each}
+use Rattle.otel_pipeline.specs.Streams.{Held, held_after_commit, committed_by, without_pending}
 use Rattle.otel_pipeline.proofs.Writes.{length-changed}
 
 abbrev Kept : Type 0
 Kept = List (Option SavedHeld)
 
 -- ======== nothing is kept ========
-pub none-same : (n : ℕ) (ks : List Held) → n ≡ length ks → restored_all (replicate n None) ks ≡ all_settled ks
+pub none-same : (n : ℕ) (ks : List Held) → n ≡ length ks → restored_all (replicate n None) ks ≡ all_without_pending ks
 none-same zero ks e = refl
 none-same (suc n) [] e = refl
-none-same (suc n) (k ∷ ks) e = ap (λ l. settled k ∷ l) (none-same n ks (omega arith))
+none-same (suc n) (k ∷ ks) e = ap (λ l. without_pending k ∷ l) (none-same n ks (omega arith))
 
 pub none-kept : (n : ℕ) (ks : List Held) → AreSavedOf (replicate n None) ks
 none-kept zero ks = tt
@@ -38,14 +38,14 @@ abbrev pub tail_of : List Held → List Held
 tail_of [] = []
 tail_of (k ∷ ks) = ks
 
-saved-same-one : (o : Option SavedHeld) (k : Held) (ss : Kept) (ks : List Held) → restored_all (o ∷ ss) (k ∷ ks) ≡ all_settled (k ∷ ks) → restored_all ss ks ≡ all_settled ks
+saved-same-one : (o : Option SavedHeld) (k : Held) (ss : Kept) (ks : List Held) → restored_all (o ∷ ss) (k ∷ ks) ≡ all_without_pending (k ∷ ks) → restored_all ss ks ≡ all_without_pending ks
 saved-same-one o k ss ks e = ap tail_of e
 
-once-same : (o : Option SavedHeld) (k m : Held) → k ≡ m → restored_if o m ≡ settled m → restored_if (kept_or o (saved_by k)) m ≡ settled m
-once-same None k m at e = ap (λ (x : Held). restored (saved_by x) m) at
+once-same : (o : Option SavedHeld) (k m : Held) → k ≡ m → restored_if o m ≡ without_pending m → restored_if (kept_or o (saved_by k)) m ≡ without_pending m
+once-same None k m at e = ap (λ (x : Held). held_after_restore (saved_by x) m) at
 once-same (Some s) k m at e = e
 
-pub set-same : (ss : Kept) (ks : List Held) (n : ℕ) (k : Held) (o p : Option SavedHeld) → k ≡ get_or ks n k → o ≡ get_or ss n o → p ≡ kept_or o (saved_by k) → restored_all ss ks ≡ all_settled ks → restored_all (set ss n p) ks ≡ all_settled ks
+pub set-same : (ss : Kept) (ks : List Held) (n : ℕ) (k : Held) (o p : Option SavedHeld) → k ≡ get_or ks n k → o ≡ get_or ss n o → p ≡ kept_or o (saved_by k) → restored_all ss ks ≡ all_without_pending ks → restored_all (set ss n p) ks ≡ all_without_pending ks
 set-same [] ks n k o p at was is e = e
 set-same (s ∷ ss) [] zero k o p at was is e = e
 set-same (s ∷ ss) [] (suc n) k o p at was is e = e
@@ -89,40 +89,40 @@ set-before (x ∷ ss) (suc n) zero o p s is before = before
 set-before (x ∷ ss) (suc n) (suc m) o p s is before = set-before ss n m o p s is before
 
 -- ======== what is kept does not see which records are prepared ========
-restored-settled-one : (o : Option SavedHeld) (k : Held) → restored_if o (settled k) ≡ restored_if o k
+restored-settled-one : (o : Option SavedHeld) (k : Held) → restored_if o (without_pending k) ≡ restored_if o k
 restored-settled-one None k = refl
 restored-settled-one (Some s) k = refl
 
-restored-settled : (ss : Kept) (ks : List Held) → restored_all ss (all_settled ks) ≡ restored_all ss ks
+restored-settled : (ss : Kept) (ks : List Held) → restored_all ss (all_without_pending ks) ≡ restored_all ss ks
 restored-settled [] ks = settled-twice ks
   where
-    settled-twice : (ks : List Held) → all_settled (all_settled ks) ≡ all_settled ks
+    settled-twice : (ks : List Held) → all_without_pending (all_without_pending ks) ≡ all_without_pending ks
     settled-twice [] = refl
-    settled-twice (k ∷ ks) = ap (λ l. settled k ∷ l) (settled-twice ks)
+    settled-twice (k ∷ ks) = ap (λ l. without_pending k ∷ l) (settled-twice ks)
 restored-settled (s ∷ ss) [] = refl
 restored-settled (s ∷ ss) (k ∷ ks) = λ i. restored-settled-one s k i ∷ restored-settled ss ks i
 
-pub restored-same : (ss : Kept) (a b : List Held) → all_settled a ≡ all_settled b → restored_all ss a ≡ restored_all ss b
+pub restored-same : (ss : Kept) (a b : List Held) → all_without_pending a ≡ all_without_pending b → restored_all ss a ≡ restored_all ss b
 restored-same ss a b e = sym (restored-settled ss a) ∙ (ap (restored_all ss) e ∙ restored-settled ss b)
 
-kept-settled : (ss : Kept) (ks : List Held) → AreSavedOf ss ks → AreSavedOf ss (all_settled ks)
+kept-settled : (ss : Kept) (ks : List Held) → AreSavedOf ss ks → AreSavedOf ss (all_without_pending ks)
 kept-settled [] ks all = tt
 kept-settled (s ∷ ss) [] all = tt
-kept-settled (s ∷ ss) (k ∷ ks) all = kept-more s k (settled k) ss ss ks (all_settled ks) (kept-settled ss ks) refl all
+kept-settled (s ∷ ss) (k ∷ ks) all = kept-more s k (without_pending k) ss ss ks (all_without_pending ks) (kept-settled ss ks) refl all
 
-settled-kept : (ss : Kept) (ks : List Held) → AreSavedOf ss (all_settled ks) → AreSavedOf ss ks
+settled-kept : (ss : Kept) (ks : List Held) → AreSavedOf ss (all_without_pending ks) → AreSavedOf ss ks
 settled-kept [] ks all = tt
 settled-kept (s ∷ ss) [] all = tt
-settled-kept (s ∷ ss) (k ∷ ks) all = kept-more s (settled k) k ss ss (all_settled ks) ks (settled-kept ss ks) refl all
+settled-kept (s ∷ ss) (k ∷ ks) all = kept-more s (without_pending k) k ss ss (all_without_pending ks) ks (settled-kept ss ks) refl all
 
-pub kept-same : (ss : Kept) (a b : List Held) → all_settled a ≡ all_settled b → AreSavedOf ss a → AreSavedOf ss b
+pub kept-same : (ss : Kept) (a b : List Held) → all_without_pending a ≡ all_without_pending b → AreSavedOf ss a → AreSavedOf ss b
 kept-same ss a b e all = settled-kept ss b (subst (AreSavedOf ss) e (kept-settled ss a all))
 
-pub length-settled : (a b : List Held) → all_settled a ≡ all_settled b → length a ≡ length b
-length-settled a b e = sym (length-map a settled) ∙ (ap length e ∙ length-map b settled)
+pub length-settled : (a b : List Held) → all_without_pending a ≡ all_without_pending b → length a ≡ length b
+length-settled a b e = sym (length-map a without_pending) ∙ (ap length e ∙ length-map b without_pending)
 
 -- nothing is seen to change
-pub undone-same : (ss : Kept) (old new : List Held) → all_settled new ≡ all_settled old → IsUndone ss old new
+pub undone-same : (ss : Kept) (old new : List Held) → all_without_pending new ≡ all_without_pending old → IsUndone ss old new
 undone-same ss old new e = record { many = length-settled new old e; same = restored-same ss new old e; kept = kept-same ss old new (sym e) }
 
 pub undone-then : (ss : Kept) (a b c : List Held) → IsUndone ss a b → IsUndone ss b c → IsUndone ss a c
@@ -135,54 +135,54 @@ module _ (value : NumberValue) where
   demand-if true v (Some s) k = refl
   demand-if false v o k = refl
 
-  demand-stays : (k : Held) → (committed value k).stream.demand ≡ k.stream.demand
+  demand-stays : (k : Held) → (held_after_commit value k).stream.demand ≡ k.stream.demand
   demand-stays k = demand-if (beq (is_signed_value value) k.stream.demand.identity.signed) (amount_of value) k.pending k
 
-  undone-if : (s : SavedHeld) (b : Bool) (v : Amount) (o : Option AttributeSet) (k : Held) → restored s (cond b (committed_by o v k) k) ≡ restored s k
+  undone-if : (s : SavedHeld) (b : Bool) (v : Amount) (o : Option AttributeSet) (k : Held) → held_after_restore s (cond b (committed_by o v k) k) ≡ held_after_restore s k
   undone-if s true v None k = refl
   undone-if s true v (Some g) k = refl
   undone-if s false v o k = refl
 
-  undone-one : (s : SavedHeld) (k : Held) → restored s (committed value k) ≡ restored s k
+  undone-one : (s : SavedHeld) (k : Held) → held_after_restore s (held_after_commit value k) ≡ held_after_restore s k
   undone-one s k = undone-if s (beq (is_signed_value value) k.stream.demand.identity.signed) (amount_of value) k.pending k
 
-  some-in : (o : Option SavedHeld) (s : SavedHeld) (k : Held) → Some o ≡ Some (Some s) → restored_if o (committed value k) ≡ restored_if o k
+  some-in : (o : Option SavedHeld) (s : SavedHeld) (k : Held) → Some o ≡ Some (Some s) → restored_if o (held_after_commit value k) ≡ restored_if o k
   some-in None s k e = absurd (cc)
   some-in (Some t) s k e = undone-one t k
 
-  changed-same : (ss : Kept) (n : ℕ) (ks : List Held) → IsSaved ss n → restored_all ss (changed_at n (committed value) ks) ≡ restored_all ss ks
+  changed-same : (ss : Kept) (n : ℕ) (ks : List Held) → IsSaved ss n → restored_all ss (changed_at n (held_after_commit value) ks) ≡ restored_all ss ks
   changed-same [] n ks is = absurd (cc)
   changed-same (o ∷ ss) n [] is = refl
   changed-same (o ∷ ss) zero (k ∷ ks) is = ap (λ x. x ∷ restored_all ss ks) (some-in o is.0 k is.1)
   changed-same (o ∷ ss) (suc n) (k ∷ ks) is = ap (λ l. restored_if o k ∷ l) (changed-same ss n ks is)
 
-  changed-kept : (ss : Kept) (n : ℕ) (ks : List Held) → AreSavedOf ss ks → AreSavedOf ss (changed_at n (committed value) ks)
+  changed-kept : (ss : Kept) (n : ℕ) (ks : List Held) → AreSavedOf ss ks → AreSavedOf ss (changed_at n (held_after_commit value) ks)
   changed-kept [] n ks all = tt
   changed-kept (o ∷ ss) n [] all = tt
-  changed-kept (o ∷ ss) zero (k ∷ ks) all = kept-more o k (committed value k) ss ss ks ks (λ x. x) (demand-stays k) all
-  changed-kept (o ∷ ss) (suc n) (k ∷ ks) all = kept-more o k k ss ss ks (changed_at n (committed value) ks) (changed-kept ss n ks) refl all
+  changed-kept (o ∷ ss) zero (k ∷ ks) all = kept-more o k (held_after_commit value k) ss ss ks ks (λ x. x) (demand-stays k) all
+  changed-kept (o ∷ ss) (suc n) (k ∷ ks) all = kept-more o k k ss ss ks (changed_at n (held_after_commit value) ks) (changed-kept ss n ks) refl all
 
-  changed-undone : (ss : Kept) (n : ℕ) (ks : List Held) → IsSaved ss n → IsUndone ss ks (changed_at n (committed value) ks)
-  changed-undone ss n ks is = record { many = length-changed (committed value) n ks; same = changed-same ss n ks is; kept = changed-kept ss n ks }
+  changed-undone : (ss : Kept) (n : ℕ) (ks : List Held) → IsSaved ss n → IsUndone ss ks (changed_at n (held_after_commit value) ks)
+  changed-undone ss n ks is = record { many = length-changed (held_after_commit value) n ks; same = changed-same ss n ks is; kept = changed-kept ss n ks }
 
   pub undone-committed : (ss : Kept) (ns : List ℕ) (ks : List Held) → All (IsSaved ss) ns → IsUndone ss ks (committed_each value ns ks)
   undone-committed ss [] ks all = undone-same ss ks ks refl
   undone-committed ss (n ∷ ns) ks all =
-      undone-then ss ks (changed_at n (committed value) ks) (committed_each value ns (changed_at n (committed value) ks)) (changed-undone ss n ks (all 0 n (omega arith)))
-      (undone-committed ss ns (changed_at n (committed value) ks) (λ i d h. all (suc i) d (omega arith)))
+      undone-then ss ks (changed_at n (held_after_commit value) ks) (committed_each value ns (changed_at n (held_after_commit value) ks)) (changed-undone ss n ks (all 0 n (omega arith)))
+      (undone-committed ss ns (changed_at n (held_after_commit value) ks) (λ i d h. all (suc i) d (omega arith)))
 
 -- ======== what was kept is put back, one stream after another ========
 -- the first streams are restored, and what is left of what was kept is for the others
 pub record IsRestoredTo (ss : Kept) (old : List Held) (left : Kept) (now : List Held) (n : ℕ) : Type 0 where
-  pub same : take n (all_settled now) ++ restored_all left (drop n now) ≡ restored_all ss old
+  pub same : take n (all_without_pending now) ++ restored_all left (drop n now) ≡ restored_all ss old
   pub kept : AreSavedOf left (drop n now)
   pub many : n + length left ≤ length now
 
-step-same : (o : Option SavedHeld) (ss : Kept) (ks : List Held) (n : ℕ) (x y : Held) → n < length ks → x ≡ get_or ks n x → settled y ≡ restored_if o x
-    → take (suc n) (all_settled (set ks n y)) ++ restored_all ss (drop (suc n) (set ks n y)) ≡ take n (all_settled ks) ++ restored_all (o ∷ ss) (drop n ks)
+step-same : (o : Option SavedHeld) (ss : Kept) (ks : List Held) (n : ℕ) (x y : Held) → n < length ks → x ≡ get_or ks n x → without_pending y ≡ restored_if o x
+    → take (suc n) (all_without_pending (set ks n y)) ++ restored_all ss (drop (suc n) (set ks n y)) ≡ take n (all_without_pending ks) ++ restored_all (o ∷ ss) (drop n ks)
 step-same o ss [] n x y h at e = absurd (omega arith)
 step-same o ss (k ∷ ks) zero x y h at e = ap (λ z. z ∷ restored_all ss ks) (e ∙ ap (restored_if o) at)
-step-same o ss (k ∷ ks) (suc n) x y h at e = ap (λ l. settled k ∷ l) (step-same o ss ks n x y (omega arith) at e)
+step-same o ss (k ∷ ks) (suc n) x y h at e = ap (λ l. without_pending k ∷ l) (step-same o ss ks n x y (omega arith) at e)
 
 step-kept : (o : Option SavedHeld) (ss : Kept) (ks : List Held) (n : ℕ) (y : Held) → n < length ks → AreSavedOf (o ∷ ss) (drop n ks) → AreSavedOf ss (drop (suc n) (set ks n y))
 step-kept o ss [] n y h all = absurd (omega arith)
@@ -194,7 +194,7 @@ length-after [] n y = refl
 length-after (k ∷ ks) zero y = refl
 length-after (k ∷ ks) (suc n) y = ap suc (length-after ks n y)
 
-pub restored-step : (ss : Kept) (old : List Held) (o : Option SavedHeld) (left : Kept) (ks : List Held) (n : ℕ) (x y : Held) → x ≡ get_or ks n x → settled y ≡ restored_if o x
+pub restored-step : (ss : Kept) (old : List Held) (o : Option SavedHeld) (left : Kept) (ks : List Held) (n : ℕ) (x y : Held) → x ≡ get_or ks n x → without_pending y ≡ restored_if o x
     → IsRestoredTo ss old (o ∷ left) ks n → IsRestoredTo ss old left (set ks n y) (n + 1)
 restored-step ss old o left ks n x y at e is =
     let inside : n < length ks = omega (arith, is.many) in
@@ -206,10 +206,10 @@ restored-step ss old o left ks n x y at e is =
     })
 
 -- a stream of which nothing was kept stays
-skip-same : (ss : Kept) (ks : List Held) (n : ℕ) → n < length ks → take (suc n) (all_settled ks) ++ restored_all ss (drop (suc n) ks) ≡ take n (all_settled ks) ++ restored_all (None ∷ ss) (drop n ks)
+skip-same : (ss : Kept) (ks : List Held) (n : ℕ) → n < length ks → take (suc n) (all_without_pending ks) ++ restored_all ss (drop (suc n) ks) ≡ take n (all_without_pending ks) ++ restored_all (None ∷ ss) (drop n ks)
 skip-same ss [] n h = absurd (omega arith)
 skip-same ss (k ∷ ks) zero h = refl
-skip-same ss (k ∷ ks) (suc n) h = ap (λ l. settled k ∷ l) (skip-same ss ks n (omega arith))
+skip-same ss (k ∷ ks) (suc n) h = ap (λ l. without_pending k ∷ l) (skip-same ss ks n (omega arith))
 
 skip-kept : (ss : Kept) (ks : List Held) (n : ℕ) → n < length ks → AreSavedOf (None ∷ ss) (drop n ks) → AreSavedOf ss (drop (suc n) ks)
 skip-kept ss [] n h all = absurd (omega arith)
@@ -231,11 +231,11 @@ kept-next s left (k ∷ ks) (suc n) x h at all = kept-next s left ks n x (omega 
 pub restored-start : (ss : Kept) (old : List Held) → length ss ≤ length old → AreSavedOf ss old → IsRestoredTo ss old ss old 0
 restored-start ss old many kept = record { same = refl; kept = kept; many = omega (arith, many) }
 
-all-left : (n : ℕ) (ks : List Held) → take n (all_settled ks) ++ all_settled (drop n ks) ≡ all_settled ks
+all-left : (n : ℕ) (ks : List Held) → take n (all_without_pending ks) ++ all_without_pending (drop n ks) ≡ all_without_pending ks
 all-left zero ks = refl
 all-left (suc n) [] = refl
-all-left (suc n) (k ∷ ks) = ap (λ l. settled k ∷ l) (all-left n ks)
+all-left (suc n) (k ∷ ks) = ap (λ l. without_pending k ∷ l) (all-left n ks)
 
-pub restored-end : (ss : Kept) (old : List Held) (left : Kept) (ks : List Held) (n : ℕ) → length left ≡ 0 → IsRestoredTo ss old left ks n → all_settled ks ≡ restored_all ss old
+pub restored-end : (ss : Kept) (old : List Held) (left : Kept) (ks : List Held) (n : ℕ) → length left ≡ 0 → IsRestoredTo ss old left ks n → all_without_pending ks ≡ restored_all ss old
 restored-end ss old [] ks n e is = sym (all-left n ks) ∙ is.same
 restored-end ss old (s ∷ left) ks n e is = absurd (omega arith)

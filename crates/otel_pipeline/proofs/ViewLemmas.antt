@@ -8,11 +8,11 @@ use Rattle.otel_common.specs.declared.metrics.Aggregation.TheVariants.{Drop, Def
 use Rattle.otel_common.specs.declared.scopes.InstrumentationScope.{InstrumentationScope}
 use Rattle.otel_model.specs.Calls.{About, InstrumentKind, Counter, UpDownCounter, Histogram, ObservableCounter, ObservableUpDownCounter, Gauge, ObservableGauge}
 use Rattle.otel_model.specs.Demands as model
-use Rattle.otel_model.specs.Demands.{Identity, Demand, ReaderAnswers, StreamSpec, answer_for, fits, is_valid, kind_default, default_from, reader_default, with_bounds, with_own, resolved, demand_of, own_demand, view_demands, is_compatible}
+use Rattle.otel_model.specs.Demands.{Identity, Demand, ReaderAnswers, StreamSpec, answer_for, fits, is_valid, kind_default, default_from, reader_default, with_bounds, with_own, resolved_aggregation, demand_of, own_demand, view_demands, is_compatible}
 use Rattle.otel_model.specs.Machine as machine
-use Rattle.otel_pipeline.specs.Pipelines.{Planned, part_by, named, fates_of, demands_in, dropped_with, IsPlanOf}
+use Rattle.otel_pipeline.specs.Pipelines.{Planned, part_by, named_identities, fates_of, demands_in, dropped_with, IsPlanOf}
 use Rattle.otel_pipeline.specs.Streams.{Held}
-use Rattle.otel_pipeline.specs.Views.{answering, usable_answer, usable_demands, can_keep, is_unfit, has_none, demands_own}
+use Rattle.otel_pipeline.specs.Views.{views_answering, usable_answer, usable_demands, can_keep, is_unfit, has_none, demands_own}
 use Rattle.otel_pipeline.proofs.Plans.{demanded-fates, no_identity, fed-empty}
 use Rattle.otel_pipeline.proofs.Records.{HaveStreams, identity_at-is, numbers-named}
 
@@ -62,7 +62,7 @@ with_own-fits ObservableGauge own a e = e
 pub compatible-is : (answers : ReaderAnswers) (scope : InstrumentationScope) (about : About) (s : StreamSpec) → is_compatible (demand_of answers scope about s) ≡ can_keep about.kind s.aggregation
 compatible-is answers scope about s = by s.aggregation
   where
-    by : (set : Option Aggregation) → fits about.kind (resolved answers about set) ≡ can_keep about.kind set
+    by : (set : Option Aggregation) → fits about.kind (resolved_aggregation answers about set) ≡ can_keep about.kind set
     by None = with_own-fits about.kind about.bounds (reader_default answers about.kind) (default_from-fits about.kind (answer_for answers about.kind).aggregation)
     by (Some Default) = default_from-fits about.kind (answer_for answers about.kind).aggregation
     by (Some Drop) = refl
@@ -73,7 +73,7 @@ compatible-is answers scope about s = by s.aggregation
 -- ======== the answers, one after another ========
 module _ (answers : ReaderAnswers) (scope : InstrumentationScope) (about : About) where
   abbrev demands : List (Option StreamSpec) → List Demand
-  demands l = view_demands (answering l) answers scope about
+  demands l = view_demands (views_answering l) answers scope about
 
   abbrev usable : List (Option StreamSpec) → List Demand
   usable l = usable_demands answers scope about l
@@ -118,9 +118,9 @@ module _ (answers : ReaderAnswers) (scope : InstrumentationScope) (about : About
     same-fates : fates_of (made ++ plan.added) ≡ fold machine.enter (fates_of made) ds
     same-fates = ap (λ p. p.fates) is.streams ∙ demanded-fates now (part_by answers made []) ds
 
-    none-named : (ks : List Held) (ns : List ℕ) → HaveStreams ns ks → has_none ns ≡ no_identity (named ks ns)
+    none-named : (ks : List Held) (ns : List ℕ) → HaveStreams ns ks → has_none ns ≡ no_identity (named_identities ks ns)
     none-named ks [] all = refl
-    none-named ks (n ∷ ns) all = sym (ap (λ xs. no_identity (xs ++ named ks ns)) (identity_at-is ks n (all.0.0) all.0.1))
+    none-named ks (n ∷ ns) all = sym (ap (λ xs. no_identity (xs ++ named_identities ks ns)) (identity_at-is ks n (all.0.0) all.0.1))
 
     pub fed-none : has_none plan.feeds ≡ not (list_any (λ (d : Demand). not (dropped_with made ds d.identity)) ds)
     fed-none =
@@ -136,14 +136,14 @@ module _ (answers : ReaderAnswers) (scope : InstrumentationScope) (about : About
 
   -- all that an instrument demands
   pub demands-with : (made : List Held) (o : Option InstrumentationScope) (l : List (Option StreamSpec)) (b : Bool) → o ≡ Some scope → model.needs_own (dropped_with made (usable l)) (demands l) ≡ b
-      → demands_in (dropped_with made) (answering l) answers o about ≡ usable l ++ cond b (own_demand answers scope about ∷ []) []
+      → demands_in (dropped_with made) (views_answering l) answers o about ≡ usable l ++ cond b (own_demand answers scope about ∷ []) []
   demands-with made o l b e needs =
-      ap (λ s. demands_in (dropped_with made) (answering l) answers s about) e
+      ap (λ s. demands_in (dropped_with made) (views_answering l) answers s about) e
       ∙ ap (λ n. usable l ++ cond n (own_demand answers scope about ∷ []) []) needs
 
 -- without a scope nothing is demanded
-pub demands-none : (made : List Held) (answers : ReaderAnswers) (o : Option InstrumentationScope) (about : About) (l : List (Option StreamSpec)) → o ≡ None → demands_in (dropped_with made) (answering l) answers o about ≡ []
-demands-none made answers o about l e = ap (λ s. demands_in (dropped_with made) (answering l) answers s about) e
+pub demands-none : (made : List Held) (answers : ReaderAnswers) (o : Option InstrumentationScope) (about : About) (l : List (Option StreamSpec)) → o ≡ None → demands_in (dropped_with made) (views_answering l) answers o about ≡ []
+demands-none made answers o about l e = ap (λ s. demands_in (dropped_with made) (views_answering l) answers s about) e
 
 -- an aggregation that can't be used is not demanded
 pub unfit-demands : (answers : ReaderAnswers) (scope : InstrumentationScope) (about : About) (s : StreamSpec) → can_keep about.kind s.aggregation ≡ false → usable_answer answers scope about (Some s) ≡ []

@@ -14,12 +14,12 @@ use Rattle.otel_pipeline.specs.Pipelines.{is_streamed}
 use Rattle.otel_pipeline.specs.Streams.{Held, shown_metric}
 
 -- the metric of a stream, with its scope
-abbrev pub scoped : ℕ → Held → ScopedMetric
-scoped now h = (h.stream.demand.identity.scope, shown_metric now h)
+abbrev pub scoped_metric : ℕ → Held → ScopedMetric
+scoped_metric now h = (h.stream.demand.identity.scope, shown_metric now h)
 
 -- of all streams, without what drops
 abbrev pub all_scoped : ℕ → List Held → List ScopedMetric
-all_scoped now streams = map (scoped now) (filter is_streamed streams)
+all_scoped now streams = map (scoped_metric now) (filter is_streamed streams)
 
 -- the metrics of a scope that have points
 abbrev pub shown_in : InstrumentationScope → ℕ → List Held → List Metric
@@ -41,10 +41,10 @@ abbrev pub scopes_shown : ℕ → List Held → List InstrumentationScope → Li
 scopes_shown now streams meters = filter has_metrics (map (scope_shown now streams) meters)
 
 -- lists, each followed by the one at its place among the others
-abbrev pub joined : {A : Type 0} → List (List A) → List (List A) → List (List A)
-joined [] ys = []
-joined (x ∷ xs) [] = x ∷ xs
-joined (x ∷ xs) (y ∷ ys) = (x ++ y) ∷ joined xs ys
+abbrev pub append_each : {A : Type 0} → List (List A) → List (List A) → List (List A)
+append_each [] ys = []
+append_each (x ∷ xs) [] = x ∷ xs
+append_each (x ∷ xs) (y ∷ ys) = (x ++ y) ∷ append_each xs ys
 
 -- what a collection of this reader with these observations gives, from the resource, by the scopes of these meters
 abbrev pub IsCollectedFrom : Resource → List InstrumentationScope → ℕ → List Observed → ReaderPart → ResourceMetrics → Type 0

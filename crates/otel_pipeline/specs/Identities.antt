@@ -1,6 +1,6 @@
 -- What makes the stream of an instrument the same as another (Metrics SDK, "Duplicate instrument registration").
 use Rattle.otel_common.specs.declared.scopes.InstrumentationScope.{InstrumentationScope}
-use Rattle.otel_model.specs.Calls.{About, lowered, or_else}
+use Rattle.otel_model.specs.Calls.{About, ascii_lowercase, or_else}
 use Rattle.otel_model.specs.Demands.{Identity, StreamSpec, description_of, unit_of}
 
 -- what a view's settings lack is the instrument's
@@ -11,5 +11,5 @@ identity_with scope about s = record {
   signed = about.signed;
   description = or_else s.description (description_of about);
   unit = or_else s.unit (unit_of about);
-  name = lowered (or_else s.name about.name);
+  name = ascii_lowercase (or_else s.name about.name);
 }

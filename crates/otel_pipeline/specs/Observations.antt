@@ -11,8 +11,8 @@ use Rattle.otel_model.specs.Calls.{or_else}
 use Rattle.otel_model.specs.Sent.{set_for}
 use Rattle.otel_model.specs.State.{ReaderPart}
 use Rattle.otel_model.specs.Streams.{aggregate_of}
-use Rattle.otel_pipeline.specs.Pipelines.{FeedsType, all_settled}
-use Rattle.otel_pipeline.specs.Streams.{Held, with_record, settled}
+use Rattle.otel_pipeline.specs.Pipelines.{FeedsType, all_without_pending}
+use Rattle.otel_pipeline.specs.Streams.{Held, with_record, without_pending}
 
 -- an observation, as the model's
 abbrev pub observed_of : Observed → model.Observed
@@ -33,12 +33,12 @@ changed_in ns f i [] = []
 changed_in ns f i (x ∷ xs) = cond (has_number i ns) (f x) x ∷ changed_in ns f (suc i) xs
 
 -- the numbers of the streams that take an observation in
-abbrev pub observing : List (List ℕ) → Observed → List ℕ
-observing feeds o = or_else (slice_get feeds o.instrument) []
+abbrev pub observing_numbers : List (List ℕ) → Observed → List ℕ
+observing_numbers feeds o = or_else (slice_get feeds o.instrument) []
 
 -- the streams that its instrument feeds take it in
 abbrev pub observed_in : List (List ℕ) → List Held → Observed → List Held
-observed_in feeds streams o = changed_in (observing feeds o) (observed_one o) 0 streams
+observed_in feeds streams o = changed_in (observing_numbers feeds o) (observed_one o) 0 streams
 
 -- one observation after another
 abbrev pub observed_all : List (List ℕ) → List Observed → List Held → List Held
@@ -67,12 +67,12 @@ pub record IsSavedOf (saved : SavedHeld) (h : Held) : Type 0 where
   pub form : saved.form ≡ form_of (aggregate_of h.stream.demand)
 
 -- the stream with what was kept
-abbrev pub restored : SavedHeld → Held → Held
-restored saved h = record {
+abbrev pub held_after_restore : SavedHeld → Held → Held
+held_after_restore saved h = record {
   stream = record {
     demand = h.stream.demand;
     machine = record { table = saved.table; live = h.stream.machine.live };
-    since = h.stream.since;
+    start = h.stream.start;
     reported = h.stream.reported;
     recorded = saved.recorded;
     exported = h.stream.exported;
@@ -83,12 +83,12 @@ restored saved h = record {
 
 -- if something was kept
 abbrev pub restored_if : Option SavedHeld → Held → Held
-restored_if None h = settled h
-restored_if (Some saved) h = restored saved h
+restored_if None h = without_pending h
+restored_if (Some saved) h = held_after_restore saved h
 
 -- the same of a list of streams
 abbrev pub restored_all : List (Option SavedHeld) → List Held → List Held
-restored_all [] hs = all_settled hs
+restored_all [] hs = all_without_pending hs
 restored_all (s ∷ ss) [] = []
 restored_all (s ∷ ss) (h ∷ hs) = restored_if s h ∷ restored_all ss hs
 
@@ -106,9 +106,9 @@ IsSaved ss n = (s : SavedHeld) × (slice_get ss n ≡ Some (Some s))
 -- what was kept of these streams is as they are, and enough to undo these observations
 pub record CanUndo (feeds : List (List ℕ)) (os : List Observed) (streams : List Held) (ss : List (Option SavedHeld)) : Type 0 where
   pub many : length ss ≤ length streams
-  pub same : restored_all ss streams ≡ all_settled streams
+  pub same : restored_all ss streams ≡ all_without_pending streams
   pub kept : AreSavedOf ss streams
-  pub all : All (λ o. All (IsSaved ss) (observing feeds o)) os
+  pub all : All (λ o. All (IsSaved ss) (observing_numbers feeds o)) os
 
 -- with what was kept the new streams are as the old ones
 pub record IsUndone (ss : List (Option SavedHeld)) (old new : List Held) : Type 0 where

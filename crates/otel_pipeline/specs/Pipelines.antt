@@ -6,13 +6,13 @@ use Rattle.otel_common.specs.declared.attributes.KeyValue.{KeyValue}
 use Rattle.otel_common.specs.declared.scopes.InstrumentationScope.{InstrumentationScope}
 use Rattle.otel_data.specs.declared.numbers.NumberValue.{NumberValue}
 use Rattle.otel_model.specs.Calls.{About, or_else}
-use Rattle.otel_model.specs.Demands.{Identity, Demand, ReaderAnswers, Views, identity_eq, is_drop, is_dropped, are_good_bounds, demands_with, fed}
+use Rattle.otel_model.specs.Demands.{Identity, Demand, ReaderAnswers, Views, identity_eq, is_drop, is_dropped, are_good_bounds, demands_with, fed_identities}
 use Rattle.otel_model.specs.State.{Stream, ReaderPart}
-use Rattle.otel_model.specs.Machine.{changed_at, demanded, enter}
+use Rattle.otel_model.specs.Machine.{changed_at, part_after_demand, enter}
 use Rattle.otel_model.specs.Sent.{is_fed, set_for}
 use Rattle.otel_model.specs.Streams.{is_delta}
 use Rattle.otel_model_stream.specs.Totals.{has_number}
-use Rattle.otel_pipeline.specs.Streams.{Held, committed, settled, finished}
+use Rattle.otel_pipeline.specs.Streams.{Held, held_after_commit, without_pending, held_after_collection}
 
 -- what a build is going to do: the numbers of the streams that the instrument will feed, and the new streams
 pub record Planned : Type 0 where
@@ -49,17 +49,17 @@ identity_at streams n = found (slice_get streams n)
     found (Some h) = identity_of h ∷ []
 
 -- the identities of the streams of these numbers
-abbrev pub named : List Held → List ℕ → List Identity
-named streams [] = []
-named streams (n ∷ ns) = identity_at streams n ++ named streams ns
+abbrev pub named_identities : List Held → List ℕ → List Identity
+named_identities streams [] = []
+named_identities streams (n ∷ ns) = identity_at streams n ++ named_identities streams ns
 
 -- whether the demand makes a stream
 abbrev pub is_streamed : Held → Bool
 is_streamed h = not (is_drop h.stream.demand.aggregation)
 
 -- the streams, without what drops
-abbrev pub streamed : List Held → List Stream
-streamed streams = map (λ (h : Held). h.stream) (filter is_streamed streams)
+abbrev pub model_streams : List Held → List Stream
+model_streams streams = map (λ (h : Held). h.stream) (filter is_streamed streams)
 
 -- what the streams demand
 abbrev pub fates_of : List Held → List Demand
@@ -70,8 +70,8 @@ abbrev pub part_by : ReaderAnswers → List Held → List (List ℕ) → ReaderP
 part_by answers streams feeds = record {
   answers = answers;
   fates = fates_of streams;
-  streams = streamed streams;
-  feeds = map (named streams) feeds;
+  streams = model_streams streams;
+  feeds = map (named_identities streams) feeds;
 }
 
 abbrev pub part_of : Piped → ReaderPart
@@ -153,8 +153,8 @@ pub record IsPlanOf (answers : ReaderAnswers) (made : List Held) (now : ℕ) (de
   pub apart : IsDistinct identity_eq (stream_identities (made ++ plan.added))
   pub numbers : AreNumbers (made ++ plan.added) plan.feeds
   pub answered : AreAnswered answers plan.added
-  pub streams : part_by answers (made ++ plan.added) [] ≡ fold (demanded now) (part_by answers made []) demands
-  pub feeds : named (made ++ plan.added) plan.feeds ≡ fed (is_dropped (fates_of (made ++ plan.added))) demands
+  pub streams : part_by answers (made ++ plan.added) [] ≡ fold (part_after_demand now) (part_by answers made []) demands
+  pub feeds : named_identities (made ++ plan.added) plan.feeds ≡ fed_identities (is_dropped (fates_of (made ++ plan.added))) demands
 
 -- there is a plan, and room to carry it out
 pub record IsPlanned (p : Piped) : Type 0 where
@@ -178,8 +178,8 @@ built_by None p = p
 built_by (Some plan) p = record { answers = p.answers; streams = p.streams ++ plan.added; feeds = p.feeds ++ plan.feeds ∷ []; plan = None; room = p.room }
 
 -- what was planned, carried out
-abbrev pub built : Piped → Piped
-built p = built_by p.plan p
+abbrev pub piped_after_build : Piped → Piped
+piped_after_build p = built_by p.plan p
 
 -- ======== records ========
 -- the numbers of the streams that an instrument feeds
@@ -205,18 +205,18 @@ pub record IsPreparedFor (instrument : ℕ) (attributes : List KeyValue) (p : Pi
   pub prepared : ArePrepared attributes p.streams (fed_by instrument p)
 
 -- but for the sets of the record that is prepared
-abbrev pub all_settled : List Held → List Held
-all_settled streams = map settled streams
+abbrev pub all_without_pending : List Held → List Held
+all_without_pending streams = map without_pending streams
 
 -- the record is made in each of these streams
 abbrev pub committed_each : NumberValue → List ℕ → List Held → List Held
-committed_each value ns streams = fold (λ ss n. changed_at n (committed value) ss) streams ns
+committed_each value ns streams = fold (λ ss n. changed_at n (held_after_commit value) ss) streams ns
 
 -- and so in the streams that the instrument feeds
-abbrev pub recorded : ℕ → NumberValue → Piped → ReaderPart
-recorded instrument value p = part_by p.answers (committed_each value (fed_by instrument p) p.streams) p.feeds
+abbrev pub part_after_record : ℕ → NumberValue → Piped → ReaderPart
+part_after_record instrument value p = part_by p.answers (committed_each value (fed_by instrument p) p.streams) p.feeds
 
 -- ======== collections ========
 -- the streams after a collection at a moment
-abbrev pub finished_all : ℕ → List Held → List Held
-finished_all now streams = map (finished now) streams
+abbrev pub all_after_collection : ℕ → List Held → List Held
+all_after_collection now streams = map (held_after_collection now) streams

@@ -5,16 +5,16 @@ use Rattle.otel_common.specs.declared.metrics.Temporality.TheVariants.{Cumulativ
 use Rattle.otel_data.specs.declared.collections.Metric.{Metric}
 use Rattle.otel_data.specs.declared.numbers.NumberValue.{NumberValue}
 use Rattle.otel_model_stream.specs.Sets.{AttributeSet}
-use Rattle.otel_model_stream.specs.Folds.{Amount, empty_of, sample_of, wrapped}
+use Rattle.otel_model_stream.specs.Folds.{Amount, empty_of, sample_of, wrap}
 use Rattle.otel_model_stream.specs.Entries.{Table, Point, place, recorded_at}
 use Rattle.otel_model_stream.specs.Events.{Kind}
-use Rattle.otel_model_stream.specs.Machine.{points, collected}
+use Rattle.otel_model_stream.specs.Machine.{points, machine_after_collection}
 use Rattle.otel_model_stream.specs.Observed.{difference}
 use Rattle.otel_model_stream.specs.Totals.{size, points_total}
 use Rattle.otel_aggregate.specs.Any.{HeldAny, is_signed_value, amount_of}
 use Rattle.otel_aggregate.specs.Streams.{StreamState}
 use Rattle.otel_model.specs.Demands.{Aggregation, Drop, Default, Sum, LastValue, ExplicitBucketHistogram, Demand, is_valid}
-use Rattle.otel_model.specs.Collections.{aggregated, has_points}
+use Rattle.otel_model.specs.Collections.{aggregated_metrics, has_points}
 use Rattle.otel_model.specs.Machine.{new_stream}
 use Rattle.otel_model.specs.State.{Stream}
 use Rattle.otel_model.specs.Streams.{aggregate_of, is_drained, is_monotonic_kind}
@@ -38,8 +38,8 @@ asks_monotonic d = by d.aggregation
     by (ExplicitBucketHistogram bounds m) = false
 
 -- the aggregate that a demand asks for, with these entries and this start
-abbrev pub asked : Demand → Bool → Table → ℕ → StreamState
-asked d resets table start = record {
+abbrev pub asked_aggregate : Demand → Bool → Table → ℕ → StreamState
+asked_aggregate d resets table start = record {
   map_state = record { limit = d.limit; empty = empty_of (aggregate_of d); table = table };
   aggregate = aggregate_of d;
   is_monotonic = asks_monotonic d;
@@ -54,7 +54,7 @@ pub record IsMakeable (d : Demand) : Type 0 where
 
 -- the aggregate is the one that the demand asks for; it has no handles
 pub record IsAsked (d : Demand) (a : HeldAny) : Type 0 where
-  pub state : a.state ≡ asked d a.state.resets a.state.map_state.table a.state.start
+  pub state : a.state ≡ asked_aggregate d a.state.resets a.state.map_state.table a.state.start
   pub signed : a.is_signed ≡ d.identity.signed
   pub drains : a.drains ≡ is_drained d
   pub unheld : a.state.map_state.table.none.handles ≡ 0
@@ -65,7 +65,7 @@ held_of d a recorded exported = record {
   stream = record {
     demand = d;
     machine = record { table = a.state.map_state.table; live = [] };
-    since = a.state.start;
+    start = a.state.start;
     reported = a.reported;
     recorded = recorded;
     exported = exported;
@@ -88,9 +88,9 @@ with_record s v h = record {
       table = recorded_at s (sample_of (aggregate_of h.stream.demand) v) (place h.stream.demand.limit (empty_of (aggregate_of h.stream.demand)) s h.stream.machine.table);
       live = h.stream.machine.live;
     };
-    since = h.stream.since;
+    start = h.stream.start;
     reported = h.stream.reported;
-    recorded = wrapped (h.stream.recorded + size (aggregate_of h.stream.demand) v);
+    recorded = wrap (h.stream.recorded + size (aggregate_of h.stream.demand) v);
     exported = h.stream.exported;
   };
   resets = h.resets;
@@ -102,12 +102,12 @@ committed_by None v h = h
 committed_by (Some s) v h = with_record s v h
 
 -- the record that is prepared, if there is one, of a value of the stream's number type
-abbrev pub committed : NumberValue → Held → Held
-committed value h = cond (beq (is_signed_value value) h.stream.demand.identity.signed) (committed_by h.pending (amount_of value) h) h
+abbrev pub held_after_commit : NumberValue → Held → Held
+held_after_commit value h = cond (beq (is_signed_value value) h.stream.demand.identity.signed) (committed_by h.pending (amount_of value) h) h
 
 -- but for the set of the record that is prepared
-abbrev pub settled : Held → Held
-settled h = record { stream = h.stream; resets = h.resets; pending = None }
+abbrev pub without_pending : Held → Held
+without_pending h = record { stream = h.stream; resets = h.resets; pending = None }
 
 -- ======== collections ========
 -- how its history is cut into windows
@@ -127,15 +127,15 @@ abbrev pub shown_values : Held → List Point
 shown_values h = cond (shows_added h) (map (difference h.stream.reported) (shown_points h)) (shown_points h)
 
 -- a stream after a collection at a moment
-abbrev pub finished : ℕ → Held → Held
-finished now h = record {
+abbrev pub held_after_collection : ℕ → Held → Held
+held_after_collection now h = record {
   stream = record {
     demand = h.stream.demand;
-    machine = collected (window_of h) h.stream.machine;
-    since = cond h.resets now h.stream.since;
+    machine = machine_after_collection (window_of h) h.stream.machine;
+    start = cond h.resets now h.stream.start;
     reported = cond (shows_added h) (shown_points h) h.stream.reported;
     recorded = h.stream.recorded;
-    exported = cond h.resets (wrapped (h.stream.exported + points_total (shown_points h))) h.stream.exported;
+    exported = cond h.resets (wrap (h.stream.exported + points_total (shown_points h))) h.stream.exported;
   };
   resets = h.resets;
   pending = h.pending;
@@ -147,7 +147,7 @@ shown_metric now h = record {
   name = h.stream.demand.spelling;
   description = h.stream.demand.identity.description;
   unit = h.stream.demand.identity.unit;
-  content = aggregated h.stream.demand.identity.signed (cond h.resets Delta Cumulative) (is_monotonic_kind h.stream.demand.identity.kind) h.stream.demand.aggregation h.stream.since now (shown_values h);
+  content = aggregated_metrics h.stream.demand.identity.signed (cond h.resets Delta Cumulative) (is_monotonic_kind h.stream.demand.identity.kind) h.stream.demand.aggregation h.stream.start now (shown_values h);
 }
 
 -- if it has points

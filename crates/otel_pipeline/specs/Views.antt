@@ -7,12 +7,12 @@ use Rattle.otel_model.specs.Calls.{About, InstrumentKind}
 use Rattle.otel_model.specs.Demands.{Demand, ReaderAnswers, StreamSpec, Views, add_answer, fits, is_compatible, view_demands}
 
 -- views that answer this of every instrument
-abbrev pub answering : List (Option StreamSpec) → Views
-answering answers = map (λ answer instrument. answer) answers
+abbrev pub views_answering : List (Option StreamSpec) → Views
+views_answering answers = map (λ answer instrument. answer) answers
 
 -- what of their demands can be used
 abbrev pub usable_demands : ReaderAnswers → InstrumentationScope → About → List (Option StreamSpec) → List Demand
-usable_demands answers scope about answered = filter is_compatible (view_demands (answering answered) answers scope about)
+usable_demands answers scope about answered = filter is_compatible (view_demands (views_answering answered) answers scope about)
 
 -- and of what one view answered
 abbrev pub usable_answer : ReaderAnswers → InstrumentationScope → About → Option StreamSpec → List Demand

@@ -4,7 +4,7 @@ ghost use Rattle.std.specs.Prelude.{◌≡◌, ◌++◌, [], ◌∷◌, map, fil
 ghost use Rattle.std.specs.List.{IsDistinct};
 ghost use Rattle.otel_common.specs.Scopes.{scope_eq};
 ghost use Rattle.otel_model.specs.Collections.{has_metrics};
-ghost use Rattle.otel_pipeline.specs.Collections.{joined, shown_one, shown_in, scopes_shown};
+ghost use Rattle.otel_pipeline.specs.Collections.{append_each, shown_one, shown_in, scopes_shown};
 
 use crate::aggregations::is_drop;
 use crate::stream::Stream;
@@ -42,7 +42,7 @@ fn push_metric(
     requires long { length lists.old.items ≡ length meters.now.keys }
     requires apart { IsDistinct scope_eq meters.now.keys }
     ensures long { length lists.new.items ≡ length lists.old.items }
-    ensures metrics { OnOk result (map (λ v. v.items) lists.new.items ≡ joined (map (λ v. v.items) lists.old.items) (map (λ m. shown_one m now stream.now) meters.now.keys)) }
+    ensures metrics { OnOk result (map (λ v. v.items) lists.new.items ≡ append_each (map (λ v. v.items) lists.old.items) (map (λ m. shown_one m now stream.now) meters.now.keys)) }
     ensures only_memory { IsOkUnless result Fault.OutOfMemory }
 {
     let demand = stream.demand();

@@ -1,7 +1,7 @@
 //! What a stream keeps where its instrument leaves it to the reader (Metrics SDK, "MetricReader").
 
 ghost use Rattle.std.specs.Prelude.{◌≡◌, true, Some, None, IfOk, IsOkUnless};
-ghost use Rattle.otel_model.specs.Demands.{is_valid, fits, default_bounds, kind_default, default_from, reader_default, with_bounds, resolved};
+ghost use Rattle.otel_model.specs.Demands.{is_valid, fits, default_bounds, kind_default, default_from, reader_default, with_bounds, resolved_aggregation};
 ghost use Rattle.otel_pipeline.specs.Defaults.{is_default};
 
 use crate::about::About;
@@ -116,7 +116,7 @@ pub fn resolved_own(
     answers: &Answers,
     about: &About<'_>,
 ) -> Result<Aggregation, Fault>
-    ensures aggregation { IfOk result (λ made. made ≡ resolved answers.now about.now None) }
+    ensures aggregation { IfOk result (λ made. made ≡ resolved_aggregation answers.now about.now None) }
     ensures only_memory { IsOkUnless result Fault.OutOfMemory }
 {
     let aggregation = reader_default(alloc, answers, about.kind)?;

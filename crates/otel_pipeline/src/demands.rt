@@ -2,8 +2,8 @@
 //! "MetricReader").
 
 ghost use Rattle.std.specs.Prelude.{◌≡◌, [], IfOk, IsOkUnless, true};
-ghost use Rattle.otel_model.specs.Calls.{lowered, or_else};
-ghost use Rattle.otel_model.specs.Demands.{answer_for, demand_of, own_demand, are_good_bounds, is_valid, default_limit, resolved};
+ghost use Rattle.otel_model.specs.Calls.{ascii_lowercase, or_else};
+ghost use Rattle.otel_model.specs.Demands.{answer_for, demand_of, own_demand, are_good_bounds, is_valid, default_limit, resolved_aggregation};
 ghost use Rattle.otel_pipeline.specs.Identities.{identity_with};
 
 use crate::about::About;
@@ -25,7 +25,7 @@ const DEFAULT_LIMIT: usize = 2000;
 
 /// The text with its ASCII letters lowered.
 fn lowered_text(alloc: Global, text: &StringValue) -> Result<StringValue, Fault>
-    ensures lowered { IfOk result (λ t. t ≡ lowered text.now) }
+    ensures lowered { IfOk result (λ t. t ≡ ascii_lowercase text.now) }
     ensures only_memory { IsOkUnless result Fault.OutOfMemory }
 {
     let mut lowered = String::from_str(alloc, text.as_str())?;
@@ -119,7 +119,7 @@ fn aggregation_of(
     about: &About<'_>,
     set: &Option<Aggregation>,
 ) -> Result<Aggregation, Fault>
-    ensures aggregation { IfOk result (λ made. made ≡ resolved answers.now about.now set.now) }
+    ensures aggregation { IfOk result (λ made. made ≡ resolved_aggregation answers.now about.now set.now) }
     ensures only_memory { IsOkUnless result Fault.OutOfMemory }
 {
     copied_aggregation();

@@ -3,12 +3,12 @@
 ghost use Rattle.std.specs.Prelude.{◌≡◌, ◌≤◌, ℕ, All, List, Option, None, length, map, replicate, IfOk, OnOk, OnErr, IsOkUnless};
 ghost use Rattle.otel_pipeline.specs.Collections.{scopes_shown};
 ghost use Rattle.otel_pipeline.specs.Observations.{AreSavedOf, CanUndo, IsSaved, IsUndone, SavedHeld, changed_in, kept_or, saved_by, observed_all, observed_one, restored_all};
-ghost use Rattle.otel_pipeline.specs.Pipelines.{AreNumbers, all_settled, finished_all};
+ghost use Rattle.otel_pipeline.specs.Pipelines.{AreNumbers, all_without_pending, all_after_collection};
 
 use crate::collecting::scopes_of;
+use crate::each_stream::{commit_each, finish_each, prepare_each, streams_fed};
 use crate::saved::SavedStream;
 use crate::stream::Stream;
-use crate::streams::{commit_each, finish_each, prepare_each, streams_fed};
 use indexmap::IndexSet;
 use otel_callback::observation::Observed;
 use otel_common::faults::Fault;
@@ -51,10 +51,10 @@ fn save_each(
 ) -> Result<(), Fault>
     requires long { length saved.old.items ≡ length streams.now }
     requires numbers { AreNumbers streams.now numbers.now }
-    requires same { restored_all saved.old.items streams.now ≡ all_settled streams.now }
+    requires same { restored_all saved.old.items streams.now ≡ all_without_pending streams.now }
     requires kept { AreSavedOf saved.old.items streams.now }
     ensures long { OnOk result (length saved.new.items ≡ length streams.now) }
-    ensures same { OnOk result (restored_all saved.new.items streams.now ≡ all_settled streams.now) }
+    ensures same { OnOk result (restored_all saved.new.items streams.now ≡ all_without_pending streams.now) }
     ensures kept { OnOk result (AreSavedOf saved.new.items streams.now) }
     ensures all { OnOk result (All (IsSaved saved.new.items) numbers.now) }
     ensures before { OnOk result ((n : ℕ) → IsSaved saved.old.items n → IsSaved saved.new.items n) }
@@ -94,8 +94,8 @@ fn observe_in(
     numbers: &[usize],
     observation: &Observed,
 ) -> Result<(), Fault>
-    requires { AreNumbers (all_settled streams.old.items) numbers.now }
-    ensures observed { OnOk result (all_settled streams.new.items ≡ all_settled (changed_in numbers.now (observed_one observation.now) 0 streams.old.items)) }
+    requires { AreNumbers (all_without_pending streams.old.items) numbers.now }
+    ensures observed { OnOk result (all_without_pending streams.new.items ≡ all_without_pending (changed_in numbers.now (observed_one observation.now) 0 streams.old.items)) }
     ensures undone { (saved : List (Option SavedHeld)) → All (IsSaved saved) numbers.now → IsUndone saved streams.old.items streams.new.items }
     ensures many { length streams.new.items ≡ length streams.old.items }
     ensures only_memory { IsOkUnless result Fault.OutOfMemory }
@@ -112,7 +112,7 @@ fn observe_each(
     observations: &[Observed],
 ) -> Result<(), Fault>
     requires { All (AreNumbers streams.old.items) feeds.now }
-    ensures observed { OnOk result (all_settled streams.new.items ≡ all_settled (observed_all feeds.now observations.now streams.old.items)) }
+    ensures observed { OnOk result (all_without_pending streams.new.items ≡ all_without_pending (observed_all feeds.now observations.now streams.old.items)) }
     ensures undone { (saved : List (Option SavedHeld)) → CanUndo feeds.now observations.now streams.old.items saved → IsUndone saved streams.old.items streams.new.items }
     ensures only_memory { IsOkUnless result Fault.OutOfMemory }
 {
@@ -127,7 +127,7 @@ fn observe_each(
 fn restore_each(streams: &mut Vec<Stream>, saved: Vec<Option<SavedStream>>)
     requires many { length saved.items ≤ length streams.old.items }
     requires kept { AreSavedOf saved.items streams.old.items }
-    ensures { all_settled streams.new.items ≡ restored_all saved.items streams.old.items }
+    ensures { all_without_pending streams.new.items ≡ restored_all saved.items streams.old.items }
 {
     let mut number = 0;
     for kept in saved {
@@ -151,7 +151,7 @@ fn observe_and_collect(
     requires { All (AreNumbers streams.old.items) feeds.now }
     ensures resource { IfOk result (λ c. c.resource ≡ resource.now) }
     ensures scopes { IfOk result (λ c. c.scope_metrics ≡ scopes_shown now (observed_all feeds.now observations.now streams.old.items) meters.now.keys) }
-    ensures streams { OnOk result (all_settled streams.new.items ≡ all_settled (finished_all now (observed_all feeds.now observations.now streams.old.items))) }
+    ensures streams { OnOk result (all_without_pending streams.new.items ≡ all_without_pending (all_after_collection now (observed_all feeds.now observations.now streams.old.items))) }
     ensures undone { OnErr result ((saved : List (Option SavedHeld)) → CanUndo feeds.now observations.now streams.old.items saved → IsUndone saved streams.old.items streams.new.items) }
     ensures only_memory { IsOkUnless result Fault.OutOfMemory }
 {
@@ -176,8 +176,8 @@ pub(crate) fn collect_observed(
     requires { All (AreNumbers streams.old.items) feeds.now }
     ensures resource { IfOk result (λ c. c.resource ≡ resource.now) }
     ensures scopes { IfOk result (λ c. c.scope_metrics ≡ scopes_shown now (observed_all feeds.now observations.now streams.old.items) meters.now.keys) }
-    ensures streams { OnOk result (all_settled streams.new.items ≡ all_settled (finished_all now (observed_all feeds.now observations.now streams.old.items))) }
-    ensures undone { OnErr result (all_settled streams.new.items ≡ all_settled streams.old.items) }
+    ensures streams { OnOk result (all_without_pending streams.new.items ≡ all_without_pending (all_after_collection now (observed_all feeds.now observations.now streams.old.items))) }
+    ensures undone { OnErr result (all_without_pending streams.new.items ≡ all_without_pending streams.old.items) }
     ensures only_memory { IsOkUnless result Fault.OutOfMemory }
 {
     let saved = save_observing(alloc, streams, feeds, observations)?;

@@ -2,18 +2,18 @@
 
 ghost use Rattle.std.specs.Prelude.{◌≡◌, [], ℕ, IfOk, OnOk, OnErr, IsOk, IsOkUnless, map};
 ghost use Rattle.otel_model.specs.Calls as model;
-ghost use Rattle.otel_model.specs.Machine.{part_sent};
+ghost use Rattle.otel_model.specs.Machine.{part_after_call};
 ghost use Rattle.std.specs.Option.{option_map};
 ghost use Rattle.otel_pipeline.specs.Collections.{IsCollectedFrom};
 ghost use Rattle.otel_pipeline.specs.Observations.{AreTypedFor, observed_of};
-ghost use Rattle.otel_pipeline.specs.Pipelines.{part_of, has_stream_at, built, recorded, IsBuildableIn, IsPlanned, IsReadyFor, IsPreparedFor};
-ghost use Rattle.otel_pipeline.specs.Views.{answering};
+ghost use Rattle.otel_pipeline.specs.Pipelines.{part_of, has_stream_at, piped_after_build, part_after_record, IsBuildableIn, IsPlanned, IsReadyFor, IsPreparedFor};
+ghost use Rattle.otel_pipeline.specs.Views.{views_answering};
 
 use crate::about::About;
+use crate::each_stream::{commit_each, prepare_each, streams_fed};
 use crate::observing::collect_observed;
 use crate::plan::Plan;
 use crate::stream::Stream;
-use crate::streams::{commit_each, prepare_each, streams_fed};
 use indexmap::IndexSet;
 use otel_callback::observation::Observed;
 use otel_common::attributes::KeyValue;
@@ -92,7 +92,7 @@ impl Pipeline {
     ) -> Result<(), Fault>
         requires { IsBuildableIn (option_map (λ s. s.now) scope) about.now }
         ensures same { part_of self.new ≡ part_of self.old }
-        ensures ready { OnOk result (IsReadyFor (answering answered.now) (option_map (λ s. s.now) scope.entry) about.now now self.new) }
+        ensures ready { OnOk result (IsReadyFor (views_answering answered.now) (option_map (λ s. s.now) scope.entry) about.now now self.new) }
         ensures only_memory { IsOkUnless result Fault.OutOfMemory }
     {
         let plan = self.plan_in(scope, about, answered, now)?;
@@ -108,7 +108,7 @@ impl Pipeline {
     /// Carries out what was planned. Takes no memory.
     pub fn build(&mut self)
         requires { IsPlanned self.old }
-        ensures { part_of self.new ≡ part_of (built self.old) }
+        ensures { part_of self.new ≡ part_of (piped_after_build self.old) }
     {
         kind_laws();
         let Some(plan) = self.plan.take() else {
@@ -154,7 +154,7 @@ impl Pipeline {
     /// Makes the record that was prepared in the streams that the instrument feeds. Takes no memory, and looks
     /// nothing up.
     pub fn commit(&mut self, instrument: usize, value: NumberValue)
-        ensures { part_of self.new ≡ recorded instrument value self.old }
+        ensures { part_of self.new ≡ part_after_record instrument value self.old }
     {
         commit_each(
             &mut self.streams,
@@ -178,7 +178,7 @@ impl Pipeline {
     ) -> Result<ResourceMetrics, Fault>
         requires { AreTypedFor observations.now (part_of self.old) }
         ensures collection { IfOk result (λ c. IsCollectedFrom resource.now meters.now.keys now (map observed_of observations.now) (part_of self.old) c) }
-        ensures ok { OnOk result ((r : ℕ) → part_of self.new ≡ part_sent 0 (model.Call.Collect r now (map observed_of observations.now)) (part_of self.old)) }
+        ensures ok { OnOk result ((r : ℕ) → part_of self.new ≡ part_after_call 0 (model.Call.Collect r now (map observed_of observations.now)) (part_of self.old)) }
         ensures err { OnErr result (part_of self.new ≡ part_of self.old) }
         ensures only_memory { IsOkUnless result Fault.OutOfMemory }
     {

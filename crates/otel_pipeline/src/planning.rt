@@ -7,7 +7,7 @@ ghost use Rattle.otel_model.specs.Demands as demands;
 ghost use Rattle.otel_pipeline.specs.Pipelines.{demands_in, dropped_with, IsBuildable, IsBuildableIn, IsPlanOf};
 ghost use Rattle.otel_pipeline.specs.Streams.{IsMakeable};
 ghost use Rattle.otel_pipeline.specs.Views as views;
-ghost use Rattle.otel_pipeline.specs.Views.{answering, usable_answer, usable_demands};
+ghost use Rattle.otel_pipeline.specs.Views.{views_answering, usable_answer, usable_demands};
 
 use crate::about::About;
 use crate::defaults::fits;
@@ -157,7 +157,7 @@ impl Pipeline {
         now: u64,
     ) -> Result<Plan, Fault>
         requires { IsBuildableIn (option_map (λ s. s.now) scope) about.now }
-        ensures plan { IfOk result (IsPlanOf self.now.answers self.now.streams now (demands_in (dropped_with self.now.streams) (answering answered.now) self.now.answers (option_map (λ s. s.now) scope.entry) about.now)) }
+        ensures plan { IfOk result (IsPlanOf self.now.answers self.now.streams now (demands_in (dropped_with self.now.streams) (views_answering answered.now) self.now.answers (option_map (λ s. s.now) scope.entry) about.now)) }
         ensures only_memory { IsOkUnless result Fault.OutOfMemory }
     {
         let Some(scope) = scope else {

@@ -4,8 +4,8 @@ ghost use Rattle.std.specs.Prelude.{◌≡◌, nat_lt, [], Some, IfOk, IsOk, OnO
 ghost use Rattle.otel_common.specs.Temporalities.{resets};
 ghost use Rattle.otel_model.specs.Collections.{number_of_points};
 ghost use Rattle.otel_model.specs.Sent.{set_for};
-ghost use Rattle.otel_pipeline.specs.Observations.{IsSavedOf, restored, saved_by};
-ghost use Rattle.otel_pipeline.specs.Streams.{IsMakeable, new_held, settled, committed, finished, shown_metric, if_points};
+ghost use Rattle.otel_pipeline.specs.Observations.{IsSavedOf, held_after_restore, saved_by};
+ghost use Rattle.otel_pipeline.specs.Streams.{IsMakeable, new_held, without_pending, held_after_commit, held_after_collection, shown_metric, if_points};
 
 use crate::aggregations::{settings_of, size_of};
 use crate::saved::SavedStream;
@@ -98,7 +98,7 @@ impl Stream {
 
     /// Prepares a record of these attributes. What the stream shows stays as it was.
     pub(crate) fn prepare(&mut self, attributes: &[KeyValue]) -> Result<(), Fault>
-        ensures same { settled self.new ≡ settled self.old }
+        ensures same { without_pending self.new ≡ without_pending self.old }
         ensures ready { OnOk result (self.new.pending ≡ Some (set_for self.old.stream.demand attributes.now)) }
         ensures free { attributes.now ≡ [] → IsOk result }
         ensures only_memory { IsOkUnless result Fault.OutOfMemory }
@@ -108,7 +108,7 @@ impl Stream {
 
     /// Takes in the record that is prepared, if there is one, of a value of the stream's number type.
     pub(crate) fn commit(&mut self, value: NumberValue)
-        ensures { self.new ≡ committed value self.old }
+        ensures { self.new ≡ held_after_commit value self.old }
     {
         if self.aggregate.commit(value) {
             self.recorded = self.recorded.wrapping_add(size_of(&self.demand, value));
@@ -117,7 +117,7 @@ impl Stream {
 
     /// Ends a collection at a moment that gave the stream's points.
     pub(crate) fn finish(&mut self, now: u64)
-        ensures { settled self.new ≡ settled (finished now self.old) }
+        ensures { without_pending self.new ≡ without_pending (held_after_collection now self.old) }
     {
         if self.aggregate.resets() {
             self.exported = self.exported.wrapping_add(self.aggregate.total());
@@ -142,7 +142,7 @@ impl Stream {
     /// Puts back what was kept of it. Takes no memory.
     pub(crate) fn restore(&mut self, saved: SavedStream)
         requires { IsSavedOf saved self.old }
-        ensures { self.new ≡ restored saved self.old }
+        ensures { self.new ≡ held_after_restore saved self.old }
     {
         let SavedStream {
             aggregate,

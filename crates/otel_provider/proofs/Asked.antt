@@ -6,20 +6,20 @@ use Rattle.otel_model.specs.Demands as model
 use Rattle.otel_model.specs.Demands.{Demand, Instrument, ReaderAnswers, StreamSpec, View, Views, instrument_of, add_answer, view_demands, own_demand, is_compatible}
 use Rattle.otel_model.specs.Machine as machine
 use Rattle.otel_model.specs.State.{ReaderPart}
-use Rattle.otel_pipeline.specs.Views.{answering}
+use Rattle.otel_pipeline.specs.Views.{views_answering}
 use Rattle.otel_provider.specs.States.{AreAsked}
 
 abbrev asked_of : Views → InstrumentationScope → About → Views
-asked_of views scope about = answering (map (λ (view : View). view (instrument_of scope about)) views)
+asked_of views scope about = views_answering (map (λ (view : View). view (instrument_of scope about)) views)
 
 answered-demands : (views : Views) (answers : ReaderAnswers) (scope : InstrumentationScope) (about : About) → view_demands (asked_of views scope about) answers scope about ≡ view_demands views answers scope about
 answered-demands [] answers scope about = refl
 answered-demands (view ∷ views) answers scope about = ap (add_answer answers scope about (view (instrument_of scope about))) (answered-demands views answers scope about)
 
 pub built-answered : (views : Views) (scope : InstrumentationScope) (about : About) (now : ℕ) (p : ReaderPart)
-    → machine.built (asked_of views scope about) (Some scope) about now p ≡ machine.built views (Some scope) about now p
+    → machine.part_after_build (asked_of views scope about) (Some scope) about now p ≡ machine.part_after_build views (Some scope) about now p
 built-answered views scope about now p =
-    ap (λ (vs : List Demand). machine.with_feeds (demanded_by vs) (fold (machine.demanded now) p (demanded_by vs))) (answered-demands views p.answers scope about)
+    ap (λ (vs : List Demand). machine.with_feeds (demanded_by vs) (fold (machine.part_after_demand now) p (demanded_by vs))) (answered-demands views p.answers scope about)
   where
     demanded_by : List Demand → List Demand
     demanded_by vs = cond (model.is_good about) (filter is_compatible vs ++ cond (model.needs_own (model.is_dropped (fold machine.enter p.fates (filter is_compatible vs))) vs) (own_demand p.answers scope about ∷ []) []) []

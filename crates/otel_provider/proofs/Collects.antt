@@ -7,7 +7,7 @@ use Rattle.otel_common.specs.declared.scopes.InstrumentationScope.{Instrumentati
 use Rattle.otel_data.specs.declared.collections.ResourceMetrics.{ResourceMetrics}
 use Rattle.otel_model.specs.Calls as model
 use Rattle.otel_model.specs.Demands.{Views}
-use Rattle.otel_model.specs.Machine.{changed_at, part_sent, accepted_after}
+use Rattle.otel_model.specs.Machine.{changed_at, part_after_call, accepted_after}
 use Rattle.otel_model.specs.Refusals.{observations_refusal}
 use Rattle.otel_model.specs.Resources.{Resource}
 use Rattle.otel_model.specs.State.{InstrumentState, ReaderPart}
@@ -50,7 +50,7 @@ fault_by known shut bad = cond known (cond shut (Some model.Fault.ReaderShutDown
 
 -- a collection of a reader that is there, with good observations
 pub collection-made : (shut : Bool) (resource : Resource) (identity : ℕ) (meters : List InstrumentationScope) (instruments : List InstrumentState) (ps : List Piped) (readers : List ReaderPart) (r now : ℕ) (os : List model.Observed) (p : Piped) (c : ResourceMetrics)
-    → shut ≡ false → slice_get ps r ≡ Some p → observations_refusal instruments os ≡ None → IsCollectedFrom resource meters now os (part_of p) c → readers ≡ changed_at r (part_sent 0 (model.Call.Collect r now os)) (map part_of ps)
+    → shut ≡ false → slice_get ps r ≡ Some p → observations_refusal instruments os ≡ None → IsCollectedFrom resource meters now os (part_of p) c → readers ≡ changed_at r (part_after_call 0 (model.Call.Collect r now os)) (map part_of ps)
     → (views : Views) → IsMade views (state_of shut resource identity meters instruments ps) (model.Call.Collect r now os) (model.Reply.Collected c) (record { shared = shared_of shut resource identity meters instruments; readers = readers })
 collection-made shut resource identity meters instruments ps readers r now os p c opened at good given left views =
     let known : nat_lt r (length (map part_of ps)) ≡ true = lt-ltb r (length (map part_of ps)) (rw length-map (get-some ps r p at)) in

@@ -19,9 +19,9 @@ use Rattle.otel_model.specs.Resources.{Resource}
 use Rattle.otel_model.specs.Sent.{has_scope}
 use Rattle.otel_model.specs.State.{ReaderPart, InstrumentState}
 use Rattle.otel_model.specs.Steps.{number_from, reply_by, after_by}
-use Rattle.otel_pipeline.specs.Pipelines.{Piped, part_of, recorded, IsBuildableIn, IsPreparedFor}
+use Rattle.otel_pipeline.specs.Pipelines.{Piped, part_of, part_after_record, IsBuildableIn, IsPreparedFor}
 use Rattle.otel_pipeline.proofs.Builds.{any-position, position-cons}
-use Rattle.otel_pipeline.specs.Views.{answering}
+use Rattle.otel_pipeline.specs.Views.{views_answering}
 use Rattle.otel_pipeline.proofs.Records.{recorded-sent}
 use Rattle.otel_provider.proofs.Asked.{built-answered}
 use Rattle.otel_provider.specs.Correspondence.{number_of}
@@ -94,22 +94,22 @@ good-in None about true e = tt
 good-in (Some scope) about true e = e
 
 -- and demands nothing
-built-alike : (views : Views) (scope : Option InstrumentationScope) (about : model.About) (now : ℕ) (b : Bool) → is_good about ≡ b → (p : ReaderPart) → machine.built views (cond b scope None) about now p ≡ machine.built views scope about now p
+built-alike : (views : Views) (scope : Option InstrumentationScope) (about : model.About) (now : ℕ) (b : Bool) → is_good about ≡ b → (p : ReaderPart) → machine.part_after_build views (cond b scope None) about now p ≡ machine.part_after_build views scope about now p
 built-alike views scope about now true e p = refl
 built-alike views None about now false e p = refl
 built-alike views (Some scope) about now false e p = rw e refl
 
-all-alike : (views : Views) (scope : Option InstrumentationScope) (about : model.About) (now : ℕ) (b : Bool) → is_good about ≡ b → (ps : List ReaderPart) → map (machine.built views (cond b scope None) about now) ps ≡ map (machine.built views scope about now) ps
+all-alike : (views : Views) (scope : Option InstrumentationScope) (about : model.About) (now : ℕ) (b : Bool) → is_good about ≡ b → (ps : List ReaderPart) → map (machine.part_after_build views (cond b scope None) about now) ps ≡ map (machine.part_after_build views scope about now) ps
 all-alike views scope about now b e [] = refl
 all-alike views scope about now b e (p ∷ ps) = λ i. built-alike views scope about now b e p i ∷ all-alike views scope about now b e ps i
 
 -- a build sees what the views answer of the instrument, and no more
 all-asked : (views : Views) (scope : Option InstrumentationScope) (about : model.About) (now : ℕ) (answered : List (Option StreamSpec)) → AreAsked views scope about answered
-    → (ps : List ReaderPart) → map (machine.built (answering answered) scope about now) ps ≡ map (machine.built views scope about now) ps
+    → (ps : List ReaderPart) → map (machine.part_after_build (views_answering answered) scope about now) ps ≡ map (machine.part_after_build views scope about now) ps
 all-asked views None about now answered asked ps = refl
 all-asked views (Some scope) about now answered asked [] = refl
 all-asked views (Some scope) about now answered asked (p ∷ ps) =
-    λ i. (ap (λ l. machine.built (answering l) (Some scope) about now p) asked ∙ built-answered views scope about now p) i ∷ all-asked views (Some scope) about now answered asked ps i
+    λ i. (ap (λ l. machine.part_after_build (views_answering l) (Some scope) about now p) asked ∙ built-answered views scope about now p) i ∷ all-asked views (Some scope) about now answered asked ps i
 
 -- ======== records ========
 -- a value with its number type
@@ -118,11 +118,11 @@ number-is (number.U64 n) = refl
 number-is (number.I64 z) = refl
 
 pub all_recorded : (next n : ℕ) (value : NumberValue) (l : List KeyValue) (ps : List Piped) → All (IsPreparedFor n l) ps → FeedType n (number_of value) (map part_of ps)
-    → map (recorded n value) ps ≡ map (machine.part_sent next (model.Call.Record n (number_of value) l)) (map part_of ps)
+    → map (part_after_record n value) ps ≡ map (machine.part_after_call next (model.Call.Record n (number_of value) l)) (map part_of ps)
 all_recorded next n value l [] all typed = refl
 all_recorded next n value l (p ∷ ps) all typed =
     λ i. (recorded-sent next n value l p (all 0 p (omega arith)) (λ x fed. typed.0 x fed ∙ ap (λ (v : model.Number). v.signed) (number-is value))
-    ∙ ap (λ v. machine.part_sent next (model.Call.Record n v l) (part_of p)) (sym (number-is value))) i
+    ∙ ap (λ v. machine.part_after_call next (model.Call.Record n v l) (part_of p)) (sym (number-is value))) i
     ∷ all_recorded next n value l ps (λ j d h. all (suc j) d (omega arith)) typed.1 i
 
 -- ======== lent readers ========
@@ -148,8 +148,8 @@ no_meter-fault shut resource identity meters instruments meter f none =
 -- a record that is accepted
 pub record-made : (shut : Bool) (resource : Resource) (identity : ℕ) (meters : List InstrumentationScope) (instruments more : List InstrumentState) (ps : List Piped) (readers : List ReaderPart) (n : ℕ) (v : model.Number) (l : List KeyValue)
     → record_refusal (slice_get instruments n) v.signed ≡ None
-    → more ≡ machine.changed_at n (machine.accepted v.amount) instruments
-    → readers ≡ map (machine.part_sent 0 (model.Call.Record n v l)) (map part_of ps)
+    → more ≡ machine.changed_at n (machine.instrument_after_record v.amount) instruments
+    → readers ≡ map (machine.part_after_call 0 (model.Call.Record n v l)) (map part_of ps)
     → (views : Views) → IsMade views (state_of shut resource identity meters instruments ps) (model.Call.Record n v l) model.Reply.Done (record { shared = shared_of shut resource identity meters more; readers = readers })
 record-made shut resource identity meters instruments more ps readers n v l fits accepted sent views = record {
   answer = sym (ap (λ o. reply_by o model.Reply.Done) fits);
@@ -161,7 +161,7 @@ record-made shut resource identity meters instruments more ps readers n v l fits
 -- a build, of an instrument that may be bad
 pub build-made : (views : Views) (answered : List (Option StreamSpec)) (shut : Bool) (resource : Resource) (identity : ℕ) (meters : List InstrumentationScope) (instruments more : List InstrumentState) (ps : List Piped) (readers : List ReaderPart) (meter : Option ℕ) (scope named : Option InstrumentationScope) (about : model.About) (now n : ℕ)
     → IsScopeOf meters meter scope → named ≡ cond (is_good about) scope None → n ≡ length instruments → more ≡ instruments ++ machine.new_instrument about ∷ []
-    → AreAsked views named about answered → readers ≡ map (machine.built (answering answered) named about now) (map part_of ps)
+    → AreAsked views named about answered → readers ≡ map (machine.part_after_build (views_answering answered) named about now) (map part_of ps)
     → IsMade views (state_of shut resource identity meters instruments ps) (model.Call.Build meter about now) (model.Reply.Instrument n) (record { shared = shared_of shut resource identity meters more; readers = readers })
 build-made views answered shut resource identity meters instruments more ps readers meter scope named about now n at named_is number made asked built =
     let known : meter_refusal (shared_of shut resource identity meters instruments) meter ≡ None = at.known shut resource identity instruments in
@@ -170,7 +170,7 @@ build-made views answered shut resource identity meters instruments more ps read
       state =
           (λ i. record {
             shared = shared_of shut resource identity meters (made i);
-            readers = (built ∙ (all-asked views named about now answered asked (map part_of ps) ∙ (ap (λ s. map (machine.built views s about now) (map part_of ps)) named_is ∙ (all-alike views scope about now (is_good about) refl (map part_of ps) ∙ ap (λ s. map (machine.built views s about now) (map part_of ps)) at.is)))) i;
+            readers = (built ∙ (all-asked views named about now answered asked (map part_of ps) ∙ (ap (λ s. map (machine.part_after_build views s about now) (map part_of ps)) named_is ∙ (all-alike views scope about now (is_good about) refl (map part_of ps) ∙ ap (λ s. map (machine.part_after_build views s about now) (map part_of ps)) at.is)))) i;
           })
           ∙ sym (ap (λ o. after_by o (state_of shut resource identity meters instruments ps) (machine.accepted_after views (state_of shut resource identity meters instruments ps) (model.Call.Build meter about now))) known);
     }

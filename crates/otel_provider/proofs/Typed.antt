@@ -7,8 +7,8 @@ use Rattle.otel_callback.specs.declared.observation.Observed.{Observed as Observ
 use Rattle.otel_common.specs.declared.scopes.InstrumentationScope.{InstrumentationScope}
 use Rattle.otel_model_stream.specs.Folds.{Amount}
 use Rattle.otel_model.specs.Calls.{About, Call, Collect, Number, Observed}
-use Rattle.otel_model.specs.Demands.{Identity, Demand, ReaderAnswers, StreamSpec, Views, has_identity, instrument_of, add_answer, view_demands, demands_with, is_compatible, is_known, is_dropped, is_good, fed, own_demand, identity_eq}
-use Rattle.otel_model.specs.Machine.{changed_at, accepted, enter, new_instrument, demanded, build_demands, built, part_sent}
+use Rattle.otel_model.specs.Demands.{Identity, Demand, ReaderAnswers, StreamSpec, Views, has_identity, instrument_of, add_answer, view_demands, demands_with, is_compatible, is_known, is_dropped, is_good, fed_identities, own_demand, identity_eq}
+use Rattle.otel_model.specs.Machine.{changed_at, instrument_after_record, enter, new_instrument, part_after_demand, build_demands, part_after_build, part_after_call}
 use Rattle.otel_model.specs.Sent.{is_fed}
 use Rattle.otel_model.specs.State.{InstrumentState, ReaderPart}
 use Rattle.otel_model.proofs.Gather.{identity_eq_true}
@@ -33,9 +33,9 @@ fed-split (xs ∷ feeds) f (j ∷ is) new zero x i e h g = inl (h, g)
 fed-split (xs ∷ feeds) f (j ∷ is) new (suc n) x i e h g = fed-split feeds f is new n x i (omega arith) h g
 
 -- demands keep what instruments feed
-same-feeds : (now : ℕ) (ds : List Demand) (p : ReaderPart) → (fold (demanded now) p ds).feeds ≡ p.feeds
+same-feeds : (now : ℕ) (ds : List Demand) (p : ReaderPart) → (fold (part_after_demand now) p ds).feeds ≡ p.feeds
 same-feeds now [] p = refl
-same-feeds now (d ∷ ds) p = same-feeds now ds (demanded now p d)
+same-feeds now (d ∷ ds) p = same-feeds now ds (part_after_demand now p d)
 
 -- demands of one number type
 abbrev OfType : Bool → List Demand → Type 0
@@ -82,11 +82,11 @@ known-typed signed (d ∷ ds) x all e = ⊎_elim
     (λ t. known-typed signed ds x all.1 t)
     (is_one (identity_eq d.identity x) (is_known ds x) e)
 
-one-built : (views : Views) (is : List InstrumentState) (scope : Option InstrumentationScope) (about : About) (now : ℕ) (p : ReaderPart) → IsTyped is p → IsTyped (is ++ new_instrument about ∷ []) (built views scope about now p)
+one-built : (views : Views) (is : List InstrumentState) (scope : Option InstrumentationScope) (about : About) (now : ℕ) (p : ReaderPart) → IsTyped is p → IsTyped (is ++ new_instrument about ∷ []) (part_after_build views scope about now p)
 one-built views is scope about now p typed =
     let ds : List Demand = build_demands views p scope about in
-    let after : ReaderPart = fold (demanded now) p ds in
-    let new : List Identity = fed (is_dropped after.fates) ds in
+    let after : ReaderPart = fold (part_after_demand now) p ds in
+    let new : List Identity = fed_identities (is_dropped after.fates) ds in
     let same : after.feeds ≡ p.feeds = same-feeds now ds p in
     record {
       as_many = omega (arith, ap length same, typed.as_many, length-append {A = List Identity}, length-append {A = InstrumentState});
@@ -96,25 +96,25 @@ one-built views is scope about now p typed =
           (fed-split p.feeds new is (new_instrument about) n x i typed.as_many (subst (λ (fs : List (List Identity)). is_fed (fs ++ new ∷ []) n x ≡ true) same f) g);
     }
 
-pub typed-built : (views : Views) (is : List InstrumentState) (scope : Option InstrumentationScope) (about : About) (now : ℕ) (ps : List ReaderPart) → AreTyped is ps → AreTyped (is ++ new_instrument about ∷ []) (map (built views scope about now) ps)
+pub typed-built : (views : Views) (is : List InstrumentState) (scope : Option InstrumentationScope) (about : About) (now : ℕ) (ps : List ReaderPart) → AreTyped is ps → AreTyped (is ++ new_instrument about ∷ []) (map (part_after_build views scope about now) ps)
 typed-built views is scope about now [] all = tt
 typed-built views is scope about now (p ∷ ps) all = (one-built views is scope about now p all.0, typed-built views is scope about now ps all.1)
 
 -- ======== records ========
 -- an instrument that accepts keeps its number type
-signed-accepted : (v : Amount) (m n : ℕ) (is : List InstrumentState) (i : InstrumentState) → slice_get (changed_at m (accepted v) is) n ≡ Some i → (j : InstrumentState) × (slice_get is n ≡ Some j) × (j.signed ≡ i.signed)
+signed-accepted : (v : Amount) (m n : ℕ) (is : List InstrumentState) (i : InstrumentState) → slice_get (changed_at m (instrument_after_record v) is) n ≡ Some i → (j : InstrumentState) × (slice_get is n ≡ Some j) × (j.signed ≡ i.signed)
 signed-accepted v m n [] i e = absurd (cc)
-signed-accepted v zero zero (j ∷ is) i e = (j, refl, ap (λ (k : InstrumentState). k.signed) (some_is (accepted v j) i e))
+signed-accepted v zero zero (j ∷ is) i e = (j, refl, ap (λ (k : InstrumentState). k.signed) (some_is (instrument_after_record v j) i e))
 signed-accepted v zero (suc n) (j ∷ is) i e = (i, e, refl)
 signed-accepted v (suc m) zero (j ∷ is) i e = (i, e, refl)
 signed-accepted v (suc m) (suc n) (j ∷ is) i e = signed-accepted v m n is i e
 
-length-accepted : (v : Amount) (m : ℕ) (is : List InstrumentState) → length (changed_at m (accepted v) is) ≡ length is
+length-accepted : (v : Amount) (m : ℕ) (is : List InstrumentState) → length (changed_at m (instrument_after_record v) is) ≡ length is
 length-accepted v m [] = refl
 length-accepted v zero (j ∷ is) = refl
 length-accepted v (suc m) (j ∷ is) = ap suc (length-accepted v m is)
 
-pub typed-sent : (v : Amount) (m next : ℕ) (c : Call) (is : List InstrumentState) (ps : List ReaderPart) → AreTyped is ps → AreTyped (changed_at m (accepted v) is) (map (part_sent next c) ps)
+pub typed-sent : (v : Amount) (m next : ℕ) (c : Call) (is : List InstrumentState) (ps : List ReaderPart) → AreTyped is ps → AreTyped (changed_at m (instrument_after_record v) is) (map (part_after_call next c) ps)
 typed-sent v m next c is [] all = tt
 typed-sent v m next c is (p ∷ ps) all = (
   record {
@@ -145,12 +145,12 @@ typed-set is (q ∷ ps) (suc r) p new at e all = (all.0, typed-set is ps r p new
 
 -- whether an instrument was made or not
 pub typed-made : {T E : Type 0} (views : Views) (r : Result T E) (is more : List InstrumentState) (scope : Option InstrumentationScope) (about : About) (now : ℕ) (ps readers : List ReaderPart)
-    → OnOk r (more ≡ is ++ new_instrument about ∷ []) → OnOk r (readers ≡ map (built views scope about now) ps) → OnErr r (more ≡ is) → OnErr r (readers ≡ ps) → AreTyped is ps → AreTyped more readers
+    → OnOk r (more ≡ is ++ new_instrument about ∷ []) → OnOk r (readers ≡ map (part_after_build views scope about now) ps) → OnErr r (more ≡ is) → OnErr r (readers ≡ ps) → AreTyped is ps → AreTyped more readers
 typed-made views (Ok t) is more scope about now ps readers m e same same_readers all = rw (m, e) (typed-built views is scope about now ps all)
 typed-made views (Err t) is more scope about now ps readers m e same same_readers all = rw (same, same_readers) all
 
 -- what a collection or a failed call leaves of what feeds
-pub same_feeds-by : {T E : Type 0} (r : Result T E) (next now : ℕ) (os : List Observed) (new p : Piped) → OnOk r ((q : ℕ) → part_of new ≡ part_sent next (Collect q now os) (part_of p)) → OnErr r (part_of new ≡ part_of p) → (part_of new).feeds ≡ (part_of p).feeds
+pub same_feeds-by : {T E : Type 0} (r : Result T E) (next now : ℕ) (os : List Observed) (new p : Piped) → OnOk r ((q : ℕ) → part_of new ≡ part_after_call next (Collect q now os) (part_of p)) → OnErr r (part_of new ≡ part_of p) → (part_of new).feeds ≡ (part_of p).feeds
 same_feeds-by (Ok t) next now os new p ok err = ap (λ (x : ReaderPart). x.feeds) (ok 0)
 same_feeds-by (Err t) next now os new p ok err = ap (λ (x : ReaderPart). x.feeds) err
 
@@ -162,6 +162,6 @@ typed-at is (q ∷ ps) (suc r) p at all = typed-at is ps r p at all.1
 
 -- what was observed of instruments that take it is of the number type of what they feed
 pub typed-observed : (is : List InstrumentState) (ps : List Piped) (os : List Observation) (r : ℕ) (p : Piped) → slice_get ps r ≡ Some p → AreTyped is (map part_of ps) → All (IsTaken is) os → AreTypedFor os (part_of p)
-typed-observed is ps os r p at all taken = λ k d inside x fed.
+typed-observed is ps os r p at all taken = λ k d inside x feeds_it.
     (let t = taken k d inside in
-    (typed-at is ps r p at all).types _ x t.instrument fed t.there ∙ sym t.typed)
+    (typed-at is ps r p at all).types _ x t.instrument feeds_it t.there ∙ sym t.typed)

@@ -22,12 +22,12 @@ abbrev pub has_stream : ℕ → State → Bool
 has_stream n st = list_any (has_stream_at n) st.readers
 
 -- a callback of an instrument
-abbrev pub registered : {U I : Type 0} → ℕ → Callback U I → Registered U I
-registered n c = record { instrument = n; callback = c }
+abbrev pub registered_callback : {U I : Type 0} → ℕ → Callback U I → Registered U I
+registered_callback n c = record { instrument = n; callback = c }
 
 -- what is registered of an instrument that was built: its callbacks, if it feeds a stream
-abbrev pub added : {U I : Type 0} → ℕ → State → List (Callback U I) → List (Registered U I)
-added n st cs = cond (has_stream n st) (map (registered n) cs) []
+abbrev pub added_callbacks : {U I : Type 0} → ℕ → State → List (Callback U I) → List (Registered U I)
+added_callbacks n st cs = cond (has_stream n st) (map (registered_callback n) cs) []
 
 -- ======== collecting ========
 -- why a collection of a reader runs no callback, if there is a reason

@@ -7,7 +7,7 @@ ghost use Rattle.otel_model.specs.Calls as model;
 ghost use Rattle.otel_model.specs.Laws.{KeepsReaders};
 ghost use Rattle.otel_model.specs.Steps.{Step};
 ghost use Rattle.otel_model_laws.specs.Lawful.{Balances};
-ghost use Rattle.otel_provider.specs.Callbacks.{registered, added};
+ghost use Rattle.otel_provider.specs.Callbacks.{registered_callback, added_callbacks};
 ghost use Rattle.otel_provider.specs.Correspondence.{about};
 ghost use Rattle.otel_provider.specs.Providers.{state_of, views_of, provider_readers, provider_views, callbacks_of};
 ghost use Rattle.otel_provider.specs.Typed.{IsMeterOf, IsObservableOf, meter_number, meter_observed, about_observed, builder_callbacks, observable_number, observed_reply};
@@ -37,7 +37,7 @@ fn register<U: Drop, I: Drop>(
     callbacks: Vec<Callback<U, I>>,
 )
     requires { vec_len into.old + length callbacks.items ≤ vec_capacity into.old }
-    ensures { into.new.items ≡ into.old.items ++ map (registered instrument) callbacks.items }
+    ensures { into.new.items ≡ into.old.items ++ map (registered_callback instrument) callbacks.items }
 {
     for callback in callbacks {
         into.push_reserved(Registered {
@@ -102,7 +102,7 @@ impl<K, T, P: Parts> AsyncInstrumentBuilder<K, T, P> {
         ensures step { IsMeterOf (meter_observed self) provider.old → Step (views_of P.View.answer provider.old) (state_of provider.old) (model.Call.Build (meter_number (meter_observed self)) (about_observed self) now) (observed_reply result) (state_of provider.new) }
         ensures foreign { ¬ IsMeterOf (meter_observed self) provider.old → (result ≡ Err Fault.UnknownMeter) × (state_of provider.new ≡ state_of provider.old) }
         ensures own { IfOk result (λ i. IsObservableOf i provider.new) }
-        ensures registered { IfOk result (λ i. callbacks_of provider.new ≡ callbacks_of provider.old ++ added (observable_number i) (state_of provider.new) (builder_callbacks self)) }
+        ensures registered { IfOk result (λ i. callbacks_of provider.new ≡ callbacks_of provider.old ++ added_callbacks (observable_number i) (state_of provider.new) (builder_callbacks self)) }
         ensures unregistered { OnErr result (callbacks_of provider.new ≡ callbacks_of provider.old) }
         ensures balances { Balances (state_of provider.new) }
         ensures readers { KeepsReaders (state_of provider.old) (state_of provider.new) }

@@ -3,7 +3,7 @@
 ghost use Rattle.std.specs.Prelude.{◌≡◌, ◌++◌, ◌∷◌, [], IfOk, IsOkUnless};
 ghost use Rattle.otel_model.specs.Demands.{ReaderAnswers};
 ghost use Rattle.otel_model.specs.Machine.{new_state};
-ghost use Rattle.otel_model.specs.Resources.{empty_resource, merged};
+ghost use Rattle.otel_model.specs.Resources.{empty_resource, merged_resource};
 ghost use Rattle.otel_stream.specs.Answers.{IsAnsweredBy};
 
 use crate::provider_core::Core;
@@ -44,7 +44,7 @@ impl FreshCore {
 
     /// With the resource merged with another one, whose values win.
     pub(crate) fn with_resource(self, resource: Resource) -> Result<FreshCore, Fault>
-        ensures resource { IfOk result (λ f. f ≡ record { resource = merged self.resource resource; identity = self.identity; readers = self.readers }) }
+        ensures resource { IfOk result (λ f. f ≡ record { resource = merged_resource self.resource resource; identity = self.identity; readers = self.readers }) }
         ensures only_memory { IsOkUnless result Fault.OutOfMemory }
     {
         let FreshCore { core } = self;

@@ -2,7 +2,7 @@
 
 ghost use Rattle.std.specs.Prelude.{◌≡◌, Some, None, OnOk, IfErr};
 ghost use Rattle.otel_aggregate.specs.Any.{is_signed_value};
-ghost use Rattle.otel_model.specs.Machine.{accepted};
+ghost use Rattle.otel_model.specs.Machine.{instrument_after_record};
 ghost use Rattle.otel_model.specs.Refusals.{record_refusal, number_refusal, observation_refusal};
 ghost use Rattle.otel_provider.specs.Instruments.{new_state};
 ghost use Rattle.otel_provider.specs.Correspondence.{number_of};
@@ -84,7 +84,7 @@ impl Instrument {
 
     /// Counts a record.
     pub(crate) fn accept(&mut self, value: NumberValue)
-        ensures { self.new ≡ accepted (number_of value).amount self.old }
+        ensures { self.new ≡ instrument_after_record (number_of value).amount self.old }
     {
         self.count = self.count.wrapping_add(1);
         self.sum = self.sum.wrapping_add(bits_of(value));

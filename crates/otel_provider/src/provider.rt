@@ -10,7 +10,7 @@ ghost use Rattle.otel_model.specs.Calls as model;
 ghost use Rattle.otel_model.specs.Demands.{ReaderAnswers};
 ghost use Rattle.otel_model.specs.Laws.{HasStreamsOfBuilds, HasFeedsOfBuilds, HasPlacesOfHistories, HasCountedOfHistories, IsGivenCollections, IsAnsweredAsOnly, HasRecordedTotal, HasExportedTotal, HasPendingPoints, Conserves, HasAccepted, KeepsReaders};
 ghost use Rattle.otel_model.specs.Machine.{new_state};
-ghost use Rattle.otel_model.specs.Resources.{empty_resource, merged};
+ghost use Rattle.otel_model.specs.Resources.{empty_resource, merged_resource};
 ghost use Rattle.otel_model.specs.Steps.{Step, Run, asks_readers};
 ghost use Rattle.otel_model_laws.specs.Lawful.{Balances};
 ghost use Rattle.otel_provider.specs.Callbacks.{collect_refusal, IsCollectionOf};
@@ -75,7 +75,7 @@ impl<P: Parts> ProviderBuilder<P> {
     /// Copies no attribute. Refused only for want of memory; then the builder is given up.
     pub fn with_resource(self, resource: Resource) -> Result<Self, Fault>
         ensures answers { IfOk result (λ b. answers_of_readers b ≡ answers_of_readers self) }
-        ensures resource { IfOk result (λ b. resource_of b ≡ merged (resource_of self) resource) }
+        ensures resource { IfOk result (λ b. resource_of b ≡ merged_resource (resource_of self) resource) }
         ensures identity { IfOk result (λ b. identity_of_builder b ≡ identity_of_builder self) }
         ensures kept { IfOk result (λ b. builder_readers b ≡ builder_readers self) }
         ensures views { IfOk result (λ b. builder_views b ≡ builder_views self) }

@@ -5,13 +5,13 @@ ghost use Rattle.std.specs.Option.{option_map};
 ghost use Rattle.otel_aggregate.specs.Any.{is_signed_value};
 ghost use Rattle.otel_model.specs.Calls as model;
 ghost use Rattle.otel_model.specs.Demands.{Views, is_good, are_good_bounds};
-ghost use Rattle.otel_model.specs.Machine.{new_state, new_part, new_instrument, built};
+ghost use Rattle.otel_model.specs.Machine.{new_state, new_part, new_instrument, part_after_build};
 ghost use Rattle.otel_model.specs.Refusals.{meter_refusal, record_refusal, observation_refusal, observations_refusal};
-ghost use Rattle.otel_model.specs.Resources.{empty_resource, merged};
+ghost use Rattle.otel_model.specs.Resources.{empty_resource, merged_resource};
 ghost use Rattle.otel_model.specs.Sent.{has_scope};
 ghost use Rattle.otel_model.specs.Steps.{Step, Run};
 ghost use Rattle.otel_pipeline.specs.Pipelines.{part_of};
-ghost use Rattle.otel_pipeline.specs.Views.{answering};
+ghost use Rattle.otel_pipeline.specs.Views.{views_answering};
 ghost use Rattle.otel_provider.specs.Callbacks.{has_stream, collect_refusal};
 ghost use Rattle.otel_provider.specs.Correspondence.{fault_of, about, kind_of, is_signed, number_of, observed_of, call_of, reply_of, reply_to};
 ghost use Rattle.otel_provider.specs.Readers.{AreReached, AreReachedBy, ShutsDown, StepReaches, RunReaches};
@@ -21,11 +21,11 @@ ghost use Rattle.otel_provider.specs.declared.sorts.InstrumentSort.{InstrumentSo
 
 use crate::asking::ask_in;
 use crate::calls::{Call, Reply};
+use crate::each_pipeline::{any_stream, build_or_none, record_or_none};
 use crate::instrument::Instrument;
-use crate::meter::{
+use crate::instrument_checks::{
     validate_bucket_boundaries, validate_instrument_name, validate_instrument_unit,
 };
-use crate::pipelines::{any_stream, build_or_none, record_or_none};
 use crate::sorts::InstrumentSort;
 use indexmap::IndexSet;
 use otel_callback::observation::Observed;
@@ -41,9 +41,9 @@ use otel_data::numbers::NumberValue;
 use otel_pipeline::about::About;
 use otel_pipeline::pipeline::Pipeline;
 use otel_stream::answers::Answers;
+use otel_stream::each_reader::{flush_all, shut_all};
 use otel_stream::instrument::InstrumentKind;
 use otel_stream::reader::MetricReader;
-use otel_stream::readers::{flush_all, shut_all};
 use otel_stream::stream::Stream;
 use otel_stream::view::View;
 use std::alloc::Global;
@@ -195,7 +195,7 @@ fn make(
     requires signed { about.now.signed ≡ is_signed sort }
     ensures number { IfOk result (λ n. n ≡ length instruments.old.items) }
     ensures instruments { OnOk result (instruments.new.items ≡ instruments.old.items ++ new_instrument about.now ∷ []) }
-    ensures readers { OnOk result (map part_of pipelines.new ≡ map (built (answering answered.now) (option_map (λ s. s.now) scope.entry) about.now now) (map part_of pipelines.old)) }
+    ensures readers { OnOk result (map part_of pipelines.new ≡ map (part_after_build (views_answering answered.now) (option_map (λ s. s.now) scope.entry) about.now now) (map part_of pipelines.old)) }
     ensures same { OnErr result (instruments.new.items ≡ instruments.old.items) }
     ensures same_readers { OnErr result (map part_of pipelines.new ≡ map part_of pipelines.old) }
     ensures only_memory { IsOkUnless result Fault.OutOfMemory }
@@ -240,7 +240,7 @@ impl Core {
 
     /// The resource merged with another one, whose values win.
     pub(crate) fn with_resource(self, resource: Resource) -> Result<Core, Fault>
-        ensures resource { IfOk result (λ core. core ≡ record { shared = record self.shared { resource = merged self.shared.resource resource }; readers = self.readers }) }
+        ensures resource { IfOk result (λ core. core ≡ record { shared = record self.shared { resource = merged_resource self.shared.resource resource }; readers = self.readers }) }
         ensures only_memory { IsOkUnless result Fault.OutOfMemory }
     {
         let Core {

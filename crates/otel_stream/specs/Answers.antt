@@ -48,8 +48,8 @@ abbrev pub answers_by : (InstrumentKind → Temporality) → ReaderAnswers
 answers_by temporality = map (λ kind. record { temporality = temporality kind; limit = None; aggregation = None }) kinds
 
 -- those of a reader that has one temporality
-abbrev pub preferring : Temporality → ReaderAnswers
-preferring temporality = answers_by (λ kind. temporality_preference kind temporality)
+abbrev pub answers_preferring : Temporality → ReaderAnswers
+answers_preferring temporality = answers_by (λ kind. temporality_preference kind temporality)
 
 -- of a kind for which there is none
 abbrev pub no_answer : Answer

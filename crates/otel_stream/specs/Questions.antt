@@ -1,8 +1,8 @@
 -- The two things that all readers of a provider are asked to do.
 use Rattle.std.specs.Prelude.{ℕ}
 use Rattle.otel_stream.specs.Requests.{Outcome, default_timeout}
-use Rattle.otel_stream.specs.declared.readers.Question.{Question}
-use Rattle.otel_stream.specs.declared.readers.Question.TheVariants.{Flush, Shutdown}
+use Rattle.otel_stream.specs.declared.each_reader.Question.{Question}
+use Rattle.otel_stream.specs.declared.each_reader.Question.TheVariants.{Flush, Shutdown}
 
 -- what it makes of a reader that flushes and shuts down like this
 abbrev pub does : {R : Type 0} → (R → R → Outcome → Type 0) → (R → ℕ → R → Outcome → Type 0) → Question → R → R → Outcome → Type 0

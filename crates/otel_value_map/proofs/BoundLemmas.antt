@@ -5,7 +5,7 @@ use Rattle.std.proofs.lemmas.Bool.{true≢false}
 use Rattle.std.proofs.lemmas.Int.{ints}
 use Rattle.std.proofs.lemmas.List.Sums.{sum_by-cons}
 use Rattle.otel_model_stream.specs.Data.{rises}
-use Rattle.otel_model_stream.specs.Folds.{counted_in, wrapped}
+use Rattle.otel_model_stream.specs.Folds.{counted_in, wrap}
 
 -- ======== below a value ========
 below-below : (a b c : ℤ) → int_lt a b ≡ true → int_lt b c ≡ true → int_lt a c ≡ true
@@ -52,7 +52,7 @@ point-counts p (x ∷ xs) (suc i) l h =
     more ∙ ap (λ t. cond t 1 0 + count_by p xs) (sym one) ∙ sym (sum_by-cons (λ y. cond (p y) 1 0) x xs)
 
 -- ======== one more in a bucket ========
-pub counted-set : (ns : List ℕ) (i : ℕ) → i < length ns → slice_set ns i (wrapped (slice_index_or ns i 0 + 1)) ≡ counted_in ns i
+pub counted-set : (ns : List ℕ) (i : ℕ) → i < length ns → slice_set ns i (wrap (slice_index_or ns i 0 + 1)) ≡ counted_in ns i
 counted-set [] i l = refl
 counted-set (n ∷ ns) zero l = refl
 counted-set (n ∷ ns) (suc i) l = ap (λ ms. n ∷ ms) (counted-set ns i (omega arith))

@@ -6,25 +6,25 @@ use Rattle.std.proofs.lemmas.List.{drop_more}
 use Rattle.std.proofs.Math.ListN.{drop_of_length-le}
 use Rattle.otel_common.specs.Equality.{set_eq}
 use Rattle.otel_common.specs.declared.attributes.KeyValue.{KeyValue}
-use Rattle.otel_model_stream.specs.Sets.{AllowList, kept}
+use Rattle.otel_model_stream.specs.Sets.{AllowList, allowed_part}
 use Rattle.otel_value_map.specs.Keys.{is_kept, kept_from}
 
-kept-cons : (allow : AllowList) (x : KeyValue) (xs : List KeyValue) → kept allow (x ∷ xs) ≡ cond (is_kept allow x.key) (x ∷ kept allow xs) (kept allow xs)
+kept-cons : (allow : AllowList) (x : KeyValue) (xs : List KeyValue) → allowed_part allow (x ∷ xs) ≡ cond (is_kept allow x.key) (x ∷ allowed_part allow xs) (allowed_part allow xs)
 kept-cons None x xs = refl
 kept-cons (Some allow) x xs = refl
 
 -- what is kept from the i-th attribute on
 pub kept-step : (allow : AllowList) (l : List KeyValue) (i : ℕ) (x : KeyValue) (b : Bool) → i < length l → x ≡ slice_index_or l i x → is_kept allow x.key ≡ b
-    → kept allow (drop i l) ≡ cond b (x ∷ kept allow (drop (i + 1) l)) (kept allow (drop (i + 1) l))
+    → allowed_part allow (drop i l) ≡ cond b (x ∷ allowed_part allow (drop (i + 1) l)) (allowed_part allow (drop (i + 1) l))
 kept-step allow l i x b within at e =
-    ap (kept allow) (drop_more l i x within ∙ ap (λ y. y ∷ drop (i + 1) l) (sym at)) ∙ kept-cons allow x (drop (i + 1) l)
-    ∙ ap (λ t. cond t (x ∷ kept allow (drop (i + 1) l)) (kept allow (drop (i + 1) l))) e
+    ap (allowed_part allow) (drop_more l i x within ∙ ap (λ y. y ∷ drop (i + 1) l) (sym at)) ∙ kept-cons allow x (drop (i + 1) l)
+    ∙ ap (λ t. cond t (x ∷ allowed_part allow (drop (i + 1) l)) (allowed_part allow (drop (i + 1) l))) e
 
 -- nothing is left
-pub kept-end : (allow : AllowList) (l : List KeyValue) (i : ℕ) → length l ≤ i → kept allow (drop i l) ≡ []
-kept-end allow l i h = ap (kept allow) (drop_of_length-le l h) ∙ nothing allow
+pub kept-end : (allow : AllowList) (l : List KeyValue) (i : ℕ) → length l ≤ i → allowed_part allow (drop i l) ≡ []
+kept-end allow l i h = ap (allowed_part allow) (drop_of_length-le l h) ∙ nothing allow
   where
-    nothing : (allow : AllowList) → kept allow [] ≡ []
+    nothing : (allow : AllowList) → allowed_part allow [] ≡ []
     nothing None = refl
     nothing (Some allow) = refl
 
@@ -42,7 +42,7 @@ pub none-long : (allow : AllowList) (left : List KeyValue) (found : Found) (b : 
 none-long allow left None true e h = sym (ap (λ (l : List KeyValue). length l == 0) e)
 none-long allow left None false e h = absurd (cc)
 none-long allow left (Some p) true e h = absurd (cc)
-none-long allow left (Some p) false e h = sym (ap (λ (l : List KeyValue). length l == 0) e ∙ some (length (kept allow p.1.now)))
+none-long allow left (Some p) false e h = sym (ap (λ (l : List KeyValue). length l == 0) e ∙ some (length (allowed_part allow p.1.now)))
   where
     some : (n : ℕ) → (suc n == 0) ≡ false
     some n = grind (arith, nat_tests)

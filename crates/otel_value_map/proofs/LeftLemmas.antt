@@ -9,7 +9,7 @@ use Rattle.otel_common.specs.Canonical.{canon}
 use Rattle.otel_common.specs.Equality.{set_eq}
 use Rattle.otel_common.specs.declared.attributes.KeyValue.{KeyValue}
 use Rattle.otel_model_stream.specs.Sets.{AttributeSet, none_set, over_set}
-use Rattle.otel_model_stream.specs.Entries.{Entry, has, stays, reset, evicted, drained}
+use Rattle.otel_model_stream.specs.Entries.{Entry, has, stays, reset, evicted_table, drained_table}
 use Rattle.otel_value_map.specs.Slots.{Kept, Look, Keyed, remains, forgotten, left_of, entry_of, entry_at, table_at}
 use Rattle.otel_value_map.specs.Keyed.{Fits, Links, IsKept, is_lasting, is_counted}
 use Rattle.otel_value_map.specs.Numbers.{KeepLeft}
@@ -152,7 +152,7 @@ module _ (look other : Look) (w : (n : ℕ) → other n ≡ left_of (look n)) wh
         by true q r = (lookup-left (canon g.0) g.1 h.0 ∙ ap (λ b. cond b (Some g.1) None) q, r)
         by false q r = r
 
-    pub table-left : table_at other none (filter (is_left other) es) ≡ evicted (table_at look none es)
+    pub table-left : table_at other none (filter (is_left other) es) ≡ evicted_table (table_at look none es)
     table-left = λ i. record { none = (none-left none laws.none_filled laws.none_lasts).1 i; entries = entries-left es laws.fits i }
 
     pub kept-left : IsKept other none (filter (is_left other) es) (filter (is_left other) gs)
@@ -220,7 +220,7 @@ module _ (look other : Look) (none : ℕ) (es gs : List Keyed) (laws : IsKept lo
       by None = (refl, refl, refl)
       by (Some k) = (refl, refl, refl)
 
-  pub table-drained : table_at other none [] ≡ drained (table_at look none es)
+  pub table-drained : table_at other none [] ≡ drained_table (table_at look none es)
   table-drained = λ i. record { none = (ap (entry_of none_set) w ∙ by (look none) laws.none_filled) i; entries = [] }
     where
       by : (o : Option Kept) → is_some o ≡ true → entry_of none_set (option_map forgotten o) ≡ reset (entry_of none_set o)

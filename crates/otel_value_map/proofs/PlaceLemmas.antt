@@ -7,7 +7,7 @@ use Rattle.otel_common.specs.Equality.{set_eq}
 use Rattle.otel_common.specs.declared.attributes.KeyValue.{KeyValue}
 use Rattle.otel_model_stream.specs.Folds.{Fold}
 use Rattle.otel_model_stream.specs.Sets.{AttributeSet, none_set, over_set}
-use Rattle.otel_model_stream.specs.Entries.{Entry, Table, fresh, is_of, has, number_counted, placed, entry_for, place}
+use Rattle.otel_model_stream.specs.Entries.{Entry, Table, new_entry, is_of, has, number_counted, entries_with_place, entry_for, place}
 use Rattle.otel_model_stream.specs.Maps.{MapState, with_place}
 use Rattle.otel_value_map.specs.Slots.{Keyed}
 use Rattle.otel_value_map.specs.Keyed.{Slotted, IsNew, with_spelling}
@@ -21,7 +21,7 @@ use Rattle.otel_value_map.proofs.TableLemmas.{counted_cons}
 
 -- what a place does: the entries, and which of them the set uses
 pub record Placing (limit : ℕ) (empty : Fold) (s : AttributeSet) (entries after : List Entry) (used : AttributeSet) : Type 0 where
-  pub state : after ≡ placed limit empty s entries
+  pub state : after ≡ entries_with_place limit empty s entries
   pub goal : entry_for s after ≡ used
 
 has-last : (s : AttributeSet) (entries : List Entry) (e : Entry) → set_eq e.set s ≡ true → has s (entries ++ e ∷ []) ≡ true
@@ -41,25 +41,25 @@ module _ (limit : ℕ) (empty : Fold) (s : AttributeSet) (entries : List Entry) 
       by false q h = record { state = rw (q, h) refl; goal = rw (q, h) refl }
 
   module _ (some : set_eq s none_set ≡ false) (away : has s entries ≡ false) where
-    pub place-admitted : nat_lt (number_counted entries) limit ≡ true → Placing limit empty s entries (entries ++ fresh empty s true ∷ []) s
+    pub place-admitted : nat_lt (number_counted entries) limit ≡ true → Placing limit empty s entries (entries ++ new_entry empty s true ∷ []) s
     place-admitted few =
-        let there : has s (entries ++ fresh empty s true ∷ []) ≡ true = has-last s entries (fresh empty s true) (set_eq-self s) in
+        let there : has s (entries ++ new_entry empty s true ∷ []) ≡ true = has-last s entries (new_entry empty s true) (set_eq-self s) in
         record { state = rw (some, away, few) refl; goal = rw (some, there) refl }
 
     pub place-over : nat_lt (number_counted entries) limit ≡ false → has over_set entries ≡ true → Placing limit empty s entries entries over_set
     place-over full there = record { state = rw (some, away, full, there) refl; goal = rw (some, away) refl }
 
-    pub place-over_made : nat_lt (number_counted entries) limit ≡ false → has over_set entries ≡ false → Placing limit empty s entries (entries ++ fresh empty over_set false ∷ []) over_set
-    place-over_made full gone = record { state = rw (some, away, full, gone) refl; goal = ap (λ b. cond b none_set (cond (has s (entries ++ fresh empty over_set false ∷ [])) s over_set)) some ∙ to (has s (entries ++ fresh empty over_set false ∷ [])) refl }
+    pub place-over_made : nat_lt (number_counted entries) limit ≡ false → has over_set entries ≡ false → Placing limit empty s entries (entries ++ new_entry empty over_set false ∷ []) over_set
+    place-over_made full gone = record { state = rw (some, away, full, gone) refl; goal = ap (λ b. cond b none_set (cond (has s (entries ++ new_entry empty over_set false ∷ [])) s over_set)) some ∙ to (has s (entries ++ new_entry empty over_set false ∷ [])) refl }
       where
         flat : (b : Bool) → (b || false) ≡ true → b ≡ true
         flat true e = refl
         flat false e = e
 
-        to : (b : Bool) → has s (entries ++ fresh empty over_set false ∷ []) ≡ b → cond b s over_set ≡ over_set
+        to : (b : Bool) → has s (entries ++ new_entry empty over_set false ∷ []) ≡ b → cond b s over_set ≡ over_set
         to false h = refl
         to true h =
-            let one : (set_eq over_set s || false) ≡ true = ap (λ b. b || (set_eq over_set s || false)) (sym away) ∙ sym (list_any-append (is_of s) entries (fresh empty over_set false ∷ [])) ∙ h in
+            let one : (set_eq over_set s || false) ≡ true = ap (λ b. b || (set_eq over_set s || false)) (sym away) ∙ sym (list_any-append (is_of s) entries (new_entry empty over_set false ∷ [])) ∙ h in
             sym (same_set over_set s (flat (set_eq over_set s) one))
 
 -- what a placing says of the whole state
@@ -135,17 +135,17 @@ few-push x (r ∷ rs) e n some none h = by (is_of x r) h (few-push x rs e n some
 pub few-placed : (limit : ℕ) (empty : Fold) (s : AttributeSet) (t : Table) → AreHandlesFew t → AreHandlesFew (place limit empty s t)
 few-placed limit empty s t few = λ x. first x (is_of x t.none) (few x)
   where
-    pushed : (x : AttributeSet) (k : AttributeSet) (b : Bool) → handles_in x t.entries < 2 ^ 64 - 1 → handles_in x (t.entries ++ fresh empty k b ∷ []) < 2 ^ 64 - 1
-    pushed x k b h = few-push x t.entries (fresh empty k b) (2 ^ 64 - 1) (omega arith) refl h
+    pushed : (x : AttributeSet) (k : AttributeSet) (b : Bool) → handles_in x t.entries < 2 ^ 64 - 1 → handles_in x (t.entries ++ new_entry empty k b ∷ []) < 2 ^ 64 - 1
+    pushed x k b h = few-push x t.entries (new_entry empty k b) (2 ^ 64 - 1) (omega arith) refl h
 
     rest : (x : AttributeSet) (a b c d : Bool) → handles_in x t.entries < 2 ^ 64 - 1
-        → handles_in x (cond a t.entries (cond b t.entries (cond c (t.entries ++ fresh empty s true ∷ []) (cond d t.entries (t.entries ++ fresh empty over_set false ∷ []))))) < 2 ^ 64 - 1
+        → handles_in x (cond a t.entries (cond b t.entries (cond c (t.entries ++ new_entry empty s true ∷ []) (cond d t.entries (t.entries ++ new_entry empty over_set false ∷ []))))) < 2 ^ 64 - 1
     rest x true b c d h = h
     rest x false true c d h = h
     rest x false false true d h = pushed x s true h
     rest x false false false true h = h
     rest x false false false false h = pushed x over_set false h
 
-    first : (x : AttributeSet) (b : Bool) → cond b t.none.handles (handles_in x t.entries) < 2 ^ 64 - 1 → cond b t.none.handles (handles_in x (placed limit empty s t.entries)) < 2 ^ 64 - 1
+    first : (x : AttributeSet) (b : Bool) → cond b t.none.handles (handles_in x t.entries) < 2 ^ 64 - 1 → cond b t.none.handles (handles_in x (entries_with_place limit empty s t.entries)) < 2 ^ 64 - 1
     first x true h = h
     first x false h = rest x (set_eq s none_set) (has s t.entries) (nat_lt (number_counted t.entries) limit) (has over_set t.entries) h

@@ -6,7 +6,7 @@ use Rattle.std.specs.Option.{option_map}
 use Rattle.otel_common.specs.Equality.{set_eq}
 use Rattle.otel_model_stream.specs.Folds.{Fold}
 use Rattle.otel_model_stream.specs.Sets.{AttributeSet, none_set}
-use Rattle.otel_model_stream.specs.Entries.{Entry, shown, points}
+use Rattle.otel_model_stream.specs.Entries.{Entry, point_of_entry, points}
 use Rattle.otel_model_stream.specs.Observed.{fold_in}
 use Rattle.otel_value_map.specs.Slots.{Kept, Look, Keyed, entry_of, entry_at, table_at}
 use Rattle.otel_value_map.specs.Keyed.{Fits, IsKept}
@@ -51,9 +51,9 @@ none-absent look s (x ∷ es) h e =
     ap (λ b. cond b (Some x.1) (lookup (set_eq s) es)) (ap (λ t. set_eq t x.0) is ∙ set_eq-flip none_set x.0 ∙ h.0.some) ∙ none-absent look s es h.1 e
 
 module _ (look : Look) (none : ℕ) (es gs : List Keyed) (laws : IsKept look none es gs) (s : AttributeSet) where
-  after_none : (b : Bool) (e : Entry) (rest : List Entry) (c : Bool) → set_eq e.set s ≡ c → fold_in (map shown (cond b (e ∷ []) [] ++ rest)) s ≡ cond (b && c) (Some e.fold) (fold_in (map shown rest) s)
-  after_none true e rest true q = ap (λ c. cond c (Some e.fold) (fold_in (map shown rest) s)) q
-  after_none true e rest false q = ap (λ c. cond c (Some e.fold) (fold_in (map shown rest) s)) q
+  after_none : (b : Bool) (e : Entry) (rest : List Entry) (c : Bool) → set_eq e.set s ≡ c → fold_in (map point_of_entry (cond b (e ∷ []) [] ++ rest)) s ≡ cond (b && c) (Some e.fold) (fold_in (map point_of_entry rest) s)
+  after_none true e rest true q = ap (λ c. cond c (Some e.fold) (fold_in (map point_of_entry rest) s)) q
+  after_none true e rest false q = ap (λ c. cond c (Some e.fold) (fold_in (map point_of_entry rest) s)) q
   after_none false e rest c q = refl
 
   pub shown-none : set_eq s none_set ≡ true → fold_in (points true (table_at look none es)) s ≡ cond (entry_at look (none_set, none)).updated (Some (entry_at look (none_set, none)).fold) None

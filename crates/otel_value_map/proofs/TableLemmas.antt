@@ -3,7 +3,7 @@ use Rattle.std.proofs.Common.{ℕ, suc, ◌+◌, ◌≤◌, ◌≡◌, ◌||◌,
 use Rattle.std.proofs.lemmas.List.{append_assoc}
 use Rattle.std.specs.Option.{option_map}
 use Rattle.otel_model_stream.specs.Sets.{AttributeSet}
-use Rattle.otel_model_stream.specs.Entries.{Entry, Point, shown, number_counted}
+use Rattle.otel_model_stream.specs.Entries.{Entry, Point, point_of_entry, number_counted}
 use Rattle.otel_value_map.specs.Slots.{Kept, Look, Keyed, entry_at}
 
 pub is_some-map : {X Y : Type 0} (f : X → Y) (o : Option X) → is_some (option_map f o) ≡ is_some o
@@ -30,7 +30,7 @@ counted_few look (e ∷ es) = by (entry_at look e).counted (counted_cons (entry_
 
 -- the points that entries show
 abbrev pub shown_of : Bool → List Entry → List Point
-shown_of every es = map shown (filter (λ (e : Entry). every || e.updated) es)
+shown_of every es = map point_of_entry (filter (λ (e : Entry). every || e.updated) es)
 
 -- a turn that copies a point out
 pub point-turn : (look : Look) (every : Bool) (ps : List Point) (s : AttributeSet) (n : ℕ) (rest : List Keyed) (all : List Point) (k : Kept) → look n ≡ Some k → (every || k.updated) ≡ true

@@ -3,7 +3,7 @@ use Rattle.std.specs.Prelude.{◌≡◌, ℕ, ◌+◌, ◌-◌, nat_eq, nat_lt, 
 use Rattle.std.specs.Option.{option_map}
 use Rattle.slab.specs.Slab.{Slab, get}
 use Rattle.otel_model_stream.specs.Sets.{AttributeSet, none_set}
-use Rattle.otel_model_stream.specs.Folds.{Fold, Total, Sample, recorded, cleared}
+use Rattle.otel_model_stream.specs.Folds.{Fold, Total, Sample, record_fold, clear_fold}
 use Rattle.otel_model_stream.specs.Entries.{Entry, Point, Table}
 use Rattle.otel_value_map.specs.declared.slots.Slot.{Slot}
 
@@ -41,7 +41,7 @@ new_kept empty counted lasting = record { counted = counted; updated = false; la
 
 -- a record more
 abbrev pub written : Sample → Kept → Kept
-written v k = record k { updated = true; fold = recorded k.fold v }
+written v k = record k { updated = true; fold = record_fold k.fold v }
 
 -- a live handle more
 abbrev pub held : Kept → Kept
@@ -53,7 +53,7 @@ released k = record k { handles = k.handles - 1 }
 
 -- no records since now
 abbrev pub forgotten : Kept → Kept
-forgotten k = record k { updated = false; fold = cleared k.fold }
+forgotten k = record k { updated = false; fold = clear_fold k.fold }
 
 -- what a resetting collection leaves
 abbrev pub remains : Kept → Bool

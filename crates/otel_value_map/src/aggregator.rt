@@ -1,7 +1,7 @@
 //! What is kept of the records of one set of attributes.
 
 ghost use Rattle.std.specs.Prelude.{◌≡◌, List, [], ◌∷◌, ◌++◌, IfOk, IsOkUnless, refl};
-ghost use Rattle.otel_model_stream.specs.Folds.{Sample, Fold, Total, recorded, cleared, folded};
+ghost use Rattle.otel_model_stream.specs.Folds.{Sample, Fold, Total, record_fold, clear_fold, fold_samples};
 ghost use Rattle.otel_model_stream.specs.Totals.{weight};
 
 use crate::number::Number;
@@ -32,7 +32,7 @@ pub trait Aggregator: Drop {
 
     /// Takes in one more record.
     fn update(&mut self, value: Self::PreComputedValue)
-        ensures { meaning self.new ≡ recorded (meaning self.old) (sample value) };
+        ensures { meaning self.new ≡ record_fold (meaning self.old) (sample value) };
 
     /// One of the same records.
     fn copy(&self, alloc: Global) -> Result<Self, Fault>
@@ -46,10 +46,10 @@ pub trait Aggregator: Drop {
 
     /// Forgets all records.
     fn reset(&mut self)
-        ensures { meaning self.new ≡ cleared (meaning self.old) };
+        ensures { meaning self.new ≡ clear_fold (meaning self.old) };
 
     /// Forgetting where there are no records changes nothing.
-    ghost cleared_empty: { (config : Self.InitConfig) → cleared (empty config) ≡ empty config };
+    ghost cleared_empty: { (config : Self.InitConfig) → clear_fold (empty config) ≡ empty config };
 }
 
 /// Adds up the records (Metrics SDK, "Sum Aggregation").
@@ -94,7 +94,7 @@ impl<T: Number + Drop> Aggregator for Increment<T> {
 
 /// The law that an aggregator as it is made has the meaning of no records.
 pub fn create_fold<A: Aggregator>(alloc: Global, config: &A::InitConfig) -> Result<A, Fault>
-    ensures fold { IfOk result (λ made. A.meaning made ≡ folded (A.empty config.now) []) }
+    ensures fold { IfOk result (λ made. A.meaning made ≡ fold_samples (A.empty config.now) []) }
     ensures only_memory { IsOkUnless result Fault.OutOfMemory }
 {
     A::create(alloc, config)
@@ -103,16 +103,16 @@ pub fn create_fold<A: Aggregator>(alloc: Global, config: &A::InitConfig) -> Resu
 /// The law that, where an aggregator's meaning is the fold of some records, an update makes it the
 /// fold of these and one more at their end.
 pub fn update_fold<A: Aggregator>(aggregator: &mut A, value: A::PreComputedValue)
-    ensures { (config : A.InitConfig) (samples : List Sample) → A.meaning aggregator.old ≡ folded (A.empty config) samples
-        → A.meaning aggregator.new ≡ folded (A.empty config) (samples ++ A.sample value ∷ []) }
+    ensures { (config : A.InitConfig) (samples : List Sample) → A.meaning aggregator.old ≡ fold_samples (A.empty config) samples
+        → A.meaning aggregator.new ≡ fold_samples (A.empty config) (samples ++ A.sample value ∷ []) }
 {
     aggregator.update(value);
 }
 
 /// The law that, where an aggregator's meaning is the fold of some records, a reset makes it that of none.
 pub fn reset_fold<A: Aggregator>(aggregator: &mut A)
-    ensures { (config : A.InitConfig) (samples : List Sample) → A.meaning aggregator.old ≡ folded (A.empty config) samples
-        → A.meaning aggregator.new ≡ folded (A.empty config) [] }
+    ensures { (config : A.InitConfig) (samples : List Sample) → A.meaning aggregator.old ≡ fold_samples (A.empty config) samples
+        → A.meaning aggregator.new ≡ fold_samples (A.empty config) [] }
 {
     aggregator.reset();
 }

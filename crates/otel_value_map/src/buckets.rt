@@ -2,7 +2,7 @@
 
 ghost use Rattle.std.specs.Prelude.{◌≡◌, ◌+◌, ℤ, Bool, List, ◌∷◌, Some, cond, sum};
 ghost use Rattle.std.specs.Option.{option_map};
-ghost use Rattle.otel_model_stream.specs.Folds.{Spreads, Amount, Histogram, fold_of, wrapped, lesser, greater, counted_in, no_spread, cleared_no_spread};
+ghost use Rattle.otel_model_stream.specs.Folds.{Spreads, Amount, Histogram, fold_of, wrap, lesser, greater, counted_in, no_spread, clear_fold_no_spread};
 
 use crate::aggregator::Aggregator;
 use crate::number::Number;
@@ -81,7 +81,7 @@ fn greatest_with<T: Number>(is_kept: bool, greatest: Option<T>, value: T) -> Opt
 
 /// The sum with one value more, where there is one.
 fn sum_with<T: Number>(is_kept: bool, sum: T, value: T) -> T
-    ensures { T.bits result ≡ cond is_kept (wrapped (T.bits sum + T.bits value)) (T.bits sum) }
+    ensures { T.bits result ≡ cond is_kept (wrap (T.bits sum + T.bits value)) (T.bits sum) }
 {
     if is_kept { sum.add(value) } else { sum }
 }
@@ -115,7 +115,7 @@ impl<T: Number + Drop> Aggregator for Buckets<T> {
 
     ghost sample = { λ value. record { bits = T.bits value.0; wide = T.wide value.0; bucket = value.1 } };
 
-    ghost cleared_empty = { λ config. cleared_no_spread config.has_min_max config.has_sum config.number };
+    ghost cleared_empty = { λ config. clear_fold_no_spread config.has_min_max config.has_sum config.number };
 
     fn create(alloc: Global, config: &BucketsConfig) -> Result<Buckets<T>, Fault> {
         Ok(Buckets {
@@ -166,7 +166,7 @@ impl<T: Number + Drop> Aggregator for Buckets<T> {
 /// The law that, where there is a bound, the counts of the buckets add up to the count, modulo 2^64.
 pub fn counted_once<T: Number + Drop>(buckets: &Buckets<T>)
     ensures { (bound : ℤ) (bounds : List ℤ) (has_min_max has_sum : Bool) (values : List Amount) → ⟦<Buckets<T> as Aggregator>⟧.meaning buckets.now ≡ fold_of (Histogram (bound ∷ bounds) has_min_max has_sum) values
-        → wrapped (sum buckets.now.counts.items) ≡ buckets.now.count }
+        → wrap (sum buckets.now.counts.items) ≡ buckets.now.count }
 {
     let _ = buckets;
 }

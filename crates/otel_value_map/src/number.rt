@@ -1,7 +1,7 @@
 //! Numbers of 64 bits.
 
 ghost use Rattle.std.specs.Prelude.{◌≡◌, ℕ, ℤ, pos, int_lt, ◌+◌, ◌-◌, ◌%◌, ◌^◌};
-ghost use Rattle.otel_model_stream.specs.Data.{natural};
+ghost use Rattle.otel_model_stream.specs.Data.{natural_of};
 
 /// A number of 64 bits.
 pub trait Number: Copy {
@@ -57,7 +57,7 @@ impl Number for u64 {
 
     ghost of_bits = { λ n. n };
 
-    ghost of_wide = { natural };
+    ghost of_wide = { natural_of };
 
     fn told_by_bits(self) {}
 

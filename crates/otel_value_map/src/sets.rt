@@ -3,7 +3,7 @@
 ghost use Rattle.std.specs.Prelude.{◌≡◌, ◌∷◌, [], ◌++◌, Some, IfOk, OnOk, IsOkUnless};
 ghost use Rattle.std.specs.List.{list_any};
 ghost use Rattle.otel_common.specs.Equality.{bytes_eq};
-ghost use Rattle.otel_model_stream.specs.Sets.{over_set, kept};
+ghost use Rattle.otel_model_stream.specs.Sets.{over_set, allowed_part};
 
 use otel_common::attributes::{KeyValue, Value};
 use otel_common::faults::Fault;
@@ -28,7 +28,7 @@ pub fn is_allowed(allow: &[Key], key: &Key) -> bool
 
 /// Adds a copy of the attribute if its key is in an allow-list.
 fn add_allowed(left: &mut Vec<KeyValue>, allow: &[Key], attribute: &KeyValue) -> Result<(), Fault>
-    ensures added { OnOk result (left.new.items ≡ left.old.items ++ kept (Some allow.now) (attribute.now ∷ [])) }
+    ensures added { OnOk result (left.new.items ≡ left.old.items ++ allowed_part (Some allow.now) (attribute.now ∷ [])) }
     ensures only_memory { IsOkUnless result Fault.OutOfMemory }
 {
     if !is_allowed(allow, &attribute.key) {
@@ -44,7 +44,7 @@ pub fn allowed_attributes(
     allow: &[Key],
     attributes: &[KeyValue],
 ) -> Result<Vec<KeyValue>, Fault>
-    ensures allowed { IfOk result (λ left. left.items ≡ kept (Some allow.now) attributes.now) }
+    ensures allowed { IfOk result (λ left. left.items ≡ allowed_part (Some allow.now) attributes.now) }
     ensures only_memory { IsOkUnless result Fault.OutOfMemory }
 {
     let mut left = Vec::new(alloc);

@@ -7,11 +7,11 @@ ghost use Rattle.std.specs.Set.{is_member};
 ghost use Rattle.indexmap.specs.IndexMap.{spare};
 ghost use Rattle.otel_common.specs.Canonical.{canon};
 ghost use Rattle.otel_common.specs.Equality.{set_eq};
-ghost use Rattle.otel_model_stream.specs.Folds.{wrapped};
+ghost use Rattle.otel_model_stream.specs.Folds.{wrap};
 ghost use Rattle.otel_model_stream.specs.Sets.{AttributeSet, none_set, over_set};
 ghost use Rattle.otel_model_stream.specs.Observed.{fold_in};
 ghost use Rattle.otel_model_stream.specs.Totals.{points_total};
-ghost use Rattle.otel_model_stream.specs.Entries.{shown, fresh, has, write, take_handle, drop_handle, at_entry, new_table, evicted, drained, points, number_counted};
+ghost use Rattle.otel_model_stream.specs.Entries.{point_of_entry, new_entry, has, write, take_handle, drop_handle, at_entry, new_table, evicted_table, drained_table, points, number_counted};
 ghost use Rattle.std.specs.List.{AllByRecursion};
 ghost use Rattle.otel_value_map.specs.Keyed.{Fits, found, IsNew, IsSpelling, with_spelling};
 ghost use Rattle.otel_value_map.specs.Numbers.{number_of, handles_at, KeepLeft, IsNumberOf};
@@ -105,7 +105,7 @@ fn first_points<A: Aggregator>(
     slots: &Slab<Slot<A>>,
     none: usize,
 ) -> Result<Vec<(Items<KeyValue>, A)>, Fault>
-    ensures points { IfOk result (λ given. copies A.meaning given.items ≡ map shown (filter (λ entry. entry.updated) (entry_at (look_in A.meaning slots.now) (none_set, none) ∷ []))) }
+    ensures points { IfOk result (λ given. copies A.meaning given.items ≡ map point_of_entry (filter (λ entry. entry.updated) (entry_at (look_in A.meaning slots.now) (none_set, none) ∷ []))) }
     ensures only_memory { IsOkUnless result Fault.OutOfMemory }
 {
     let mut points = Vec::new(alloc);
@@ -127,7 +127,7 @@ fn copy_out<A: Aggregator>(
     points: &mut Vec<(Items<KeyValue>, A)>,
 ) -> Result<(), Fault>
     requires { AllByRecursion (Fits (look_in A.meaning slots.now)) sets.now.entries }
-    ensures points { OnOk result (copies A.meaning points.new.items ≡ copies A.meaning points.old.items ++ map shown (filter (λ entry. every || entry.updated) (map (entry_at (look_in A.meaning slots.now)) sets.now.entries))) }
+    ensures points { OnOk result (copies A.meaning points.new.items ≡ copies A.meaning points.old.items ++ map point_of_entry (filter (λ entry. every || entry.updated) (map (entry_at (look_in A.meaning slots.now)) sets.now.entries))) }
     ensures only_memory { IsOkUnless result Fault.OutOfMemory }
 {
     if every {
@@ -146,7 +146,7 @@ fn copy_out<A: Aggregator>(
 
 /// What the records in the slot of this number add up to, if its point is shown.
 fn weight_shown<A: Aggregator>(slots: &Slab<Slot<A>>, number: usize, every: bool) -> u64
-    ensures { (s : AttributeSet) → result ≡ points_total (map shown (filter (λ entry. every || entry.updated) (entry_at (look_in A.meaning slots.now) (s, number) ∷ []))) }
+    ensures { (s : AttributeSet) → result ≡ points_total (map point_of_entry (filter (λ entry. every || entry.updated) (entry_at (look_in A.meaning slots.now) (s, number) ∷ []))) }
 {
     match slots.get(number) {
         None => 0,
@@ -163,7 +163,7 @@ fn weight_shown<A: Aggregator>(slots: &Slab<Slot<A>>, number: usize, every: bool
 
 /// What the records add up to that the points of the sets show, modulo 2^64.
 fn total_of<A: Aggregator>(slots: &Slab<Slot<A>>, sets: &Numbered, every: bool) -> u64
-    ensures { result ≡ wrapped (points_total (map shown (filter (λ entry. every || entry.updated) (map (entry_at (look_in A.meaning slots.now)) sets.now.entries)))) }
+    ensures { result ≡ wrap (points_total (map point_of_entry (filter (λ entry. every || entry.updated) (map (entry_at (look_in A.meaning slots.now)) sets.now.entries)))) }
 {
     let mut total: u64 = 0;
     for (_, number) in sets.iter() {
@@ -352,9 +352,9 @@ impl<A: Aggregator> Table<A> {
     /// Forgets all records, and the entries that had none since the last time and that no handle holds, but that of the
     /// overflow set. An entry that is left keeps its number.
     pub fn evict(&mut self)
-        ensures table { self.new.table ≡ evicted self.old.table }
-        ensures numbers { KeepLeft (evicted self.old.table).entries self.old.numbers self.new.numbers }
-        ensures given { keys_of self.new.given ≡ filter (λ l. has (canon l) (evicted self.old.table).entries) (keys_of self.old.given) }
+        ensures table { self.new.table ≡ evicted_table self.old.table }
+        ensures numbers { KeepLeft (evicted_table self.old.table).entries self.old.numbers self.new.numbers }
+        ensures given { keys_of self.new.given ≡ filter (λ l. has (canon l) (evicted_table self.old.table).entries) (keys_of self.old.given) }
     {
         evict(&mut self.slots);
         keep_filled(&mut self.sets, &self.slots);
@@ -399,7 +399,7 @@ impl<A: Aggregator> Table<A> {
 
     /// Forgets all records, and all entries but that of the empty set. What it took for entries stays for later ones.
     pub fn drain(&mut self)
-        ensures table { self.new.table ≡ drained self.old.table }
+        ensures table { self.new.table ≡ drained_table self.old.table }
         ensures none { self.new.numbers.none ≡ self.old.numbers.none }
         ensures sets { self.new.numbers.sets ≡ [] }
         ensures given { self.new.given ≡ [] }
@@ -422,7 +422,7 @@ impl<A: Aggregator> Table<A> {
 
     /// What the records add up to that `points` shows, modulo 2^64.
     pub fn total(&self, every: bool) -> u64
-        ensures { result ≡ wrapped (points_total (points every self.now.table)) }
+        ensures { result ≡ wrap (points_total (points every self.now.table)) }
     {
         let rest = total_of(&self.slots, &self.sets, every);
         rest.wrapping_add(weight_shown(&self.slots, self.none, false))

@@ -4,11 +4,11 @@ ghost use Rattle.std.specs.Prelude.{◌≡◌, ◌<◌, ◌-◌, ◌+◌, ◌*�
 ghost use Rattle.std.specs.Option.{option_map};
 ghost use Rattle.otel_common.specs.Canonical.{canon};
 ghost use Rattle.otel_model_stream.specs.Entries.{entry_for, points, number_counted};
-ghost use Rattle.otel_model_stream.specs.Maps.{new_map, with_place, measured, measured_list, bound_list, bound_map, bound_to, updated_bound, unbound, evicted_map, evicted_known, drained_map, readonly_points, resetting_points, draining_points, knows, keys, given_left, is_admitted, SucceedsIfKnown};
+ghost use Rattle.otel_model_stream.specs.Maps.{new_map, with_place, measured_map, measured_list, bound_list, bound_map, bound_to, updated_bound, unbound_map, evicted_map, evicted_known, drained_map, readonly_points, resetting_points, draining_points, knows, keys, given_left, is_admitted, SucceedsIfKnown};
 ghost use Rattle.otel_model_stream.specs.Laws.{AreKnown};
 ghost use Rattle.otel_model_stream.specs.Observed.{fold_in};
-ghost use Rattle.otel_model_stream.specs.Folds.{wrapped};
-ghost use Rattle.otel_model_stream.specs.Sets.{AttributeSet, kept, set_of};
+ghost use Rattle.otel_model_stream.specs.Folds.{wrap};
+ghost use Rattle.otel_model_stream.specs.Sets.{AttributeSet, allowed_part, set_of};
 ghost use Rattle.otel_model_stream.specs.Totals.{points_total};
 ghost use Rattle.otel_value_map.specs.Held.{known_of};
 ghost use Rattle.otel_value_map.specs.Numbers.{number_of, AreHandlesFew, spelling_of, KeepNumbers, KeepLeft};
@@ -191,9 +191,9 @@ impl<A: Aggregator> ValueMap<A> {
         ensures numbers { self.new.numbers ≡ self.old.numbers }
         ensures given { self.new.given ≡ self.old.given }
         ensures ready { OnOk result (self.new.pending ≡ Some (set_of (Some allow.now) attributes.now)) }
-        ensures spelling { OnOk result (self.new.spelling ≡ spelling_of (kept (Some allow.now) attributes.now) self.old.state) }
+        ensures spelling { OnOk result (self.new.spelling ≡ spelling_of (allowed_part (Some allow.now) attributes.now) self.old.state) }
         ensures refused { OnErr result (self.new.pending ≡ None) }
-        ensures known { SucceedsIfKnown (kept (Some allow.now) attributes.now) (known_of self.old) result }
+        ensures known { SucceedsIfKnown (allowed_part (Some allow.now) attributes.now) (known_of self.old) result }
         ensures only_memory { IsOkUnless result Fault.OutOfMemory }
     {
         self.prepare_list(&SetKey::allowed(allow, attributes))
@@ -224,7 +224,7 @@ impl<A: Aggregator> ValueMap<A> {
     /// an entry.
     pub fn measure_ready(&mut self, value: A::PreComputedValue)
         requires { IsSome self.old.pending }
-        ensures measured { (s : AttributeSet) → self.old.pending ≡ Some s → self.new.state ≡ measured s (A.sample value) self.old.state }
+        ensures measured { (s : AttributeSet) → self.old.pending ≡ Some s → self.new.state ≡ measured_map s (A.sample value) self.old.state }
         ensures numbers { KeepNumbers self.old.numbers self.new.numbers }
         ensures given { self.new.given ≡ self.old.given ++ self.old.spelling }
         ensures spent { self.new.pending ≡ None }
@@ -301,7 +301,7 @@ impl<A: Aggregator> ValueMap<A> {
 
     /// Ends a handle, by the number of its entry. It takes no memory, and gives up what was prepared.
     pub fn unbind(&mut self, number: usize)
-        ensures unbound { (s : AttributeSet) → number_of s self.old.numbers ≡ Some number → self.new.state ≡ unbound s self.old.state }
+        ensures unbound { (s : AttributeSet) → number_of s self.old.numbers ≡ Some number → self.new.state ≡ unbound_map s self.old.state }
         ensures numbers { self.new.numbers ≡ self.old.numbers }
         ensures given { self.new.given ≡ self.old.given }
         ensures spent { self.new.pending ≡ None }
@@ -349,7 +349,7 @@ impl<A: Aggregator> ValueMap<A> {
 
     /// What the records add up to that `points` shows, modulo 2^64.
     pub fn total(&self, every: bool) -> u64
-        ensures { result ≡ wrapped (points_total (points every self.now.state.table)) }
+        ensures { result ≡ wrap (points_total (points every self.now.state.table)) }
     {
         self.table.total(every)
     }

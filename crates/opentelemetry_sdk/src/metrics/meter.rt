@@ -7,11 +7,11 @@ pub use otel_provider::asynchronous::{
     ObservableUpDownCounter, ObservableUpDownCounterKind,
 };
 pub use otel_provider::builders::{HistogramBuilder, InstrumentBuilder};
+pub use otel_provider::instrument_checks::{
+    validate_bucket_boundaries, validate_instrument_name, validate_instrument_unit,
+};
 pub use otel_provider::laws::{
     copied_instruments, copied_meter, copied_observables, keeps_identity,
-};
-pub use otel_provider::meter::{
-    validate_bucket_boundaries, validate_instrument_name, validate_instrument_unit,
 };
 pub use otel_provider::meters::Meter;
 pub use otel_provider::synchronous::{

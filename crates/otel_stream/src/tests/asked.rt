@@ -3,10 +3,10 @@
 ghost use Rattle.std.specs.Prelude.{◌≡◌, Ok, true, not, is_ok};
 ghost use Rattle.otel_common.specs.declared.metrics.Temporality.TheVariants.{Cumulative};
 
+use crate::each_reader::{flush_all, shut_all};
 use crate::instrument::InstrumentKind;
 use crate::manual_reader::ManualReader;
 use crate::reader::MetricReader;
-use crate::readers::{flush_all, shut_all};
 use otel_common::faults::{Fault, InternalFault, OTelSdkResult};
 use otel_common::metrics::Temporality;
 use std::test::Fail;

@@ -1,12 +1,12 @@
 use Rattle.std.proofs.Common.{◌∙◌, ap, map, arith}
-use Rattle.otel_pipeline.specs.Collections.{joined, shown_in}
+use Rattle.otel_pipeline.specs.Collections.{append_each, shown_in}
 use Rattle.otel_pipeline.proofs.Places.{joined-none, lists-long, places-more, places-all}
 use Rattle.otel_pipeline.proofs.collecting.metrics_by_meter.Goals as goal
 
 pub loop-stream-init : goal.loop-stream-init
 loop-stream-init c = record {
   long = lists-long (λ v. v.items) c.in_ok-lists.lists.items _ c.in_ok-lists.ensures.lists ∙ c.len.ensures.len;
-  all = ap (λ xs. joined xs (map (λ m. shown_in m c.args.now c.args.streams.now) c.args.meters.now.keys)) c.in_ok-lists.ensures.lists
+  all = ap (λ xs. append_each xs (map (λ m. shown_in m c.args.now c.args.streams.now) c.args.meters.now.keys)) c.in_ok-lists.ensures.lists
       ∙ joined-none (λ m. shown_in m c.args.now c.args.streams.now) c.args.meters.now.keys _ c.len.ensures.len;
 }
 

@@ -1,5 +1,5 @@
 use Rattle.std.proofs.Common.{◌≡◌, ◌∙◌, rules, ap}
-use Rattle.otel_model.specs.Demands.{is_valid, resolved}
+use Rattle.otel_model.specs.Demands.{is_valid, resolved_aggregation}
 use Rattle.otel_pipeline.specs.Identities.{identity_with}
 use Rattle.otel_pipeline.proofs.DemandLemmas.{demand_made, resolved_valid}
 use Rattle.otel_pipeline.proofs.demands.demand_of.Goals as goal
@@ -11,11 +11,11 @@ returns-clause-demand c =
     demand_made c.args.answers.now c.args.scope.now c.args.about.now c.args.stream.now _
     (c.in_ok-identity_of.ensures.identity ∙ ap (identity_with c.args.scope.now c.args.about.now) settings)
     (search rules)
-    (c.in_ok-aggregation_of.ensures.aggregation ∙ ap (λ s. resolved c.args.answers.now c.args.about.now s.aggregation) settings)
+    (c.in_ok-aggregation_of.ensures.aggregation ∙ ap (λ s. resolved_aggregation c.args.answers.now c.args.about.now s.aggregation) settings)
     (search rules)
     (search rules)
 
 pub returns-clause-valid : goal.returns-clause-valid
 returns-clause-valid c = λ good.
-    ap is_valid (c.in_ok-aggregation_of.ensures.aggregation ∙ ap (λ s. resolved c.args.answers.now c.args.about.now s.aggregation) c.spec-settings.ensures)
+    ap is_valid (c.in_ok-aggregation_of.ensures.aggregation ∙ ap (λ s. resolved_aggregation c.args.answers.now c.args.about.now s.aggregation) c.spec-settings.ensures)
     ∙ resolved_valid c.args.answers.now c.args.about.now c.args.stream.now.aggregation c.lawful.ensures.bounds good

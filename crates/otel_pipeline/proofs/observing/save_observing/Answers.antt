@@ -1,7 +1,7 @@
 use Rattle.std.proofs.Common.{◌∙◌, ap, sym, subst, refl, arith, length}
 use Rattle.std.proofs.lemmas.List.{length-replicate, take_all}
 use Rattle.std.specs.Prelude.{All}
-use Rattle.otel_pipeline.specs.Observations.{AreSavedOf, IsSaved, observing, restored_all}
+use Rattle.otel_pipeline.specs.Observations.{AreSavedOf, IsSaved, observing_numbers, restored_all}
 use Rattle.otel_pipeline.proofs.Taken.{all-more, observing-within}
 use Rattle.otel_pipeline.proofs.Undone.{none-same, none-kept}
 use Rattle.otel_pipeline.proofs.observing.save_observing.Goals as goal
@@ -28,7 +28,7 @@ loop-observation-preserved c =
       long = made.long;
       same = made.same;
       kept = made.kept;
-      all = all-more (λ o. All (IsSaved now) (observing c.args.feeds.now o)) c.args.observations.now c.loop-observation.observation-index c.observation-item.result c.loop-observation-test.true c.observation-item.is
+      all = all-more (λ o. All (IsSaved now) (observing_numbers c.args.feeds.now o)) c.args.observations.now c.loop-observation.observation-index c.observation-item.result c.loop-observation-test.true c.observation-item.is
           (λ i d h j e g. made.before _ (c.loop-observation.invariant.all i d h j e g))
           (subst (All (IsSaved now)) c.streams_fed-numbers.ensures made.all);
     }
@@ -38,7 +38,7 @@ returns-clause-saved c = record {
   many = omega (arith, c.loop-observation.invariant.long);
   same = c.loop-observation.invariant.same;
   kept = c.loop-observation.invariant.kept;
-  all = subst (λ l. All (λ o. All (IsSaved c.loop-observation.saved.items) (observing c.args.feeds.now o)) l)
+  all = subst (λ l. All (λ o. All (IsSaved c.loop-observation.saved.items) (observing_numbers c.args.feeds.now o)) l)
       (take_all c.loop-observation.observation-index c.args.observations.now (omega (arith, c.loop-observation-test.false)))
       c.loop-observation.invariant.all;
 }

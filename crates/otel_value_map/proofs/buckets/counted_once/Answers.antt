@@ -1,5 +1,5 @@
 use Rattle.std.proofs.Common.{sym, ap, ◌∙◌, sum_by, ℕ}
-use Rattle.otel_model_stream.specs.Folds.{Fold, wrapped}
+use Rattle.otel_model_stream.specs.Folds.{Fold, wrap}
 use Rattle.otel_model_stream.specs.Laws.{bucket_counts}
 use Rattle.otel_model_stream.specs.Totals.{weight}
 use Rattle.otel_model_stream.proofs.Buckets.{buckets_are}
@@ -7,6 +7,6 @@ use Rattle.otel_value_map.proofs.buckets.counted_once.Goals as goal
 
 pub returns : goal.returns
 returns g c = λ bound bounds has_min_max has_sum values e.
-    ap (λ (f : Fold). wrapped (sum_by (λ (n : ℕ). n) (bucket_counts f))) e
+    ap (λ (f : Fold). wrap (sum_by (λ (n : ℕ). n) (bucket_counts f))) e
     ∙ buckets_are bound bounds has_min_max has_sum values
     ∙ ap weight (sym e)

@@ -4,7 +4,7 @@ use Rattle.std.proofs.lemmas.Grind.{fold-append}
 use Rattle.std.proofs.lemmas.List.Concat.{flat_map-cons}
 use Rattle.otel_common.specs.declared.attributes.KeyValue.{KeyValue}
 use Rattle.otel_common.specs.Hashes.{key_value_writes}
-use Rattle.otel_model_stream.specs.Sets.{AllowList, kept}
+use Rattle.otel_model_stream.specs.Sets.{AllowList, allowed_part}
 use Rattle.otel_value_map.specs.Keys.{is_kept}
 use Rattle.otel_value_map.proofs.KeptLemmas.{kept-step, kept-end}
 use Rattle.otel_value_map.proofs.set_key.hash_allowed.Goals as goal
@@ -17,7 +17,7 @@ pub loop-attribute-preserved : goal.loop-attribute-preserved
 loop-attribute-preserved g c =
     let allow : AllowList = Some c.args.allow.now in
     let x : KeyValue = c.attribute-item.result in
-    let rest : List KeyValue = kept allow (drop (c.loop-attribute.attribute-index + 1) c.args.attributes.now) in
+    let rest : List KeyValue = allowed_part allow (drop (c.loop-attribute.attribute-index + 1) c.args.attributes.now) in
     let s = c.loop-attribute.state in
     let step = λ (b : Bool) (e : is_kept allow x.key ≡ b). ap (λ (l : List KeyValue). fold g.H.Hasher.write s (flat_map key_value_writes l)) (sym (kept-step allow c.args.attributes.now c.loop-attribute.attribute-index x b c.loop-attribute-test.true c.attribute-item.is e)) ∙ c.loop-attribute.invariant in
     elim c.if-is_allowed.branch [

@@ -1,5 +1,5 @@
 use Rattle.std.proofs.Common.{◌≡◌, ◌+◌, ◌||◌, ◌∷◌, Bool, List, ap, sym, ◌∙◌, arith, map, rules}
-use Rattle.otel_model_stream.specs.Folds.{wrapped}
+use Rattle.otel_model_stream.specs.Folds.{wrap}
 use Rattle.otel_model_stream.specs.Entries.{Entry}
 use Rattle.otel_model_stream.specs.Totals.{points_total}
 use Rattle.otel_value_map.specs.Slots.{look_in, entry_at}
@@ -16,7 +16,7 @@ loop-number-preserved g c =
     let e : Entry = entry_at look (c.in-Some.field-0-0.now, c.in-Some.number.now) in
     let left : List Entry = map (entry_at look) c.next.new.self in
     let steps : map (entry_at look) c.loop-number.number-iterator ≡ e ∷ left = ap (map (entry_at look)) c.in-Some.ensures.steps in
-    total-turn shows e left c.loop-number.total c.weight_shown-total.result _ (c.weight_shown-total.ensures c.in-Some.field-0-0.now) (ap (λ (es : List Entry). wrapped (c.loop-number.total + points_total (passed shows es))) (sym steps) ∙ c.loop-number.invariant)
+    total-turn shows e left c.loop-number.total c.weight_shown-total.result _ (c.weight_shown-total.ensures c.in-Some.field-0-0.now) (ap (λ (es : List Entry). wrap (c.loop-number.total + points_total (passed shows es))) (sym steps) ∙ c.loop-number.invariant)
 
 pub returns : goal.returns
 returns g c =

@@ -3,11 +3,11 @@ use Rattle.std.specs.List.{IsDistinct}
 use Rattle.std.specs.Prelude.{All, IfOk}
 use Rattle.otel_model.specs.Calls as model
 use Rattle.otel_model.specs.Demands.{identity_eq}
-use Rattle.otel_model.specs.Machine.{part_sent}
+use Rattle.otel_model.specs.Machine.{part_after_call}
 use Rattle.otel_model.specs.Streams.{is_delta}
 use Rattle.otel_pipeline.specs.Collections.{IsCollectedFrom}
 use Rattle.otel_pipeline.specs.Observations.{AreTypedFor, observed_all, observed_of}
-use Rattle.otel_pipeline.specs.Pipelines.{AreNumbers, Piped, all_settled, fates_of, finished_all, part_by, part_of, stream_identities}
+use Rattle.otel_pipeline.specs.Pipelines.{AreNumbers, Piped, all_without_pending, fates_of, all_after_collection, part_by, part_of, stream_identities}
 use Rattle.otel_pipeline.specs.Streams.{Held}
 use Rattle.otel_pipeline.proofs.Answered.{answered-settled, answered-finished}
 use Rattle.otel_pipeline.proofs.Identities.{distinct-same}
@@ -25,18 +25,18 @@ invariant_of-self c =
     let feeds = c.deref.result.now in
     let os = c.args.observations.now in
     let observed : List Held = observed_all feeds os old in
-    let finished : List Held = finished_all c.args.now observed in
+    let finished : List Held = all_after_collection c.args.now observed in
     let same : fates_of new ≡ fates_of old =
     either c.collect_observed.result
-    (λ (e : all_settled new ≡ all_settled finished). sym (demands-settled new) ∙ ap fates_of e ∙ demands-settled finished ∙ demands-finished c.args.now observed ∙ demands-observed feeds os old)
-    (λ (e : all_settled new ≡ all_settled old). sym (demands-settled new) ∙ ap fates_of e ∙ demands-settled old)
+    (λ (e : all_without_pending new ≡ all_without_pending finished). sym (demands-settled new) ∙ ap fates_of e ∙ demands-settled finished ∙ demands-finished c.args.now observed ∙ demands-observed feeds os old)
+    (λ (e : all_without_pending new ≡ all_without_pending old). sym (demands-settled new) ∙ ap fates_of e ∙ demands-settled old)
     c.collect_observed.ensures.streams c.collect_observed.ensures.undone in
     let ids : stream_identities old ≡ stream_identities new = identities-same old new (sym same) in (
       c.self.invariant.0 ∙ ids,
       numbers-kept old new c.self.inside.feeds.items (length-from old new ids) c.self.invariant.1,
       either c.collect_observed.result
-          (λ (e : all_settled new ≡ all_settled finished). answered-settled (λ resets d. resets ≡ is_delta answers d) new finished e (answered-finished (λ resets d. resets ≡ is_delta answers d) c.args.now observed (answered-observed answers feeds os old c.self.invariant.2)))
-          (λ (e : all_settled new ≡ all_settled old). answered-settled (λ resets d. resets ≡ is_delta answers d) new old e c.self.invariant.2)
+          (λ (e : all_without_pending new ≡ all_without_pending finished). answered-settled (λ resets d. resets ≡ is_delta answers d) new finished e (answered-finished (λ resets d. resets ≡ is_delta answers d) c.args.now observed (answered-observed answers feeds os old c.self.invariant.2)))
+          (λ (e : all_without_pending new ≡ all_without_pending old). answered-settled (λ resets d. resets ≡ is_delta answers d) new old e c.self.invariant.2)
           c.collect_observed.ensures.streams c.collect_observed.ensures.undone,
     )
 
@@ -62,7 +62,7 @@ returns-clause-ok c =
     let typed : AreTypedFor c.args.observations.now (part_by c.self.inside.answers old c.deref.result.now) =
     subst (λ (ns : List (List ℕ)). AreTypedFor c.args.observations.now (part_by c.self.inside.answers old ns)) (sym same) (subst (λ (p : Piped). AreTypedFor c.args.observations.now (part_of p)) (sym c.self.view_is) c.requires) in
     rw (← c.self.view_is) (OnOk-weaker c.collect_observed.result
-    (λ e r. subst (λ (ns : List (List ℕ)). part_by c.self.inside.answers c.collect_observed.new.streams.items ns ≡ part_sent 0 (model.Call.Collect r c.args.now (map observed_of c.args.observations.now)) (part_by c.self.inside.answers old ns)) same
+    (λ e r. subst (λ (ns : List (List ℕ)). part_by c.self.inside.answers c.collect_observed.new.streams.items ns ≡ part_after_call 0 (model.Call.Collect r c.args.now (map observed_of c.args.observations.now)) (part_by c.self.inside.answers old ns)) same
     (observed-finished c.self.inside.answers r c.args.now c.args.observations.now old c.collect_observed.new.streams.items c.deref.result.now apart numbers typed c.self.invariant.2 e))
     c.collect_observed.ensures.streams)
 

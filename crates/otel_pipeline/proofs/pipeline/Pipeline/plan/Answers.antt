@@ -8,7 +8,7 @@ use Rattle.otel_model.specs.Demands.{Identity, identity_eq}
 use Rattle.otel_pipeline.specs.Pipelines.{Planned, IsPlanOf, stream_identities, demands_in, dropped_with}
 use Rattle.otel_pipeline.proofs.Identities.{distinct-same}
 use Rattle.otel_pipeline.proofs.PipelineLemmas.{part-same, all_true, numbers-kept}
-use Rattle.otel_pipeline.specs.Views.{answering}
+use Rattle.otel_pipeline.specs.Views.{views_answering}
 use Rattle.otel_pipeline.proofs.pipeline.Pipeline.plan.Goals as goal
 
 -- room is made, and what is planned is read off the streams
@@ -31,7 +31,7 @@ returns-clause-ready c =
       };
       planned = c.in_ok-plan.plan;
       plan = refl;
-      meets = subst (λ ks. IsPlanOf c.self.inside.answers ks c.args.now (demands_in (dropped_with ks) (answering c.args.answered.now) c.self.inside.answers (option_map (λ s. s.now) c.args.scope) c.args.about.now) c.in_ok-plan.plan) (sym same) (rw (← c.self.view_is) at c.in_ok-plan.ensures.plan);
+      meets = subst (λ ks. IsPlanOf c.self.inside.answers ks c.args.now (demands_in (dropped_with ks) (views_answering c.args.answered.now) c.self.inside.answers (option_map (λ s. s.now) c.args.scope) c.args.about.now) c.in_ok-plan.plan) (sym same) (rw (← c.self.view_is) at c.in_ok-plan.ensures.plan);
       room = all_true _ _ _ (le-leb _ _ key_fits) (le-leb _ _ stream_fits) (lt-ltb _ _ feeds_fit);
     }
 

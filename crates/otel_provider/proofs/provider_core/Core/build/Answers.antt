@@ -1,9 +1,9 @@
 use Rattle.std.proofs.Common.{◌∙◌, ap, sym, subst, map, refl, arith}
 use Rattle.std.specs.Option.{option_map}
-use Rattle.otel_model.specs.Machine.{built as built_by}
+use Rattle.otel_model.specs.Machine.{part_after_build}
 use Rattle.otel_model.specs.Demands.{is_good}
 use Rattle.otel_pipeline.specs.Pipelines.{part_of}
-use Rattle.otel_pipeline.specs.Views.{answering}
+use Rattle.otel_pipeline.specs.Views.{views_answering}
 use Rattle.otel_provider.specs.States.{shared_of, AreAsked, AreTyped, IsGoodIn}
 use Rattle.otel_provider.proofs.Outcomes.{IfErr-memory, OnErr-both, IfOk-three}
 use Rattle.otel_provider.proofs.StepLemmas.{no_meter-fault, good-in, lent_back, build-made}
@@ -21,7 +21,7 @@ pub invariant_of-self : goal.invariant_of-self
 invariant_of-self g c =
     let lent = lent_back c.self.inside.pipelines.len c.make.new.pipelines _ (omega arith) in
     subst (λ ps. AreTyped c.make.new.instruments.items (map part_of ps)) (sym lent)
-    (typed-made (answering c.deref.result.now) c.make.result c.self.inside.instruments.items c.make.new.instruments.items _ c.args.about.now c.args.now (map part_of c.deref_mut.result.now) (map part_of c.make.new.pipelines)
+    (typed-made (views_answering c.deref.result.now) c.make.result c.self.inside.instruments.items c.make.new.instruments.items _ c.args.about.now c.args.now (map part_of c.deref_mut.result.now) (map part_of c.make.new.pipelines)
     c.make.ensures.instruments c.make.ensures.readers c.make.ensures.same c.make.ensures.same_readers
     (subst (λ ps. AreTyped c.self.inside.instruments.items (map part_of ps)) (sym c.deref_mut.ensures.value) c.self.invariant))
 
@@ -34,7 +34,7 @@ returns-clause-ok g c =
     build-made (map g.V.View.answer c.args.views.now) c.deref.result.now c.self.inside.shut c.self.inside.resource c.self.inside.identity c.self.inside.meters.keys c.self.inside.instruments.items c.make.new.instruments.items c.self.inside.pipelines.items _ c.args.meter _ _ c.args.about.now c.args.now n
     c.in-Ok.ensures c.good_scope-scope.ensures number made
     (subst (λ l. AreAsked (map g.V.View.answer c.args.views.now) (option_map (λ s. s.now) c.good_scope-scope.result) c.args.about.now l) (sym c.deref.ensures.value) c.in_ok-answered.ensures.asked)
-    (ap (map part_of) lent ∙ (built ∙ ap (λ ps. map (built_by (answering c.deref.result.now) (option_map (λ s. s.now) c.good_scope-scope.result) c.args.about.now c.args.now) (map part_of ps)) c.deref_mut.ensures.value)))
+    (ap (map part_of) lent ∙ (built ∙ ap (λ ps. map (part_after_build (views_answering c.deref.result.now) (option_map (λ s. s.now) c.good_scope-scope.result) c.args.about.now c.args.now) (map part_of ps)) c.deref_mut.ensures.value)))
     c.make.ensures.number c.make.ensures.instruments c.make.ensures.readers)
 
 pub returns-clause-err : goal.returns-clause-err

@@ -1,6 +1,6 @@
 use Rattle.std.proofs.Common.{◌≡◌, ◌<◌, ◌∙◌, ap, sym, subst, List, map, length, slice_get, None, arith}
 use Rattle.otel_model.specs.Calls as model
-use Rattle.otel_model.specs.Machine.{accepted, changed_at, part_sent}
+use Rattle.otel_model.specs.Machine.{instrument_after_record, changed_at, part_after_call}
 use Rattle.otel_model.specs.Refusals.{record_refusal}
 use Rattle.otel_model.specs.State.{InstrumentState}
 use Rattle.otel_pipeline.specs.Pipelines.{part_of}
@@ -32,8 +32,8 @@ invariant_of-self-2 c =
     let lent = lent_back c.self.inside.pipelines.len c.record_or_none.new.pipelines _ (omega arith) in
     let taken : IsTakenBy c.deref.result.now n v = c.in_default.ensures.taken in
     let there : n < length instruments = get-inside instruments n taken.instrument (ap (λ is. slice_get is n) (sym c.deref.ensures.value) ∙ taken.there) in
-    rw (set-changed (accepted v.amount) instruments n c.index_mut.result.now c.accept.new.self there c.index_mut.ensures.value c.accept.ensures)
-    (subst (λ ps. AreTyped (changed_at n (accepted v.amount) instruments) ps) (sym (ap (map part_of) lent ∙ (c.in_ok-record_or_none.ensures.ok ∙ ap (λ ps. map (part_sent 0 (model.Call.Record n v c.args.attributes.now)) (map part_of ps)) c.deref_mut.ensures.value)))
+    rw (set-changed (instrument_after_record v.amount) instruments n c.index_mut.result.now c.accept.new.self there c.index_mut.ensures.value c.accept.ensures)
+    (subst (λ ps. AreTyped (changed_at n (instrument_after_record v.amount) instruments) ps) (sym (ap (map part_of) lent ∙ (c.in_ok-record_or_none.ensures.ok ∙ ap (λ ps. map (part_after_call 0 (model.Call.Record n v c.args.attributes.now)) (map part_of ps)) c.deref_mut.ensures.value)))
     (typed-sent v.amount n 0 (model.Call.Record n v c.args.attributes.now) instruments (map part_of c.self.inside.pipelines.items) c.self.invariant))
 
 -- the value fits, the readers made the record, and the instrument accepted it
@@ -48,6 +48,6 @@ returns-clause-ok c =
     let fits : record_refusal (slice_get instruments n) v.signed ≡ None = ap (λ is. record_refusal (slice_get is n) v.signed) (sym c.deref.ensures.value) ∙ c.in_default.ensures.fits in
     rw (← c.self.view_is)
     (record-made c.self.inside.shut c.self.inside.resource c.self.inside.identity c.self.inside.meters.keys instruments _ c.self.inside.pipelines.items _ n v c.args.attributes.now fits
-    (set-changed (accepted v.amount) instruments n c.index_mut.result.now c.accept.new.self there c.index_mut.ensures.value c.accept.ensures)
+    (set-changed (instrument_after_record v.amount) instruments n c.index_mut.result.now c.accept.new.self there c.index_mut.ensures.value c.accept.ensures)
     (ap (map part_of) lent
-    ∙ (c.in_ok-record_or_none.ensures.ok ∙ ap (λ ps. map (part_sent 0 (model.Call.Record n v c.args.attributes.now)) (map part_of ps)) c.deref_mut.ensures.value)))
+    ∙ (c.in_ok-record_or_none.ensures.ok ∙ ap (λ ps. map (part_after_call 0 (model.Call.Record n v c.args.attributes.now)) (map part_of ps)) c.deref_mut.ensures.value)))

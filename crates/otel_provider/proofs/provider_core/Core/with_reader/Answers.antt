@@ -1,7 +1,7 @@
 use Rattle.std.proofs.Common.{◌≡◌, ◌∙◌, ap, subst, [], map}
 use Rattle.std.proofs.lemmas.List.{map-append}
 use Rattle.otel_model.specs.State.{State}
-use Rattle.otel_pipeline.specs.Pipelines.{part_of, named}
+use Rattle.otel_pipeline.specs.Pipelines.{part_of, named_identities}
 use Rattle.otel_provider.specs.States.{AreTyped}
 use Rattle.otel_provider.proofs.Typed.{typed-push}
 use Rattle.otel_provider.proofs.provider_core.Core.with_reader.Goals as goal
@@ -11,4 +11,4 @@ pub invariant_of-core : goal.invariant_of-core
 invariant_of-core c =
     let none : c.core.inside.instruments.items ≡ [] = ap (λ (st : State). st.shared.instruments) c.core.view_is ∙ c.requires in
     rw (none, c.in_ok-push.ensures.items, map-append)
-    (typed-push (map part_of c.core.inside.pipelines.items) (part_of c.new-pipeline.result) (subst (λ is. AreTyped is (map part_of c.core.inside.pipelines.items)) none c.core.invariant) (ap (map (named c.new-pipeline.result.streams)) c.new-pipeline.ensures.feeds))
+    (typed-push (map part_of c.core.inside.pipelines.items) (part_of c.new-pipeline.result) (subst (λ is. AreTyped is (map part_of c.core.inside.pipelines.items)) none c.core.invariant) (ap (map (named_identities c.new-pipeline.result.streams)) c.new-pipeline.ensures.feeds))

@@ -1,7 +1,7 @@
 use Rattle.std.proofs.Common.{◌≡◌, ap, ◌∙◌, List, filter}
 use Rattle.std.specs.Map.{keys_of}
 use Rattle.otel_common.specs.Canonical.{canon}
-use Rattle.otel_model_stream.specs.Entries.{Table, has, evicted}
+use Rattle.otel_model_stream.specs.Entries.{Table, has, evicted_table}
 use Rattle.otel_value_map.specs.Keyed.{Slotted}
 use Rattle.otel_value_map.specs.Slots.{look_in, Keyed, table_at}
 use Rattle.otel_value_map.proofs.LeftLemmas.{table-left, kept-left, numbers-left, lists-left}
@@ -17,7 +17,7 @@ returns-clause-table g c =
     let other = look_in g.A.Aggregator.meaning c.evict.new.slots in
     ap (λ (es : List Keyed). table_at other c.self.inside.none es) c.keep_filled.ensures
     ∙ table-left (look_in g.A.Aggregator.meaning c.self.inside.slots) other c.evict.ensures.look c.self.inside.none c.self.inside.sets.entries c.self.inside.given.entries c.self.invariant
-    ∙ ap (λ (t : Slotted). evicted t.table) c.self.view_is
+    ∙ ap (λ (t : Slotted). evicted_table t.table) c.self.view_is
 
 pub returns-clause-numbers : goal.returns-clause-numbers
 returns-clause-numbers g c =
@@ -26,7 +26,7 @@ returns-clause-numbers g c =
     let none = c.self.inside.none in
     let left = table-left look other c.evict.ensures.look none c.self.inside.sets.entries c.self.inside.given.entries c.self.invariant in
     let kept = numbers-left look other c.evict.ensures.look none c.self.inside.sets.entries c.self.inside.given.entries c.self.invariant in
-    let entries : (table_at other none _).entries ≡ (evicted (table_at look none c.self.inside.sets.entries)).entries = ap (λ (t : Table). t.entries) left in
+    let entries : (table_at other none _).entries ≡ (evicted_table (table_at look none c.self.inside.sets.entries)).entries = ap (λ (t : Table). t.entries) left in
     rw (← c.self.view_is) (rw c.keep_filled.ensures (λ s n e h. kept s n e (rw entries h)))
 
 pub returns-clause-given : goal.returns-clause-given

@@ -6,7 +6,7 @@ use Rattle.std.proofs.lemmas.Bool.Decides.{nat_tests}
 use Rattle.otel_common.specs.Equality.{set_eq}
 use Rattle.otel_model_stream.specs.Folds.{Fold}
 use Rattle.otel_model_stream.specs.Sets.{AttributeSet, over_set}
-use Rattle.otel_model_stream.specs.Entries.{Entry, Table, fresh, has, entry_for, number_counted}
+use Rattle.otel_model_stream.specs.Entries.{Entry, Table, new_entry, has, entry_for, number_counted}
 use Rattle.otel_value_map.specs.Slots.{Kept, entry_of}
 use Rattle.otel_value_map.specs.Keyed.{IsNew}
 use Rattle.otel_value_map.specs.Numbers.{number_of}
@@ -36,7 +36,7 @@ returns-then-self-clause-number g c = λ s e.
     let same : set ≡ s = new-set t.numbers c.self.inside.pending set s c.in-New.list c.in-New.ensures.value (ap (λ (h : Held). h.pending) c.self.view_is ∙ e) in
     let few : nat_lt (number_counted entries) c.self.inside.limit ≡ true = rw (← c.self.invariant.0) (lt-ltb _ _ c.if-self.true) in
     let place : Placing c.self.inside.limit empty set entries _ set = place-admitted c.self.inside.limit empty set entries ready.new.some ready.absent few in
-    let after : c.add.new.self.table.entries ≡ entries ++ fresh empty set true ∷ [] =
+    let after : c.add.new.self.table.entries ≡ entries ++ new_entry empty set true ∷ [] =
     ap (λ (x : Table). x.entries) c.add.ensures.table ∙ ap (λ (k : Kept). entries ++ entry_of set (Some k) ∷ []) c.take_slot-slot.ensures.slot in
     let goal : entry_for set c.add.new.self.table.entries ≡ set = ap (entry_for set) after ∙ place.goal in
     let number = (numbers-added t.numbers c.add.new.self.numbers set c.add.result c.add.ensures.none c.add.ensures.sets ready.new).1 in
@@ -67,8 +67,8 @@ returns-clause-number g c = λ s e.
     let key : c.unwrap-key.result ≡ over_set = made_key c.self.inside.spare_key c.unwrap-key.result c.self.invariant.3 (sym c.take.ensures.value ∙ c.unwrap-key.ensures) in
     let gone : has over_set entries ≡ false = ap (λ (x : AttributeSet). has x entries) (sym c.self.invariant.2) ∙ sym c.in_default.ensures.placed in
     let place : Placing c.self.inside.limit empty set entries _ over_set = place-over_made c.self.inside.limit empty set entries ready.new.some ready.absent full gone in
-    let after : c.add-2.new.self.table.entries ≡ entries ++ fresh empty over_set false ∷ [] =
-    ap (λ (x : Table). x.entries) c.add-2.ensures.table ∙ ap (λ (k : Kept). entries ++ entry_of c.unwrap-key.result (Some k) ∷ []) c.take_slot-slot-2.ensures.slot ∙ ap (λ (x : AttributeSet). entries ++ fresh empty x false ∷ []) key in
+    let after : c.add-2.new.self.table.entries ≡ entries ++ new_entry empty over_set false ∷ [] =
+    ap (λ (x : Table). x.entries) c.add-2.ensures.table ∙ ap (λ (k : Kept). entries ++ entry_of c.unwrap-key.result (Some k) ∷ []) c.take_slot-slot-2.ensures.slot ∙ ap (λ (x : AttributeSet). entries ++ new_entry empty x false ∷ []) key in
     let goal : entry_for set c.add-2.new.self.table.entries ≡ over_set = ap (entry_for set) after ∙ place.goal in
     let new : IsNew t.numbers.sets c.unwrap-key.result = subst (IsNew t.numbers.sets) (sym key) (over_new t.numbers.sets c.self.inside.overflow c.self.invariant.2 c.in_default.ensures.number) in
     let number = (numbers-added t.numbers c.add-2.new.self.numbers c.unwrap-key.result c.add-2.result c.add-2.ensures.none c.add-2.ensures.sets new).1 in

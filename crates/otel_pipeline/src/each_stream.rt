@@ -1,0 +1,58 @@
+//! What is done to the streams of one reader, one after another.
+
+ghost use Rattle.std.specs.Prelude.{◌≡◌, ◌<◌, [], slice_get, OnOk, IsOk, IsOkUnless};
+ghost use Rattle.otel_model.specs.Calls.{or_else};
+ghost use Rattle.otel_pipeline.specs.Pipelines.{AreNumbers, ArePrepared, all_without_pending, committed_each, all_after_collection};
+
+use crate::stream::Stream;
+use otel_common::attributes::KeyValue;
+use otel_common::faults::Fault;
+use otel_common::lists::Items;
+use otel_data::numbers::NumberValue;
+
+/// The numbers of the streams that an instrument feeds.
+pub(crate) fn streams_fed(feeds: &[Items<usize>], instrument: usize) -> &[usize]
+    ensures { result.now ≡ or_else (slice_get feeds.now instrument) [] }
+{
+    match feeds.get(instrument) {
+        Some(numbers) => numbers.as_slice(),
+        None => &[],
+    }
+}
+
+/// Prepares a record in each of these streams.
+pub(crate) fn prepare_each(
+    streams: &mut Vec<Stream>,
+    feeds: &[usize],
+    attributes: &[KeyValue],
+) -> Result<(), Fault>
+    requires { AreNumbers (all_without_pending streams.old.items) feeds.now }
+    ensures same { all_without_pending streams.new.items ≡ all_without_pending streams.old.items }
+    ensures prepared { OnOk result (ArePrepared attributes.now streams.new.items feeds.now) }
+    ensures free { attributes.now ≡ [] → IsOk result }
+    ensures only_memory { IsOkUnless result Fault.OutOfMemory }
+{
+    for k in feeds {
+        streams[*k].prepare(attributes)?;
+    }
+    Ok(())
+}
+
+/// Ends a collection at a moment that gave the points of all streams.
+pub(crate) fn finish_each(streams: &mut Vec<Stream>, now: u64)
+    ensures { all_without_pending streams.new.items ≡ all_without_pending (all_after_collection now streams.old.items) }
+{
+    for i in 0..streams.len() {
+        streams[i].finish(now);
+    }
+}
+
+/// Makes the record in each of these streams.
+pub(crate) fn commit_each(streams: &mut Vec<Stream>, feeds: &[usize], value: NumberValue)
+    requires { AreNumbers streams.old.items feeds.now }
+    ensures { streams.new.items ≡ committed_each value feeds.now streams.old.items }
+{
+    for k in feeds {
+        streams[*k].commit(value);
+    }
+}

@@ -1,0 +1,120 @@
+//! What is done to the streams of all readers, one reader after another.
+
+ghost use Rattle.std.specs.Prelude.{◌≡◌, [], false, All, map, IsOk, OnOk, OnErr, IsOkUnless};
+ghost use Rattle.std.specs.List.{list_any};
+ghost use Rattle.std.specs.Option.{option_map};
+ghost use Rattle.otel_model.specs.Calls as model;
+ghost use Rattle.otel_model.specs.Machine as machine;
+ghost use Rattle.otel_model.specs.Machine.{part_after_call};
+ghost use Rattle.otel_pipeline.specs.Pipelines.{part_of, has_stream_at, piped_after_build, part_after_record, IsBuildableIn, IsPlanned, IsReadyFor, IsPreparedFor};
+ghost use Rattle.otel_pipeline.specs.Views.{views_answering};
+ghost use Rattle.otel_provider.specs.Correspondence.{number_of};
+ghost use Rattle.otel_provider.specs.States.{IsGoodIn, FeedType};
+
+use otel_common::attributes::KeyValue;
+use otel_common::faults::Fault;
+use otel_common::scopes::InstrumentationScope;
+use otel_data::numbers::NumberValue;
+use otel_pipeline::about::About;
+use otel_pipeline::pipeline::Pipeline;
+use otel_stream::stream::Stream;
+
+/// Plans a build, of which each view answered this, at all readers. What they have stays as it was.
+fn plan_all(
+    pipelines: &mut [Pipeline],
+    scope: Option<&InstrumentationScope>,
+    about: &About<'_>,
+    answered: &[Option<Stream>],
+    now: u64,
+) -> Result<(), Fault>
+    requires { IsBuildableIn (option_map (λ s. s.now) scope) about.now }
+    ensures same { map part_of pipelines.new ≡ map part_of pipelines.old }
+    ensures ready { OnOk result (All (IsReadyFor (views_answering answered.now) (option_map (λ s. s.now) scope.entry) about.now now) pipelines.new) }
+    ensures only_memory { IsOkUnless result Fault.OutOfMemory }
+{
+    for i in 0..pipelines.len() {
+        pipelines[i].plan(scope, about, answered, now)?;
+    }
+    Ok(())
+}
+
+/// Carries out what was planned, at all readers.
+fn build_all(pipelines: &mut [Pipeline])
+    requires { All IsPlanned pipelines.old }
+    ensures { map part_of pipelines.new ≡ map (λ p. part_of (piped_after_build p)) pipelines.old }
+{
+    for i in 0..pipelines.len() {
+        pipelines[i].build();
+    }
+}
+
+/// Prepares a record in the streams that an instrument feeds, at all readers.
+fn prepare_all(
+    pipelines: &mut [Pipeline],
+    instrument: usize,
+    attributes: &[KeyValue],
+) -> Result<(), Fault>
+    ensures same { map part_of pipelines.new ≡ map part_of pipelines.old }
+    ensures prepared { OnOk result (All (IsPreparedFor instrument attributes.now) pipelines.new) }
+    ensures free { attributes.now ≡ [] → IsOk result }
+    ensures only_memory { IsOkUnless result Fault.OutOfMemory }
+{
+    for i in 0..pipelines.len() {
+        pipelines[i].prepare(instrument, attributes)?;
+    }
+    Ok(())
+}
+
+/// Makes the record in the streams that an instrument feeds, at all readers.
+fn commit_all(pipelines: &mut [Pipeline], instrument: usize, value: NumberValue)
+    ensures { map part_of pipelines.new ≡ map (part_after_record instrument value) pipelines.old }
+{
+    for i in 0..pipelines.len() {
+        pipelines[i].commit(instrument, value);
+    }
+}
+
+/// Whether an instrument feeds a stream of some reader.
+pub(crate) fn any_stream(pipelines: &[Pipeline], instrument: usize) -> bool
+    ensures { result ≡ list_any (λ p. has_stream_at instrument (part_of p)) pipelines.now }
+{
+    pipelines
+        .iter()
+        .any(|pipeline| pipeline.has_stream(instrument))
+}
+
+/// Builds an instrument, of which each view answered this, at all readers or at none. Without a scope it demands nothing.
+pub(crate) fn build_or_none(
+    pipelines: &mut [Pipeline],
+    scope: Option<&InstrumentationScope>,
+    about: &About<'_>,
+    answered: &[Option<Stream>],
+    now: u64,
+) -> Result<(), Fault>
+    requires { IsGoodIn (option_map (λ s. s.now) scope) about.now }
+    ensures ok { OnOk result (map part_of pipelines.new ≡ map (machine.part_after_build (views_answering answered.now) (option_map (λ s. s.now) scope.entry) about.now now) (map part_of pipelines.old)) }
+    ensures err { OnErr result (map part_of pipelines.new ≡ map part_of pipelines.old) }
+    ensures only_memory { IsOkUnless result Fault.OutOfMemory }
+{
+    plan_all(pipelines, scope, about, answered, now)?;
+    build_all(pipelines);
+    Ok(())
+}
+
+/// Makes a record in the streams that an instrument feeds, at all readers or at none.
+pub(crate) fn record_or_none(
+    pipelines: &mut [Pipeline],
+    instrument: usize,
+    value: NumberValue,
+    attributes: &[KeyValue],
+) -> Result<(), Fault>
+    requires { FeedType instrument (number_of value) (map part_of pipelines.old) }
+    ensures ok { OnOk result (map part_of pipelines.new ≡ map (part_after_call 0 (model.Call.Record instrument (number_of value) attributes.now)) (map part_of pipelines.old)) }
+    ensures err { OnErr result (map part_of pipelines.new ≡ map part_of pipelines.old) }
+    ensures free { attributes.now ≡ [] → IsOk result }
+    ensures only_memory { IsOkUnless result Fault.OutOfMemory }
+{
+    prepare_all(pipelines, instrument, attributes)?;
+    commit_all(pipelines, instrument, value);
+    Ok(())
+}
