@@ -52,6 +52,14 @@ drained-taken v h = by h.pending
     by None = refl
     by (Some s) = drained-measured s (sample_of h.state.aggregate v) h.state.map_state
 
+-- which leaves the live handles
+pub live-taken : (v : Amount) (h : HeldStream) → (stream_after_commit v h).live ≡ h.live
+live-taken v h = by h.pending
+  where
+    by : (o : Option AttributeSet) → (taken_from o v h).live ≡ h.live
+    by None = refl
+    by (Some s) = refl
+
 -- the entry of the empty set, forgotten, where no records come to a last value of 0
 reset-form : {A : Type 0} (meaning : A → Fold) → ((a : A) → clear_fold (meaning a) ≡ Last 0) → (t : Table) → HasForm meaning t
     → reset t.none ≡ record { set = none_set; counted = false; updated = false; fold = Last 0; handles = t.none.handles }

@@ -5,9 +5,10 @@ use Rattle.otel_model_stream.specs.Sets.{AttributeSet}
 use Rattle.otel_aggregate.specs.Streams.{HeldStream, recorded_set, taken_from, stream_after_commit}
 
 pub taken-some : (old new : HeldStream) (v : Amount) (o : Option AttributeSet) → old.pending ≡ o → is_some o ≡ true
-    → ((s : AttributeSet) → old.pending ≡ Some s → new.state ≡ recorded_set s v old.state) → new.pending ≡ None → new ≡ stream_after_commit v old
-taken-some old new v None e some measured spent = absurd (true≢false (sym some))
-taken-some old new v (Some s) e some measured spent = (λ i. record { state = measured s e i; pending = spent i }) ∙ sym (ap (λ o. taken_from o v old) e)
+    → ((s : AttributeSet) → old.pending ≡ Some s → new.state ≡ recorded_set s v old.state) → new.live ≡ old.live → new.room ≡ old.room → new.pending ≡ None
+    → new ≡ stream_after_commit v old
+taken-some old new v None e some measured live room spent = absurd (true≢false (sym some))
+taken-some old new v (Some s) e some measured live room spent = (λ i. record { state = measured s e i; live = live i; pending = spent i; room = room i }) ∙ sym (ap (λ o. taken_from o v old) e)
 
 pub taken-none : (old : HeldStream) (v : Amount) (o : Option AttributeSet) → old.pending ≡ o → is_some o ≡ false → old ≡ stream_after_commit v old
 taken-none old v None e none = sym (ap (λ o. taken_from o v old) e)

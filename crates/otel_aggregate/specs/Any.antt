@@ -1,5 +1,5 @@
 -- A stream of any aggregate and either number type.
-use Rattle.std.specs.Prelude.{ℕ, ℤ, pos, ◌≡◌, Bool, true, false, cond, ◌&&◌, ◌||◌, is_some, List, [], Option, None}
+use Rattle.std.specs.Prelude.{ℕ, ℤ, pos, ◌≡◌, Bool, true, false, not, cond, ◌&&◌, ◌||◌, is_some, List, [], Option, None}
 use Rattle.std.specs.Bool.{beq}
 use Rattle.std.specs.Int.{cast_unsigned, w64}
 use Rattle.otel_data.specs.declared.aggregated.AggregatedMetrics.{AggregatedMetrics}
@@ -11,20 +11,25 @@ use Rattle.otel_data.specs.declared.numbers.NumberValue.TheVariants as number
 use Rattle.otel_model_stream.specs.Sets.{AttributeSet, AllowList}
 use Rattle.otel_model_stream.specs.Folds.{Aggregate, Sum, LastValue, Histogram, Amount}
 use Rattle.otel_model_stream.specs.Entries.{Table, Point}
+use Rattle.otel_model_stream.specs.Events.{Handles, held_by}
 use Rattle.otel_model_stream.specs.Maps.{draining_points}
 use Rattle.otel_model_stream.specs.Data.{natural_of, signed_of}
+use Rattle.otel_value_map.specs.Numbers.{without_handles}
 use Rattle.otel_aggregate.specs.declared.settings.AnySettings.{AnySettings}
 use Rattle.otel_aggregate.specs.declared.settings.AnySettings.TheVariants as settings
 use Rattle.otel_aggregate.specs.Data.{sum_data, gauge_data, histogram_data}
-use Rattle.otel_aggregate.specs.Streams.{StreamState, HeldStream, new_stream, points_now, stream_after_collection, stream_after_commit}
+use Rattle.otel_aggregate.specs.Streams.{StreamState, HeldStream, new_stream, points_now, stream_after_collection, stream_after_commit, stream_after_bind, stream_after_update, stream_after_unbind}
 use Rattle.otel_aggregate.specs.Observed.{ObservedState, HeldObserved, drained_at, observed_data}
 
--- whether its numbers are signed, the stream, the set of the record that is prepared, whether each
--- collection empties it, as one of observed sums, and what such a stream reported in the last one
+-- whether its numbers are signed, the stream, its live handles, the set of the record or bind that is prepared, whether room
+-- is made for a handle, whether each collection empties it, as one of observed sums, and what such a stream reported in the
+-- last one. One of observed sums has no handles
 pub record HeldAny : Type 0 where
   pub is_signed : Bool
   pub state : StreamState
+  pub live : Handles
   pub pending : Option AttributeSet
+  pub room : Bool
   pub drains : Bool
   pub reported : List Point
 
@@ -65,26 +70,28 @@ abbrev pub new_any : AnySettings → Bool → AllowList → Bool → ℕ → ℕ
 new_any s is_signed allow resets limit start = record {
   is_signed = is_signed;
   state = new_stream (aggregate_of s) (is_monotonic_of s) allow resets limit start;
+  live = [];
   pending = None;
+  room = false;
   drains = drains_of s;
   reported = [];
 }
 
 -- one of one number type
 abbrev pub of_type : Bool → HeldStream → HeldAny
-of_type is_signed s = record { is_signed = is_signed; state = s.state; pending = s.pending; drains = false; reported = [] }
+of_type is_signed s = record { is_signed = is_signed; state = s.state; live = s.live; pending = s.pending; room = s.room; drains = false; reported = [] }
 
 -- observed sums of one number type
 abbrev pub of_observed : Bool → HeldObserved → HeldAny
-of_observed is_signed s = record { is_signed = is_signed; state = s.state.stream; pending = s.pending; drains = true; reported = s.state.reported }
+of_observed is_signed s = record { is_signed = is_signed; state = s.state.stream; live = []; pending = s.pending; room = false; drains = true; reported = s.state.reported }
 
 -- the stream by itself
 abbrev pub stream_in : HeldAny → HeldStream
-stream_in a = record { state = a.state; pending = a.pending }
+stream_in a = record { state = a.state; live = a.live; pending = a.pending; room = a.room }
 
 -- with this one in its place
 abbrev pub with_stream : HeldAny → HeldStream → HeldAny
-with_stream a s = record a { state = s.state; pending = s.pending }
+with_stream a s = record a { state = s.state; live = s.live; pending = s.pending; room = s.room }
 
 -- ======== records ========
 -- after the record that is prepared, if there is one, of a value that has the stream's number type
@@ -94,6 +101,27 @@ any_after_commit value a = cond (beq (is_signed_value value) a.is_signed) (with_
 -- whether a record is made so
 abbrev pub is_taken : NumberValue → HeldAny → Bool
 is_taken value a = beq (is_signed_value value) a.is_signed && is_some a.pending
+
+-- ======== handles ========
+-- once room is made for a handle
+abbrev pub any_with_room : HeldAny → HeldAny
+any_with_room a = record a { room = not a.drains }
+
+-- after the bind that is prepared, as this handle, where room is made and the handle isn't live
+abbrev pub any_after_bind : ℕ → HeldAny → HeldAny
+any_after_bind h a = cond a.drains a (with_stream a (stream_after_bind h (stream_in a)))
+
+-- after a record through a handle, if it is live, of a value that has the stream's number type
+abbrev pub any_after_update : ℕ → NumberValue → HeldAny → HeldAny
+any_after_update h value a = cond (not a.drains && beq (is_signed_value value) a.is_signed) (with_stream a (stream_after_update h (amount_of value) (stream_in a))) a
+
+-- whether a record is made so
+abbrev pub is_updated : ℕ → NumberValue → HeldAny → Bool
+is_updated h value a = beq (is_signed_value value) a.is_signed && is_some (held_by h a.live)
+
+-- after the end of a handle, if it is live
+abbrev pub any_after_unbind : ℕ → HeldAny → HeldAny
+any_after_unbind h a = cond a.drains a (with_stream a (stream_after_unbind h (stream_in a)))
 
 -- ======== collections ========
 -- what a collection at a moment gives, by its aggregate
@@ -155,15 +183,15 @@ pub record HeldSaved : Type 0 where
   pub form : Form
   pub table : Table
 
--- the entries of this stream
+-- the entries of this stream, which no handle holds
 abbrev pub saved_of : HeldAny → HeldSaved
-saved_of a = record { is_signed = a.is_signed; form = form_of a.state.aggregate; table = a.state.map_state.table }
+saved_of a = record { is_signed = a.is_signed; form = form_of a.state.aggregate; table = without_handles a.state.map_state.table }
 
--- these entries can be those of the stream: of its number type and form, and with as many handles at the empty set's
+-- these entries can be those of the stream: of its number type and form, where no handle is live
 pub record IsLike (saved : HeldSaved) (a : HeldAny) : Type 0 where
   pub number : saved.is_signed ≡ a.is_signed
   pub form : saved.form ≡ form_of a.state.aggregate
-  pub handles : saved.table.none.handles ≡ a.state.map_state.table.none.handles
+  pub unheld : a.live ≡ []
 
 -- with these entries in place of its own; a record that was prepared is given up
 abbrev pub with_saved : HeldSaved → HeldAny → HeldAny

@@ -1,6 +1,6 @@
 -- A stream of sums that are observed, which are values that were summed before (Metrics SDK, "Asynchronous
 -- Counter" and "MetricReader").
-use Rattle.std.specs.Prelude.{ℕ, ℤ, Bool, cond, List, [], map, Option, None, Some}
+use Rattle.std.specs.Prelude.{ℕ, ℤ, Bool, false, cond, List, [], map, Option, None, Some}
 use Rattle.otel_common.specs.declared.attributes.KeyValue.{KeyValue}
 use Rattle.otel_data.specs.declared.sums.Sum.{Sum}
 use Rattle.otel_model_stream.specs.Sets.{AttributeSet, AllowList}
@@ -37,7 +37,7 @@ observed_attributes l v a = record { stream = recorded_attributes l v a.stream; 
 
 -- without the values that were reported
 abbrev pub stream_in : HeldObserved → HeldStream
-stream_in s = record { state = s.state.stream; pending = s.pending }
+stream_in s = record { state = s.state.stream; live = []; pending = s.pending; room = false }
 
 -- with these
 abbrev pub with_reported : List Point → HeldStream → HeldObserved

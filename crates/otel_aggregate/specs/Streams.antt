@@ -1,10 +1,11 @@
 -- One stream of one reader: its map of sets, and what a collection does to it (Metrics SDK, "MetricReader").
-use Rattle.std.specs.Prelude.{ℕ, Bool, false, not, cond, List, Option, None, Some}
+use Rattle.std.specs.Prelude.{ℕ, Bool, true, false, not, ◌&&◌, cond, List, [], ◌∷◌, ◌++◌, Option, None, Some, is_none}
 use Rattle.otel_common.specs.declared.attributes.KeyValue.{KeyValue}
 use Rattle.otel_model_stream.specs.Sets.{AttributeSet, AllowList, allowed_part, set_of}
 use Rattle.otel_model_stream.specs.Folds.{Aggregate, Sum, LastValue, Histogram, Amount, empty_of, sample_of}
 use Rattle.otel_model_stream.specs.Entries.{Point, points}
-use Rattle.otel_model_stream.specs.Maps.{MapState, new_map, measured_map, evicted_map, without_lists, knows}
+use Rattle.otel_model_stream.specs.Events.{Handles, held_by, without}
+use Rattle.otel_model_stream.specs.Maps.{MapState, new_map, measured_map, bound_map, bound_to, updated_bound, unbound_map, evicted_map, without_lists, knows}
 
 pub record StreamState : Type 0 where
   pub map_state : MapState
@@ -37,10 +38,12 @@ new_stream aggregate is_monotonic allow resets limit start = record {
   start = start;
 }
 
--- a stream, and the set of the record that is prepared
+-- a stream, its live handles, the set of the record or bind that is prepared, and whether room is made for a handle
 pub record HeldStream : Type 0 where
   pub state : StreamState
+  pub live : Handles
   pub pending : Option AttributeSet
+  pub room : Bool
 
 -- what is kept of these attributes is nothing or, in its order, the set of an entry
 abbrev pub is_known : AllowList → List KeyValue → MapState → Bool
@@ -65,8 +68,40 @@ stream_after_collection now a = cond a.resets (record a { map_state = evicted_ma
 -- after a record of this set, if there is one, which was prepared
 abbrev pub taken_from : Option AttributeSet → Amount → HeldStream → HeldStream
 taken_from None v s = s
-taken_from (Some set) v s = record { state = recorded_set set v s.state; pending = None }
+taken_from (Some set) v s = record s { state = recorded_set set v s.state; pending = None }
 
 -- after the record that is prepared, if there is one
 abbrev pub stream_after_commit : Amount → HeldStream → HeldStream
 stream_after_commit v s = taken_from s.pending v s
+
+-- ======== handles ========
+-- after the bind of this set, if there is one, as this handle: it uses the room
+abbrev pub bind_of : Option AttributeSet → ℕ → HeldStream → HeldStream
+bind_of None h s = s
+bind_of (Some set) h s = record { state = record s.state { map_state = bound_map set s.state.map_state }; live = s.live ++ (h, bound_to set s.state.map_state) ∷ []; pending = None; room = false }
+
+-- after the bind that is prepared, where room is made for a handle of this number, which isn't live
+abbrev pub stream_after_bind : ℕ → HeldStream → HeldStream
+stream_after_bind h s = cond (s.room && is_none (held_by h s.live)) (bind_of s.pending h s) s
+
+-- after a record through a handle of the entry of this set, if there is one
+abbrev pub update_at : Option AttributeSet → Amount → StreamState → StreamState
+update_at None v a = a
+update_at (Some g) v a = record a { map_state = updated_bound g (sample_of a.aggregate v) a.map_state }
+
+-- through the handle of this number; what was prepared is given up
+abbrev pub stream_after_update : ℕ → Amount → HeldStream → HeldStream
+stream_after_update h v s = record s { state = update_at (held_by h s.live) v s.state; pending = None }
+
+-- after the end of a handle of the entry of this set, if there is one
+abbrev pub unbind_at : Option AttributeSet → StreamState → StreamState
+unbind_at None a = a
+unbind_at (Some g) a = record a { map_state = unbound_map g a.map_state }
+
+-- of the handle of this number; what was prepared is given up
+abbrev pub stream_after_unbind : ℕ → HeldStream → HeldStream
+stream_after_unbind h s = record s { state = unbind_at (held_by h s.live) s.state; live = without h s.live; pending = None }
+
+-- with a record or a bind of these attributes prepared, and room for a handle
+abbrev pub ready_to_bind : List KeyValue → HeldStream → HeldStream
+ready_to_bind l s = record s { pending = Some (set_of s.state.allow l); room = true }

@@ -1,11 +1,13 @@
 //! A stream of any aggregate and either number type.
 
-ghost use Rattle.std.specs.Prelude.{◌≡◌, [], is_some, None, Some, IsTrue, OnOk, OnErr, IfOk, IsOk, IsOkUnless};
+ghost use Rattle.std.specs.Prelude.{◌≡◌, [], ◌&&◌, true, false, is_some, None, Some, IsTrue, OnOk, OnErr, IfOk, IsOk, IsOkUnless};
 ghost use Rattle.otel_common.specs.Temporalities.{resets};
-ghost use Rattle.otel_model_stream.specs.Sets.{set_of};
+ghost use Rattle.otel_model_stream.specs.Events.{held_by};
+ghost use Rattle.otel_model_stream.specs.Sets.{AttributeSet, set_of};
 ghost use Rattle.otel_model_stream.specs.Folds.{wrap};
 ghost use Rattle.otel_model_stream.specs.Totals.{points_total};
-ghost use Rattle.otel_aggregate.specs.Any.{aggregate_of, is_monotonic_of, drains_of, any_after_commit, is_taken, metrics_now, any_points, any_after_collection, saved_of, IsLike, with_saved};
+ghost use Rattle.otel_value_map.specs.Numbers.{is_placed, without_handles};
+ghost use Rattle.otel_aggregate.specs.Any.{aggregate_of, is_monotonic_of, drains_of, any_after_commit, is_taken, any_with_room, any_after_bind, any_after_update, is_updated, any_after_unbind, metrics_now, any_points, any_after_collection, saved_of, IsLike, with_saved};
 ghost use Rattle.otel_aggregate.specs.Streams.{new_stream, is_known};
 
 use crate::histogram::Histogram;
@@ -69,7 +71,9 @@ impl AnyAggregate {
     ) -> Result<Self, Fault>
         ensures made { IfOk result (λ made. made.state ≡ new_stream (aggregate_of settings) (is_monotonic_of settings) allow (resets temporality) limit now) }
         ensures number { IfOk result (λ made. made.is_signed ≡ is_signed) }
+        ensures handles { IfOk result (λ made. made.live ≡ []) }
         ensures unprepared { IfOk result (λ made. made.pending ≡ None) }
+        ensures room { IfOk result (λ made. made.room ≡ false) }
         ensures drains { IfOk result (λ made. made.drains ≡ drains_of settings) }
         ensures reported { IfOk result (λ made. made.reported ≡ []) }
         ensures only_memory { IsOkUnless result Fault.OutOfMemory }
@@ -116,6 +120,8 @@ impl AnyAggregate {
     /// Else it copies and sorts it.
     pub fn prepare(&mut self, attributes: &[KeyValue]) -> Result<(), Fault>
         ensures same { self.new.state ≡ self.old.state }
+        ensures live { self.new.live ≡ self.old.live }
+        ensures room { self.new.room ≡ self.old.room }
         ensures number { self.new.is_signed ≡ self.old.is_signed }
         ensures drains { self.new.drains ≡ self.old.drains }
         ensures reported { self.new.reported ≡ self.old.reported }
@@ -168,6 +174,106 @@ impl AnyAggregate {
             (Inner::HistogramU64(stream), NumberValue::U64(value)) => stream.commit(value),
             (Inner::HistogramI64(stream), NumberValue::I64(value)) => stream.commit(value),
             _ => false,
+        }
+    }
+
+    /// Makes room for a handle. A bind uses it. Observed sums have no handles.
+    pub fn make_room(&mut self) -> Result<(), Fault>
+        ensures room { OnOk result (self.new ≡ any_with_room self.old) }
+        ensures refused { OnErr result (self.new ≡ self.old) }
+        ensures only_memory { IsOkUnless result Fault.OutOfMemory }
+    {
+        match &mut self.inner {
+            Inner::SumU64(stream) => stream.make_room(),
+            Inner::SumI64(stream) => stream.make_room(),
+            Inner::PrecomputedSumU64(_) => Ok(()),
+            Inner::PrecomputedSumI64(_) => Ok(()),
+            Inner::LastValueU64(stream) => stream.make_room(),
+            Inner::LastValueI64(stream) => stream.make_room(),
+            Inner::HistogramU64(stream) => stream.make_room(),
+            Inner::HistogramI64(stream) => stream.make_room(),
+        }
+    }
+
+    /// Carries out the bind that was prepared, as a handle of this number, if one was, room was made for it and no live
+    /// handle has the number. The second phase; it takes no memory.
+    pub fn bind_ready(&mut self, handle: u64)
+        ensures bound { self.new ≡ any_after_bind handle self.old }
+    {
+        match &mut self.inner {
+            Inner::SumU64(stream) => stream.bind_ready(handle),
+            Inner::SumI64(stream) => stream.bind_ready(handle),
+            Inner::PrecomputedSumU64(_) => {}
+            Inner::PrecomputedSumI64(_) => {}
+            Inner::LastValueU64(stream) => stream.bind_ready(handle),
+            Inner::LastValueI64(stream) => stream.bind_ready(handle),
+            Inner::HistogramU64(stream) => stream.bind_ready(handle),
+            Inner::HistogramI64(stream) => stream.bind_ready(handle),
+        }
+    }
+
+    /// Prepares a record through a handle, if it is live, in the place of what was prepared before; else that is given up. It looks
+    /// up nothing but the handle, and takes no memory. Observed sums have no handles: they stay as they were.
+    pub fn prepare_held(&mut self, handle: u64)
+        ensures same { self.new.state ≡ self.old.state }
+        ensures live { self.new.live ≡ self.old.live }
+        ensures room { self.new.room ≡ self.old.room }
+        ensures number { self.new.is_signed ≡ self.old.is_signed }
+        ensures drains { self.new.drains ≡ self.old.drains }
+        ensures reported { self.new.reported ≡ self.old.reported }
+        ensures ready { self.old.drains ≡ false → self.new.pending ≡ held_by handle self.old.live }
+        ensures placed { self.old.drains ≡ false → (g : AttributeSet) → self.new.pending ≡ Some g → is_placed g self.new.state.map_state.table.entries ≡ true }
+    {
+        match &mut self.inner {
+            Inner::SumU64(stream) => stream.prepare_held(handle),
+            Inner::SumI64(stream) => stream.prepare_held(handle),
+            Inner::PrecomputedSumU64(_) => {}
+            Inner::PrecomputedSumI64(_) => {}
+            Inner::LastValueU64(stream) => stream.prepare_held(handle),
+            Inner::LastValueI64(stream) => stream.prepare_held(handle),
+            Inner::HistogramU64(stream) => stream.prepare_held(handle),
+            Inner::HistogramI64(stream) => stream.prepare_held(handle),
+        }
+    }
+
+    /// Takes in a record through a handle, if it is live and the value has the stream's number type. Answers whether it did. It
+    /// looks up nothing but the handle and takes no memory.
+    pub fn update_bound(&mut self, handle: u64, value: NumberValue) -> bool
+        ensures updated { self.new ≡ any_after_update handle value self.old }
+        ensures told { result ≡ is_updated handle value self.old }
+    {
+        match (&mut self.inner, value) {
+            (Inner::SumU64(stream), NumberValue::U64(value)) => stream.update_bound(handle, value),
+            (Inner::SumI64(stream), NumberValue::I64(value)) => stream.update_bound(handle, value),
+            (Inner::LastValueU64(stream), NumberValue::U64(value)) => stream.update_bound(
+                handle, value,
+            ),
+            (Inner::LastValueI64(stream), NumberValue::I64(value)) => stream.update_bound(
+                handle, value,
+            ),
+            (Inner::HistogramU64(stream), NumberValue::U64(value)) => stream.update_bound(
+                handle, value,
+            ),
+            (Inner::HistogramI64(stream), NumberValue::I64(value)) => stream.update_bound(
+                handle, value,
+            ),
+            _ => false,
+        }
+    }
+
+    /// Ends a handle, if it is live. It takes no memory, and goes over the handles that are younger.
+    pub fn unbind(&mut self, handle: u64)
+        ensures unbound { self.new ≡ any_after_unbind handle self.old }
+    {
+        match &mut self.inner {
+            Inner::SumU64(stream) => stream.unbind(handle),
+            Inner::SumI64(stream) => stream.unbind(handle),
+            Inner::PrecomputedSumU64(_) => {}
+            Inner::PrecomputedSumI64(_) => {}
+            Inner::LastValueU64(stream) => stream.unbind(handle),
+            Inner::LastValueI64(stream) => stream.unbind(handle),
+            Inner::HistogramU64(stream) => stream.unbind(handle),
+            Inner::HistogramI64(stream) => stream.unbind(handle),
         }
     }
 
@@ -280,7 +386,7 @@ impl AnyAggregate {
         }
     }
 
-    /// A copy of the entries, to be restored later. It takes memory also without entries.
+    /// A copy of the entries, which no handle holds, to be restored later. It takes memory also without entries.
     pub fn save(&self, alloc: Global) -> Result<SavedAggregate, Fault>
         ensures saved { IfOk result (λ saved. saved ≡ saved_of self.now) }
         ensures only_memory { IsOkUnless result Fault.OutOfMemory }
@@ -300,7 +406,7 @@ impl AnyAggregate {
         Ok(SavedAggregate::of(inner))
     }
 
-    /// Puts saved entries in the place of its own, and gives up a record that was prepared. What observed
+    /// Puts saved entries in the place of its own, where no handle is live, and gives up a record that was prepared. What observed
     /// sums reported stays as it was. It takes no memory.
     pub fn restore(&mut self, saved: SavedAggregate)
         requires { IsLike saved self.old }
@@ -318,6 +424,23 @@ impl AnyAggregate {
             (Inner::HistogramU64(stream), SavedInner::HistogramU64(saved)) => stream.restore(saved),
             (Inner::HistogramI64(stream), SavedInner::HistogramI64(saved)) => stream.restore(saved),
             _ => {}
+        }
+    }
+
+    /// The law that no entry is held where no handle is live, and that observed sums have no handles.
+    pub fn told_unheld(&self)
+        ensures unheld { self.now.live ≡ [] → without_handles self.now.state.map_state.table ≡ self.now.state.map_state.table }
+        ensures observed { self.now.drains ≡ true → self.now.live ≡ [] }
+    {
+        match &self.inner {
+            Inner::SumU64(stream) => stream.told_unheld(),
+            Inner::SumI64(stream) => stream.told_unheld(),
+            Inner::PrecomputedSumU64(stream) => stream.told_unheld(),
+            Inner::PrecomputedSumI64(stream) => stream.told_unheld(),
+            Inner::LastValueU64(stream) => stream.told_unheld(),
+            Inner::LastValueI64(stream) => stream.told_unheld(),
+            Inner::HistogramU64(stream) => stream.told_unheld(),
+            Inner::HistogramI64(stream) => stream.told_unheld(),
         }
     }
 }

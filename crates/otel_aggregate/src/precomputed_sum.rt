@@ -1,6 +1,6 @@
 //! Sums that are observed.
 
-ghost use Rattle.std.specs.Prelude.{◌≡◌, cond, map, is_some, None, Some, IsTrue, IsSome, OnOk, OnErr, IfOk, IsOk, IsOkUnless};
+ghost use Rattle.std.specs.Prelude.{◌≡◌, [], cond, map, is_some, None, Some, IsTrue, IsSome, OnOk, OnErr, IfOk, IsOk, IsOkUnless};
 ghost use Rattle.std.specs.Option.{option_map};
 ghost use Rattle.otel_common.specs.Temporalities.{resets};
 ghost use Rattle.otel_model_stream.specs.Sets.{AttributeSet, set_of};
@@ -9,11 +9,13 @@ ghost use Rattle.otel_model_stream.specs.Totals.{points_total};
 ghost use Rattle.otel_model_stream.specs.Maps.{draining_points};
 ghost use Rattle.otel_model_stream.specs.Observed.{value_before, less};
 ghost use Rattle.otel_model_stream.specs.Data.{sum_point};
+ghost use Rattle.otel_value_map.specs.Numbers.{without_handles};
 ghost use Rattle.otel_value_map.specs.Slots.{copies};
 ghost use Rattle.otel_aggregate.specs.Streams.{is_known};
 ghost use Rattle.otel_aggregate.specs.Observed.{new_observed, observed_set, observed_attributes, observed_after_commit, values_now, since_reported, drained_at, observed_data};
 
 use crate::stream::{Stream, shown_temporality};
+use otel_bound_map::bound_map::BoundMap;
 use otel_common::attributes::KeyValue;
 use otel_common::faults::Fault;
 use otel_common::keys::Key;
@@ -24,7 +26,6 @@ use otel_data::sums::Sum as SumData;
 use otel_value_map::assign::Assign;
 use otel_value_map::number::Number;
 use otel_value_map::saved::Saved;
-use otel_value_map::value_map::ValueMap;
 use std::alloc::Global;
 use std::marker::Model;
 
@@ -38,7 +39,7 @@ fn difference_of<T: Number>(value: T, before: T) -> T
 }
 
 /// The value that was reported of a set, 0 if it had no point.
-fn value_in<T: Number + Drop>(reported: &ValueMap<Assign<T>>, attributes: &[KeyValue]) -> T
+fn value_in<T: Number + Drop>(reported: &BoundMap<Assign<T>>, attributes: &[KeyValue]) -> T
     ensures { T.bits result ≡ value_before (draining_points reported.now.state) attributes.now }
 {
     match reported.get(attributes) {
@@ -49,7 +50,7 @@ fn value_in<T: Number + Drop>(reported: &ValueMap<Assign<T>>, attributes: &[KeyV
 
 /// A value that was observed of a set, or what it is more than the one that was reported before.
 fn shown_value<T: Number + Drop>(
-    reported: Option<&ValueMap<Assign<T>>>,
+    reported: Option<&BoundMap<Assign<T>>>,
     attributes: &[KeyValue],
     value: T,
 ) -> T
@@ -64,7 +65,7 @@ fn shown_value<T: Number + Drop>(
 /// The point of a set.
 fn shown_point<T: Number + Drop>(
     alloc: Global,
-    reported: Option<&ValueMap<Assign<T>>>,
+    reported: Option<&BoundMap<Assign<T>>>,
     attributes: Items<KeyValue>,
     value: T,
 ) -> SumDataPoint<T>
@@ -78,7 +79,7 @@ fn shown_point<T: Number + Drop>(
 /// The points of values that were observed.
 fn shown_points<T: Number + Drop>(
     alloc: Global,
-    reported: Option<&ValueMap<Assign<T>>>,
+    reported: Option<&BoundMap<Assign<T>>>,
     given: Vec<(Items<KeyValue>, Assign<T>)>,
 ) -> Result<Items<SumDataPoint<T>>, Fault>
     ensures points { IfOk result (λ made. made ≡ map (λ p. sum_point T.of_bits T.of_wide (since_reported (option_map (λ before. draining_points before.now.state) reported.entry) p)) (copies (λ last. Last (T.bits last.value)) given.items)) }
@@ -105,12 +106,12 @@ fn shown_points<T: Number + Drop>(
 pub struct PrecomputedSum<T: Number + Drop> {
     stream: Stream<Assign<T>>,
     /// What the last collection reported. A stream that doesn't reset keeps it empty.
-    reported: ValueMap<Assign<T>>,
+    reported: BoundMap<Assign<T>>,
     is_monotonic: bool,
 }
 
 impl<T: Number + Drop> Model for PrecomputedSum<T> {
-    ghost use Rattle.std.specs.Prelude.{◌≡◌};
+    ghost use Rattle.std.specs.Prelude.{◌≡◌, []};
     ghost use Rattle.otel_model_stream.specs.Maps.{draining_points, drained_map};
     ghost use Rattle.otel_aggregate.specs.Observed.{HeldObserved};
 
@@ -124,7 +125,7 @@ impl<T: Number + Drop> Model for PrecomputedSum<T> {
       pending = s.stream.pending;
     } };
 
-    ghost invariant = { λ s. drained_map s.reported.state ≡ drained_map s.stream.state.map_state };
+    ghost invariant = { λ s. (drained_map s.reported.state ≡ drained_map s.stream.state.map_state) × (s.stream.live ≡ []) × (s.reported.live ≡ []) };
 }
 
 impl<T: Number + Drop> PrecomputedSum<T> {
@@ -144,7 +145,7 @@ impl<T: Number + Drop> PrecomputedSum<T> {
         ensures unprepared { IfOk result (λ made. made.pending ≡ None) }
         ensures only_memory { IsOkUnless result Fault.OutOfMemory }
     {
-        let reported = ValueMap::new(alloc, (), limit)?;
+        let reported = BoundMap::new(alloc, (), limit)?;
         let stream = Stream::new(alloc, (), temporality, allow, limit, now)?;
         Ok(PrecomputedSum {
             stream,
@@ -208,7 +209,7 @@ impl<T: Number + Drop> PrecomputedSum<T> {
     }
 
     /// What the last collection reported, where differences to it are shown.
-    fn reported(&self) -> Option<&ValueMap<Assign<T>>>
+    fn reported(&self) -> Option<&BoundMap<Assign<T>>>
         ensures { option_map (λ before. draining_points before.now.state) result ≡ cond self.now.state.stream.resets (Some self.now.state.reported) None }
     {
         if self.stream.resets() {
@@ -264,10 +265,9 @@ impl<T: Number + Drop> PrecomputedSum<T> {
         }
     }
 
-    /// A copy of what was observed, to be restored later. A stream without observations takes no memory
-    /// for them.
+    /// A copy of what was observed, to be restored later. It takes memory also without observations.
     pub fn save(&self, alloc: Global) -> Result<Saved<Assign<T>>, Fault>
-        ensures saved { IfOk result (λ saved. saved ≡ self.now.state.stream.map_state.table) }
+        ensures saved { IfOk result (λ saved. saved ≡ without_handles self.now.state.stream.map_state.table) }
         ensures only_memory { IsOkUnless result Fault.OutOfMemory }
     {
         self.stream.save(alloc)
@@ -276,11 +276,19 @@ impl<T: Number + Drop> PrecomputedSum<T> {
     /// Puts saved observations in the place of its own, and gives up one that was prepared. What was
     /// reported stays as it was. It takes no memory.
     pub fn restore(&mut self, saved: Saved<Assign<T>>)
-        requires { saved.none.handles ≡ self.old.state.stream.map_state.table.none.handles }
         ensures state { self.new.state ≡ record self.old.state { stream = record self.old.state.stream { map_state = record self.old.state.stream.map_state { table = saved } } } }
         ensures unprepared { self.new.pending ≡ None }
     {
+        // Tells the prover that no entry is held.
+        self.stream.told_unheld();
         self.stream.restore(saved);
+    }
+
+    /// The law that no entry is held.
+    pub fn told_unheld(&self)
+        ensures { without_handles self.now.state.stream.map_state.table ≡ self.now.state.stream.map_state.table }
+    {
+        self.stream.told_unheld();
     }
 
     /// The law that it is a stream of last values.

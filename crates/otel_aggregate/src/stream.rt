@@ -1,24 +1,26 @@
 //! The stream of one instrument at one reader, whatever its aggregate.
 
-ghost use Rattle.std.specs.Prelude.{◌≡◌, cond, map, is_some, None, Some, IsTrue, IsSome, IfOk, OnOk, OnErr, IsOk, IsOkUnless};
+ghost use Rattle.std.specs.Prelude.{◌≡◌, [], true, false, cond, map, is_some, None, Some, IsTrue, IsSome, IfOk, OnOk, OnErr, IsOk, IsOkUnless};
 ghost use Rattle.otel_common.specs.Temporalities.{resets};
 ghost use Rattle.otel_common.specs.declared.metrics.Temporality.TheVariants as shown;
 ghost use Rattle.otel_model_stream.specs.Sets.{AttributeSet, set_of};
+ghost use Rattle.otel_model_stream.specs.Events.{held_by};
 ghost use Rattle.otel_model_stream.specs.Folds.{wrap};
 ghost use Rattle.otel_model_stream.specs.Totals.{points_total};
 ghost use Rattle.otel_model_stream.specs.Maps.{draining_points, drained_map};
+ghost use Rattle.otel_value_map.specs.Numbers.{is_placed, without_handles};
 ghost use Rattle.otel_value_map.specs.Slots.{HasForm, copies};
 ghost use Rattle.otel_aggregate.specs.Data.{temporality_of};
-ghost use Rattle.otel_aggregate.specs.Streams.{new_stream, is_known, recorded_set, recorded_attributes, stream_after_commit, stream_after_collection, points_now};
+ghost use Rattle.otel_aggregate.specs.Streams.{new_stream, is_known, recorded_set, recorded_attributes, ready_to_bind, stream_after_bind, stream_after_update, stream_after_unbind, stream_after_commit, stream_after_collection, points_now};
 
 use crate::shows::{Shows, into_points};
+use otel_bound_map::bound_map::BoundMap;
 use otel_common::attributes::KeyValue;
 use otel_common::faults::Fault;
 use otel_common::keys::Key;
 use otel_common::lists::Items;
 use otel_common::metrics::Temporality;
 use otel_value_map::saved::Saved;
-use otel_value_map::value_map::ValueMap;
 use std::alloc::Global;
 use std::marker::Model;
 use std::mem::swap;
@@ -49,7 +51,7 @@ pub fn shown_temporality(resets: bool) -> Temporality
 #[derive(Drop)]
 pub struct Stream<A: Shows> {
     settings: A::Settings,
-    map: ValueMap<A>,
+    map: BoundMap<A>,
     allow: Option<Items<Key>>,
     /// Whether each collection starts again.
     resets: bool,
@@ -70,7 +72,9 @@ impl<A: Shows> Model for Stream<A> {
         resets = s.resets;
         start = s.start;
       };
+      live = s.map.live;
       pending = s.map.pending;
+      room = s.map.room;
     } };
 }
 
@@ -85,10 +89,12 @@ impl<A: Shows> Stream<A> {
         start: u64,
     ) -> Result<Self, Fault>
         ensures made { IfOk result (λ made. made.state ≡ new_stream (A.aggregate settings) (A.is_monotonic settings) allow (resets temporality) limit start) }
+        ensures handles { IfOk result (λ made. made.live ≡ []) }
         ensures unprepared { IfOk result (λ made. made.pending ≡ None) }
+        ensures room { IfOk result (λ made. made.room ≡ false) }
         ensures only_memory { IsOkUnless result Fault.OutOfMemory }
     {
-        let map = ValueMap::new(alloc, A::config(&settings), limit)?;
+        let map = BoundMap::new(alloc, A::config(&settings), limit)?;
         Ok(Stream {
             settings,
             map,
@@ -107,6 +113,8 @@ impl<A: Shows> Stream<A> {
     /// Else it copies and sorts it.
     pub fn prepare(&mut self, attributes: &[KeyValue]) -> Result<(), Fault>
         ensures same { self.new.state ≡ self.old.state }
+        ensures live { self.new.live ≡ self.old.live }
+        ensures room { self.new.room ≡ self.old.room }
         ensures ready { OnOk result (self.new.pending ≡ Some (set_of self.old.state.allow attributes.now)) }
         ensures refused { OnErr result (self.new.pending ≡ None) }
         ensures known { IsTrue (is_known self.old.state.allow attributes.now self.old.state.map_state) → IsOk result }
@@ -129,6 +137,8 @@ impl<A: Shows> Stream<A> {
     pub fn measure_ready(&mut self, value: A::Value)
         requires { IsSome self.old.pending }
         ensures measured { (s : AttributeSet) → self.old.pending ≡ Some s → self.new.state ≡ recorded_set s (record { bits = A.Value.bits value; wide = A.Value.wide value }) self.old.state }
+        ensures live { self.new.live ≡ self.old.live }
+        ensures room { self.new.room ≡ self.old.room }
         ensures spent { self.new.pending ≡ None }
     {
         let record = A::record(&self.settings, value);
@@ -151,6 +161,8 @@ impl<A: Shows> Stream<A> {
     pub fn measure(&mut self, value: A::Value, attributes: &[KeyValue]) -> Result<(), Fault>
         ensures ok { OnOk result (self.new.state ≡ recorded_attributes attributes.now (record { bits = A.Value.bits value; wide = A.Value.wide value }) self.old.state) }
         ensures err { OnErr result (self.new.state ≡ self.old.state) }
+        ensures live { self.new.live ≡ self.old.live }
+        ensures room { self.new.room ≡ self.old.room }
         ensures spent { self.new.pending ≡ None }
         ensures known { IsTrue (is_known self.old.state.allow attributes.now self.old.state.map_state) → IsOk result }
         ensures only_memory { IsOkUnless result Fault.OutOfMemory }
@@ -158,6 +170,66 @@ impl<A: Shows> Stream<A> {
         self.prepare(attributes)?;
         self.measure_ready(value);
         Ok(())
+    }
+
+    /// Makes room for a handle. A bind uses it.
+    pub fn make_room(&mut self) -> Result<(), Fault>
+        ensures room { OnOk result (self.new ≡ record self.old { room = true }) }
+        ensures refused { OnErr result (self.new ≡ self.old) }
+        ensures only_memory { IsOkUnless result Fault.OutOfMemory }
+    {
+        self.map.make_room()
+    }
+
+    /// Carries out the bind that was prepared, as a handle of this number, if one was, room was made for it and no live
+    /// handle has the number. The second phase; it takes no memory.
+    pub fn bind_ready(&mut self, handle: u64)
+        ensures bound { self.new ≡ stream_after_bind handle self.old }
+    {
+        self.map.bind_ready(handle);
+    }
+
+    /// Binds a handle of this number at these attributes, unless a live one has it (Metrics API, "Synchronous Instrument
+    /// API"). Its records go to the entry that a record of the attributes would go to now, for good.
+    pub fn bind(&mut self, handle: u64, attributes: &[KeyValue]) -> Result<(), Fault>
+        ensures ok { OnOk result (self.new ≡ stream_after_bind handle (ready_to_bind attributes.now self.old)) }
+        ensures err { OnErr result (self.new.state ≡ self.old.state) }
+        ensures live { OnErr result (self.new.live ≡ self.old.live) }
+        ensures only_memory { IsOkUnless result Fault.OutOfMemory }
+    {
+        self.prepare(attributes)?;
+        self.make_room()?;
+        self.bind_ready(handle);
+        Ok(())
+    }
+
+    /// Prepares a record through a handle, if it is live, in the place of what was prepared before; else that is given up. It looks
+    /// up nothing but the handle, and takes no memory.
+    pub fn prepare_held(&mut self, handle: u64)
+        ensures same { self.new.state ≡ self.old.state }
+        ensures live { self.new.live ≡ self.old.live }
+        ensures room { self.new.room ≡ self.old.room }
+        ensures ready { self.new.pending ≡ held_by handle self.old.live }
+        ensures placed { (g : AttributeSet) → self.new.pending ≡ Some g → is_placed g self.new.state.map_state.table.entries ≡ true }
+    {
+        self.map.prepare_held(handle);
+    }
+
+    /// Takes in a record through a handle, if it is live, and tells whether it is. It looks up nothing but the handle, takes no
+    /// memory, and gives up what was prepared.
+    pub fn update_bound(&mut self, handle: u64, value: A::Value) -> bool
+        ensures updated { self.new ≡ stream_after_update handle (record { bits = A.Value.bits value; wide = A.Value.wide value }) self.old }
+        ensures told { result ≡ is_some (held_by handle self.old.live) }
+    {
+        let record = A::record(&self.settings, value);
+        self.map.update_bound(handle, record)
+    }
+
+    /// Ends a handle, if it is live. It takes no memory, goes over the handles that are younger, and gives up what was prepared.
+    pub fn unbind(&mut self, handle: u64)
+        ensures unbound { self.new ≡ stream_after_unbind handle self.old }
+    {
+        self.map.unbind(handle);
     }
 
     /// What a collection at a moment, in nanoseconds since 1970, gives: the start, the points and
@@ -214,6 +286,8 @@ impl<A: Shows> Stream<A> {
     /// resets, it starts again from there, and a record that was prepared is given up.
     pub fn finish(&mut self, now: u64)
         ensures state { self.new.state ≡ stream_after_collection now self.old.state }
+        ensures live { self.new.live ≡ self.old.live }
+        ensures room { self.new.room ≡ self.old.room }
         ensures pending { self.new.pending ≡ cond self.old.state.resets None self.old.pending }
     {
         if self.resets {
@@ -229,38 +303,56 @@ impl<A: Shows> Stream<A> {
         self.start
     }
 
-    /// Forgets all records and entries. A record that was prepared is given up.
+    /// Forgets all records and entries, where no handle is live. A record that was prepared is given up.
     pub fn drain(&mut self)
+        requires { self.old.live ≡ [] }
         ensures state { self.new.state ≡ record self.old.state { map_state = drained_map self.old.state.map_state } }
+        ensures live { self.new.live ≡ [] }
+        ensures room { self.new.room ≡ self.old.room }
         ensures unprepared { self.new.pending ≡ None }
     {
         self.map.drain();
     }
 
-    /// A copy of the entries, to be restored later. It takes memory also without entries.
+    /// A copy of the entries, which no handle holds, to be restored later. It takes memory also without entries.
     pub fn save(&self, alloc: Global) -> Result<Saved<A>, Fault>
-        ensures saved { IfOk result (λ saved. saved ≡ self.now.state.map_state.table) }
+        ensures saved { IfOk result (λ saved. saved ≡ without_handles self.now.state.map_state.table) }
         ensures only_memory { IsOkUnless result Fault.OutOfMemory }
     {
         self.map.save(alloc)
     }
 
-    /// Puts saved entries in the place of its own, and gives up a record that was prepared. It takes no
+    /// Puts saved entries in the place of its own, where no handle is live, and gives up a record that was prepared. It takes no
     /// memory.
     pub fn restore(&mut self, saved: Saved<A>)
+        requires { self.old.live ≡ [] }
         ensures state { self.new.state ≡ record self.old.state { map_state = record self.old.state.map_state { table = saved } } }
+        ensures live { self.new.live ≡ [] }
+        ensures room { self.new.room ≡ self.old.room }
         ensures unprepared { self.new.pending ≡ None }
         ensures was { HasForm A.meaning self.old.state.map_state.table }
         ensures is { HasForm A.meaning saved }
+        ensures unheld { without_handles saved ≡ saved }
     {
         self.map.restore(saved);
     }
 
+    /// The law that no entry is held where no handle is live.
+    pub fn told_unheld(&self)
+        ensures { self.now.live ≡ [] → without_handles self.now.state.map_state.table ≡ self.now.state.map_state.table }
+    {
+        self.map.told_unheld();
+    }
+
     /// Puts its records into a map, whose own are forgotten, and starts again with none, at a moment in
-    /// nanoseconds since 1970. The two maps are swapped, and nothing is copied.
-    pub fn drain_into(&mut self, kept: &mut ValueMap<A>, now: u64)
+    /// nanoseconds since 1970. No handle is live in either. The two maps are swapped, and nothing is copied.
+    pub fn drain_into(&mut self, kept: &mut BoundMap<A>, now: u64)
+        requires unheld { self.old.live ≡ [] }
+        requires kept_unheld { kept.old.live ≡ [] }
         ensures kept { kept.new.state ≡ self.old.state.map_state }
         ensures state { self.new.state ≡ record self.old.state { map_state = drained_map kept.old.state; start = now } }
+        ensures live { self.new.live ≡ [] }
+        ensures kept_live { kept.new.live ≡ [] }
         ensures unprepared { self.new.pending ≡ None }
     {
         kept.drain();
@@ -275,6 +367,8 @@ impl<A: Shows> Stream<A> {
         ensures points { IfOk result (λ given. given ≡ A.collection self.old.state.is_monotonic (temporality_of self.old.state) self.old.state.start now (map (A.point self.old.state.aggregate) (points_now self.old.state))) }
         ensures ok { OnOk result (self.new.state ≡ stream_after_collection now self.old.state) }
         ensures err { OnErr result (self.new.state ≡ self.old.state) }
+        ensures live { self.new.live ≡ self.old.live }
+        ensures room { self.new.room ≡ self.old.room }
         ensures pending { OnOk result (self.new.pending ≡ cond self.old.state.resets None self.old.pending) }
         ensures refused { OnErr result (self.new.pending ≡ self.old.pending) }
         ensures only_memory { IsOkUnless result Fault.OutOfMemory }

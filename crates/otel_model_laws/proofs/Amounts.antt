@@ -169,7 +169,7 @@ module _ (feeds : List (List Identity)) (x : Identity) where
       go true = refl
       go false = refl
 
-  absent_held : (h : ℕ) (live : List LiveHandle) → has_number h (handles_of live) ≡ false → has_number h (held_for feeds x live) ≡ false
+  pub absent_held : (h : ℕ) (live : List LiveHandle) → has_number h (handles_of live) ≡ false → has_number h (held_for feeds x live) ≡ false
   absent_held h [] e = refl
   absent_held h (p ∷ ps) e = go (is_fed feeds p.1 x) (p.0 == h) refl e (absent_held h ps)
     where

@@ -9,7 +9,7 @@ use Rattle.otel_model_stream.specs.Folds.{Aggregate, Amount, wrap, sample_of}
 use Rattle.otel_model_stream.specs.Events.{Event, held_by}
 use Rattle.otel_model_stream.specs.Machine.{Machine, run, through}
 use Rattle.otel_model_stream.specs.Totals.{size, has_number, without_number}
-use Rattle.otel_model.specs.Calls.{InstrumentKind, Counter, UpDownCounter, Histogram, ObservableCounter, ObservableUpDownCounter, Gauge, ObservableGauge, is_observable, About, Observed, Call, Meter, Build, Record, Bind, RecordBound, Unbind, Collect, Flush, Shutdown, Fault, UnknownReader, ReaderShutDown, WrongKind}
+use Rattle.otel_model.specs.Calls.{InstrumentKind, Counter, UpDownCounter, Histogram, ObservableCounter, ObservableUpDownCounter, Gauge, ObservableGauge, is_observable, About, Observed, Call, Meter, Build, Record, Bind, RecordBound, Unbind, Collect, Flush, Shutdown, Fault, UnknownReader, ReaderShutDown, WrongKind, Exhausted}
 use Rattle.otel_model.specs.Demands.{Identity, Demand, Views, ReaderAnswers, is_dropped, fed_identities}
 use Rattle.otel_model.specs.Streams.{is_sum, observes_sums, is_drained, is_delta, kind_of, aggregate_of}
 use Rattle.otel_model.specs.State.{InstrumentState, LiveHandle, Shared, Stream, ReaderPart}
@@ -25,6 +25,7 @@ use Rattle.otel_model_laws.specs.Lawful.{EachOf, HandlesAreSound, numbers, IsAcc
 use Rattle.otel_model_laws.proofs.OfEvents.{events_after, events_at_first, balanced_events}
 use Rattle.otel_model_laws.proofs.Amounts.{each_weaker, each_push, each_map, each_at, each_without, not_fed, when_fed, new_adds_nothing, nothing_accepted, kinds_of, same_kinds, same_number, AreDistinct, distinct_push, distinct_without, held_for, held_push, held_when_fed, held_without}
 use Rattle.otel_model_laws.proofs.Feeding.{fed_or_new, known_feed, held_before, none_held, fed_demanded, demands_kind, known_kind, known_after, demanded_known, same_answers, same_feeds, streams_after}
+use Rattle.otel_model_laws.proofs.Unheld.{record_keeps, unsent_keeps, bound_keeps, unheld_unbind, unheld_collect}
 
 -- ======== what is shared ========
 get_lt : {X : Type 0} (xs : List X) (n : ℕ) (x : X) → slice_get xs n ≡ Some x → n < length xs
@@ -37,9 +38,13 @@ pub recorded_there : (o : Option InstrumentState) (given : Bool) → record_refu
 recorded_there None given e = absurd (cc)
 recorded_there (Some i) given e = (i, refl)
 
-bound_there : (next : ℕ) (o : Option InstrumentState) → bind_refusal next o ≡ None → (i : InstrumentState) × (o ≡ Some i)
+bound_there : (next : ℕ) (o : Option InstrumentState) → bind_refusal next o ≡ None → (i : InstrumentState) × (o ≡ Some i) × (is_observable i.kind ≡ false)
 bound_there next None e = absurd (cc)
-bound_there next (Some i) e = (i, refl)
+bound_there next (Some i) e = (i, refl, right_kind (is_observable i.kind) (cond (nat_lt (next + 1) (2 ^ 64)) None (Some Exhausted)) e)
+  where
+    right_kind : (b : Bool) (f : Option Fault) → cond b (Some WrongKind) f ≡ None → b ≡ false
+    right_kind true f e = absurd (cc)
+    right_kind false f e = refl
 
 held_there : (o : Option InstrumentState) (given : Bool) → held_refusal o given ≡ None → (i : InstrumentState) × (o ≡ Some i)
 held_there None given e = absurd (cc)
@@ -218,13 +223,16 @@ module _ (answers : ReaderAnswers) (feeds : List (List Identity)) (live : List L
 -- ======== a reader's part ========
 -- a call that only sends to the streams
 sent_sound : (live live' : List LiveHandle) (is is' : List InstrumentState) (p : ReaderPart) (next : ℕ) (c : Call) → PartIsLawful live is p → kinds_of is' ≡ kinds_of is → length is' ≡ length is
-    → ((q : Stream) → IsAccounted p.feeds live is q → IsAccounted p.feeds live' is' (stream_after p.answers p.feeds next c q)) → PartIsLawful live' is' (part_after_call next c p)
-sent_sound live live' is is' p next c a k l each = record {
+    → ((q : Stream) → IsAccounted p.feeds live is q → IsAccounted p.feeds live' is' (stream_after p.answers p.feeds next c q))
+    → ((q : Stream) → is_observable q.demand.identity.kind ≡ true → q.machine.live ≡ [] → (stream_after p.answers p.feeds next c q).machine.live ≡ []) → PartIsLawful live' is' (part_after_call next c p)
+sent_sound live live' is is' p next c a k l each none = record {
   known = a.known;
   kinds = λ n y j f g. a.kinds n y j f (sym (ap (λ ks. slice_get ks n) k) ∙ g);
   as_many = a.as_many ∙ sym l;
   streams = each_map (IsAccounted p.feeds live is) (IsAccounted p.feeds live' is') (stream_after p.answers p.feeds next c) p.streams each a.streams;
   of_events = each_map (IsOfEvents p.answers) (IsOfEvents p.answers) (stream_after p.answers p.feeds next c) p.streams (λ q h. events_after p.answers p.feeds next c q h) a.of_events;
+  unheld = each_map (λ (q : Stream). is_observable q.demand.identity.kind ≡ true → q.machine.live ≡ []) (λ (q : Stream). is_observable q.demand.identity.kind ≡ true → q.machine.live ≡ []) (stream_after p.answers p.feeds next c) p.streams
+      (λ q h o. none q o (h o)) a.unheld;
 }
 
 -- a build
@@ -245,6 +253,7 @@ with_sound live is p ds about now a b k = record {
       (λ q h sync. ((h sync).0 ∙ sym (held_before p.feeds new q.demand.identity live below), (h sync).1 ∙ sym (ap wrap (new_adds_nothing (aggregate_of q.demand) q.demand.identity p.feeds is new about a.as_many))))
       (streams_after now (IsAccounted p.feeds live is) (λ y. (n : ℕ) × (is_fed p.feeds n y ≡ true)) begun ds p (λ y h. a.known h.0 y h.1) a.streams));
   of_events = subst (λ answers. EachOf (IsOfEvents answers) after.streams) (sym (same_answers now ds p)) (streams_after now (IsOfEvents p.answers) (λ y. ⊥) (λ d h. events_at_first p.answers now d) ds p (λ y h. absurd h) a.of_events);
+  unheld = streams_after now (λ (q : Stream). is_observable q.demand.identity.kind ≡ true → q.machine.live ≡ []) (λ y. ⊥) (λ d h o. refl) ds p (λ y h. absurd h) a.unheld;
 }
   where
     after : ReaderPart
@@ -288,11 +297,22 @@ part_sound views s readers (Record n v l) p e h a =
     (λ q old sync.
     let g = record_stream p.answers p.feeds s.live s.instruments q n v.amount (set_for q.demand l) there.0 there.1 (old sync).1 in
     (g.0 ∙ (old sync).0, g.1))
+    (λ q o none. record_keeps (aggregate_of q.demand) (kind_of p.answers q.demand) q.demand.limit q.machine (is_fed p.feeds n q.demand.identity) (set_for q.demand l) v.amount ∙ none)
 part_sound views s readers (Bind n l) p e h a =
+    let there = bound_there s.next (slice_get s.instruments n) e in
     sent_sound s.live (s.live ++ (s.next, n) ∷ []) s.instruments s.instruments p s.next (Bind n l) a refl refl
     (λ q old sync.
     let g = bind_stream p.answers p.feeds s.live s.instruments q s.next n (set_for q.demand l) (old sync).0 in
     (g.0, g.1 ∙ (old sync).1))
+    (λ q o none. unsent_keeps (aggregate_of q.demand) (kind_of p.answers q.demand) q.demand.limit q.machine (is_fed p.feeds n q.demand.identity) s.next (set_for q.demand l)
+    (unsent q.demand.identity there.0 there.1 there.2 o) ∙ none)
+  where
+    -- an observable stream is not sent the bind
+    unsent : (x : Identity) (i : InstrumentState) → slice_get s.instruments n ≡ Some i → is_observable i.kind ≡ false → is_observable x.kind ≡ true → is_fed p.feeds n x ≡ false
+    unsent x i g k o = ⊎_elim
+        (λ t. absurd (true≢false (sym o ∙ (sym (a.kinds n x i.kind t (get_map (λ (i : InstrumentState). i.kind) s.instruments n i g)) ∙ k))))
+        (λ t. t)
+        (cases_Bool (is_fed p.feeds n x))
 part_sound views s readers (RecordBound k v) p e h a =
     let there = handle_there (instrument_held k s.live) s.instruments v.signed e in
     sent_sound s.live s.live s.instruments (accepted_by (instrument_held k s.live) v.amount s.instruments) p s.next (RecordBound k v) a
@@ -301,15 +321,18 @@ part_sound views s readers (RecordBound k v) p e h a =
     (λ q old sync.
     let g = bound_stream p.answers p.feeds s.live s.instruments q k there.0 v.amount there.1 h.distinct there.2 there.3 (old sync).0 (old sync).1 in
     (g.0 ∙ (old sync).0, g.1))
+    (λ q o none. bound_keeps (aggregate_of q.demand) (kind_of p.answers q.demand) q.demand.limit q.machine k v.amount ∙ none)
 part_sound views s readers (Unbind k) p e h a =
     sent_sound s.live (without_handle k s.live) s.instruments s.instruments p s.next (Unbind k) a refl refl
     (λ q old sync. (unbind_stream p.answers p.feeds s.live s.instruments q k h.distinct (old sync).0, (old sync).1))
+    (λ q o none. unheld_unbind (aggregate_of q.demand) (kind_of p.answers q.demand) q.demand.limit q.machine k none)
 part_sound views s readers (Collect r now os) p e h a =
     sent_sound s.live s.live s.instruments s.instruments p s.next (Collect r now os) a refl refl
     (λ q old sync.
     let g = collect_stream p.answers p.feeds s.live s.instruments q sync (observed_events p.feeds q.demand os)
     (unobserved p.answers p.feeds s.live s.instruments q sync (λ n k f t. a.kinds n q.demand.identity k f t) os (observed_fine s readers r now os e)) in
     (g.0 ∙ (old sync).0, g.1 ∙ (old sync).1))
+    (λ q o none. unheld_collect (aggregate_of q.demand) (kind_of p.answers q.demand) q.demand.limit p.feeds q.demand os q.machine none)
 part_sound views s readers Flush p e h a = a
 part_sound views s readers Shutdown p e h a = a
 
@@ -357,7 +380,7 @@ run_lawful views old new (c ∷ calls) (reply ∷ replies) run a =
 
 first_parts : (readers : List ReaderAnswers) → EachOf (PartIsLawful [] []) (map new_part readers)
 first_parts [] = tt
-first_parts (answers ∷ readers) = (record { known = λ n y f. absurd (false≢true f); kinds = λ n y k f g. absurd (false≢true f); as_many = refl; streams = tt; of_events = tt }, first_parts readers)
+first_parts (answers ∷ readers) = (record { known = λ n y f. absurd (false≢true f); kinds = λ n y k f g. absurd (false≢true f); as_many = refl; streams = tt; of_events = tt; unheld = tt }, first_parts readers)
 
 pub first_lawful : IsLawfulAtFirst
 first_lawful resource identity readers = record { handles = record { bound = tt; below = tt; distinct = tt }; parts = first_parts readers }

@@ -4,7 +4,9 @@ pub mod Differences
 pub mod Alike
 pub mod Amounts
 pub mod Feeding
+pub mod Unheld
 pub mod Booked
+pub mod Handles
 pub mod Apart
 pub mod OfEvents
 pub mod Accepting

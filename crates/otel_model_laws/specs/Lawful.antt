@@ -1,7 +1,7 @@
 -- What a provider keeps from call to call, whatever its views: its balances, and the facts that carry them.
-use Rattle.std.specs.Prelude.{◌≡◌, ℕ, ◌+◌, ◌<◌, true, false, cond, List, [], ◌∷◌, map, filter, length, Some, slice_get, sum_by}
+use Rattle.std.specs.Prelude.{◌≡◌, ℕ, ◌+◌, ◌<◌, true, false, cond, List, [], ◌∷◌, map, filter, length, Some, None, slice_get, sum_by}
 pub use Rattle.std.specs.List.{AllByRecursion as EachOf}
-use Rattle.otel_model_stream.specs.Events.{Event, Handles}
+use Rattle.otel_model_stream.specs.Events.{Event, Handles, held_by}
 use Rattle.otel_model_stream.specs.Folds.{wrap}
 use Rattle.otel_model_stream.specs.Machine.{begin, run, answers as points_given, points}
 use Rattle.otel_model_stream.specs.Totals.{has_number, points_total}
@@ -10,6 +10,7 @@ use Rattle.otel_model.specs.Calls.{InstrumentKind, is_observable, Call, Reply}
 use Rattle.otel_model.specs.Demands.{Identity, ReaderAnswers, Views, is_known}
 use Rattle.otel_model.specs.Streams.{is_drained, is_delta, kind_of, aggregate_of}
 use Rattle.otel_model.specs.State.{InstrumentState, LiveHandle, Shared, Stream, ReaderPart, State}
+use Rattle.otel_model.specs.Refusals.{instrument_held}
 use Rattle.otel_model.specs.Sent.{is_fed}
 use Rattle.otel_model.specs.Machine.{recorded_over, new_state}
 use Rattle.otel_model.specs.Steps.{after, Run}
@@ -67,13 +68,15 @@ pub record IsOfEvents (answers : ReaderAnswers) (q : Stream) : Type 0 where
 abbrev pub kinds_of : List InstrumentState → List InstrumentKind
 kinds_of is = map (λ (i : InstrumentState). i.kind) is
 
--- what an instrument feeds was demanded, and is observable if the instrument is
+-- what an instrument feeds was demanded, and is observable if the instrument is. An observable stream has no
+-- handles, since no handle is bound at an observable instrument
 pub record PartIsLawful (live : List LiveHandle) (is : List InstrumentState) (p : ReaderPart) : Type 0 where
   pub known : (n : ℕ) (y : Identity) → is_fed p.feeds n y ≡ true → is_known p.fates y ≡ true
   pub kinds : (n : ℕ) (y : Identity) (k : InstrumentKind) → is_fed p.feeds n y ≡ true → slice_get (kinds_of is) n ≡ Some k → is_observable k ≡ is_observable y.kind
   pub as_many : length p.feeds ≡ length is
   pub streams : EachOf (IsAccounted p.feeds live is) p.streams
   pub of_events : EachOf (IsOfEvents p.answers) p.streams
+  pub unheld : EachOf (λ (q : Stream). is_observable q.demand.identity.kind ≡ true → q.machine.live ≡ []) p.streams
 
 -- a provider with such handles and readers
 pub record IsLawful (st : State) : Type 0 where
@@ -96,3 +99,17 @@ EachRunKeepsLawful = (views : Views) (old new : State) (calls : List Call) (repl
 -- a lawful provider balances
 abbrev pub LawfulBalances : Type 0
 LawfulBalances = (st : State) → IsLawful st → Balances st
+
+-- no stream has a live handle that was bound at an instrument that does not feed it
+abbrev pub HandlesAreOfFeeds : Type 0
+HandlesAreOfFeeds = (st : State) → IsLawful st
+    → EachOf (λ (p : ReaderPart). (h n : ℕ) → instrument_held h st.shared.live ≡ Some n → EachOf (λ (q : Stream). is_fed p.feeds n q.demand.identity ≡ false → held_by h q.machine.live ≡ None) p.streams) st.readers
+
+-- no stream has a handle of the number that the next bind gives
+abbrev pub NextIsUnheld : Type 0
+NextIsUnheld = (st : State) → IsLawful st → EachOf (λ (p : ReaderPart). EachOf (λ (q : Stream). held_by st.shared.next q.machine.live ≡ None) p.streams) st.readers
+
+-- no stream that an observable instrument feeds has handles
+abbrev pub ObservableIsUnheld : Type 0
+ObservableIsUnheld = (st : State) → IsLawful st
+    → EachOf (λ (p : ReaderPart). (n : ℕ) (i : InstrumentState) → slice_get st.shared.instruments n ≡ Some i → is_observable i.kind ≡ true → EachOf (λ (q : Stream). is_fed p.feeds n q.demand.identity ≡ true → q.machine.live ≡ []) p.streams) st.readers

@@ -5,7 +5,7 @@ ghost use Rattle.otel_model.specs.Laws.{AreFeedsApart, AreFeedsStreams, AreStrea
 ghost use Rattle.otel_model.specs.Resources.{GivenOneByOne, GivenValuesWin, MergesAreCanonical, OthersValuesWin, OwnValuesWin, UrlsMergeFromTheLeft, UrlsMergeFromTheRight};
 ghost use Rattle.otel_model_laws.specs.Books.{EachCallIsBooked, EachRunIsBooked};
 ghost use Rattle.otel_model_laws.specs.Builds.{AlikeFeedTheSame};
-ghost use Rattle.otel_model_laws.specs.Lawful.{EachCallKeepsLawful, EachRunKeepsLawful, IsLawfulAtFirst, LawfulBalances};
+ghost use Rattle.otel_model_laws.specs.Lawful.{EachCallKeepsLawful, EachRunKeepsLawful, HandlesAreOfFeeds, IsLawfulAtFirst, LawfulBalances, NextIsUnheld, ObservableIsUnheld};
 ghost use Rattle.otel_model_laws.specs.Shares.{BookFollowsCalls, BookedOneByOne, SharesAddUp};
 ghost use Rattle.otel_model_laws.specs.Showing.{BindsByNumber, CollectsAfterObservations, HandlesByNumber, ObservationsByNumber, RecordsByNumber, UnheldRests};
 ghost use Rattle.otel_model_laws.specs.Orders.{AreDifferences, BindsInAnyOrder, ObservationsInAnyOrder, RecordsInAnyOrder};
@@ -61,6 +61,14 @@ pub fn keeps()
     ensures call { EachCallKeepsLawful }
     ensures run { EachRunKeepsLawful }
     ensures balances { LawfulBalances }
+{}
+
+/// In a lawful provider a stream does not have a live handle whose instrument does not feed it, nor one of the
+/// number that the next bind gives, and it has none at all where an observable instrument feeds it.
+pub fn live_handles()
+    ensures feeds { HandlesAreOfFeeds }
+    ensures next { NextIsUnheld }
+    ensures observable { ObservableIsUnheld }
 {}
 
 /// What all instruments together accepted grows by each record that is answered by `Done`, and by nothing else.

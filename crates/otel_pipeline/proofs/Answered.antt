@@ -1,5 +1,5 @@
 -- Streams that reset as their reader's answers say, whatever is done to them.
-use Rattle.std.proofs.Common.{◌≡◌, ℕ, zero, suc, Bool, true, false, cond, List, [], ◌∷◌, ◌++◌, map, Option, Some, None, refl, ap}
+use Rattle.std.proofs.Common.{◌≡◌, ℕ, zero, suc, Bool, true, false, cond, List, [], ◌∷◌, ◌++◌, map, fold, Option, Some, None, refl, ap}
 use Rattle.std.specs.Bool.{beq}
 use Rattle.std.specs.List.{AllByRecursion}
 use Rattle.otel_data.specs.declared.numbers.NumberValue.{NumberValue}
@@ -54,9 +54,12 @@ module _ (P : Bool → Demand → Type 0) where
   answered-changed f keeps zero (k ∷ ks) all = (changed_one k (f k) (keeps k).0 (keeps k).1 all.0, all.1)
   answered-changed f keeps (suc n) (k ∷ ks) all = (all.0, answered-changed f keeps n ks all.1)
 
+  pub answered-each : (f : Held → Held) → KeepsAnswer f → (ns : List ℕ) (ks : List Held) → OfAnswer P ks → OfAnswer P (fold (λ ss n. changed_at n f ss) ks ns)
+  answered-each f keeps [] ks all = all
+  answered-each f keeps (n ∷ ns) ks all = answered-each f keeps ns (changed_at n f ks) (answered-changed f keeps n ks all)
+
   pub answered-committed : (value : NumberValue) (ns : List ℕ) (ks : List Held) → OfAnswer P ks → OfAnswer P (committed_each value ns ks)
-  answered-committed value [] ks all = all
-  answered-committed value (n ∷ ns) ks all = answered-committed value ns (changed_at n (held_after_commit value) ks) (answered-changed (held_after_commit value) (commits value) n ks all)
+  answered-committed value ns ks all = answered-each (held_after_commit value) (commits value) ns ks all
 
   -- what is seen but for the sets of the record that is prepared tells it
   pub answered-settled : (new old : List Held) → all_without_pending new ≡ all_without_pending old → OfAnswer P old → OfAnswer P new

@@ -1,25 +1,20 @@
 -- What a demand asks for, by its aggregation.
-use Rattle.std.proofs.Common.{◌≡◌, ℕ, ◌+◌, Bool, true, false, cond, ◌&&◌, is_some, [], Option, Some, None, refl, sym, ◌∙◌, ap, subst, true≢false}
+use Rattle.std.proofs.Common.{◌≡◌, ℕ, ◌+◌, ◌==◌, Bool, true, false, cond, not, ◌&&◌, is_some, [], ◌∷◌, Option, Some, None, refl, sym, ◌∙◌, ap, subst, true≢false}
 use Rattle.std.specs.Bool.{beq}
 use Rattle.otel_data.specs.declared.numbers.NumberValue.{NumberValue}
 use Rattle.otel_model_stream.specs.Entries.{Entry, Table, is_of, on, write, place, recorded_at}
+use Rattle.otel_model_stream.specs.Events.{Handles, held_by, without}
+use Rattle.otel_model_stream.specs.Machine.{Machine, let_go}
 use Rattle.otel_model_stream.specs.Folds.{Amount, Sample, sample_of, wrap}
 use Rattle.otel_model_stream.specs.Sets.{AttributeSet}
 use Rattle.otel_model_stream.specs.Totals.{size}
 use Rattle.otel_model.specs.Demands.{Demand}
 use Rattle.otel_model.specs.Streams.{aggregate_of}
-use Rattle.otel_aggregate.specs.Any.{HeldAny, is_signed_value, amount_of, stream_in, any_after_commit, is_taken, with_stream}
-use Rattle.otel_aggregate.specs.Streams.{StreamState, recorded_set, taken_from}
-use Rattle.otel_pipeline.specs.Streams.{Held, IsAsked, asked_aggregate, held_of, with_record, held_after_commit, committed_by}
+use Rattle.otel_aggregate.specs.Any.{HeldAny, is_signed_value, amount_of, stream_in, any_after_commit, any_after_unbind, is_taken, with_stream}
+use Rattle.otel_aggregate.specs.Streams.{StreamState, recorded_set, stream_after_unbind, taken_from, unbind_at}
+use Rattle.otel_pipeline.specs.Streams.{Held, IsAsked, asked_aggregate, held_of, with_record, held_after_commit, held_after_unbind, committed_by, without_handle}
 
 -- ======== the aggregate that was asked for ========
-unheld-on : (g : AttributeSet) (v : Sample) (e : Entry) → (on g (write v) e).handles ≡ e.handles
-unheld-on g v e = by (is_of g e)
-  where
-    by : (b : Bool) → (cond b (write v e) e).handles ≡ e.handles
-    by true = refl
-    by false = refl
-
 -- a record leaves the aggregate the one that was asked for
 pub asked-recorded : (d : Demand) (old : HeldAny) (s : AttributeSet) (v : Amount) → IsAsked d old → IsAsked d (with_stream old (taken_from (Some s) v (stream_in old)))
 asked-recorded d old s v is =
@@ -28,7 +23,7 @@ asked-recorded d old s v is =
       state = to ∙ sym (ap (λ (a : StreamState). asked_aggregate d a.resets a.map_state.table a.start) to);
       signed = is.signed;
       drains = is.drains;
-      unheld = unheld-on _ _ old.state.map_state.table.none ∙ is.unheld;
+      unheld = is.unheld;
     }
 
 -- ======== the record that is prepared ========
@@ -60,9 +55,10 @@ module _ (d : Demand) (a : HeldAny) (value : NumberValue) (recorded exported : �
   -- with these entries and this total
   abbrev with_table : Table → ℕ → Held
   with_table t total = record {
-    stream = record { demand = d; machine = record { table = t; live = [] }; start = a.state.start; reported = a.reported; recorded = total; exported = exported };
+    stream = record { demand = d; machine = record { table = t; live = a.live }; start = a.state.start; reported = a.reported; recorded = total; exported = exported };
     resets = a.state.resets;
     pending = None;
+    room = a.room;
   }
 
   record-as : (s : AttributeSet) → held_of d (with_stream a (taken_from (Some s) v (stream_in a))) (wrap (recorded + size (aggregate_of d) v)) exported ≡ with_record s v held
@@ -86,3 +82,39 @@ module _ (d : Demand) (a : HeldAny) (value : NumberValue) (recorded exported : �
 
   pub commit-else : (new : HeldAny) → new ≡ any_after_commit value a → is_taken value a ≡ false → held_of d new recorded exported ≡ held_after_commit value held
   commit-else new e t = ap (λ x. held_of d x recorded exported) e ∙ else_by (beq (is_signed_value value) a.is_signed) a.pending refl refl t
+
+-- ======== the end of a handle ========
+without-none : (h : ℕ) (hs : Handles) → held_by h hs ≡ None → without h hs ≡ hs
+without-none h [] e = refl
+without-none h (p ∷ ps) e = by (p.0 == h) e (without-none h ps)
+  where
+    by : (b : Bool) → cond b (Some p.1) (held_by h ps) ≡ None → (held_by h ps ≡ None → without h ps ≡ ps) → cond b ps (p ∷ without h ps) ≡ p ∷ ps
+    by true e rest = absurd (cc)
+    by false e rest = ap (λ (l : Handles). p ∷ l) (rest e)
+
+module _ (d : Demand) (a : HeldAny) (h recorded exported : ℕ) (is : IsAsked d a) where
+  abbrev ended_with : Machine → Held
+  ended_with m = record {
+    stream = record { demand = d; machine = m; start = a.state.start; reported = a.reported; recorded = recorded; exported = exported };
+    resets = a.state.resets;
+    pending = None;
+    room = a.room;
+  }
+
+  -- with what the stream has of the handle
+  ended-as : (o : Option AttributeSet) → held_by h a.live ≡ o
+      → held_of d (with_stream a (record { state = unbind_at o a.state; live = without h a.live; pending = None; room = a.room })) recorded exported
+      ≡ ended_with (let_go o h (record { table = a.state.map_state.table; live = a.live }))
+  ended-as None e = ap (λ (l : Handles). ended_with (record { table = a.state.map_state.table; live = l })) (without-none h a.live e)
+  ended-as (Some g) e = refl
+
+  ended-by : (b : Bool) → a.drains ≡ b → is_some a.pending ≡ true
+      → held_of d (cond b a (with_stream a (stream_after_unbind h (stream_in a)))) recorded exported ≡ held_after_unbind h (held_of d a recorded exported)
+  ended-by true e some = ap (λ c. cond (not c && is_some a.pending) (without_handle h (held_of d a recorded exported)) (held_of d a recorded exported)) (sym e ∙ is.drains)
+  ended-by false e some =
+      ended-as (held_by h a.live) refl
+      ∙ ap (λ c. cond c (without_handle h (held_of d a recorded exported)) (held_of d a recorded exported)) (sym some)
+      ∙ ap (λ c. cond (not c && is_some a.pending) (without_handle h (held_of d a recorded exported)) (held_of d a recorded exported)) (sym e ∙ is.drains)
+
+  pub unbind-then : (new : HeldAny) → new ≡ any_after_unbind h a → is_some a.pending ≡ true → held_of d new recorded exported ≡ held_after_unbind h (held_of d a recorded exported)
+  unbind-then new e some = ap (λ (x : HeldAny). held_of d x recorded exported) e ∙ ended-by a.drains refl some

@@ -25,7 +25,7 @@ module _ (answers : ReaderAnswers) (feeds : List (List Identity)) (now : ℕ) wh
     description = k.stream.demand.identity.description;
     unit = k.stream.demand.identity.unit;
     content = aggregated_metrics k.stream.demand.identity.signed (cond delta temporality.Delta temporality.Cumulative) (is_monotonic_kind k.stream.demand.identity.kind) k.stream.demand.aggregation k.stream.start now
-        (shown_values (record { stream = k.stream; resets = delta; pending = k.pending }));
+        (shown_values (record { stream = k.stream; resets = delta; pending = k.pending; room = k.room }));
   }
 
   metric-is : (k : Held) → k.resets ≡ is_delta answers k.stream.demand
@@ -46,7 +46,7 @@ module _ (answers : ReaderAnswers) (feeds : List (List Identity)) (now : ℕ) wh
 
   -- ======== what it leaves ========
   stream-is : (next r : ℕ) (k : Held) → k.resets ≡ is_delta answers k.stream.demand → stream_after answers feeds next (model.Call.Collect r now []) k.stream ≡ (held_after_collection now k).stream
-  stream-is next r k is = ap (λ b. (held_after_collection now (record { stream = k.stream; resets = b; pending = k.pending })).stream) (sym is)
+  stream-is next r k is = ap (λ b. (held_after_collection now (record { stream = k.stream; resets = b; pending = k.pending; room = k.room })).stream) (sym is)
 
   streams-finished : (next r : ℕ) (ks : List Held) → AreAnswered answers ks → map (stream_after answers feeds next (model.Call.Collect r now [])) (model_streams ks) ≡ model_streams (all_after_collection now ks)
   streams-finished next r [] all = refl

@@ -18,3 +18,4 @@ pub mod Taken
 pub mod Undone
 pub mod ViewLemmas
 pub mod Writes
+pub mod Handles

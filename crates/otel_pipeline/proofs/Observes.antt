@@ -25,7 +25,7 @@ use Rattle.otel_pipeline.specs.Streams.{Held, with_record}
 use Rattle.otel_pipeline.proofs.Collects.{collected-is, part-finished}
 use Rattle.otel_pipeline.proofs.Identities.{are_apart}
 use Rattle.otel_pipeline.proofs.PipelineLemmas.{feeds-same, identities-same, length-from, numbers-kept}
-use Rattle.otel_pipeline.proofs.Records.{all_sent, fed-numbers, fits, number, typed-fits}
+use Rattle.otel_pipeline.proofs.Records.{record_sent, fed-numbers, fits, number, typed-fits}
 
 -- ======== the model: records of observations, and a collection without ========
 -- an observation as a record
@@ -153,7 +153,7 @@ module _ (answers : ReaderAnswers) (feeds : List (List ℕ)) where
       λ i. record {
         answers = answers;
         fates = same i;
-        streams = sym (all_sent answers ks (are_apart ks apart) feeds 0 o.instrument (number o.value) o.attributes (observed_one o) (fed-numbers ks feeds o.instrument numbers) (λ k. (keeps o k).1) made) i;
+        streams = sym (record_sent answers ks (are_apart ks apart) feeds 0 o.instrument (number o.value) o.attributes (observed_one o) (fed-numbers ks feeds o.instrument numbers) (λ k. (keeps o k).1) made) i;
         feeds = feeds-same (observed_in feeds ks o) ks same feeds i;
       }
     where

@@ -1,5 +1,5 @@
 -- What records leave of a reader's streams: their identities, and so their number.
-use Rattle.std.proofs.Common.{Bool, true, false, cond, ◌&&◌, ◌≡◌, ℕ, List, [], ◌∷◌, ◌++◌, map, filter, length, Option, Some, None, slice_get, refl, sym, ◌∙◌, ap, arith, zero, suc}
+use Rattle.std.proofs.Common.{fold, Bool, true, false, cond, ◌&&◌, ◌≡◌, ℕ, List, [], ◌∷◌, ◌++◌, map, filter, length, Option, Some, None, slice_get, refl, sym, ◌∙◌, ap, arith, zero, suc}
 use Rattle.std.specs.Prelude.{All}
 use Rattle.std.proofs.lemmas.List.{length-map}
 use Rattle.otel_data.specs.declared.numbers.NumberValue.{NumberValue}
@@ -14,14 +14,18 @@ pub demands-settled : (ks : List Held) → fates_of (all_without_pending ks) ≡
 demands-settled [] = refl
 demands-settled (k ∷ ks) = ap (λ ds. k.stream.demand ∷ ds) (demands-settled ks)
 
-demands-changed : (value : NumberValue) (n : ℕ) (ks : List Held) → fates_of (changed_at n (held_after_commit value) ks) ≡ fates_of ks
-demands-changed value n [] = refl
-demands-changed value zero (k ∷ ks) = ap (λ d. d ∷ fates_of ks) (commits value k).1
-demands-changed value (suc n) (k ∷ ks) = ap (λ ds. k.stream.demand ∷ ds) (demands-changed value n ks)
+module _ (f : Held → Held) (keeps : (k : Held) → (f k).stream.demand ≡ k.stream.demand) where
+  demands-at : (n : ℕ) (ks : List Held) → fates_of (changed_at n f ks) ≡ fates_of ks
+  demands-at n [] = refl
+  demands-at zero (k ∷ ks) = ap (λ d. d ∷ fates_of ks) (keeps k)
+  demands-at (suc n) (k ∷ ks) = ap (λ ds. k.stream.demand ∷ ds) (demands-at n ks)
+
+  pub demands-changed : (ns : List ℕ) (ks : List Held) → fates_of (fold (λ ss n. changed_at n f ss) ks ns) ≡ fates_of ks
+  demands-changed [] ks = refl
+  demands-changed (n ∷ ns) ks = demands-changed ns (changed_at n f ks) ∙ demands-at n ks
 
 pub demands-committed : (value : NumberValue) (ns : List ℕ) (ks : List Held) → fates_of (committed_each value ns ks) ≡ fates_of ks
-demands-committed value [] ks = refl
-demands-committed value (n ∷ ns) ks = demands-committed value ns (changed_at n (held_after_commit value) ks) ∙ demands-changed value n ks
+demands-committed value ns ks = demands-changed (held_after_commit value) (λ k. (commits value k).1) ns ks
 
 pub demands-finished : (now : ℕ) (ks : List Held) → fates_of (all_after_collection now ks) ≡ fates_of ks
 demands-finished now [] = refl

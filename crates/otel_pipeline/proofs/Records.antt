@@ -13,7 +13,7 @@ use Rattle.otel_aggregate.specs.Any.{is_signed_value, amount_of}
 use Rattle.otel_model_stream.specs.Folds.{Amount}
 use Rattle.otel_model_stream.specs.Sets.{AttributeSet}
 use Rattle.otel_model_stream.specs.Totals.{has_number}
-use Rattle.otel_model.specs.Calls.{or_else, Number, Record as RecordCall}
+use Rattle.otel_model.specs.Calls.{or_else, Number, Call, Record as RecordCall}
 use Rattle.otel_model.specs.Demands as model
 use Rattle.otel_model.specs.Machine.{stream_after, part_after_call}
 use Rattle.otel_model.specs.Sent.{is_fed, set_for}
@@ -89,34 +89,35 @@ fed-named ks feeds n = ap (λ o. or_else o []) (slice_get-map (named_identities 
 abbrev pub number : NumberValue → Number
 number value = record { signed = is_signed_value value; amount = amount_of value }
 
+-- a stream is fed by identity exactly if it is fed by number
+pub fed-at : (all : List Held) → AreApart all → (feeds : List (List ℕ)) (n : ℕ) → HaveStreams (or_else (slice_get feeds n) []) all → (i : ℕ) (k : Held) → slice_get all i ≡ Some k
+    → is_fed (map (named_identities all) feeds) n (identity_of k) ≡ has_number i (or_else (slice_get feeds n) [])
+fed-at all apart feeds n numbers i k at = ap (λ xs. model.has_identity xs (identity_of k)) (fed-named all feeds n) ∙ named-has all apart (or_else (slice_get feeds n) []) numbers i k at
+
 -- `f` is what becomes of a stream that the instrument feeds
-module _ (answers : model.ReaderAnswers) (all : List Held) (apart : AreApart all) (feeds : List (List ℕ)) (next n : ℕ) (v : Number) (l : List KeyValue) (f : Held → Held)
+module _ (answers : model.ReaderAnswers) (all : List Held) (apart : AreApart all) (feeds : List (List ℕ)) (next n : ℕ) (call : Call) (f : Held → Held)
     (numbers : HaveStreams (or_else (slice_get feeds n) []) all)
     (keeps : (k : Held) → (f k).stream.demand ≡ k.stream.demand)
-    (made : (i : ℕ) (k : Held) → slice_get all i ≡ Some k → has_number i (or_else (slice_get feeds n) []) ≡ true → is_fed (map (named_identities all) feeds) n (identity_of k) ≡ true → (with_record (set_for k.stream.demand l) v.amount k).stream ≡ (f k).stream) where
+    (made : (i : ℕ) (k : Held) → slice_get all i ≡ Some k → is_streamed k ≡ true → has_number i (or_else (slice_get feeds n) []) ≡ true → is_fed (map (named_identities all) feeds) n (identity_of k) ≡ true → stream_after answers (map (named_identities all) feeds) next call k.stream ≡ (f k).stream)
+    (unmade : (i : ℕ) (k : Held) → slice_get all i ≡ Some k → is_streamed k ≡ true → is_fed (map (named_identities all) feeds) n (identity_of k) ≡ false → stream_after answers (map (named_identities all) feeds) next call k.stream ≡ k.stream) where
   abbrev ns : List ℕ
   ns = or_else (slice_get feeds n) []
 
   abbrev after : Stream → Stream
-  after = stream_after answers (map (named_identities all) feeds) next (RecordCall n v l)
+  after = stream_after answers (map (named_identities all) feeds) next call
 
-  fed_at : (i : ℕ) (k : Held) → slice_get all i ≡ Some k → is_fed (map (named_identities all) feeds) n (identity_of k) ≡ has_number i ns
-  fed_at i k at = ap (λ xs. model.has_identity xs (identity_of k)) (fed-named all feeds n) ∙ named-has all apart ns numbers i k at
-
-  one_sent : (i : ℕ) (k : Held) → slice_get all i ≡ Some k → (b : Bool) → has_number i ns ≡ b → after k.stream ≡ (cond b (f k) k).stream
-  one_sent i k at true h =
-      let fed : is_fed (map (named_identities all) feeds) n (identity_of k) ≡ true = fed_at i k at ∙ h in
-      sent_if answers next n v l (map (named_identities all) feeds) k true fed ∙ made i k at h fed
-  one_sent i k at false h = sent_if answers next n v l (map (named_identities all) feeds) k false (fed_at i k at ∙ h)
+  one_sent : (i : ℕ) (k : Held) → slice_get all i ≡ Some k → is_streamed k ≡ true → (b : Bool) → has_number i ns ≡ b → after k.stream ≡ (cond b (f k) k).stream
+  one_sent i k at s true h = made i k at s h (fed-at all apart feeds n numbers i k at ∙ h)
+  one_sent i k at s false h = unmade i k at s (fed-at all apart feeds n numbers i k at ∙ h)
 
   kept_streamed : (b : Bool) (k : Held) → is_streamed (cond b (f k) k) ≡ is_streamed k
   kept_streamed true k = ap (λ (d : model.Demand). not (model.is_drop d.aggregation)) (keeps k)
   kept_streamed false k = refl
 
   -- one stream more, whether it drops or not
-  more_sent : (b : Bool) (k m : Held) (ks ms : List Held) → is_streamed k ≡ b → is_streamed m ≡ b → after k.stream ≡ m.stream → map after (model_streams ks) ≡ model_streams ms
+  more_sent : (b : Bool) (k m : Held) (ks ms : List Held) → is_streamed k ≡ b → is_streamed m ≡ b → (b ≡ true → after k.stream ≡ m.stream) → map after (model_streams ks) ≡ model_streams ms
       → map after (model_streams (k ∷ ks)) ≡ model_streams (m ∷ ms)
-  more_sent true k m ks ms p q e rest = rw (p, q) (λ i. e i ∷ rest i)
+  more_sent true k m ks ms p q e rest = rw (p, q) (λ i. e refl i ∷ rest i)
   more_sent false k m ks ms p q e rest = rw (p, q) rest
 
   rest_sent : (i : ℕ) (ks : List Held) → ((j : ℕ) (k : Held) → slice_get ks j ≡ Some k → slice_get all (i + j) ≡ Some k)
@@ -124,11 +125,21 @@ module _ (answers : model.ReaderAnswers) (all : List Held) (apart : AreApart all
   rest_sent i [] at = refl
   rest_sent i (k ∷ ks) at =
       more_sent (is_streamed k) k _ ks (changed_in ns f (suc i) ks) refl (kept_streamed (has_number i ns) k)
-      (one_sent i k (ap (slice_get all) (omega arith) ∙ at 0 k refl) (has_number i ns) refl)
+      (λ s. one_sent i k (ap (slice_get all) (omega arith) ∙ at 0 k refl) s (has_number i ns) refl)
       (rest_sent (suc i) ks (λ j m e. ap (slice_get all) (omega arith) ∙ at (suc j) m e))
 
   pub all_sent : map after (model_streams all) ≡ model_streams (changed_in ns f 0 all)
   all_sent = rest_sent 0 all (λ j k e. ap (slice_get all) (omega arith) ∙ e)
+
+-- the same of a record
+module _ (answers : model.ReaderAnswers) (all : List Held) (apart : AreApart all) (feeds : List (List ℕ)) (next n : ℕ) (v : Number) (l : List KeyValue) (f : Held → Held)
+    (numbers : HaveStreams (or_else (slice_get feeds n) []) all)
+    (keeps : (k : Held) → (f k).stream.demand ≡ k.stream.demand)
+    (made : (i : ℕ) (k : Held) → slice_get all i ≡ Some k → has_number i (or_else (slice_get feeds n) []) ≡ true → is_fed (map (named_identities all) feeds) n (identity_of k) ≡ true → (with_record (set_for k.stream.demand l) v.amount k).stream ≡ (f k).stream) where
+  pub record_sent : map (stream_after answers (map (named_identities all) feeds) next (RecordCall n v l)) (model_streams all) ≡ model_streams (changed_in (or_else (slice_get feeds n) []) f 0 all)
+  record_sent = all_sent answers all apart feeds next n (RecordCall n v l) f numbers keeps
+      (λ i k at s h fed. sent_if answers next n v l (map (named_identities all) feeds) k true fed ∙ made i k at h fed)
+      (λ i k at s fed. sent_if answers next n v l (map (named_identities all) feeds) k false fed)
 
 -- ======== numbers of streams ========
 get-below : (ks : List Held) (n : ℕ) → n < length ks → (k : Held) × (slice_get ks n ≡ Some k)
@@ -171,7 +182,7 @@ recorded-sent next n value l p prepared typed =
       answers = p.answers;
       fates = same i;
       streams = (ap model_streams (fold-changed (held_after_commit value) (committed-twice value) (fed_by n p) p.streams)
-          ∙ sym (all_sent p.answers p.streams (are_apart p.streams prepared.lawful.apart) p.feeds next n (number value) l (held_after_commit value) (fed-numbers p.streams p.feeds n prepared.lawful.numbers) (λ k. (commits value k).1) made)) i;
+          ∙ sym (record_sent p.answers p.streams (are_apart p.streams prepared.lawful.apart) p.feeds next n (number value) l (held_after_commit value) (fed-numbers p.streams p.feeds n prepared.lawful.numbers) (λ k. (commits value k).1) made)) i;
       feeds = feeds-same (committed_each value (fed_by n p) p.streams) p.streams same p.feeds i;
     }
   where

@@ -3,6 +3,7 @@ use Rattle.std.proofs.Common.{◌≡◌, ℕ, zero, suc, ◌+◌, ◌<◌, ◌�
 use Rattle.std.proofs.lemmas.List.{length-map}
 use Rattle.std.specs.Prelude.{All}
 use Rattle.otel_data.specs.declared.numbers.NumberValue.{NumberValue}
+use Rattle.otel_model.specs.Calls.{is_observable}
 use Rattle.otel_model.specs.Machine.{changed_at}
 use Rattle.otel_model.specs.Demands.{Demand}
 use Rattle.otel_model.specs.Streams.{aggregate_of}
@@ -58,19 +59,19 @@ kept-rest (Some s) k ss ks all = all.1
 
 kept-more : (o : Option SavedHeld) (k m : Held) (ss zs : Kept) (ks ms : List Held) → (AreSavedOf ss ks → AreSavedOf zs ms) → m.stream.demand ≡ k.stream.demand → AreSavedOf (o ∷ ss) (k ∷ ks) → AreSavedOf (o ∷ zs) (m ∷ ms)
 kept-more None k m ss zs ks ms f e all = f all
-kept-more (Some s) k m ss zs ks ms f e all = (record { number = all.0.number ∙ ap (λ (d : Demand). d.identity.signed) (sym e); form = all.0.form ∙ ap (λ (d : Demand). form_of (aggregate_of d)) (sym e) }, f all.1)
+kept-more (Some s) k m ss zs ks ms f e all = (record { number = all.0.number ∙ ap (λ (d : Demand). d.identity.signed) (sym e); form = all.0.form ∙ ap (λ (d : Demand). form_of (aggregate_of d)) (sym e); observable = ap (λ (d : Demand). is_observable d.identity.kind) e ∙ all.0.observable }, f all.1)
 
-once-kept : (o p : Option SavedHeld) (k m : Held) (ss : Kept) (ks : List Held) → k ≡ m → p ≡ kept_or o (saved_by k) → AreSavedOf (o ∷ ss) (m ∷ ks) → AreSavedOf (p ∷ ss) (m ∷ ks)
-once-kept None p k m ss ks at is all =
-    subst (λ x. AreSavedOf (x ∷ ss) (m ∷ ks)) (sym is) (record { number = ap (λ (x : Held). x.stream.demand.identity.signed) at; form = ap (λ (x : Held). form_of (aggregate_of x.stream.demand)) at }, all)
-once-kept (Some s) p k m ss ks at is all = subst (λ x. AreSavedOf (x ∷ ss) (m ∷ ks)) (sym is) all
+once-kept : (o p : Option SavedHeld) (k m : Held) (ss : Kept) (ks : List Held) → k ≡ m → is_observable k.stream.demand.identity.kind ≡ true → p ≡ kept_or o (saved_by k) → AreSavedOf (o ∷ ss) (m ∷ ks) → AreSavedOf (p ∷ ss) (m ∷ ks)
+once-kept None p k m ss ks at seen is all =
+    subst (λ x. AreSavedOf (x ∷ ss) (m ∷ ks)) (sym is) (record { number = ap (λ (x : Held). x.stream.demand.identity.signed) at; form = ap (λ (x : Held). form_of (aggregate_of x.stream.demand)) at; observable = ap (λ (x : Held). is_observable x.stream.demand.identity.kind) (sym at) ∙ seen }, all)
+once-kept (Some s) p k m ss ks at seen is all = subst (λ x. AreSavedOf (x ∷ ss) (m ∷ ks)) (sym is) all
 
-pub set-kept : (ss : Kept) (ks : List Held) (n : ℕ) (k : Held) (o p : Option SavedHeld) → k ≡ get_or ks n k → o ≡ get_or ss n o → p ≡ kept_or o (saved_by k) → AreSavedOf ss ks → AreSavedOf (set ss n p) ks
-set-kept [] ks n k o p at was is all = all
-set-kept (s ∷ ss) [] zero k o p at was is all = tt
-set-kept (s ∷ ss) [] (suc n) k o p at was is all = tt
-set-kept (s ∷ ss) (m ∷ ks) zero k o p at was is all = once-kept s p k m ss ks at (is ∙ ap (λ x. kept_or x (saved_by k)) was) all
-set-kept (s ∷ ss) (m ∷ ks) (suc n) k o p at was is all = kept-more s m m ss (set ss n p) ks ks (set-kept ss ks n k o p at was is) refl all
+pub set-kept : (ss : Kept) (ks : List Held) (n : ℕ) (k : Held) (o p : Option SavedHeld) → k ≡ get_or ks n k → is_observable k.stream.demand.identity.kind ≡ true → o ≡ get_or ss n o → p ≡ kept_or o (saved_by k) → AreSavedOf ss ks → AreSavedOf (set ss n p) ks
+set-kept [] ks n k o p at seen was is all = all
+set-kept (s ∷ ss) [] zero k o p at seen was is all = tt
+set-kept (s ∷ ss) [] (suc n) k o p at seen was is all = tt
+set-kept (s ∷ ss) (m ∷ ks) zero k o p at seen was is all = once-kept s p k m ss ks at seen (is ∙ ap (λ x. kept_or x (saved_by k)) was) all
+set-kept (s ∷ ss) (m ∷ ks) (suc n) k o p at seen was is all = kept-more s m m ss (set ss n p) ks ks (set-kept ss ks n k o p at seen was is) refl all
 
 some-kept : (o p : Option SavedHeld) (s : SavedHeld) → p ≡ kept_or o s → (t : SavedHeld) × (p ≡ Some t)
 some-kept None p s is = (s, is)
@@ -225,7 +226,7 @@ restored-skip ss old left ks n is =
 -- what was kept of the next stream is of its kind
 pub kept-next : (s : SavedHeld) (left : Kept) (ks : List Held) (n : ℕ) (x : Held) → n < length ks → x ≡ get_or ks n x → AreSavedOf (Some s ∷ left) (drop n ks) → IsSavedOf s x
 kept-next s left [] n x h at all = absurd (omega arith)
-kept-next s left (k ∷ ks) zero x h at all = record { number = all.0.number ∙ ap (λ (z : Held). z.stream.demand.identity.signed) (sym at); form = all.0.form ∙ ap (λ (z : Held). form_of (aggregate_of z.stream.demand)) (sym at) }
+kept-next s left (k ∷ ks) zero x h at all = record { number = all.0.number ∙ ap (λ (z : Held). z.stream.demand.identity.signed) (sym at); form = all.0.form ∙ ap (λ (z : Held). form_of (aggregate_of z.stream.demand)) (sym at); observable = ap (λ (z : Held). is_observable z.stream.demand.identity.kind) at ∙ all.0.observable }
 kept-next s left (k ∷ ks) (suc n) x h at all = kept-next s left ks n x (omega arith) at all
 
 pub restored-start : (ss : Kept) (old : List Held) → length ss ≤ length old → AreSavedOf ss old → IsRestoredTo ss old ss old 0

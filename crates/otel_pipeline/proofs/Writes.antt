@@ -1,9 +1,6 @@
 -- Lists in which one element after another is written.
-use Rattle.std.proofs.Common.{◌≡◌, ℕ, ◌+◌, ◌<◌, List, [], ◌∷◌, length, get_or, set, map, fold, drop, refl, arith, sym, ◌∙◌, ap, suc, zero, add-one, Some, slice_get}
+use Rattle.std.proofs.Common.{◌≡◌, ℕ, ◌+◌, ◌<◌, List, [], ◌∷◌, length, get_or, set, map, fold, drop, refl, arith, sym, ◌∙◌, ap, suc, zero, add-one, Option, Some, slice_get}
 use Rattle.otel_model.specs.Machine.{changed_at}
-use Rattle.otel_common.specs.declared.attributes.KeyValue.{KeyValue}
-use Rattle.otel_pipeline.specs.Pipelines.{IsPrepared}
-use Rattle.otel_pipeline.specs.Streams.{Held}
 
 -- a write that is not seen
 pub seen_same : {X Y : Type 0} (v : X → Y) (xs : List X) (k : ℕ) (d x y : X) → x ≡ get_or xs k d → v y ≡ v x → map v (set xs k y) ≡ map v xs
@@ -37,15 +34,23 @@ pub changed-more : {X : Type 0} (f : X → X) (ns : List ℕ) (i : ℕ) (xs : Li
 changed-more f ns i xs x y h inside at e =
     rw (add-one, set-changed f xs (get_or ns i 0) x y inside at e) (sym (changed-suc f ns i xs h))
 
--- ======== streams that are ready for a record ========
-pub prepared-set_same : (l : List KeyValue) (ks : List Held) (n : ℕ) (k : Held) → n < length ks → IsPrepared l (Some k) → IsPrepared l (slice_get (set ks n k) n)
-prepared-set_same l [] n k h r = absurd (omega arith)
-prepared-set_same l (t ∷ ks) zero k h r = r
-prepared-set_same l (t ∷ ks) (suc n) k h r = prepared-set_same l ks n k (omega arith) r
+-- ======== what holds of elements ========
+-- an element, by its number
+pub get-at : {X : Type 0} (xs : List X) (k : ℕ) (x : X) → k < length xs → x ≡ get_or xs k x → slice_get xs k ≡ Some x
+get-at [] k x h at = absurd (omega arith)
+get-at (t ∷ xs) zero x h at = ap Some (sym at)
+get-at (t ∷ xs) (suc k) x h at = get-at xs k x (omega arith) at
 
-pub prepared-set : (l : List KeyValue) (ks : List Held) (i n : ℕ) (k : Held) → IsPrepared l (Some k) → IsPrepared l (slice_get ks n) → IsPrepared l (slice_get (set ks i k) n)
-prepared-set l [] i n k r h = h
-prepared-set l (t ∷ ks) zero zero k r h = r
-prepared-set l (t ∷ ks) zero (suc n) k r h = h
-prepared-set l (t ∷ ks) (suc i) zero k r h = h
-prepared-set l (t ∷ ks) (suc i) (suc n) k r h = prepared-set l ks i n k r h
+-- what holds of an element where there is one, once it is written
+module _ {X : Type 0} (P : Option X → Type 0) where
+  pub there-set_same : (xs : List X) (n : ℕ) (x : X) → n < length xs → P (Some x) → P (slice_get (set xs n x) n)
+  there-set_same [] n x h r = absurd (omega arith)
+  there-set_same (t ∷ xs) zero x h r = r
+  there-set_same (t ∷ xs) (suc n) x h r = there-set_same xs n x (omega arith) r
+
+  pub there-set : (xs : List X) (i n : ℕ) (x : X) → P (Some x) → P (slice_get xs n) → P (slice_get (set xs i x) n)
+  there-set [] i n x r h = h
+  there-set (t ∷ xs) zero zero x r h = r
+  there-set (t ∷ xs) zero (suc n) x r h = h
+  there-set (t ∷ xs) (suc i) zero x r h = h
+  there-set (t ∷ xs) (suc i) (suc n) x r h = there-set xs i n x r h

@@ -1,13 +1,13 @@
 -- What a collection takes in of what was observed, and what is kept to undo that (Metrics SDK, "Observations inside
 -- asynchronous callbacks").
-use Rattle.std.specs.Prelude.{◌≡◌, ◌≤◌, ℕ, suc, Bool, cond, List, [], ◌∷◌, fold, length, All, Option, None, Some, slice_get}
+use Rattle.std.specs.Prelude.{◌≡◌, ◌≤◌, ℕ, suc, Bool, true, false, cond, List, [], ◌∷◌, fold, length, All, Option, None, Some, slice_get}
 use Rattle.std.specs.Bool.{beq}
 use Rattle.otel_callback.specs.declared.observation.Observed.{Observed}
 use Rattle.otel_model_stream.specs.Entries.{Table}
 use Rattle.otel_model_stream.specs.Totals.{has_number}
 use Rattle.otel_aggregate.specs.Any.{Form, form_of, is_signed_value, amount_of}
 use Rattle.otel_model.specs.Calls as model
-use Rattle.otel_model.specs.Calls.{or_else}
+use Rattle.otel_model.specs.Calls.{or_else, is_observable}
 use Rattle.otel_model.specs.Sent.{set_for}
 use Rattle.otel_model.specs.State.{ReaderPart}
 use Rattle.otel_model.specs.Streams.{aggregate_of}
@@ -61,10 +61,11 @@ abbrev pub kept_or : Option SavedHeld → SavedHeld → Option SavedHeld
 kept_or None new = Some new
 kept_or (Some old) new = Some old
 
--- it was kept of a stream of the same number type and aggregate
+-- it was kept of an observable stream, of the same number type and aggregate
 pub record IsSavedOf (saved : SavedHeld) (h : Held) : Type 0 where
   pub number : saved.is_signed ≡ h.stream.demand.identity.signed
   pub form : saved.form ≡ form_of (aggregate_of h.stream.demand)
+  pub observable : is_observable h.stream.demand.identity.kind ≡ true
 
 -- the stream with what was kept
 abbrev pub held_after_restore : SavedHeld → Held → Held
@@ -79,6 +80,7 @@ held_after_restore saved h = record {
   };
   resets = h.resets;
   pending = None;
+  room = false;
 }
 
 -- if something was kept
@@ -102,6 +104,18 @@ AreSavedOf (Some s ∷ ss) (h ∷ hs) = IsSavedOf s h × AreSavedOf ss hs
 -- something was kept of the stream of this number
 abbrev pub IsSaved : List (Option SavedHeld) → ℕ → Type 0
 IsSaved ss n = (s : SavedHeld) × (slice_get ss n ≡ Some (Some s))
+
+-- the stream of this number, if there is one, is observable
+abbrev pub IsObservable : List Held → ℕ → Type 0
+IsObservable streams n = (h : Held) → slice_get streams n ≡ Some h → is_observable h.stream.demand.identity.kind ≡ true
+
+-- so are those of these numbers
+abbrev pub AreObservable : List Held → List ℕ → Type 0
+AreObservable streams ns = All (IsObservable streams) ns
+
+-- and those that take these observations in
+abbrev pub AreObservableIn : List (List ℕ) → List Observed → List Held → Type 0
+AreObservableIn feeds os streams = All (λ o. AreObservable streams (observing_numbers feeds o)) os
 
 -- what was kept of these streams is as they are, and enough to undo these observations
 pub record CanUndo (feeds : List (List ℕ)) (os : List Observed) (streams : List Held) (ss : List (Option SavedHeld)) : Type 0 where

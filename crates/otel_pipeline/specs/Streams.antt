@@ -1,5 +1,5 @@
 -- One stream of a reader: the model's stream, and what is no part of it.
-use Rattle.std.specs.Prelude.{ℕ, ◌+◌, Bool, true, false, cond, ◌&&◌, List, [], map, Option, None, Some, ◌≡◌}
+use Rattle.std.specs.Prelude.{ℕ, ◌+◌, Bool, true, false, cond, ◌&&◌, not, List, [], map, Option, None, Some, is_none, is_some, ◌≡◌}
 use Rattle.std.specs.Bool.{beq}
 use Rattle.otel_common.specs.declared.metrics.Temporality.TheVariants.{Cumulative, Delta}
 use Rattle.otel_data.specs.declared.collections.Metric.{Metric}
@@ -7,23 +7,26 @@ use Rattle.otel_data.specs.declared.numbers.NumberValue.{NumberValue}
 use Rattle.otel_model_stream.specs.Sets.{AttributeSet}
 use Rattle.otel_model_stream.specs.Folds.{Amount, empty_of, sample_of, wrap}
 use Rattle.otel_model_stream.specs.Entries.{Table, Point, place, recorded_at}
-use Rattle.otel_model_stream.specs.Events.{Kind}
-use Rattle.otel_model_stream.specs.Machine.{points, machine_after_collection}
+use Rattle.otel_model_stream.specs.Events.{Kind, held_by}
+use Rattle.otel_model_stream.specs.Machine.{points, machine_after_collection, bind_handle, let_go}
 use Rattle.otel_model_stream.specs.Observed.{difference}
 use Rattle.otel_model_stream.specs.Totals.{size, points_total}
 use Rattle.otel_aggregate.specs.Any.{HeldAny, is_signed_value, amount_of}
 use Rattle.otel_aggregate.specs.Streams.{StreamState}
+use Rattle.otel_model.specs.Calls.{is_observable}
 use Rattle.otel_model.specs.Demands.{Aggregation, Drop, Default, Sum, LastValue, ExplicitBucketHistogram, Demand, is_valid}
 use Rattle.otel_model.specs.Collections.{aggregated_metrics, has_points}
 use Rattle.otel_model.specs.Machine.{new_stream}
 use Rattle.otel_model.specs.State.{Stream}
 use Rattle.otel_model.specs.Streams.{aggregate_of, is_drained, is_monotonic_kind}
 
--- a stream, whether each collection resets it, and the set of the record that is prepared
+-- a stream, whether each collection resets it, the set of the record or bind that is prepared, and whether room is made for a
+-- handle
 pub record Held : Type 0 where
   pub stream : Stream
   pub resets : Bool
   pub pending : Option AttributeSet
+  pub room : Bool
 
 -- ======== what a demand asks ========
 -- a sum is monotonic by its kind; the other aggregates are not
@@ -52,19 +55,19 @@ asked_aggregate d resets table start = record {
 pub record IsMakeable (d : Demand) : Type 0 where
   pub valid : is_valid d.aggregation ≡ true
 
--- the aggregate is the one that the demand asks for; it has no handles
+-- the aggregate is the one that the demand asks for; of an observable instrument it has no handles
 pub record IsAsked (d : Demand) (a : HeldAny) : Type 0 where
   pub state : a.state ≡ asked_aggregate d a.state.resets a.state.map_state.table a.state.start
   pub signed : a.is_signed ≡ d.identity.signed
   pub drains : a.drains ≡ is_drained d
-  pub unheld : a.state.map_state.table.none.handles ≡ 0
+  pub unheld : is_observable d.identity.kind ≡ true → a.live ≡ []
 
 -- a stream with this aggregate and these totals
 abbrev pub held_of : Demand → HeldAny → ℕ → ℕ → Held
 held_of d a recorded exported = record {
   stream = record {
     demand = d;
-    machine = record { table = a.state.map_state.table; live = [] };
+    machine = record { table = a.state.map_state.table; live = a.live };
     start = a.state.start;
     reported = a.reported;
     recorded = recorded;
@@ -72,11 +75,12 @@ held_of d a recorded exported = record {
   };
   resets = a.state.resets;
   pending = a.pending;
+  room = a.room;
 }
 
 -- a stream without records, made at a moment
 abbrev pub new_held : Bool → Demand → ℕ → Held
-new_held resets d now = record { stream = new_stream now d; resets = resets; pending = None }
+new_held resets d now = record { stream = new_stream now d; resets = resets; pending = None; room = false }
 
 -- ======== records ========
 -- a record of the set
@@ -95,6 +99,7 @@ with_record s v h = record {
   };
   resets = h.resets;
   pending = None;
+  room = h.room;
 }
 
 abbrev pub committed_by : Option AttributeSet → Amount → Held → Held
@@ -105,9 +110,55 @@ committed_by (Some s) v h = with_record s v h
 abbrev pub held_after_commit : NumberValue → Held → Held
 held_after_commit value h = cond (beq (is_signed_value value) h.stream.demand.identity.signed) (committed_by h.pending (amount_of value) h) h
 
--- but for the set of the record that is prepared
+-- but for the set of the record or bind that is prepared, and the room that is made
 abbrev pub without_pending : Held → Held
-without_pending h = record { stream = h.stream; resets = h.resets; pending = None }
+without_pending h = record { stream = h.stream; resets = h.resets; pending = None; room = false }
+
+-- ======== handles ========
+-- a bind of the set as this handle: it uses the room
+abbrev pub with_bind : ℕ → AttributeSet → Held → Held
+with_bind h s k = record {
+  stream = record {
+    demand = k.stream.demand;
+    machine = bind_handle h s (record { table = place k.stream.demand.limit (empty_of (aggregate_of k.stream.demand)) s k.stream.machine.table; live = k.stream.machine.live });
+    start = k.stream.start;
+    reported = k.stream.reported;
+    recorded = k.stream.recorded;
+    exported = k.stream.exported;
+  };
+  resets = k.resets;
+  pending = None;
+  room = false;
+}
+
+-- of the set that is prepared, if there is one
+abbrev pub bound_by : Option AttributeSet → ℕ → Held → Held
+bound_by None h k = k
+bound_by (Some s) h k = with_bind h s k
+
+-- where room is made for a handle of this number, which isn't live. A stream of an observable instrument has no handles
+abbrev pub held_after_bind : ℕ → Held → Held
+held_after_bind h k = cond (not (is_observable k.stream.demand.identity.kind) && (k.room && is_none (held_by h k.stream.machine.live))) (bound_by k.pending h k) k
+
+-- the end of the handle of this number, if it is live; what was prepared is given up
+abbrev pub without_handle : ℕ → Held → Held
+without_handle h k = record {
+  stream = record {
+    demand = k.stream.demand;
+    machine = let_go (held_by h k.stream.machine.live) h k.stream.machine;
+    start = k.stream.start;
+    reported = k.stream.reported;
+    recorded = k.stream.recorded;
+    exported = k.stream.exported;
+  };
+  resets = k.resets;
+  pending = None;
+  room = k.room;
+}
+
+-- where something is prepared. A drained stream has no handles
+abbrev pub held_after_unbind : ℕ → Held → Held
+held_after_unbind h k = cond (not (is_drained k.stream.demand) && is_some k.pending) (without_handle h k) k
 
 -- ======== collections ========
 -- how its history is cut into windows
@@ -139,6 +190,7 @@ held_after_collection now h = record {
   };
   resets = h.resets;
   pending = h.pending;
+  room = h.room;
 }
 
 -- what a collection at a moment gives of the stream, with points or without

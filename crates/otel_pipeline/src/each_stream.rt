@@ -2,6 +2,7 @@
 
 ghost use Rattle.std.specs.Prelude.{◌≡◌, ◌<◌, [], slice_get, OnOk, IsOk, IsOkUnless};
 ghost use Rattle.otel_model.specs.Calls.{or_else};
+ghost use Rattle.otel_pipeline.specs.Handles.{AreReadyToBind, ArePreparedHeld, bound_each, unbound_each};
 ghost use Rattle.otel_pipeline.specs.Pipelines.{AreNumbers, ArePrepared, all_without_pending, committed_each, all_after_collection};
 
 use crate::stream::Stream;
@@ -36,6 +37,54 @@ pub(crate) fn prepare_each(
         streams[*k].prepare(attributes)?;
     }
     Ok(())
+}
+
+/// Prepares a bind in each of these streams.
+pub(crate) fn prepare_bind_each(
+    streams: &mut Vec<Stream>,
+    feeds: &[usize],
+    attributes: &[KeyValue],
+) -> Result<(), Fault>
+    requires { AreNumbers (all_without_pending streams.old.items) feeds.now }
+    ensures same { all_without_pending streams.new.items ≡ all_without_pending streams.old.items }
+    ensures ready { OnOk result (AreReadyToBind attributes.now streams.new.items feeds.now) }
+    ensures only_memory { IsOkUnless result Fault.OutOfMemory }
+{
+    for k in feeds {
+        streams[*k].prepare_bind(attributes)?;
+    }
+    Ok(())
+}
+
+/// Makes the bind in each of these streams, as this handle.
+pub(crate) fn bind_each(streams: &mut Vec<Stream>, feeds: &[usize], handle: u64)
+    requires { AreNumbers streams.old.items feeds.now }
+    ensures { streams.new.items ≡ bound_each handle feeds.now streams.old.items }
+{
+    for k in feeds {
+        streams[*k].bind(handle);
+    }
+}
+
+/// Prepares a record through this handle, or its end, in each of these streams.
+pub(crate) fn prepare_held_each(streams: &mut Vec<Stream>, feeds: &[usize], handle: u64)
+    requires { AreNumbers (all_without_pending streams.old.items) feeds.now }
+    ensures same { all_without_pending streams.new.items ≡ all_without_pending streams.old.items }
+    ensures prepared { ArePreparedHeld handle streams.new.items feeds.now }
+{
+    for k in feeds {
+        streams[*k].prepare_held(handle);
+    }
+}
+
+/// Ends this handle, where that is prepared, in each of these streams.
+pub(crate) fn unbind_each(streams: &mut Vec<Stream>, feeds: &[usize], handle: u64)
+    requires { AreNumbers streams.old.items feeds.now }
+    ensures { streams.new.items ≡ unbound_each handle feeds.now streams.old.items }
+{
+    for k in feeds {
+        streams[*k].unbind(handle);
+    }
 }
 
 /// Ends a collection at a moment that gave the points of all streams.

@@ -1,8 +1,9 @@
 //! What a collection takes in of what was observed, and how that is undone.
 
-ghost use Rattle.std.specs.Prelude.{◌≡◌, ◌≤◌, ℕ, All, List, Option, None, length, map, replicate, IfOk, OnOk, OnErr, IsOkUnless};
+ghost use Rattle.std.specs.Prelude.{◌≡◌, ◌≤◌, ℕ, true, All, List, Option, None, length, map, replicate, IfOk, OnOk, OnErr, IsOkUnless};
+ghost use Rattle.otel_model.specs.Calls.{is_observable};
 ghost use Rattle.otel_pipeline.specs.Collections.{scopes_shown};
-ghost use Rattle.otel_pipeline.specs.Observations.{AreSavedOf, CanUndo, IsSaved, IsUndone, SavedHeld, changed_in, kept_or, saved_by, observed_all, observed_one, restored_all};
+ghost use Rattle.otel_pipeline.specs.Observations.{AreObservable, AreObservableIn, AreSavedOf, CanUndo, IsSaved, IsUndone, SavedHeld, changed_in, kept_or, saved_by, observed_all, observed_one, restored_all};
 ghost use Rattle.otel_pipeline.specs.Pipelines.{AreNumbers, all_without_pending, all_after_collection};
 
 use crate::collecting::scopes_of;
@@ -33,6 +34,7 @@ fn nothing_saved(alloc: Global, many: usize) -> Result<Vec<Option<SavedStream>>,
 
 /// Keeps what there is of a stream, if nothing was kept of it yet.
 fn save_once(alloc: Global, saved: &mut Option<SavedStream>, stream: &Stream) -> Result<(), Fault>
+    requires { is_observable stream.now.stream.demand.identity.kind ≡ true }
     ensures kept { OnOk result (saved.new ≡ kept_or saved.old (saved_by stream.now)) }
     ensures only_memory { IsOkUnless result Fault.OutOfMemory }
 {
@@ -53,6 +55,7 @@ fn save_each(
     requires numbers { AreNumbers streams.now numbers.now }
     requires same { restored_all saved.old.items streams.now ≡ all_without_pending streams.now }
     requires kept { AreSavedOf saved.old.items streams.now }
+    requires observable { AreObservable streams.now numbers.now }
     ensures long { OnOk result (length saved.new.items ≡ length streams.now) }
     ensures same { OnOk result (restored_all saved.new.items streams.now ≡ all_without_pending streams.now) }
     ensures kept { OnOk result (AreSavedOf saved.new.items streams.now) }
@@ -73,7 +76,8 @@ fn save_observing(
     feeds: &[Items<usize>],
     observations: &[Observed],
 ) -> Result<Vec<Option<SavedStream>>, Fault>
-    requires { All (AreNumbers streams.now) feeds.now }
+    requires numbers { All (AreNumbers streams.now) feeds.now }
+    requires observable { AreObservableIn feeds.now observations.now streams.now }
     ensures saved { IfOk result (λ saved. CanUndo feeds.now observations.now streams.now saved.items) }
     ensures only_memory { IsOkUnless result Fault.OutOfMemory }
 {
@@ -173,7 +177,8 @@ pub(crate) fn collect_observed(
     observations: &[Observed],
     now: u64,
 ) -> Result<ResourceMetrics, Fault>
-    requires { All (AreNumbers streams.old.items) feeds.now }
+    requires numbers { All (AreNumbers streams.old.items) feeds.now }
+    requires observable { AreObservableIn feeds.now observations.now streams.old.items }
     ensures resource { IfOk result (λ c. c.resource ≡ resource.now) }
     ensures scopes { IfOk result (λ c. c.scope_metrics ≡ scopes_shown now (observed_all feeds.now observations.now streams.old.items) meters.now.keys) }
     ensures streams { OnOk result (all_without_pending streams.new.items ≡ all_without_pending (all_after_collection now (observed_all feeds.now observations.now streams.old.items))) }

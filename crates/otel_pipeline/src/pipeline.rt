@@ -5,12 +5,16 @@ ghost use Rattle.otel_model.specs.Calls as model;
 ghost use Rattle.otel_model.specs.Machine.{part_after_call};
 ghost use Rattle.std.specs.Option.{option_map};
 ghost use Rattle.otel_pipeline.specs.Collections.{IsCollectedFrom};
+ghost use Rattle.otel_pipeline.specs.Handles.{AreObservableFor, IsReadyToBindAt, IsPreparedHeldAt, part_after_bind, part_after_unbind};
 ghost use Rattle.otel_pipeline.specs.Observations.{AreTypedFor, observed_of};
 ghost use Rattle.otel_pipeline.specs.Pipelines.{part_of, has_stream_at, piped_after_build, part_after_record, IsBuildableIn, IsPlanned, IsReadyFor, IsPreparedFor};
 ghost use Rattle.otel_pipeline.specs.Views.{views_answering};
 
 use crate::about::About;
-use crate::each_stream::{commit_each, prepare_each, streams_fed};
+use crate::each_stream::{
+    bind_each, commit_each, prepare_bind_each, prepare_each, prepare_held_each, streams_fed,
+    unbind_each,
+};
 use crate::observing::collect_observed;
 use crate::plan::Plan;
 use crate::stream::Stream;
@@ -163,6 +167,63 @@ impl Pipeline {
         );
     }
 
+    /// Prepares a bind of these attributes in the streams that the instrument feeds, and makes room for its handle there. What the
+    /// reader has stays as it was.
+    ///
+    /// Looks the attributes up once in each of these streams.
+    pub fn prepare_bind(&mut self, instrument: usize, attributes: &[KeyValue]) -> Result<(), Fault>
+        ensures same { part_of self.new ≡ part_of self.old }
+        ensures ready { OnOk result (IsReadyToBindAt instrument attributes.now self.new) }
+        ensures only_memory { IsOkUnless result Fault.OutOfMemory }
+    {
+        // These two tell the prover that no identity stands twice.
+        kind_laws();
+        let _ = self.identities.len();
+        prepare_bind_each(
+            &mut self.streams,
+            streams_fed(&self.feeds, instrument),
+            attributes,
+        )
+    }
+
+    /// Makes the bind that was prepared in the streams that the instrument feeds, as this handle. Takes no memory.
+    pub fn bind(&mut self, instrument: usize, handle: u64)
+        ensures { part_of self.new ≡ part_after_bind instrument handle self.old }
+    {
+        bind_each(
+            &mut self.streams,
+            streams_fed(&self.feeds, instrument),
+            handle,
+        );
+    }
+
+    /// Prepares a record through a handle, or its end, in the streams that its instrument feeds. What the reader has stays as it was. Looks up
+    /// nothing but the handle, once in each of these streams, and takes no memory.
+    pub fn prepare_held(&mut self, instrument: usize, handle: u64)
+        ensures same { part_of self.new ≡ part_of self.old }
+        ensures prepared { IsPreparedHeldAt instrument handle self.new }
+    {
+        // These two tell the prover that no identity stands twice.
+        kind_laws();
+        let _ = self.identities.len();
+        prepare_held_each(
+            &mut self.streams,
+            streams_fed(&self.feeds, instrument),
+            handle,
+        );
+    }
+
+    /// Ends the handle whose end was prepared, in the streams that its instrument feeds. Takes no memory.
+    pub fn unbind(&mut self, instrument: usize, handle: u64)
+        ensures { part_of self.new ≡ part_after_unbind instrument handle self.old }
+    {
+        unbind_each(
+            &mut self.streams,
+            streams_fed(&self.feeds, instrument),
+            handle,
+        );
+    }
+
     /// Takes in what was observed, and makes a collection at a moment, from the resource, by the scopes of these
     /// meters. Then the streams whose reader wants `Delta` start again, and those of observed sums are empty. Where
     /// it is refused, the observations are undone.
@@ -176,7 +237,8 @@ impl Pipeline {
         observations: &[Observed],
         now: u64,
     ) -> Result<ResourceMetrics, Fault>
-        requires { AreTypedFor observations.now (part_of self.old) }
+        requires typed { AreTypedFor observations.now (part_of self.old) }
+        requires observable { AreObservableFor observations.now (part_of self.old) }
         ensures collection { IfOk result (λ c. IsCollectedFrom resource.now meters.now.keys now (map observed_of observations.now) (part_of self.old) c) }
         ensures ok { OnOk result ((r : ℕ) → part_of self.new ≡ part_after_call 0 (model.Call.Collect r now (map observed_of observations.now)) (part_of self.old)) }
         ensures err { OnErr result (part_of self.new ≡ part_of self.old) }

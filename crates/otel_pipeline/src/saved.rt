@@ -11,7 +11,6 @@ pub(crate) struct SavedStream {
 }
 
 impl Model for SavedStream {
-    ghost use Rattle.std.specs.Prelude.{◌≡◌};
     ghost use Rattle.otel_pipeline.specs.Observations.{SavedHeld};
 
     ghost Value = { SavedHeld };
@@ -22,7 +21,4 @@ impl Model for SavedStream {
       table = s.aggregate.table;
       recorded = s.recorded;
     } };
-
-    // It was kept of a stream without handles.
-    ghost invariant = { λ s. s.aggregate.table.none.handles ≡ 0 };
 }

@@ -1,11 +1,13 @@
 //! One stream of one reader.
 
-ghost use Rattle.std.specs.Prelude.{◌≡◌, nat_lt, [], Some, IfOk, IsOk, OnOk, IsOkUnless};
+ghost use Rattle.std.specs.Prelude.{◌≡◌, nat_lt, true, [], Some, IfOk, IsOk, OnOk, IsOkUnless};
 ghost use Rattle.otel_common.specs.Temporalities.{resets};
+ghost use Rattle.otel_model.specs.Calls.{is_observable};
 ghost use Rattle.otel_model.specs.Collections.{number_of_points};
 ghost use Rattle.otel_model.specs.Sent.{set_for};
+ghost use Rattle.otel_pipeline.specs.Handles.{IsReadyToBind, IsPreparedHeld};
 ghost use Rattle.otel_pipeline.specs.Observations.{IsSavedOf, held_after_restore, saved_by};
-ghost use Rattle.otel_pipeline.specs.Streams.{IsMakeable, new_held, without_pending, held_after_commit, held_after_collection, shown_metric, if_points};
+ghost use Rattle.otel_pipeline.specs.Streams.{IsMakeable, new_held, without_pending, held_after_commit, held_after_bind, held_after_unbind, held_after_collection, shown_metric, if_points};
 
 use crate::aggregations::{settings_of, size_of};
 use crate::saved::SavedStream;
@@ -18,6 +20,7 @@ use otel_data::aggregated::{AggregatedMetrics, MetricData};
 use otel_data::collections::Metric;
 use otel_data::numbers::NumberValue;
 use otel_stream::demand::Demand;
+use otel_stream::instrument::InstrumentKind;
 use std::alloc::Global;
 use std::marker::Model;
 
@@ -40,6 +43,21 @@ impl Model for Stream {
     ghost view = { λ s. held_of s.demand s.aggregate s.recorded s.exported };
 
     ghost invariant = { λ s. IsAsked s.demand s.aggregate };
+}
+
+/// Whether an instrument of this kind is observable.
+fn is_observable(kind: InstrumentKind) -> bool
+    ensures { result ≡ is_observable kind }
+{
+    match kind {
+        InstrumentKind::Counter => false,
+        InstrumentKind::UpDownCounter => false,
+        InstrumentKind::Histogram => false,
+        InstrumentKind::ObservableCounter => true,
+        InstrumentKind::ObservableUpDownCounter => true,
+        InstrumentKind::Gauge => false,
+        InstrumentKind::ObservableGauge => true,
+    }
 }
 
 /// Whether a metric has points.
@@ -115,23 +133,64 @@ impl Stream {
         }
     }
 
+    /// Prepares a bind of these attributes, and makes room for its handle. What the stream shows stays as it was.
+    pub(crate) fn prepare_bind(&mut self, attributes: &[KeyValue]) -> Result<(), Fault>
+        ensures same { without_pending self.new ≡ without_pending self.old }
+        ensures ready { OnOk result (IsReadyToBind attributes.now self.new) }
+        ensures only_memory { IsOkUnless result Fault.OutOfMemory }
+    {
+        self.prepare(attributes)?;
+        self.aggregate.make_room()
+    }
+
+    /// Carries out the bind that is prepared, if there is one, as a handle of this number, unless that is live.
+    pub(crate) fn bind(&mut self, handle: u64)
+        ensures { self.new ≡ held_after_bind handle self.old }
+    {
+        if !is_observable(self.demand.identity.kind) {
+            self.aggregate.bind_ready(handle);
+        }
+    }
+
+    /// Prepares a record through a handle, or its end, if the stream has it. What it shows stays as it was. It takes no memory.
+    pub(crate) fn prepare_held(&mut self, handle: u64)
+        ensures same { without_pending self.new ≡ without_pending self.old }
+        ensures ready { IsPreparedHeld handle self.new }
+    {
+        self.aggregate.prepare_held(handle);
+    }
+
+    /// Ends the handle whose end is prepared. It takes no memory.
+    pub(crate) fn unbind(&mut self, handle: u64)
+        ensures { self.new ≡ held_after_unbind handle self.old }
+    {
+        if self.aggregate.is_prepared() {
+            self.aggregate.unbind(handle);
+        }
+    }
+
     /// Ends a collection at a moment that gave the stream's points.
     pub(crate) fn finish(&mut self, now: u64)
         ensures { without_pending self.new ≡ without_pending (held_after_collection now self.old) }
     {
+        // Tells the prover that observed sums have no handles.
+        self.aggregate.told_unheld();
         if self.aggregate.resets() {
             self.exported = self.exported.wrapping_add(self.aggregate.total());
         }
         self.aggregate.finish(now);
     }
 
-    /// Keeps its entries and the total of its records.
+    /// Keeps the entries and the total of the records of an observable stream.
     ///
     /// Copies each set that has an entry.
     pub(crate) fn save(&self, alloc: Global) -> Result<SavedStream, Fault>
+        requires { is_observable self.now.stream.demand.identity.kind ≡ true }
         ensures saved { IfOk result (λ saved. saved ≡ saved_by self.now) }
         ensures only_memory { IsOkUnless result Fault.OutOfMemory }
     {
+        // Tells the prover that no entry is held.
+        self.aggregate.told_unheld();
         let aggregate = self.aggregate.save(alloc)?;
         Ok(SavedStream {
             aggregate,
@@ -142,7 +201,7 @@ impl Stream {
     /// Puts back what was kept of it. Takes no memory.
     pub(crate) fn restore(&mut self, saved: SavedStream)
         requires { IsSavedOf saved self.old }
-        ensures { self.new ≡ held_after_restore saved self.old }
+        ensures { without_pending self.new ≡ held_after_restore saved self.old }
     {
         let SavedStream {
             aggregate,

@@ -1,20 +1,23 @@
 -- What an instrument feeds has its number type, whatever is called.
-use Rattle.std.proofs.Common.{◌≡◌, ◌⊎◌, inl, inr, ⊎_elim, ℕ, zero, suc, Bool, true, false, cond, List, [], ◌∷◌, ◌++◌, map, length, set, Option, Some, None, slice_get, refl, sym, ◌∙◌, ap, subst, arith}
+use Rattle.std.proofs.Common.{◌≡◌, ◌⊎◌, inl, inr, ⊎_elim, ℕ, zero, suc, Bool, true, false, cond, List, [], ◌∷◌, ◌++◌, map, length, set, get_or, ◌<◌, Option, Some, None, slice_get, refl, sym, ◌∙◌, ap, subst, arith}
 use Rattle.std.specs.Prelude.{All, filter, fold, Result, Ok, Err, OnOk, OnErr}
 use Rattle.std.proofs.lemmas.Bool.{false≢true}
 use Rattle.std.proofs.lemmas.List.{length-append}
 use Rattle.otel_callback.specs.declared.observation.Observed.{Observed as Observation}
 use Rattle.otel_common.specs.declared.scopes.InstrumentationScope.{InstrumentationScope}
 use Rattle.otel_model_stream.specs.Folds.{Amount}
-use Rattle.otel_model.specs.Calls.{About, Call, Collect, Number, Observed}
+use Rattle.otel_model.specs.Calls.{is_observable, Fault, WrongKind, About, Call, Collect, Number, Observed}
 use Rattle.otel_model.specs.Demands.{Identity, Demand, ReaderAnswers, StreamSpec, Views, has_identity, instrument_of, add_answer, view_demands, demands_with, is_compatible, is_known, is_dropped, is_good, fed_identities, own_demand, identity_eq}
 use Rattle.otel_model.specs.Machine.{changed_at, instrument_after_record, enter, new_instrument, part_after_demand, build_demands, part_after_build, part_after_call}
+use Rattle.otel_model.specs.Refusals.{first_fault, number_refusal, observation_refusal, observations_refusal}
 use Rattle.otel_model.specs.Sent.{is_fed}
 use Rattle.otel_model.specs.State.{InstrumentState, ReaderPart}
 use Rattle.otel_model.proofs.Gather.{identity_eq_true}
 use Rattle.otel_model_laws.proofs.Feeding.{is_one, fed_demanded}
+use Rattle.otel_pipeline.specs.Handles.{AreObservableFor}
 use Rattle.otel_pipeline.specs.Observations.{AreTypedFor}
 use Rattle.otel_pipeline.specs.Pipelines.{Piped, part_of}
+use Rattle.otel_provider.specs.Correspondence.{observed_of}
 use Rattle.otel_provider.specs.States.{IsTaken, IsTyped, AreTyped, FeedType}
 
 some_is : {X : Type 0} (a b : X) → Some a ≡ Some b → a ≡ b
@@ -37,49 +40,49 @@ same-feeds : (now : ℕ) (ds : List Demand) (p : ReaderPart) → (fold (part_aft
 same-feeds now [] p = refl
 same-feeds now (d ∷ ds) p = same-feeds now ds (part_after_demand now p d)
 
--- demands of one number type
-abbrev OfType : Bool → List Demand → Type 0
-OfType signed [] = Unit {0}
-OfType signed (d ∷ ds) = (d.identity.signed ≡ signed) × OfType signed ds
+-- demands of one number type and kind
+abbrev OfType : About → List Demand → Type 0
+OfType about [] = Unit {0}
+OfType about (d ∷ ds) = ((d.identity.signed ≡ about.signed) × (d.identity.kind ≡ about.kind)) × OfType about ds
 
-typed-append : (signed : Bool) (ds es : List Demand) → OfType signed ds → OfType signed es → OfType signed (ds ++ es)
-typed-append signed [] es all more = more
-typed-append signed (d ∷ ds) es all more = (all.0, typed-append signed ds es all.1 more)
+typed-append : (about : About) (ds es : List Demand) → OfType about ds → OfType about es → OfType about (ds ++ es)
+typed-append about [] es all more = more
+typed-append about (d ∷ ds) es all more = (all.0, typed-append about ds es all.1 more)
 
-typed-filter : (signed : Bool) (p : Demand → Bool) (ds : List Demand) → OfType signed ds → OfType signed (filter p ds)
-typed-filter signed p [] all = tt
-typed-filter signed p (d ∷ ds) all = by (p d) (typed-filter signed p ds all.1)
+typed-filter : (about : About) (p : Demand → Bool) (ds : List Demand) → OfType about ds → OfType about (filter p ds)
+typed-filter about p [] all = tt
+typed-filter about p (d ∷ ds) all = by (p d) (typed-filter about p ds all.1)
   where
-    by : (b : Bool) → OfType signed (filter p ds) → OfType signed (cond b (d ∷ filter p ds) (filter p ds))
+    by : (b : Bool) → OfType about (filter p ds) → OfType about (cond b (d ∷ filter p ds) (filter p ds))
     by true rest = (all.0, rest)
     by false rest = rest
 
-views-typed : (views : Views) (answers : ReaderAnswers) (scope : InstrumentationScope) (about : About) → OfType about.signed (view_demands views answers scope about)
+views-typed : (views : Views) (answers : ReaderAnswers) (scope : InstrumentationScope) (about : About) → OfType about (view_demands views answers scope about)
 views-typed [] answers scope about = tt
 views-typed (view ∷ views) answers scope about = by (view (instrument_of scope about)) (views-typed views answers scope about)
   where
-    by : (o : Option StreamSpec) → OfType about.signed (view_demands views answers scope about) → OfType about.signed (add_answer answers scope about o (view_demands views answers scope about))
+    by : (o : Option StreamSpec) → OfType about (view_demands views answers scope about) → OfType about (add_answer answers scope about o (view_demands views answers scope about))
     by None rest = rest
-    by (Some s) rest = (refl, rest)
+    by (Some s) rest = ((refl, refl), rest)
 
 -- whatever the views answer
-demands-typed : (views : Views) (scope : Option InstrumentationScope) (about : About) (p : ReaderPart) → OfType about.signed (build_demands views p scope about)
+demands-typed : (views : Views) (scope : Option InstrumentationScope) (about : About) (p : ReaderPart) → OfType about (build_demands views p scope about)
 demands-typed views None about p = tt
 demands-typed views (Some scope) about p = by (is_good about)
   where
-    own : (b : Bool) → OfType about.signed (cond b (own_demand p.answers scope about ∷ []) [])
-    own true = (refl, tt)
+    own : (b : Bool) → OfType about (cond b (own_demand p.answers scope about ∷ []) [])
+    own true = ((refl, refl), tt)
     own false = tt
 
-    by : (b : Bool) → OfType about.signed (cond b (demands_with (λ ds. is_dropped (fold enter p.fates ds)) views p.answers scope about) [])
-    by true = typed-append about.signed _ _ (typed-filter about.signed is_compatible (view_demands views p.answers scope about) (views-typed views p.answers scope about)) (own _)
+    by : (b : Bool) → OfType about (cond b (demands_with (λ ds. is_dropped (fold enter p.fates ds)) views p.answers scope about) [])
+    by true = typed-append about _ _ (typed-filter about is_compatible (view_demands views p.answers scope about) (views-typed views p.answers scope about)) (own _)
     by false = tt
 
-known-typed : (signed : Bool) (ds : List Demand) (x : Identity) → OfType signed ds → is_known ds x ≡ true → x.signed ≡ signed
-known-typed signed [] x all e = absurd (false≢true e)
-known-typed signed (d ∷ ds) x all e = ⊎_elim
-    (λ t. sym (ap (λ (y : Identity). y.signed) (identity_eq_true d.identity x t)) ∙ all.0)
-    (λ t. known-typed signed ds x all.1 t)
+known-typed : (about : About) (ds : List Demand) (x : Identity) → OfType about ds → is_known ds x ≡ true → (x.signed ≡ about.signed) × (x.kind ≡ about.kind)
+known-typed about [] x all e = absurd (false≢true e)
+known-typed about (d ∷ ds) x all e = ⊎_elim
+    (λ t. let is : d.identity ≡ x = identity_eq_true d.identity x t in (sym (ap (λ (y : Identity). y.signed) is) ∙ all.0.0, sym (ap (λ (y : Identity). y.kind) is) ∙ all.0.1))
+    (λ t. known-typed about ds x all.1 t)
     (is_one (identity_eq d.identity x) (is_known ds x) e)
 
 one-built : (views : Views) (is : List InstrumentState) (scope : Option InstrumentationScope) (about : About) (now : ℕ) (p : ReaderPart) → IsTyped is p → IsTyped (is ++ new_instrument about ∷ []) (part_after_build views scope about now p)
@@ -92,7 +95,11 @@ one-built views is scope about now p typed =
       as_many = omega (arith, ap length same, typed.as_many, length-append {A = List Identity}, length-append {A = InstrumentState});
       types = λ n x i f g. ⊎_elim
           (λ t. typed.types n x i t.0 t.1)
-          (λ t. known-typed about.signed ds x (demands-typed views scope about p) (fed_demanded (is_dropped after.fates) ds x t.0) ∙ ap (λ (j : InstrumentState). j.signed) t.1)
+          (λ t. (known-typed about ds x (demands-typed views scope about p) (fed_demanded (is_dropped after.fates) ds x t.0)).0 ∙ ap (λ (j : InstrumentState). j.signed) t.1)
+          (fed-split p.feeds new is (new_instrument about) n x i typed.as_many (subst (λ (fs : List (List Identity)). is_fed (fs ++ new ∷ []) n x ≡ true) same f) g);
+      kinds = λ n x i f g. ⊎_elim
+          (λ t. typed.kinds n x i t.0 t.1)
+          (λ t. (known-typed about ds x (demands-typed views scope about p) (fed_demanded (is_dropped after.fates) ds x t.0)).1 ∙ ap (λ (j : InstrumentState). j.kind) t.1)
           (fed-split p.feeds new is (new_instrument about) n x i typed.as_many (subst (λ (fs : List (List Identity)). is_fed (fs ++ new ∷ []) n x ≡ true) same f) g);
     }
 
@@ -101,12 +108,12 @@ typed-built views is scope about now [] all = tt
 typed-built views is scope about now (p ∷ ps) all = (one-built views is scope about now p all.0, typed-built views is scope about now ps all.1)
 
 -- ======== records ========
--- an instrument that accepts keeps its number type
-signed-accepted : (v : Amount) (m n : ℕ) (is : List InstrumentState) (i : InstrumentState) → slice_get (changed_at m (instrument_after_record v) is) n ≡ Some i → (j : InstrumentState) × (slice_get is n ≡ Some j) × (j.signed ≡ i.signed)
+-- an instrument that accepts keeps its number type and kind
+signed-accepted : (v : Amount) (m n : ℕ) (is : List InstrumentState) (i : InstrumentState) → slice_get (changed_at m (instrument_after_record v) is) n ≡ Some i → (j : InstrumentState) × (slice_get is n ≡ Some j) × (j.signed ≡ i.signed) × (j.kind ≡ i.kind)
 signed-accepted v m n [] i e = absurd (cc)
-signed-accepted v zero zero (j ∷ is) i e = (j, refl, ap (λ (k : InstrumentState). k.signed) (some_is (instrument_after_record v j) i e))
-signed-accepted v zero (suc n) (j ∷ is) i e = (i, e, refl)
-signed-accepted v (suc m) zero (j ∷ is) i e = (i, e, refl)
+signed-accepted v zero zero (j ∷ is) i e = let is : instrument_after_record v j ≡ i = some_is (instrument_after_record v j) i e in (j, refl, ap (λ (k : InstrumentState). k.signed) is, ap (λ (k : InstrumentState). k.kind) is)
+signed-accepted v zero (suc n) (j ∷ is) i e = (i, e, refl, refl)
+signed-accepted v (suc m) zero (j ∷ is) i e = (i, e, refl, refl)
 signed-accepted v (suc m) (suc n) (j ∷ is) i e = signed-accepted v m n is i e
 
 length-accepted : (v : Amount) (m : ℕ) (is : List InstrumentState) → length (changed_at m (instrument_after_record v) is) ≡ length is
@@ -120,6 +127,7 @@ typed-sent v m next c is (p ∷ ps) all = (
   record {
     as_many = all.0.as_many ∙ sym (length-accepted v m is);
     types = λ n x i f g. let before = signed-accepted v m n is i g in all.0.types n x before.0 f before.1 ∙ before.2;
+    kinds = λ n x i f g. let before = signed-accepted v m n is i g in all.0.kinds n x before.0 f before.1 ∙ before.3;
   },
   typed-sent v m next c is ps all.1,
 )
@@ -132,7 +140,7 @@ typed-feeds n v is i (p ∷ ps) at same all = (λ x f. all.0.types n x i f at �
 -- ======== readers ========
 -- one more, before there are instruments
 pub typed-push : (ps : List ReaderPart) (p : ReaderPart) → AreTyped [] ps → p.feeds ≡ [] → AreTyped [] (ps ++ p ∷ [])
-typed-push [] p all e = (record { as_many = ap length e; types = λ n x i f g. absurd (cc) }, tt)
+typed-push [] p all e = (record { as_many = ap length e; types = λ n x i f g. absurd (cc); kinds = λ n x i f g. absurd (cc) }, tt)
 typed-push (q ∷ ps) p all e = (all.0, typed-push ps p all.1 e)
 
 -- one of them changes, but for what feeds it
@@ -140,7 +148,7 @@ pub typed-set : (is : List InstrumentState) (ps : List Piped) (r : ℕ) (p new :
 typed-set is [] r p new at e all = tt
 typed-set is (q ∷ ps) zero p new at e all =
     let same : (part_of q).feeds ≡ (part_of new).feeds = ap (λ (x : Piped). (part_of x).feeds) (some_is q p at) ∙ sym e in
-    (record { as_many = ap length (sym same) ∙ all.0.as_many; types = λ n x i f g. all.0.types n x i (ap (λ fs. is_fed fs n x) same ∙ f) g }, all.1)
+    (record { as_many = ap length (sym same) ∙ all.0.as_many; types = λ n x i f g. all.0.types n x i (ap (λ fs. is_fed fs n x) same ∙ f) g; kinds = λ n x i f g. all.0.kinds n x i (ap (λ fs. is_fed fs n x) same ∙ f) g }, all.1)
 typed-set is (q ∷ ps) (suc r) p new at e all = (all.0, typed-set is ps r p new at e all.1)
 
 -- whether an instrument was made or not
@@ -165,3 +173,27 @@ pub typed-observed : (is : List InstrumentState) (ps : List Piped) (os : List Ob
 typed-observed is ps os r p at all taken = λ k d inside x feeds_it.
     (let t = taken k d inside in
     (typed-at is ps r p at all).types _ x t.instrument feeds_it t.there ∙ sym t.typed)
+
+-- what is observed without fault is of observable instruments
+both-none : (a b : Option Fault) → first_fault a b ≡ None → (a ≡ None) × (b ≡ None)
+both-none None b e = (refl, e)
+both-none (Some f) b e = absurd (cc)
+
+kind-seen : (o : Option InstrumentState) (given : Bool) (i : InstrumentState) → observation_refusal o given ≡ None → o ≡ Some i → is_observable i.kind ≡ true
+kind-seen None given i e at = absurd (cc)
+kind-seen (Some j) given i e at = let same : j ≡ i = some_is j i at in sym (ap (λ (k : InstrumentState). is_observable k.kind) same) ∙ by (is_observable j.kind) e
+  where
+    by : (b : Bool) → cond b (number_refusal j.signed given) (Some WrongKind) ≡ None → b ≡ true
+    by true e = refl
+    by false e = absurd (cc)
+
+observed-kind : (is : List InstrumentState) (os : List Observation) → observations_refusal is (map observed_of os) ≡ None → (k : ℕ) (d : Observation) → k < length os → (i : InstrumentState) → slice_get is (get_or os k d).instrument ≡ Some i → is_observable i.kind ≡ true
+observed-kind is [] e k d h i at = absurd (omega arith)
+observed-kind is (o ∷ os) e zero d h i at = kind-seen (slice_get is o.instrument) _ i (both-none _ (observations_refusal is (map observed_of os)) e).0 at
+observed-kind is (o ∷ os) e (suc k) d h i at = observed-kind is os (both-none (observation_refusal (slice_get is o.instrument) _) _ e).1 k d (omega arith) i at
+
+-- and what they feed is observable
+pub observable-observed : (is : List InstrumentState) (ps : List Piped) (os : List Observation) (r : ℕ) (p : Piped) → slice_get ps r ≡ Some p → AreTyped is (map part_of ps) → All (IsTaken is) os → observations_refusal is (map observed_of os) ≡ None → AreObservableFor os (part_of p)
+observable-observed is ps os r p at all taken fits = λ k d inside x feeds_it.
+    (let t = taken k d inside in
+    ap is_observable ((typed-at is ps r p at all).kinds _ x t.instrument feeds_it t.there) ∙ observed-kind is os fits k d inside t.instrument t.there)

@@ -80,10 +80,11 @@ AreAsked views None about answered = Unit {0}
 AreAsked views (Some scope) about answered = answered ≡ map (λ (view : View). view (instrument_of scope about)) views
 
 -- ======== number types ========
--- what an instrument feeds has its number type, at a reader that knows all instruments
+-- what an instrument feeds has its number type and kind, at a reader that knows all instruments
 pub record IsTyped (is : List InstrumentState) (p : ReaderPart) : Type 0 where
   pub as_many : length p.feeds ≡ length is
   pub types : (n : ℕ) (x : Identity) (i : InstrumentState) → is_fed p.feeds n x ≡ true → slice_get is n ≡ Some i → x.signed ≡ i.signed
+  pub kinds : (n : ℕ) (x : Identity) (i : InstrumentState) → is_fed p.feeds n x ≡ true → slice_get is n ≡ Some i → x.kind ≡ i.kind
 
 -- at each reader
 abbrev pub AreTyped : List InstrumentState → List ReaderPart → Type 0

@@ -21,7 +21,7 @@ use Rattle.otel_model_stream.specs.Folds.{Fold}
 use Rattle.otel_value_map.specs.declared.slots.Slot.{Slot}
 use Rattle.otel_value_map.specs.Slots.{Kept, Look, Keyed, kept_of, look_in, entry_of, entry_at, table_at, HasForm}
 use Rattle.otel_value_map.specs.Keyed.{Fits, Links, IsKept, found, first_of, is_lasting, is_counted}
-use Rattle.otel_value_map.specs.Numbers.{named_in, IsNumberOf}
+use Rattle.otel_value_map.specs.Numbers.{Numbers, named_in, set_named, number_of, is_placed, AreNamed, AreNumbered, IsNumberOf}
 
 pub same_set : (s t : AttributeSet) → set_eq s t ≡ true → s ≡ t
 same_set s t h = (set_eq-Decides s t).0 h
@@ -148,6 +148,25 @@ number-found look none es gs s n laws e =
       number = e;
       named = ap (λ b. cond b none_set (named_in n es)) away ∙ named_in-lookup s es n e (IsDistinct-tail nat_eq none (values_of es) laws.apart);
     }
+
+-- a set that has a number is named by it
+pub numbers-name : (look : Look) (none : ℕ) (es gs : List Keyed) → IsKept look none es gs → AreNamed (record { none = none; sets = es })
+numbers-name look none es gs laws s n e = by (set_eq s none_set) refl e
+  where
+    by : (b : Bool) → set_eq s none_set ≡ b → cond b (Some none) (lookup (set_eq s) es) ≡ Some n → set_named n (record { none = none; sets = es }) ≡ s
+    by true q r =
+        let k : none ≡ n = cc in
+        let here : nat_eq n none ≡ true = grind (arith, nat_tests) in
+        ap (λ b. cond b none_set (named_in n es)) here ∙ sym (same_set s none_set q)
+    by false q r = (number-found look none es gs s n laws r).named
+
+-- the sets with entries are those with numbers
+pub numbers-placed : (look : Look) (none : ℕ) (es : List Keyed) → AreNumbered (map (entry_at look) es) (record { none = none; sets = es })
+numbers-placed look none es s = by (set_eq s none_set) ∙ ap (λ b. set_eq s none_set || b) (sym (has-lookup s look es))
+  where
+    by : (b : Bool) → is_some (cond b (Some none) (lookup (set_eq s) es)) ≡ (b || is_some (lookup (set_eq s) es))
+    by true = refl
+    by false = refl
 
 -- the same of what is found, if anything
 pub if_found : (look : Look) (none : ℕ) (es gs : List Keyed) (s : AttributeSet) (o : Option ℕ) → IsKept look none es gs → (is_some o ≡ true → o ≡ lookup (set_eq s) es) → IfSome o (λ n. IsNumberOf s n (record { none = none; sets = es }))

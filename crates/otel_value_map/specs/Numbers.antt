@@ -1,5 +1,5 @@
 -- The numbers of entries, by which handles name them, and the keys of a map.
-use Rattle.std.specs.Prelude.{◌≡◌, ℕ, ◌<◌, ◌-◌, ◌^◌, nat_eq, ◌&&◌, ◌||◌, not, cond, Bool, true, false, List, [], ◌∷◌, Option, Some}
+use Rattle.std.specs.Prelude.{◌≡◌, ℕ, ◌<◌, ◌-◌, ◌^◌, nat_eq, ◌&&◌, ◌||◌, not, cond, Bool, true, false, List, [], ◌∷◌, map, Option, Some, is_some}
 use Rattle.std.specs.Map.{lookup}
 use Rattle.otel_common.specs.Canonical.{canon}
 use Rattle.otel_common.specs.Equality.{set_eq}
@@ -37,6 +37,14 @@ is_placed s es = set_eq s none_set || has s es
 abbrev pub KeepLeft : List Entry → Numbers → Numbers → Type 0
 KeepLeft left old new = (s : AttributeSet) (n : ℕ) → number_of s old ≡ Some n → is_placed s left ≡ true → number_of s new ≡ Some n
 
+-- what has a number is named by it
+abbrev pub AreNamed : Numbers → Type 0
+AreNamed ns = (s : AttributeSet) (n : ℕ) → number_of s ns ≡ Some n → set_named n ns ≡ s
+
+-- the sets that have entries have numbers, and no other has
+abbrev pub AreNumbered : List Entry → Numbers → Type 0
+AreNumbered es ns = (s : AttributeSet) → is_some (number_of s ns) ≡ is_placed s es
+
 -- the list of a record that is prepared, as a key beside that of its set: if its set will be admitted, and isn't the list itself
 abbrev pub spelling_of : List KeyValue → MapState → List (List KeyValue)
 spelling_of l m = cond (is_admitted (canon l) m && not (set_eq (canon l) l)) (l ∷ []) []
@@ -54,6 +62,14 @@ pub record IsNumberOf (s : AttributeSet) (n : ℕ) (ns : Numbers) : Type 0 where
   pub some : set_eq s none_set ≡ false
   pub number : lookup (set_eq s) ns.sets ≡ Some n
   pub named : set_named n ns ≡ s
+
+-- an entry without live handles
+abbrev pub entry_without_handles : Entry → Entry
+entry_without_handles e = record e { handles = 0 }
+
+-- a table without live handles
+abbrev pub without_handles : Table → Table
+without_handles t = record { none = entry_without_handles t.none; entries = map entry_without_handles t.entries }
 
 -- no entry has so many live handles that one more can't be counted
 abbrev pub AreHandlesFew : Table → Type 0

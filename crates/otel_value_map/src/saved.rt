@@ -1,6 +1,7 @@
 //! What is kept of a map to undo what it took in.
 
 ghost use Rattle.std.specs.Prelude.{◌≡◌};
+ghost use Rattle.otel_value_map.specs.Numbers.{without_handles};
 ghost use Rattle.otel_value_map.specs.Slots.{HasForm};
 
 use crate::aggregator::Aggregator;
@@ -8,23 +9,28 @@ use crate::table::Table;
 use std::marker::Model;
 use std::mem::swap;
 
-/// The entries of a map as they were when it was saved, to be put back into it.
+/// The entries of a map as they were when it was saved, to be put back into it. No handle holds any of them.
 #[derive(Drop)]
 pub struct Saved<A: Aggregator> {
     entries: Table<A>,
 }
 
 impl<A: Aggregator> Model for Saved<A> {
+    ghost use Rattle.std.specs.Prelude.{◌≡◌};
     ghost use Rattle.otel_model_stream.specs.Entries.{Table};
+    ghost use Rattle.otel_value_map.specs.Numbers.{without_handles};
 
     ghost Value = { Table };
 
     ghost view = { λ s. s.entries.table };
+
+    ghost invariant = { λ s. without_handles s.entries.table ≡ s.entries.table };
 }
 
 impl<A: Aggregator> Saved<A> {
     /// These entries, saved.
     pub(crate) fn of(entries: Table<A>) -> Self
+        requires { without_handles entries.table ≡ entries.table }
         ensures { result ≡ entries.table }
     {
         Saved { entries }
@@ -35,6 +41,7 @@ impl<A: Aggregator> Saved<A> {
         ensures table { entries.new.table ≡ self }
         ensures was { HasForm A.meaning entries.old.table }
         ensures is { HasForm A.meaning self }
+        ensures unheld { without_handles self ≡ self }
     {
         let Saved { entries: mut saved } = self;
         // These tell the prover what is kept of the empty set.

@@ -14,7 +14,7 @@ ghost use Rattle.otel_model_stream.specs.Totals.{points_total};
 ghost use Rattle.otel_model_stream.specs.Entries.{point_of_entry, new_entry, has, write, take_handle, drop_handle, at_entry, new_table, evicted_table, drained_table, points, number_counted};
 ghost use Rattle.std.specs.List.{AllByRecursion};
 ghost use Rattle.otel_value_map.specs.Keyed.{Fits, found, IsNew, IsSpelling, with_spelling};
-ghost use Rattle.otel_value_map.specs.Numbers.{number_of, handles_at, KeepLeft, IsNumberOf};
+ghost use Rattle.otel_value_map.specs.Numbers.{number_of, handles_at, entry_without_handles, without_handles, AreNamed, AreNumbered, KeepLeft, IsNumberOf};
 ghost use Rattle.otel_value_map.specs.Slots.{HasForm, look_in, kept_of, forgotten, entry_of, entry_at, copies};
 
 use crate::aggregator::Aggregator;
@@ -231,9 +231,9 @@ fn aggregator_in<A: Aggregator>(slots: &Slab<Slot<A>>, number: usize) -> Option<
     Some(&slot.aggregator)
 }
 
-/// A copy of a slot.
+/// A copy of a slot, which no handle holds.
 fn copy_slot<A: Aggregator>(alloc: Global, slot: &Slot<A>) -> Result<Slot<A>, Fault>
-    ensures copy { IfOk result (λ made. kept_of A.meaning made ≡ kept_of A.meaning slot.now) }
+    ensures copy { IfOk result (λ made. kept_of A.meaning made ≡ record (kept_of A.meaning slot.now) { handles = 0 }) }
     ensures only_memory { IsOkUnless result Fault.OutOfMemory }
 {
     Ok(Slot {
@@ -241,7 +241,7 @@ fn copy_slot<A: Aggregator>(alloc: Global, slot: &Slot<A>) -> Result<Slot<A>, Fa
         counted: slot.counted,
         updated: slot.updated,
         lasting: slot.lasting,
-        handles: slot.handles,
+        handles: 0,
     })
 }
 
@@ -279,6 +279,14 @@ impl<A: Aggregator> Table<A> {
     /// Tells the prover what the empty set's entry is.
     pub fn told_form(&self)
         ensures { HasForm A.meaning self.now.table }
+    {
+        let _none = self.none;
+    }
+
+    /// Tells the prover that numbers and sets lead to each other.
+    pub fn told_numbers(&self)
+        ensures named { AreNamed self.now.numbers }
+        ensures placed { AreNumbered self.now.table.entries self.now.numbers }
     {
         let _none = self.none;
     }
@@ -446,9 +454,9 @@ impl<A: Aggregator> Table<A> {
         aggregator_in(&self.slots, number)
     }
 
-    /// A copy of the entries. Lists that admitted a set in another form are not known to it.
+    /// A copy of the entries, which no handle holds. Lists that admitted a set in another form are not known to it.
     pub fn copy(&self, alloc: Global) -> Result<Table<A>, Fault>
-        ensures table { IfOk result (λ made. made.table ≡ self.now.table) }
+        ensures table { IfOk result (λ made. made.table ≡ without_handles self.now.table) }
         ensures only_memory { IsOkUnless result Fault.OutOfMemory }
     {
         let none = self.slots.get(self.none).unwrap();
@@ -458,7 +466,7 @@ impl<A: Aggregator> Table<A> {
     }
 }
 
-/// Adds copies of the entries of these sets to a table that has none.
+/// Adds copies of the entries of these sets, which no handle holds, to a table that has none.
 fn copy_entries<A: Aggregator>(
     alloc: Global,
     slots: &Slab<Slot<A>>,
@@ -468,7 +476,7 @@ fn copy_entries<A: Aggregator>(
     requires fits { AllByRecursion (Fits (look_in A.meaning slots.now)) sets.now.entries }
     requires first { made.old.numbers.sets ≡ [] }
     requires empty { made.old.table.entries ≡ [] }
-    ensures table { OnOk result (made.new.table ≡ record made.old.table { entries = map (entry_at (look_in A.meaning slots.now)) sets.now.entries }) }
+    ensures table { OnOk result (made.new.table ≡ record made.old.table { entries = map entry_without_handles (map (entry_at (look_in A.meaning slots.now)) sets.now.entries) }) }
     ensures only_memory { IsOkUnless result Fault.OutOfMemory }
 {
     for (set, number) in sets.iter() {

@@ -11,7 +11,7 @@ ghost use Rattle.otel_model_stream.specs.Folds.{wrap};
 ghost use Rattle.otel_model_stream.specs.Sets.{AttributeSet, allowed_part, set_of};
 ghost use Rattle.otel_model_stream.specs.Totals.{points_total};
 ghost use Rattle.otel_value_map.specs.Held.{known_of};
-ghost use Rattle.otel_value_map.specs.Numbers.{number_of, AreHandlesFew, spelling_of, KeepNumbers, KeepLeft};
+ghost use Rattle.otel_value_map.specs.Numbers.{number_of, without_handles, AreHandlesFew, AreNamed, AreNumbered, spelling_of, KeepNumbers, KeepLeft};
 ghost use Rattle.otel_value_map.specs.Slots.{HasForm, copies};
 
 use crate::aggregator::Aggregator;
@@ -199,6 +199,21 @@ impl<A: Aggregator> ValueMap<A> {
         self.prepare_list(&SetKey::allowed(allow, attributes))
     }
 
+    /// Prepares a record at the entry of this number, in the place of one that was prepared before. It looks nothing up and
+    /// takes no memory.
+    pub fn prepare_at(&mut self, number: usize)
+        requires { (s : AttributeSet) × (number_of s self.old.numbers ≡ Some number) }
+        ensures same { self.new.state ≡ self.old.state }
+        ensures numbers { self.new.numbers ≡ self.old.numbers }
+        ensures given { self.new.given ≡ self.old.given }
+        ensures ready { (s : AttributeSet) → number_of s self.old.numbers ≡ Some number → self.new.pending ≡ Some s }
+        ensures spelling { self.new.spelling ≡ [] }
+    {
+        // Tells the prover that the number names its entry.
+        self.table.told_numbers();
+        self.pending = Pending::At(number);
+    }
+
     /// Gives up the record or bind that is prepared, if there is one.
     pub fn give_up(&mut self)
         ensures same { self.new.state ≡ self.old.state }
@@ -331,6 +346,14 @@ impl<A: Aggregator> ValueMap<A> {
         self.table.keys()
     }
 
+    /// The law that numbers and sets lead to each other.
+    pub fn told_numbers(&self)
+        ensures named { AreNamed self.now.numbers }
+        ensures placed { AreNumbered self.now.state.table.entries self.now.numbers }
+    {
+        self.table.told_numbers();
+    }
+
     /// How many entries the limit counts.
     pub fn count(&self) -> usize
         ensures { result ≡ number_counted self.now.state.table.entries }
@@ -380,9 +403,10 @@ impl<A: Aggregator> ValueMap<A> {
         self.count = 0;
     }
 
-    /// A copy of the entries, to be restored later. Of a map without entries it takes memory for that of the empty set.
+    /// A copy of the entries, which no handle holds, to be restored later. Of a map without entries it takes memory for
+    /// that of the empty set.
     pub fn save(&self, alloc: Global) -> Result<Saved<A>, Fault>
-        ensures saved { IfOk result (λ saved. saved ≡ self.now.state.table) }
+        ensures saved { IfOk result (λ saved. saved ≡ without_handles self.now.state.table) }
         ensures only_memory { IsOkUnless result Fault.OutOfMemory }
     {
         Ok(Saved::of(self.table.copy(alloc)?))
@@ -395,6 +419,7 @@ impl<A: Aggregator> ValueMap<A> {
         ensures unprepared { self.new.pending ≡ None }
         ensures was { HasForm A.meaning self.old.state.table }
         ensures is { HasForm A.meaning saved }
+        ensures unheld { without_handles saved ≡ saved }
     {
         self.pending = Pending::Nothing;
         saved.put_into(&mut self.table);

@@ -3,6 +3,7 @@
 use otel_common::attributes::{KeyValue, Value};
 use otel_common::faults::Fault;
 use otel_common::keys::Key;
+use otel_common::strings::StringValue;
 use std::alloc::Global;
 
 /// A set of attributes, by keys in the order in which they are given.
@@ -21,6 +22,7 @@ enum Set {
     /// A key with two values.
     TwiceAThenB,
     CThenB,
+    KIsV,
     Overflow,
 }
 
@@ -31,6 +33,9 @@ const OVERFLOW_KEY: &str = "otel.metric.overflow";
 
 /// The set of the overflow entry.
 const OVERFLOW: Set = Set::Overflow;
+
+/// The key whose value is the text `v`.
+const TEXT_KEY: &str = "k";
 
 const X: Set = Set::X;
 
@@ -55,6 +60,7 @@ fn pairs(set: Set) -> &'static [(&'static str, i64)] {
         Set::BThenA => &[("b", 1), ("a", 2)],
         Set::TwiceAThenB => &[("a", 2), ("a", 9), ("b", 1)],
         Set::CThenB => &[("c", 2), ("b", 1)],
+        Set::KIsV => &[(TEXT_KEY, 1)],
         Set::Overflow => &[(OVERFLOW_KEY, 1)],
     }
 }
@@ -62,6 +68,8 @@ fn pairs(set: Set) -> &'static [(&'static str, i64)] {
 fn attribute(alloc: Global, key: &str, value: i64) -> Result<KeyValue, Fault> {
     let value = if key == OVERFLOW_KEY {
         Value::Bool(true)
+    } else if key == TEXT_KEY {
+        Value::String(StringValue::new(alloc, "v")?)
     } else {
         Value::I64(value)
     };

@@ -126,3 +126,41 @@ fn a_delta_value_is_forgotten(rt: HostRuntime) -> Result<(), Fail> {
     assert!(rt; is_forgotten(rt.alloc(), &mut gauge).unwrap_or(false));
     Ok(())
 }
+
+/// Whether a handle at k=v records there, and the last of two values stands.
+fn writes_through(alloc: Global, gauge: &mut LastValue<u64>) -> Result<bool, Fault> {
+    gauge.bind(0, &attributes(alloc, Set::KIsV)?)?;
+    let is_written = gauge.update_bound(0, 7) && gauge.update_bound(0, 42);
+    Ok(is_written && gives(alloc, gauge, 100, 200, &[(Set::KIsV, 42)])?)
+}
+
+#[test]
+fn bind_writes_through_bound_handle(rt: HostRuntime) -> Result<(), Fail> {
+    let mut gauge: LastValue<u64> = LastValue::new(
+        rt.alloc(),
+        Temporality::Cumulative,
+        None,
+        100,
+        100,
+    )?;
+    assert!(rt; writes_through(rt.alloc(), &mut gauge).unwrap_or(false));
+    Ok(())
+}
+
+/// Whether what a handle recorded is shown once after its end.
+fn is_shown_once(alloc: Global, gauge: &mut LastValue<u64>) -> Result<bool, Fault> {
+    gauge.bind(0, &attributes(alloc, Set::KIsV)?)?;
+    let is_written = gauge.update_bound(0, 5);
+    gauge.unbind(0);
+    let is_over = !gauge.update_bound(0, 6);
+    let is_shown = gives(alloc, gauge, 100, 200, &[(Set::KIsV, 5)])?;
+    let is_gone = gives(alloc, gauge, 200, 300, &[])? && gives(alloc, gauge, 300, 400, &[])?;
+    Ok(is_written && is_over && is_shown && is_gone)
+}
+
+#[test]
+fn bound_handle_drop_decrements_bound_count(rt: HostRuntime) -> Result<(), Fail> {
+    let mut gauge: LastValue<u64> = LastValue::new(rt.alloc(), Temporality::Delta, None, 100, 100)?;
+    assert!(rt; is_shown_once(rt.alloc(), &mut gauge).unwrap_or(false));
+    Ok(())
+}

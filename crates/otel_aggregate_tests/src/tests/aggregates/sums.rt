@@ -2,6 +2,7 @@
 
 use super::{B, NONE, OVERFLOW, Set, X, Y, Z, attributes};
 use otel_aggregate::sum::Sum;
+use otel_common::attributes::KeyValue;
 use otel_common::faults::Fault;
 use otel_common::keys::Key;
 use otel_common::lists::Items;
@@ -40,6 +41,11 @@ enum Step {
     TakeIn(u64),
     IsPrepared(bool),
     Total(u64),
+    /// The bind of a handle of this number.
+    Bind(u64, Set),
+    /// A record through a live handle.
+    RecordBound(u64, u64),
+    Unbind(u64),
     /// What is shown between two moments, and nothing changes.
     Shows(u64, u64, &'static [(Set, u64)]),
     Finish(u64),
@@ -103,6 +109,17 @@ fn take_in<T: Number + Drop>(sum: &mut Sum<T>, value: T) -> bool {
     is_prepared
 }
 
+fn bind(alloc: Global, sum: &mut Sum<u64>, handle: u64, set: Set) -> Result<bool, Fault> {
+    sum.bind(handle, &attributes(alloc, set)?)?;
+    Ok(true)
+}
+
+/// Ends a handle, and tells whether it is over.
+fn unbind(sum: &mut Sum<u64>, handle: u64) -> bool {
+    sum.unbind(handle);
+    !sum.update_bound(handle, 1)
+}
+
 fn finish<T: Number + Drop>(sum: &mut Sum<T>, now: u64) -> bool {
     sum.finish(now);
     true
@@ -140,6 +157,9 @@ fn goes(alloc: Global, sum: &mut Sum<u64>, kind: Kind, step: &Step) -> Result<bo
         Step::TakeIn(value) => Ok(take_in(sum, *value)),
         Step::IsPrepared(want) => Ok(sum.is_prepared() == *want),
         Step::Total(want) => Ok(sum.total() == *want),
+        Step::Bind(handle, set) => bind(alloc, sum, *handle, *set),
+        Step::RecordBound(handle, value) => Ok(sum.update_bound(*handle, *value)),
+        Step::Unbind(handle) => Ok(unbind(sum, *handle)),
         Step::Shows(start, now, want) => shows(alloc, sum, kind, (*start, *now), *want),
         Step::Finish(now) => Ok(finish(sum, *now)),
         Step::Gives(start, now, want) => gives(alloc, sum, kind, (*start, *now), *want),
@@ -367,5 +387,109 @@ fn row_13(rt: HostRuntime) -> Result<(), Fail> {
     };
     let mut sum = made::<i64>(rt.alloc(), kind, 10)?;
     assert!(rt; wraps_around(rt.alloc(), &mut sum, kind).unwrap_or(false));
+    Ok(())
+}
+
+/// An entry that a live handle holds outlives collections without records, and counts toward the limit; then it goes.
+#[test]
+fn a_held_entry_stays(rt: HostRuntime) -> Result<(), Fail> {
+    let steps: [Step; 12] = [
+        Step::Bind(3, X),
+        Step::RecordBound(3, 5),
+        Step::Gives(100, 200, &[(X, 5)]),
+        Step::Gives(200, 300, &[]),
+        Step::Gives(300, 400, &[]),
+        Step::Record(Y, 2),
+        Step::RecordBound(3, 7),
+        Step::Gives(400, 500, &[(X, 7), (OVERFLOW, 2)]),
+        Step::Unbind(3),
+        Step::Gives(500, 600, &[]),
+        Step::Record(Y, 4),
+        Step::Gives(600, 700, &[(Y, 4)]),
+    ];
+    assert!(rt; follows(rt.alloc(), DELTA, 1, &steps)?);
+    Ok(())
+}
+
+/// Whether a sum shows a record of 1; where memory is refused, at a second try.
+fn still_shows(alloc: Global, sum: &Sum<u64>) -> bool {
+    let wanted = [(X, 1)];
+    match shows(alloc, sum, DELTA, (100, 200), &wanted) {
+        Ok(is_shown) => is_shown,
+        Err(_) => shows(alloc, sum, DELTA, (100, 200), &wanted).unwrap_or(false),
+    }
+}
+
+/// Makes room for a handle; where memory is refused, at a second try. Whether that left the sum as it was.
+fn makes_room(alloc: Global, sum: &mut Sum<u64>) -> bool {
+    if sum.make_room().is_ok() {
+        return still_shows(alloc, sum);
+    }
+    still_shows(alloc, sum) && sum.make_room().is_ok()
+}
+
+/// Binds a handle; where memory is refused, at a second try. Whether the sum shows what it showed, and the handle is live then
+/// and wasn't where it was refused.
+fn binds(alloc: Global, sum: &mut Sum<u64>, handle: u64, attributes: &[KeyValue]) -> bool {
+    if sum.bind(handle, attributes).is_ok() {
+        return still_shows(alloc, sum);
+    }
+    let is_same = still_shows(alloc, sum) && !sum.update_bound(handle, 1);
+    is_same && sum.bind(handle, attributes).is_ok()
+}
+
+/// Attributes; where memory is refused, at a second try.
+fn attributes_of(alloc: Global, set: Set) -> Result<Vec<KeyValue>, Fault> {
+    match attributes(alloc, set) {
+        Ok(given) => Ok(given),
+        Err(_) => attributes(alloc, set),
+    }
+}
+
+/// A delta sum with a record of 1; where memory is refused, at a second try.
+fn recorded(alloc: Global) -> Result<Sum<u64>, Fault> {
+    let mut sum = match made(alloc, DELTA, 10) {
+        Ok(sum) => sum,
+        Err(_) => made(alloc, DELTA, 10)?,
+    };
+    let given = attributes_of(alloc, X)?;
+    if sum.measure(1, &given).is_err() {
+        sum.measure(1, &given)?;
+    }
+    Ok(sum)
+}
+
+/// Whether handles are bound at some sets, one of them twice, and records through all are counted.
+fn binds_all(alloc: Global, sum: &mut Sum<u64>) -> Result<bool, Fault> {
+    let sets = [
+        Y,
+        Set::BThenA,
+        NONE,
+        Z,
+        Set::AThenB,
+        X,
+        Set::CThenB,
+        Set::KIsV,
+    ];
+    let mut are_bound = makes_room(alloc, sum);
+    for (handle, set) in (0u64..).zip(sets) {
+        let given = attributes_of(alloc, set)?;
+        if !binds(alloc, sum, handle, &given) {
+            are_bound = false;
+        }
+    }
+    for handle in 0u64..8 {
+        if !sum.update_bound(handle, 1) {
+            are_bound = false;
+        }
+    }
+    Ok(are_bound && sum.total() == 9)
+}
+
+/// It passes also where any one request for memory is refused.
+#[test]
+fn a_refused_handle_changes_nothing(rt: HostRuntime) -> Result<(), Fail> {
+    let mut sum = recorded(rt.alloc())?;
+    assert!(rt; binds_all(rt.alloc(), &mut sum).unwrap_or(false));
     Ok(())
 }

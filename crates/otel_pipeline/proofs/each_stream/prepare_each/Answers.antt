@@ -4,7 +4,7 @@ use Rattle.std.proofs.lemmas.List.Elements.{All-from_get_or}
 use Rattle.otel_model.specs.Sent.{set_for}
 use Rattle.otel_pipeline.specs.Pipelines.{IsPrepared}
 use Rattle.otel_pipeline.specs.Streams.{Held, without_pending}
-use Rattle.otel_pipeline.proofs.Writes.{seen_same, prepared-set, prepared-set_same}
+use Rattle.otel_pipeline.proofs.Writes.{seen_same, there-set, there-set_same}
 use Rattle.otel_pipeline.proofs.each_stream.prepare_each.Goals as goal
 
 pub index_mut-requires : goal.index_mut-requires
@@ -24,8 +24,8 @@ loop-k-preserved c =
     record {
       same = seen_same without_pending c.loop-k.streams.items k c.index_mut.result.now c.index_mut.result.now c.prepare.new.self c.index_mut.ensures.value c.prepare.ensures.same ∙ c.loop-k.invariant.same;
       prepared = below_more _ _
-          (λ j h. prepared-set c.args.attributes.now c.loop-k.streams.items k (get_or c.args.feeds.now j 0) c.prepare.new.self ready (c.loop-k.invariant.prepared j h))
-          (prepared-set_same c.args.attributes.now c.loop-k.streams.items k c.prepare.new.self inside ready);
+          (λ j h. there-set (IsPrepared c.args.attributes.now) c.loop-k.streams.items k (get_or c.args.feeds.now j 0) c.prepare.new.self ready (c.loop-k.invariant.prepared j h))
+          (there-set_same (IsPrepared c.args.attributes.now) c.loop-k.streams.items k c.prepare.new.self inside ready);
     }
 
 pub returns-clause-prepared : goal.returns-clause-prepared

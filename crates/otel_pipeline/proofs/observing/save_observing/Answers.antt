@@ -1,7 +1,7 @@
 use Rattle.std.proofs.Common.{◌∙◌, ap, sym, subst, refl, arith, length}
 use Rattle.std.proofs.lemmas.List.{length-replicate, take_all}
 use Rattle.std.specs.Prelude.{All}
-use Rattle.otel_pipeline.specs.Observations.{AreSavedOf, IsSaved, observing_numbers, restored_all}
+use Rattle.otel_pipeline.specs.Observations.{AreObservable, AreSavedOf, IsSaved, observing_numbers, restored_all}
 use Rattle.otel_pipeline.proofs.Taken.{all-more, observing-within}
 use Rattle.otel_pipeline.proofs.Undone.{none-same, none-kept}
 use Rattle.otel_pipeline.proofs.observing.save_observing.Goals as goal
@@ -18,7 +18,15 @@ loop-observation-init c =
     }
 
 pub save_each-requires-clause-numbers : goal.save_each-requires-clause-numbers
-save_each-requires-clause-numbers c = observing-within c.args.streams.now c.args.feeds.now c.observation-item.result.instrument c.streams_fed-numbers.result.now c.streams_fed-numbers.ensures c.requires
+save_each-requires-clause-numbers c = observing-within c.args.streams.now c.args.feeds.now c.observation-item.result.instrument c.streams_fed-numbers.result.now c.streams_fed-numbers.ensures c.requires.numbers
+
+pub save_each-requires-clause-observable : goal.save_each-requires-clause-observable
+save_each-requires-clause-observable c =
+    let ks = c.args.streams.now in
+    let feeds = c.args.feeds.now in
+    let o = c.observation-item.result in
+    subst (AreObservable ks) (ap (observing_numbers feeds) (sym c.observation-item.is) ∙ sym c.streams_fed-numbers.ensures)
+    (c.requires.observable c.loop-observation.observation-index o c.loop-observation-test.true)
 
 pub loop-observation-preserved : goal.loop-observation-preserved
 loop-observation-preserved c =

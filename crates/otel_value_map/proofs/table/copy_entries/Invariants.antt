@@ -3,6 +3,7 @@ use Rattle.std.specs.List.{AllByRecursion}
 use Rattle.std.specs.Map.{keys_of}
 use Rattle.otel_value_map.specs.Slots.{look_in, entry_at}
 use Rattle.otel_value_map.specs.Keyed.{Fits}
+use Rattle.otel_value_map.specs.Numbers.{entry_without_handles}
 use Rattle.otel_value_map.proofs.table.copy_entries.Given as goal
 
 -- the keys that are left fit, the copies so far and the entries that are left are all, and so are their keys
@@ -11,5 +12,5 @@ invariant-loop-set g l =
     let look = look_in g.A.Aggregator.meaning l.slots in
     AllByRecursion (Fits look) l.set-iterator
     × (l.made.table.none ≡ l.fn.made.table.none)
-    × (l.made.table.entries ++ map (entry_at look) l.set-iterator ≡ map (entry_at look) l.fn.sets.entries)
+    × (l.made.table.entries ++ map entry_without_handles (map (entry_at look) l.set-iterator) ≡ map entry_without_handles (map (entry_at look) l.fn.sets.entries))
     × (keys_of l.made.numbers.sets ++ keys_of l.set-iterator ≡ keys_of l.fn.sets.entries)

@@ -6,16 +6,24 @@ use Rattle.otel_provider.specs.Correspondence.{observed_of}
 use Rattle.otel_provider.specs.States.{shared_of, IsTaken}
 use Rattle.otel_provider.proofs.Outcomes.{IfOk-both, OnErr-weaker}
 use Rattle.otel_provider.proofs.Collects.{get-at, collection-made, set-seen, set-unseen}
-use Rattle.otel_provider.proofs.Typed.{typed-set, same_feeds-by, typed-observed}
+use Rattle.otel_provider.proofs.Typed.{typed-set, same_feeds-by, typed-observed, observable-observed}
 use Rattle.otel_provider.proofs.provider_core.Core.collect.Goals as goal
 
 -- the observations are of instruments that take them, so they are of the number type of what these feed
-pub collect-requires : goal.collect-requires
-collect-requires c =
+pub collect-requires-clause-typed : goal.collect-requires-clause-typed
+collect-requires-clause-typed c =
     let ps = c.self.inside.pipelines.items in
     let inside : c.args.reader < length ps = omega (arith, c.if-reader-len.false, c.len.ensures, c.self.inside.pipelines.ok.0) in
     typed-observed c.self.inside.instruments.items ps c.args.observations.now c.args.reader c.index_mut.result.now (get-at ps c.args.reader c.index_mut.result.now inside c.index_mut.ensures.value) c.self.invariant
     (subst (λ is. All (IsTaken is) c.args.observations.now) c.deref.ensures.value c.in_default.ensures.taken)
+
+pub collect-requires-clause-observable : goal.collect-requires-clause-observable
+collect-requires-clause-observable c =
+    let ps = c.self.inside.pipelines.items in
+    let inside : c.args.reader < length ps = omega (arith, c.if-reader-len.false, c.len.ensures, c.self.inside.pipelines.ok.0) in
+    observable-observed c.self.inside.instruments.items ps c.args.observations.now c.args.reader c.index_mut.result.now (get-at ps c.args.reader c.index_mut.result.now inside c.index_mut.ensures.value) c.self.invariant
+    (subst (λ is. All (IsTaken is) c.args.observations.now) c.deref.ensures.value c.in_default.ensures.taken)
+    (subst (λ is. observations_refusal is (map observed_of c.args.observations.now) ≡ None) c.deref.ensures.value c.in_default.ensures.fits)
 
 pub invariant_of-self : goal.invariant_of-self
 invariant_of-self c =

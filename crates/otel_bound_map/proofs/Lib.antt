@@ -1,0 +1,3 @@
+pub mod HandleLemmas
+pub mod LinkLemmas
+pub mod StepLemmas

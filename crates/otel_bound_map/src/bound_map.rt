@@ -1,0 +1,271 @@
+//! A map of sets with live handles.
+
+ghost use Rattle.std.specs.Prelude.{◌≡◌, [], true, false, is_some, None, Some, IsSome, IsTrue, OnOk, OnErr, IfOk, IsOk, IsOkUnless};
+ghost use Rattle.std.specs.Option.{option_map};
+ghost use Rattle.otel_common.specs.Canonical.{canon};
+ghost use Rattle.otel_model_stream.specs.Entries.{points};
+ghost use Rattle.otel_model_stream.specs.Events.{held_by};
+ghost use Rattle.otel_model_stream.specs.Folds.{wrap};
+ghost use Rattle.otel_model_stream.specs.Maps.{new_map, measured_map, evicted_map, drained_map, draining_points, without_lists, SucceedsIfKnown};
+ghost use Rattle.otel_model_stream.specs.Observed.{fold_in};
+ghost use Rattle.otel_model_stream.specs.Sets.{AttributeSet, allowed_part, set_of};
+ghost use Rattle.otel_model_stream.specs.Totals.{points_total};
+ghost use Rattle.otel_value_map.specs.Numbers.{is_placed, without_handles};
+ghost use Rattle.otel_value_map.specs.Slots.{HasForm, copies};
+ghost use Rattle.otel_bound_map.specs.Handles.{after_bind, after_update, after_unbind};
+
+use crate::links::{Links, add, make_room, number_in, take_out};
+use indexmap::IndexMap;
+use otel_common::attributes::KeyValue;
+use otel_common::faults::Fault;
+use otel_common::keys::Key;
+use otel_common::lists::Items;
+use otel_value_map::aggregator::Aggregator;
+use otel_value_map::hashing::SetHashBuilder;
+use otel_value_map::saved::Saved;
+use otel_value_map::value_map::ValueMap;
+use std::alloc::Global;
+use std::marker::Model;
+
+/// A bounded map from sets of attributes to aggregators, in which handles of the caller's own numbers hold entries
+/// (Metrics SDK, "Cardinality limits").
+///
+/// An entry that a live handle holds stays at a resetting collection, and a handle stays with its entry for good: also with
+/// the overflow entry, once its set could have one of its own.
+#[derive(Drop)]
+pub struct BoundMap<A: Aggregator> {
+    map: ValueMap<A>,
+    live: Links,
+    /// Whether room is made for a handle more.
+    room: bool,
+}
+
+impl<A: Aggregator> Model for BoundMap<A> {
+    ghost use Rattle.std.specs.Prelude.{◌<◌, IsTrue};
+    ghost use Rattle.std.specs.List.{AllByRecursion};
+    ghost use Rattle.indexmap.specs.IndexMap.{spare};
+    ghost use Rattle.otel_bound_map.specs.Handles.{HeldMap};
+    ghost use Rattle.otel_bound_map.specs.Links.{handles_of, IsLinked, AreHeld};
+
+    ghost Value = { HeldMap };
+
+    ghost view = { λ m. record { state = m.map.state; live = handles_of m.map.numbers m.live.entries; pending = m.map.pending; room = m.room } };
+
+    ghost invariant = { λ m. AllByRecursion (IsLinked m.map.numbers) m.live.entries
+        × AreHeld m.map.state.table (handles_of m.map.numbers m.live.entries)
+        × (IsTrue m.room → 0 < spare m.live) };
+}
+
+impl<A: Aggregator> BoundMap<A> {
+    /// A map with no entry but that of the empty set, and no handle. It takes memory for that entry, for the set of the overflow
+    /// entry, and what an aggregator takes.
+    pub fn new(alloc: Global, config: A::InitConfig, limit: usize) -> Result<Self, Fault>
+        ensures made { IfOk result (λ made. made ≡ record { state = new_map limit (A.empty config); live = []; pending = None; room = false }) }
+        ensures only_memory { IsOkUnless result Fault.OutOfMemory }
+    {
+        Ok(BoundMap {
+            map: ValueMap::new(alloc, config, limit)?,
+            live: IndexMap::with_hasher(alloc, SetHashBuilder::default()),
+            room: false,
+        })
+    }
+
+    /// Prepares a record or a bind of the attributes, as `ValueMap::prepare` does.
+    pub fn prepare(&mut self, attributes: &[KeyValue]) -> Result<(), Fault>
+        ensures same { self.new.state ≡ self.old.state }
+        ensures live { self.new.live ≡ self.old.live }
+        ensures room { self.new.room ≡ self.old.room }
+        ensures ready { OnOk result (self.new.pending ≡ Some (canon attributes.now)) }
+        ensures refused { OnErr result (self.new.pending ≡ None) }
+        ensures known { SucceedsIfKnown attributes.now (without_lists self.old.state) result }
+        ensures only_memory { IsOkUnless result Fault.OutOfMemory }
+    {
+        self.map.prepare(attributes)
+    }
+
+    /// Prepares a record or a bind of those of the attributes whose key is in the allow-list, as `ValueMap::prepare_allowed`
+    /// does.
+    pub fn prepare_allowed(&mut self, allow: &[Key], attributes: &[KeyValue]) -> Result<(), Fault>
+        ensures same { self.new.state ≡ self.old.state }
+        ensures live { self.new.live ≡ self.old.live }
+        ensures room { self.new.room ≡ self.old.room }
+        ensures ready { OnOk result (self.new.pending ≡ Some (set_of (Some allow.now) attributes.now)) }
+        ensures refused { OnErr result (self.new.pending ≡ None) }
+        ensures known { SucceedsIfKnown (allowed_part (Some allow.now) attributes.now) (without_lists self.old.state) result }
+        ensures only_memory { IsOkUnless result Fault.OutOfMemory }
+    {
+        self.map.prepare_allowed(allow, attributes)
+    }
+
+    /// Makes room for a handle. A bind uses it.
+    pub fn make_room(&mut self) -> Result<(), Fault>
+        ensures room { OnOk result (self.new ≡ record self.old { room = true }) }
+        ensures refused { OnErr result (self.new ≡ self.old) }
+        ensures only_memory { IsOkUnless result Fault.OutOfMemory }
+    {
+        make_room(&mut self.live)?;
+        self.room = true;
+        Ok(())
+    }
+
+    /// Whether a record or a bind is prepared.
+    pub fn is_prepared(&self) -> bool
+        ensures { result ≡ is_some self.now.pending }
+    {
+        self.map.is_prepared()
+    }
+
+    /// Prepares a record through a handle, if it is live, in the place of what was prepared before; else that is given up. It looks
+    /// up nothing but the handle, and takes no memory.
+    pub fn prepare_held(&mut self, handle: u64)
+        ensures same { self.new.state ≡ self.old.state }
+        ensures live { self.new.live ≡ self.old.live }
+        ensures room { self.new.room ≡ self.old.room }
+        ensures ready { self.new.pending ≡ held_by handle self.old.live }
+        ensures placed { (g : AttributeSet) → self.new.pending ≡ Some g → is_placed g self.new.state.table.entries ≡ true }
+    {
+        match number_in(&self.live, handle) {
+            Some(number) => {
+                self.map.prepare_at(number);
+                // Tells the prover that what has a number has an entry.
+                self.map.told_numbers();
+            }
+            None => self.map.give_up(),
+        }
+    }
+
+    /// Takes in the record that was prepared, without a look-up for a set that has an entry.
+    pub fn measure_ready(&mut self, value: A::PreComputedValue)
+        requires { IsSome self.old.pending }
+        ensures measured { (s : AttributeSet) → self.old.pending ≡ Some s → self.new.state ≡ measured_map s (A.sample value) self.old.state }
+        ensures live { self.new.live ≡ self.old.live }
+        ensures room { self.new.room ≡ self.old.room }
+        ensures spent { self.new.pending ≡ None }
+    {
+        self.map.measure_ready(value);
+        // Tells the prover that entries that kept their numbers are named by them.
+        self.map.told_numbers();
+    }
+
+    /// Carries out the bind that was prepared, as a handle of this number, if one was, room was made for it and no live handle
+    /// has the number. It takes no memory.
+    pub fn bind_ready(&mut self, handle: u64)
+        ensures bound { self.new ≡ after_bind handle self.old }
+    {
+        if !self.room || !self.map.is_prepared() || number_in(&self.live, handle).is_some() {
+            return;
+        }
+        // Tells the prover that there are less than 2^63 handles.
+        let _ = self.live.len();
+        let number = self.map.bind_ready();
+        self.map.told_numbers();
+        add(&mut self.live, handle, number);
+        self.room = false;
+    }
+
+    /// Takes in a record through a handle, if it is live, and tells whether it is. It looks up nothing but the handle, takes no
+    /// memory, and gives up what was prepared.
+    pub fn update_bound(&mut self, handle: u64, value: A::PreComputedValue) -> bool
+        ensures updated { self.new ≡ after_update handle (A.sample value) self.old }
+        ensures told { result ≡ is_some (held_by handle self.old.live) }
+    {
+        match number_in(&self.live, handle) {
+            Some(number) => {
+                self.map.update_bound(number, value);
+                true
+            }
+            None => {
+                self.map.give_up();
+                false
+            }
+        }
+    }
+
+    /// Ends a handle, if it is live. It takes no memory, goes over the handles that are younger, and gives up what was prepared.
+    pub fn unbind(&mut self, handle: u64)
+        ensures unbound { self.new ≡ after_unbind handle self.old }
+    {
+        match number_in(&self.live, handle) {
+            Some(number) => {
+                self.map.unbind(number);
+                take_out(&mut self.live, handle);
+            }
+            None => self.map.give_up(),
+        }
+    }
+
+    /// The sets with copies of their aggregators, as `ValueMap::points` gives them.
+    pub fn points(&self, alloc: Global, every: bool) -> Result<Vec<(Items<KeyValue>, A)>, Fault>
+        ensures points { IfOk result (λ given. copies A.meaning given.items ≡ points every self.now.state.table) }
+        ensures only_memory { IsOkUnless result Fault.OutOfMemory }
+    {
+        self.map.points(alloc, every)
+    }
+
+    /// What the records add up to that `points` shows, modulo 2^64.
+    pub fn total(&self, every: bool) -> u64
+        ensures { result ≡ wrap (points_total (points every self.now.state.table)) }
+    {
+        self.map.total(every)
+    }
+
+    /// Forgets all records. An entry that had none since the last time and that no handle holds goes, but for the overflow
+    /// entry. A record that was prepared is given up.
+    pub fn reset_and_evict(&mut self)
+        ensures state { self.new.state ≡ evicted_map self.old.state }
+        ensures live { self.new.live ≡ self.old.live }
+        ensures room { self.new.room ≡ self.old.room }
+        ensures unprepared { self.new.pending ≡ None }
+    {
+        self.map.reset_and_evict();
+        self.map.told_numbers();
+    }
+
+    /// Forgets all records and all entries, where no handle is live. A record that was prepared is given up.
+    pub fn drain(&mut self)
+        requires { self.old.live ≡ [] }
+        ensures state { self.new.state ≡ drained_map self.old.state }
+        ensures live { self.new.live ≡ [] }
+        ensures room { self.new.room ≡ self.old.room }
+        ensures unprepared { self.new.pending ≡ None }
+    {
+        self.map.drain();
+    }
+
+    /// A copy of the entries, which no handle holds, to be restored later. Of a map without entries it takes memory for
+    /// that of the empty set.
+    pub fn save(&self, alloc: Global) -> Result<Saved<A>, Fault>
+        ensures saved { IfOk result (λ saved. saved ≡ without_handles self.now.state.table) }
+        ensures only_memory { IsOkUnless result Fault.OutOfMemory }
+    {
+        self.map.save(alloc)
+    }
+
+    /// Puts saved entries in the place of its own, where no handle is live, and gives up a record that was prepared. It takes
+    /// no memory.
+    pub fn restore(&mut self, saved: Saved<A>)
+        requires { self.old.live ≡ [] }
+        ensures state { self.new.state ≡ record self.old.state { table = saved } }
+        ensures live { self.new.live ≡ [] }
+        ensures room { self.new.room ≡ self.old.room }
+        ensures unprepared { self.new.pending ≡ None }
+        ensures was { HasForm A.meaning self.old.state.table }
+        ensures is { HasForm A.meaning saved }
+    {
+        self.map.restore(saved);
+    }
+
+    /// The law that no entry is held where no handle is live.
+    pub fn told_unheld(&self)
+        ensures { self.now.live ≡ [] → without_handles self.now.state.table ≡ self.now.state.table }
+    {
+        let _room = self.room;
+    }
+
+    /// The aggregator of a set, as `ValueMap::get` finds it.
+    pub fn get(&self, attributes: &[KeyValue]) -> Option<&A>
+        ensures { option_map (λ found. A.meaning found.now) result ≡ fold_in (draining_points self.now.state) attributes.now }
+    {
+        self.map.get(attributes)
+    }
+}

@@ -1,0 +1,5 @@
+//! A bounded map from sets of attributes to aggregators, with live handles at its entries.
+#![tactic(auto)]
+
+pub mod bound_map;
+mod links;

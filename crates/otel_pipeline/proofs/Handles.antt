@@ -1,0 +1,281 @@
+-- What is done to handles stream by stream is the model's call.
+use Rattle.std.proofs.Common.{◌≡◌, ℕ, zero, suc, ◌+◌, ◌<◌, ◌==◌, ◌++◌, length, eq-eqb, eqb-true, Bool, true, false, cond, not, ◌&&◌, ◌||◌, List, [], ◌∷◌, map, Option, Some, None, is_some, is_none, slice_get, refl, sym, ◌∙◌, ap, subst, arith, true≢false, get_or}
+use Rattle.std.specs.List.{AllByRecursion as EachOf}
+use Rattle.std.specs.Prelude.{All, nat_lt}
+use Rattle.otel_common.specs.Equality.{set_eq, set_eq-Decides}
+use Rattle.otel_common.specs.declared.attributes.KeyValue.{KeyValue}
+use Rattle.otel_data.specs.declared.numbers.NumberValue.{NumberValue}
+use Rattle.otel_aggregate.specs.Any.{is_signed_value, amount_of}
+use Rattle.otel_callback.specs.declared.observation.Observed.{Observed}
+use Rattle.otel_model_stream.specs.Entries.{Entry, Table, new_entry, number_counted, has, place, entry_for, at_entry, write, recorded_at, entries_with_place}
+use Rattle.otel_model_stream.specs.Events.{held_by}
+use Rattle.otel_model_stream.specs.Folds.{Amount, Fold, Sample, empty_of, sample_of}
+use Rattle.otel_model_stream.specs.Machine.{through, let_go}
+use Rattle.otel_model_stream.specs.Sets.{AttributeSet, none_set, over_set}
+use Rattle.otel_model_stream.specs.Totals.{has_number, size}
+use Rattle.otel_model_stream.specs.Folds.{wrap}
+use Rattle.otel_value_map.specs.Numbers.{is_placed}
+use Rattle.otel_model.specs.Calls.{InstrumentKind, Counter, UpDownCounter, Histogram, ObservableCounter, ObservableUpDownCounter, Gauge, ObservableGauge, is_observable, or_else, Number, Call, Bind, RecordBound, Unbind}
+use Rattle.otel_model.specs.Demands as model
+use Rattle.otel_model.specs.Machine.{stream_after, part_after_call, if_held}
+use Rattle.otel_model.specs.Sent.{is_fed, set_for}
+use Rattle.otel_model.specs.State.{ReaderPart, Stream}
+use Rattle.otel_model.specs.Streams.{aggregate_of, is_drained, observes_sums}
+use Rattle.otel_pipeline.specs.Handles.{FeedsSynchronous, FeedsObservable, AreObservableFor, IsNewAt, IsHeldByFed, IsReadyToBind, IsReadyIfThere, AreReadyToBind, IsReadyToBindAt, bound_each, part_after_bind, IsPreparedHeld, IsHeldIfThere, ArePreparedHeld, IsPreparedHeldAt, unbound_each, part_after_unbind}
+use Rattle.otel_pipeline.specs.Observations.{AreObservable, AreObservableIn, changed_in, observing_numbers}
+use Rattle.otel_pipeline.specs.Pipelines.{Piped, AreNumbers, FeedsType, identity_of, is_streamed, fates_of, model_streams, named_identities, part_by, part_of, fed_by, committed_each, part_after_record}
+use Rattle.otel_pipeline.specs.Streams.{Held, with_bind, bound_by, held_after_bind, with_record, committed_by, held_after_commit, without_handle, held_after_unbind}
+use Rattle.otel_pipeline.proofs.Answered.{KeepsAnswer, commits}
+use Rattle.otel_pipeline.proofs.Commits.{fold-changed}
+use Rattle.otel_pipeline.proofs.Identities.{AreApart, are_apart}
+use Rattle.otel_pipeline.proofs.PipelineLemmas.{demands-changed, demands-committed, feeds-same}
+use Rattle.otel_pipeline.proofs.Records.{HaveStreams, all_sent, committed-twice, fed-at, fed-numbers, fits, number, some_same, typed-fits}
+
+-- ======== kinds ========
+drained-by : (kind : InstrumentKind) → is_observable kind ≡ false → observes_sums kind ≡ false
+drained-by Counter e = refl
+drained-by UpDownCounter e = refl
+drained-by Histogram e = refl
+drained-by ObservableCounter e = absurd (true≢false e)
+drained-by ObservableUpDownCounter e = absurd (true≢false e)
+drained-by Gauge e = refl
+drained-by ObservableGauge e = absurd (true≢false e)
+
+-- a synchronous stream isn't drained
+pub undrained : (d : model.Demand) → is_observable d.identity.kind ≡ false → is_drained d ≡ false
+undrained d e = by _ (observes_sums d.identity.kind) (drained-by d.identity.kind e)
+  where
+    by : (a b : Bool) → b ≡ false → (a && b) ≡ false
+    by true b e = e
+    by false b e = refl
+
+-- ======== what holds of a part's streams ========
+of-rest : (P : Stream → Type 0) (m : Held) (ks : List Held) → EachOf P (model_streams (m ∷ ks)) → EachOf P (model_streams ks)
+of-rest P m ks all = by (is_streamed m) refl all
+  where
+    by : (b : Bool) → is_streamed m ≡ b → EachOf P (model_streams (m ∷ ks)) → EachOf P (model_streams ks)
+    by true e all = (rw e at all).1
+    by false e all = rw e at all
+
+of-first : (P : Stream → Type 0) (m : Held) (ks : List Held) → EachOf P (model_streams (m ∷ ks)) → is_streamed m ≡ true → P m.stream
+of-first P m ks all e = (rw e at all).0
+
+-- holds of a stream, by its number
+pub of-streamed : (P : Stream → Type 0) (ks : List Held) → EachOf P (model_streams ks) → (i : ℕ) (k : Held) → slice_get ks i ≡ Some k → is_streamed k ≡ true → P k.stream
+of-streamed P [] all i k at s = absurd (cc)
+of-streamed P (m ∷ ks) all zero k at s =
+    let same : m ≡ k = some_same m k at in
+    subst (λ (x : Held). P x.stream) same (of-first P m ks all (ap is_streamed same ∙ s))
+of-streamed P (m ∷ ks) all (suc i) k at s = of-streamed P ks (of-rest P m ks all) i k at s
+
+-- what holds of the elements of these numbers
+there-at : (P : Option Held → Type 0) (ks : List Held) (ns : List ℕ) → All (λ n. P (slice_get ks n)) ns → (i : ℕ) (k : Held) → slice_get ks i ≡ Some k → has_number i ns ≡ true → P (Some k)
+there-at P ks [] all i k at h = absurd (true≢false (sym h))
+there-at P ks (n ∷ ns) all i k at h = by (n == i) refl h (λ q. there-at P ks ns (λ j d g. all (suc j) d (omega arith)) i k at q)
+  where
+    by : (b : Bool) → (n == i) ≡ b → (b || has_number i ns) ≡ true → (has_number i ns ≡ true → P (Some k)) → P (Some k)
+    by true t q rest = subst P (ap (slice_get ks) (eqb-true n i t) ∙ at) (all 0 n (omega arith))
+    by false t q rest = rest q
+
+-- ======== observations ========
+number-there : (ns : List ℕ) (i d : ℕ) → i < length ns → has_number (get_or ns i d) ns ≡ true
+number-there [] i d h = absurd (omega arith)
+number-there (n ∷ ns) zero d h = ap (λ b. b || has_number n ns) (eq-eqb n n refl)
+number-there (n ∷ ns) (suc i) d h = by (n == get_or ns i d) (number-there ns i d (omega arith))
+  where
+    by : (a : Bool) → has_number (get_or ns i d) ns ≡ true → (a || has_number (get_or ns i d) ns) ≡ true
+    by true e = refl
+    by false e = e
+
+observable-fed : (answers : model.ReaderAnswers) (ks : List Held) → AreApart ks → (feeds : List (List ℕ)) (n : ℕ) → All (AreNumbers ks) feeds → FeedsObservable n (part_by answers ks feeds) → AreObservable ks (or_else (slice_get feeds n) [])
+observable-fed answers ks apart feeds n numbers seen i d h k at =
+    let ns = or_else (slice_get feeds n) [] in
+    seen (identity_of k) (fed-at ks apart feeds n (fed-numbers ks feeds n numbers) (get_or ns i d) k at ∙ number-there ns i d h)
+
+-- streams that take observations in are observable
+pub observable-in : (answers : model.ReaderAnswers) (os : List Observed) (ks : List Held) → AreApart ks → (feeds : List (List ℕ)) → All (AreNumbers ks) feeds → AreObservableFor os (part_by answers ks feeds) → AreObservableIn feeds os ks
+observable-in answers os ks apart feeds numbers all i d h = observable-fed answers ks apart feeds (get_or os i d).instrument numbers (all i d h)
+
+-- ======== binds ========
+bind-if : (answers : model.ReaderAnswers) (h n : ℕ) (l : List KeyValue) (feeds : List (List model.Identity)) (k : Held) (b : Bool) → is_fed feeds n (identity_of k) ≡ b
+    → stream_after answers feeds h (Bind n l) k.stream ≡ (cond b (with_bind h (set_for k.stream.demand l) k) k).stream
+bind-if answers h n l feeds k true e = rw e refl
+bind-if answers h n l feeds k false e = rw e refl
+
+bound-answer : (h : ℕ) (b : Bool) (o : Option AttributeSet) (k : Held) → ((cond b (bound_by o h k) k).resets ≡ k.resets) × ((cond b (bound_by o h k) k).stream.demand ≡ k.stream.demand)
+bound-answer h true None k = (refl, refl)
+bound-answer h true (Some s) k = (refl, refl)
+bound-answer h false o k = (refl, refl)
+
+pub binds : (h : ℕ) → KeepsAnswer (held_after_bind h)
+binds h k = bound-answer h (not (is_observable k.stream.demand.identity.kind) && (k.room && is_none (held_by h k.stream.machine.live))) k.pending k
+
+abbrev can_bind : ℕ → Held → Bool
+can_bind h k = not (is_observable k.stream.demand.identity.kind) && (k.room && is_none (held_by h k.stream.machine.live))
+
+-- a bind is made once
+bound-once : (h : ℕ) (b : Bool) (o : Option AttributeSet) (k : Held) → k.pending ≡ o → can_bind h k ≡ b → held_after_bind h (cond b (bound_by o h k) k) ≡ cond b (bound_by o h k) k
+bound-once h false o k e t = ap (λ b. cond b (bound_by k.pending h k) k) t
+bound-once h true None k e t = ap (λ b. cond b (bound_by k.pending h k) k) t ∙ ap (λ p. bound_by p h k) e
+bound-once h true (Some s) k e t = by (not (is_observable k.stream.demand.identity.kind))
+  where
+    by : (b : Bool) → cond (b && (false && is_none (held_by h (with_bind h s k).stream.machine.live))) (with_bind h s k) (with_bind h s k) ≡ with_bind h s k
+    by true = refl
+    by false = refl
+
+bound-twice : (h : ℕ) (k : Held) → held_after_bind h (held_after_bind h k) ≡ held_after_bind h k
+bound-twice h k = bound-once h (can_bind h k) k.pending k refl refl
+
+pub bound-sent : (h n : ℕ) (l : List KeyValue) (p : Piped) → IsReadyToBindAt n l p → FeedsSynchronous n (part_of p) → IsNewAt h (part_of p) → part_after_bind n h p ≡ part_after_call h (Bind n l) (part_of p)
+bound-sent h n l p ready sync new =
+    let same : fates_of (bound_each h (fed_by n p) p.streams) ≡ fates_of p.streams = demands-changed (held_after_bind h) (λ k. (binds h k).1) (fed_by n p) p.streams in
+    λ i. record {
+      answers = p.answers;
+      fates = same i;
+      streams = (ap model_streams (fold-changed (held_after_bind h) (bound-twice h) (fed_by n p) p.streams)
+          ∙ sym (all_sent p.answers p.streams (are_apart p.streams ready.lawful.apart) p.feeds h n (Bind n l) (held_after_bind h) (fed-numbers p.streams p.feeds n ready.lawful.numbers) (λ k. (binds h k).1)
+          (λ i k at s t fed. bind-if p.answers h n l (map (named_identities p.streams) p.feeds) k true fed ∙ made i k at s t fed)
+          (λ i k at s fed. bind-if p.answers h n l (map (named_identities p.streams) p.feeds) k false fed))) i;
+      feeds = feeds-same (bound_each h (fed_by n p) p.streams) p.streams same p.feeds i;
+    }
+  where
+    made : (i : ℕ) (k : Held) → slice_get p.streams i ≡ Some k → is_streamed k ≡ true → has_number i (fed_by n p) ≡ true → is_fed (map (named_identities p.streams) p.feeds) n (identity_of k) ≡ true
+        → (with_bind h (set_for k.stream.demand l) k).stream ≡ (held_after_bind h k).stream
+    made i k at s t fed =
+        let is : IsReadyToBind l k = there-at (IsReadyIfThere l) p.streams (fed_by n p) ready.ready i k at t in
+        let kind : is_observable k.stream.demand.identity.kind ≡ false = sync (identity_of k) fed in
+        let room : k.room ≡ true = is.room ∙ ap not (undrained k.stream.demand kind) in
+        let away : held_by h k.stream.machine.live ≡ None = of-streamed (λ (q : Stream). held_by h q.machine.live ≡ None) p.streams new i k at s in
+        let can : can_bind h k ≡ true = λ j. not (kind j) && (room j && is_none (away j)) in
+        ap (λ o. (bound_by o h k).stream) (sym is.set) ∙ ap (λ b. (cond b (bound_by k.pending h k) k).stream) (sym can)
+
+-- ======== records through handles ========
+-- the entries where the set has none
+abbrev with_more : ℕ → Fold → AttributeSet → List Entry → List Entry
+with_more limit empty g es = cond (nat_lt (number_counted es) limit) (es ++ new_entry empty g true ∷ []) (cond (has over_set es) es (es ++ new_entry empty over_set false ∷ []))
+
+-- a set that has an entry gets no other
+placed-entries : (limit : ℕ) (empty : Fold) (g : AttributeSet) (es : List Entry) → is_placed g es ≡ true → entries_with_place limit empty g es ≡ es
+placed-entries limit empty g es h = by (set_eq g none_set) (has g es) refl refl h
+  where
+    by : (a b : Bool) → set_eq g none_set ≡ a → has g es ≡ b → (a || b) ≡ true → entries_with_place limit empty g es ≡ es
+    by true b p q e = λ i. cond (p i) es (cond (has g es) es (with_more limit empty g es))
+    by false true p q e = λ i. cond (p i) es (cond (q i) es (with_more limit empty g es))
+    by false false p q e = absurd (true≢false (sym e))
+
+-- and uses its own
+placed-own : (g : AttributeSet) (es : List Entry) → is_placed g es ≡ true → entry_for g es ≡ g
+placed-own g es h = by (set_eq g none_set) (has g es) refl refl h
+  where
+    by : (a b : Bool) → set_eq g none_set ≡ a → has g es ≡ b → (a || b) ≡ true → entry_for g es ≡ g
+    by true b p q e = (λ i. cond (p i) none_set (cond (has g es) g over_set)) ∙ sym ((set_eq-Decides g none_set).0 p)
+    by false true p q e = λ i. cond (p i) none_set (cond (q i) g over_set)
+    by false false p q e = absurd (true≢false (sym e))
+
+placed-there : (limit : ℕ) (empty : Fold) (g : AttributeSet) (v : Sample) (t : Table) → is_placed g t.entries ≡ true → recorded_at g v (place limit empty g t) ≡ at_entry g (write v) t
+placed-there limit empty g v t h =
+    ap (λ (es : List Entry). at_entry (entry_for g es) (write v) (record { none = t.none; entries = es })) (placed-entries limit empty g t.entries h)
+    ∙ ap (λ s. at_entry s (write v) t) (placed-own g t.entries h)
+
+-- a record through a handle, by what the stream has of it
+abbrev update_by : Option AttributeSet → Amount → Stream → Stream
+update_by o v q = record {
+  demand = q.demand;
+  machine = through o (sample_of (aggregate_of q.demand) v) q.machine;
+  start = q.start;
+  reported = q.reported;
+  recorded = if_held o (wrap (q.recorded + size (aggregate_of q.demand) v)) q.recorded;
+  exported = q.exported;
+}
+
+update-is : (answers : model.ReaderAnswers) (feeds : List (List model.Identity)) (next h : ℕ) (v : Number) (q : Stream) (o : Option AttributeSet) → held_by h q.machine.live ≡ o → stream_after answers feeds next (RecordBound h v) q ≡ update_by o v.amount q
+update-is answers feeds next h v q o e = ap (λ p. update_by p v.amount q) e
+
+update-made : (v : Amount) (k : Held) (o : Option AttributeSet) → ((g : AttributeSet) → o ≡ Some g → is_placed g k.stream.machine.table.entries ≡ true) → update_by o v k.stream ≡ (committed_by o v k).stream
+update-made v k None placed = refl
+update-made v k (Some g) placed =
+    ap (λ (t : Table). record {
+      demand = k.stream.demand;
+      machine = record { table = t; live = k.stream.machine.live };
+      start = k.stream.start;
+      reported = k.stream.reported;
+      recorded = wrap (k.stream.recorded + size (aggregate_of k.stream.demand) v);
+      exported = k.stream.exported;
+    }) (sym (placed-there k.stream.demand.limit (empty_of (aggregate_of k.stream.demand)) g (sample_of (aggregate_of k.stream.demand) v) k.stream.machine.table (placed g refl)))
+
+pub update-sent : (n h : ℕ) (value : NumberValue) (p : Piped) → IsPreparedHeldAt n h p → FeedsType n (is_signed_value value) (part_of p) → FeedsSynchronous n (part_of p) → IsHeldByFed n h (part_of p)
+    → part_after_record n value p ≡ part_after_call 0 (RecordBound h (number value)) (part_of p)
+update-sent n h value p prepared typed sync held =
+    let same : fates_of (committed_each value (fed_by n p) p.streams) ≡ fates_of p.streams = demands-committed value (fed_by n p) p.streams in
+    λ i. record {
+      answers = p.answers;
+      fates = same i;
+      streams = (ap model_streams (fold-changed (held_after_commit value) (committed-twice value) (fed_by n p) p.streams)
+          ∙ sym (all_sent p.answers p.streams (are_apart p.streams prepared.lawful.apart) p.feeds 0 n (RecordBound h (number value)) (held_after_commit value) (fed-numbers p.streams p.feeds n prepared.lawful.numbers) (λ k. (commits value k).1) made
+          (λ i k at s fed. update-is p.answers (map (named_identities p.streams) p.feeds) 0 h (number value) k.stream None (of-streamed (λ (q : Stream). is_fed (map (named_identities p.streams) p.feeds) n q.demand.identity ≡ false → held_by h q.machine.live ≡ None) p.streams held i k at s fed)))) i;
+      feeds = feeds-same (committed_each value (fed_by n p) p.streams) p.streams same p.feeds i;
+    }
+  where
+    made : (i : ℕ) (k : Held) → slice_get p.streams i ≡ Some k → is_streamed k ≡ true → has_number i (fed_by n p) ≡ true → is_fed (map (named_identities p.streams) p.feeds) n (identity_of k) ≡ true
+        → stream_after p.answers (map (named_identities p.streams) p.feeds) 0 (RecordBound h (number value)) k.stream ≡ (held_after_commit value k).stream
+    made i k at s t fed =
+        let is : IsPreparedHeld h k = there-at (IsHeldIfThere h) p.streams (fed_by n p) prepared.prepared i k at t in
+        let free : is_drained k.stream.demand ≡ false = undrained k.stream.demand (sync (identity_of k) fed) in
+        let o = held_by h k.stream.machine.live in
+        let set : k.pending ≡ o = is.set free in
+        update-made (amount_of value) k o (λ g e. is.placed free g (set ∙ e))
+        ∙ ap (λ x. (committed_by x (amount_of value) k).stream) (sym set)
+        ∙ ap (λ b. (cond b (committed_by k.pending (amount_of value) k) k).stream) (sym (typed-fits n value (part_of p) k.stream.demand typed fed))
+
+-- ======== the end of handles ========
+unbound-answer : (h : ℕ) (b : Bool) (k : Held) → ((cond b (without_handle h k) k).resets ≡ k.resets) × ((cond b (without_handle h k) k).stream.demand ≡ k.stream.demand)
+unbound-answer h true k = (refl, refl)
+unbound-answer h false k = (refl, refl)
+
+pub unbinds : (h : ℕ) → KeepsAnswer (held_after_unbind h)
+unbinds h k = unbound-answer h (not (is_drained k.stream.demand) && is_some k.pending) k
+
+-- a handle ends once
+unbound-once : (h : ℕ) (b : Bool) (k : Held) → (not (is_drained k.stream.demand) && is_some k.pending) ≡ b → held_after_unbind h (cond b (without_handle h k) k) ≡ cond b (without_handle h k) k
+unbound-once h false k e = ap (λ b. cond b (without_handle h k) k) e
+unbound-once h true k e = by (not (is_drained k.stream.demand))
+  where
+    by : (b : Bool) → cond (b && false) (without_handle h (without_handle h k)) (without_handle h k) ≡ without_handle h k
+    by true = refl
+    by false = refl
+
+unbound-twice : (h : ℕ) (k : Held) → held_after_unbind h (held_after_unbind h k) ≡ held_after_unbind h k
+unbound-twice h k = unbound-once h (not (is_drained k.stream.demand) && is_some k.pending) k refl
+
+-- the end of a handle, by what the stream has of it
+abbrev unbind_by : Option AttributeSet → ℕ → Stream → Stream
+unbind_by o h q = record { demand = q.demand; machine = let_go o h q.machine; start = q.start; reported = q.reported; recorded = q.recorded; exported = q.exported }
+
+unbind-is : (answers : model.ReaderAnswers) (feeds : List (List model.Identity)) (next h : ℕ) (q : Stream) (o : Option AttributeSet) → held_by h q.machine.live ≡ o → stream_after answers feeds next (Unbind h) q ≡ unbind_by o h q
+unbind-is answers feeds next h q o e = ap (λ p. unbind_by p h q) e
+
+unbind-made : (h : ℕ) (k : Held) (o : Option AttributeSet) → held_by h k.stream.machine.live ≡ o → unbind_by o h k.stream ≡ (cond (is_some o) (without_handle h k) k).stream
+unbind-made h k None e = refl
+unbind-made h k (Some g) e = ap (λ p. unbind_by p h k.stream) (sym e)
+
+pub unbind-sent : (n h : ℕ) (p : Piped) → IsPreparedHeldAt n h p → FeedsSynchronous n (part_of p) → IsHeldByFed n h (part_of p) → part_after_unbind n h p ≡ part_after_call 0 (Unbind h) (part_of p)
+unbind-sent n h p prepared sync held =
+    let same : fates_of (unbound_each h (fed_by n p) p.streams) ≡ fates_of p.streams = demands-changed (held_after_unbind h) (λ k. (unbinds h k).1) (fed_by n p) p.streams in
+    λ i. record {
+      answers = p.answers;
+      fates = same i;
+      streams = (ap model_streams (fold-changed (held_after_unbind h) (unbound-twice h) (fed_by n p) p.streams)
+          ∙ sym (all_sent p.answers p.streams (are_apart p.streams prepared.lawful.apart) p.feeds 0 n (Unbind h) (held_after_unbind h) (fed-numbers p.streams p.feeds n prepared.lawful.numbers) (λ k. (unbinds h k).1) made
+          (λ i k at s fed. unbind-is p.answers (map (named_identities p.streams) p.feeds) 0 h k.stream None (of-streamed (λ (q : Stream). is_fed (map (named_identities p.streams) p.feeds) n q.demand.identity ≡ false → held_by h q.machine.live ≡ None) p.streams held i k at s fed)))) i;
+      feeds = feeds-same (unbound_each h (fed_by n p) p.streams) p.streams same p.feeds i;
+    }
+  where
+    made : (i : ℕ) (k : Held) → slice_get p.streams i ≡ Some k → is_streamed k ≡ true → has_number i (fed_by n p) ≡ true → is_fed (map (named_identities p.streams) p.feeds) n (identity_of k) ≡ true
+        → stream_after p.answers (map (named_identities p.streams) p.feeds) 0 (Unbind h) k.stream ≡ (held_after_unbind h k).stream
+    made i k at s t fed =
+        let is : IsPreparedHeld h k = there-at (IsHeldIfThere h) p.streams (fed_by n p) prepared.prepared i k at t in
+        let free : is_drained k.stream.demand ≡ false = undrained k.stream.demand (sync (identity_of k) fed) in
+        let set : k.pending ≡ held_by h k.stream.machine.live = is.set free in
+        unbind-made h k (held_by h k.stream.machine.live) refl
+        ∙ ap (λ o. (cond (is_some o) (without_handle h k) k).stream) (sym set)
+        ∙ ap (λ b. (cond (not b && is_some k.pending) (without_handle h k) k).stream) (sym free)

@@ -1,0 +1,25 @@
+use Rattle.std.proofs.Common.{◌<◌, ◌∙◌, ap, sym, arith, get_or, length, below_more, slice_get, Some}
+use Rattle.std.proofs.lemmas.List.{length-map}
+use Rattle.std.proofs.lemmas.List.Elements.{All-from_get_or}
+use Rattle.otel_pipeline.specs.Handles.{IsHeldIfThere}
+use Rattle.otel_pipeline.specs.Streams.{Held, without_pending}
+use Rattle.otel_pipeline.proofs.Writes.{seen_same, there-set, there-set_same}
+use Rattle.otel_pipeline.proofs.each_stream.prepare_held_each.Goals as goal
+
+pub index_mut-requires : goal.index_mut-requires
+index_mut-requires c = omega (arith, c.requires c.loop-k.k-index 0 c.loop-k-test.true, ap length c.loop-k.invariant.same, length-map {A = Held} {B = Held})
+
+pub loop-k-preserved : goal.loop-k-preserved
+loop-k-preserved c =
+    let k = get_or c.args.feeds.now c.loop-k.k-index 0 in
+    let inside : k < length c.loop-k.streams.items = omega (arith, c.requires c.loop-k.k-index 0 c.loop-k-test.true, ap length c.loop-k.invariant.same, length-map {A = Held} {B = Held}) in
+    let ready : IsHeldIfThere c.args.handle (Some c.prepare_held.new.self) = c.prepare_held.ensures.ready in
+    record {
+      same = seen_same without_pending c.loop-k.streams.items k c.index_mut.result.now c.index_mut.result.now c.prepare_held.new.self c.index_mut.ensures.value c.prepare_held.ensures.same ∙ c.loop-k.invariant.same;
+      prepared = below_more _ _
+          (λ j h. there-set (IsHeldIfThere c.args.handle) c.loop-k.streams.items k (get_or c.args.feeds.now j 0) c.prepare_held.new.self ready (c.loop-k.invariant.prepared j h))
+          (there-set_same (IsHeldIfThere c.args.handle) c.loop-k.streams.items k c.prepare_held.new.self inside ready);
+    }
+
+pub returns-clause-prepared : goal.returns-clause-prepared
+returns-clause-prepared c = All-from_get_or (λ n. IsHeldIfThere c.args.handle (slice_get c.loop-k.streams.items n)) c.args.feeds.now 0 (λ i h. c.loop-k.invariant.prepared i (omega arith))

@@ -1,0 +1,91 @@
+-- What handles are in one reader's streams (Metrics API, "Synchronous Instrument API").
+use Rattle.std.specs.Prelude.{◌≡◌, ℕ, Bool, true, false, not, List, [], fold, All, Option, None, Some, slice_get}
+use Rattle.std.specs.List.{AllByRecursion as EachOf}
+use Rattle.otel_callback.specs.declared.observation.Observed.{Observed}
+use Rattle.otel_common.specs.declared.attributes.KeyValue.{KeyValue}
+use Rattle.otel_model_stream.specs.Events.{held_by}
+use Rattle.otel_model_stream.specs.Sets.{AttributeSet}
+use Rattle.otel_value_map.specs.Numbers.{is_placed}
+use Rattle.otel_model.specs.Calls.{is_observable}
+use Rattle.otel_model.specs.Demands.{Identity}
+use Rattle.otel_model.specs.Machine.{changed_at}
+use Rattle.otel_model.specs.Sent.{is_fed, set_for}
+use Rattle.otel_model.specs.State.{Stream, ReaderPart}
+use Rattle.otel_model.specs.Streams.{is_drained}
+use Rattle.otel_pipeline.specs.Pipelines.{Piped, IsLawful, fed_by, part_by}
+use Rattle.otel_pipeline.specs.Streams.{Held, held_after_bind, held_after_unbind}
+
+-- ======== what the streams of a reader have ========
+-- the instrument feeds streams of synchronous instruments alone
+abbrev pub FeedsSynchronous : ℕ → ReaderPart → Type 0
+FeedsSynchronous instrument p = (x : Identity) → is_fed p.feeds instrument x ≡ true → is_observable x.kind ≡ false
+
+-- the instrument feeds streams of observable instruments alone
+abbrev pub FeedsObservable : ℕ → ReaderPart → Type 0
+FeedsObservable instrument p = (x : Identity) → is_fed p.feeds instrument x ≡ true → is_observable x.kind ≡ true
+
+-- so do the instruments of these observations
+abbrev pub AreObservableFor : List Observed → ReaderPart → Type 0
+AreObservableFor os p = All (λ (o : Observed). FeedsObservable o.instrument p) os
+
+-- no stream has a handle of this number
+abbrev pub IsNewAt : ℕ → ReaderPart → Type 0
+IsNewAt h p = EachOf (λ (q : Stream). held_by h q.machine.live ≡ None) p.streams
+
+-- none but those that the instrument feeds has a handle of this number
+abbrev pub IsHeldByFed : ℕ → ℕ → ReaderPart → Type 0
+IsHeldByFed instrument h p = EachOf (λ (q : Stream). is_fed p.feeds instrument q.demand.identity ≡ false → held_by h q.machine.live ≡ None) p.streams
+
+-- ======== binds ========
+-- the stream, if there is one, is ready for a bind of these attributes
+pub record IsReadyToBind (l : List KeyValue) (k : Held) : Type 0 where
+  pub set : k.pending ≡ Some (set_for k.stream.demand l)
+  pub room : k.room ≡ not (is_drained k.stream.demand)
+
+abbrev pub IsReadyIfThere : List KeyValue → Option Held → Type 0
+IsReadyIfThere l None = Unit {0}
+IsReadyIfThere l (Some k) = IsReadyToBind l k
+
+-- so are the streams of these numbers
+abbrev pub AreReadyToBind : List KeyValue → List Held → List ℕ → Type 0
+AreReadyToBind l streams ns = All (λ n. IsReadyIfThere l (slice_get streams n)) ns
+
+-- ready for a bind of these attributes at the instrument
+pub record IsReadyToBindAt (instrument : ℕ) (attributes : List KeyValue) (p : Piped) : Type 0 where
+  pub lawful : IsLawful p
+  pub ready : AreReadyToBind attributes p.streams (fed_by instrument p)
+
+-- the bind is made in each of these streams
+abbrev pub bound_each : ℕ → List ℕ → List Held → List Held
+bound_each h ns streams = fold (λ ss n. changed_at n (held_after_bind h) ss) streams ns
+
+-- and so in the streams that the instrument feeds
+abbrev pub part_after_bind : ℕ → ℕ → Piped → ReaderPart
+part_after_bind instrument h p = part_by p.answers (bound_each h (fed_by instrument p) p.streams) p.feeds
+
+-- ======== records through handles, and their end ========
+-- the stream is ready for a record through this handle, or for its end, if it has it
+pub record IsPreparedHeld (h : ℕ) (k : Held) : Type 0 where
+  pub set : is_drained k.stream.demand ≡ false → k.pending ≡ held_by h k.stream.machine.live
+  pub placed : is_drained k.stream.demand ≡ false → (g : AttributeSet) → k.pending ≡ Some g → is_placed g k.stream.machine.table.entries ≡ true
+
+abbrev pub IsHeldIfThere : ℕ → Option Held → Type 0
+IsHeldIfThere h None = Unit {0}
+IsHeldIfThere h (Some k) = IsPreparedHeld h k
+
+-- so are the streams of these numbers
+abbrev pub ArePreparedHeld : ℕ → List Held → List ℕ → Type 0
+ArePreparedHeld h streams ns = All (λ n. IsHeldIfThere h (slice_get streams n)) ns
+
+-- ready for a record through this handle of the instrument, or for its end
+pub record IsPreparedHeldAt (instrument : ℕ) (h : ℕ) (p : Piped) : Type 0 where
+  pub lawful : IsLawful p
+  pub prepared : ArePreparedHeld h p.streams (fed_by instrument p)
+
+-- the handle is ended in each of these streams
+abbrev pub unbound_each : ℕ → List ℕ → List Held → List Held
+unbound_each h ns streams = fold (λ ss n. changed_at n (held_after_unbind h) ss) streams ns
+
+-- and so in the streams that the instrument feeds
+abbrev pub part_after_unbind : ℕ → ℕ → Piped → ReaderPart
+part_after_unbind instrument h p = part_by p.answers (unbound_each h (fed_by instrument p) p.streams) p.feeds
