@@ -43,7 +43,7 @@ saved-same-one : (o : Option SavedHeld) (k : Held) (ss : Kept) (ks : List Held) 
 saved-same-one o k ss ks e = ap tail_of e
 
 once-same : (o : Option SavedHeld) (k m : Held) → k ≡ m → restored_if o m ≡ without_pending m → restored_if (kept_or o (saved_by k)) m ≡ without_pending m
-once-same None k m at e = ap (λ (x : Held). held_after_restore (saved_by x) m) at
+once-same None k m at e = ap (λ (x : Held). without_pending (held_after_restore (saved_by x) m)) at
 once-same (Some s) k m at e = e
 
 pub set-same : (ss : Kept) (ks : List Held) (n : ℕ) (k : Held) (o p : Option SavedHeld) → k ≡ get_or ks n k → o ≡ get_or ss n o → p ≡ kept_or o (saved_by k) → restored_all ss ks ≡ all_without_pending ks → restored_all (set ss n p) ks ≡ all_without_pending ks
@@ -149,7 +149,7 @@ module _ (value : NumberValue) where
 
   some-in : (o : Option SavedHeld) (s : SavedHeld) (k : Held) → Some o ≡ Some (Some s) → restored_if o (held_after_commit value k) ≡ restored_if o k
   some-in None s k e = absurd (cc)
-  some-in (Some t) s k e = undone-one t k
+  some-in (Some t) s k e = ap without_pending (undone-one t k)
 
   changed-same : (ss : Kept) (n : ℕ) (ks : List Held) → IsSaved ss n → restored_all ss (changed_at n (held_after_commit value) ks) ≡ restored_all ss ks
   changed-same [] n ks is = absurd (cc)

@@ -80,13 +80,13 @@ held_after_restore saved h = record {
   };
   resets = h.resets;
   pending = None;
-  room = false;
+  room = h.room;
 }
 
 -- if something was kept
 abbrev pub restored_if : Option SavedHeld → Held → Held
 restored_if None h = without_pending h
-restored_if (Some saved) h = held_after_restore saved h
+restored_if (Some saved) h = without_pending (held_after_restore saved h)
 
 -- the same of a list of streams
 abbrev pub restored_all : List (Option SavedHeld) → List Held → List Held

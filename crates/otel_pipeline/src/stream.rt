@@ -201,7 +201,7 @@ impl Stream {
     /// Puts back what was kept of it. Takes no memory.
     pub(crate) fn restore(&mut self, saved: SavedStream)
         requires { IsSavedOf saved self.old }
-        ensures { without_pending self.new ≡ held_after_restore saved self.old }
+        ensures { self.new ≡ held_after_restore saved self.old }
     {
         let SavedStream {
             aggregate,

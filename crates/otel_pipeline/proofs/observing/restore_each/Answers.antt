@@ -36,7 +36,7 @@ loop-kept-preserved c =
       is = elim c.match-kept.branch [
         | in-Some-kept w ↦ put (c.match-kept.streams.items) (ap (λ z. z.items) w.streams-is)
             (restored-step c.args.saved.items c.args.streams.now.items c.in-Some.kept left old c.loop-kept.number w.index_mut.result.now w.restore.new.self w.index_mut.ensures.value
-            (w.restore.ensures ∙ ap (λ o. restored_if o w.index_mut.result.now) (sym w.in-Some-kept.is)) is)
+            (ap without_pending w.restore.ensures ∙ ap (λ o. restored_if o w.index_mut.result.now) (sym w.in-Some-kept.is)) is)
         | in_default w ↦ put (c.match-kept.streams.items) (ap (λ z. z.items) w.streams-is)
             (restored-skip c.args.saved.items c.args.streams.now.items left old c.loop-kept.number
             (subst (λ o. IsRestoredTo c.args.saved.items c.args.streams.now.items (o ∷ left) old c.loop-kept.number) w.in_default.is is))
