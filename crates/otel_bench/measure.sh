@@ -35,7 +35,10 @@ row known0 1000 11000 1
 row known1 1000 11000 1
 row known4 1000 11000 1
 row known10 1000 11000 1
+row known4_first_order 1000 11000 1
 row known4_other_order 1000 11000 1
+row bound4 1000 11000 1
+row bound4_two_readers 1000 11000 1
 row known4_two_readers 1000 11000 1
 row known4_two_kept 1000 11000 1
 row typed4 1000 11000 1

@@ -35,6 +35,17 @@ pub fn call_of(alloc: Global, words: &[&str]) -> Result<Call, Refusal> {
             value: value(number)?,
             attributes: attributes_of(alloc, attributes)?.into(),
         }),
+        ["bind", instrument, attributes] => Ok(Call::Bind {
+            instrument: index(instrument)?,
+            attributes: attributes_of(alloc, attributes)?.into(),
+        }),
+        ["recordbound", handle, number] => Ok(Call::RecordBound {
+            handle: unsigned(handle)?,
+            value: value(number)?,
+        }),
+        ["unbind", handle] => Ok(Call::Unbind {
+            handle: unsigned(handle)?,
+        }),
         ["flush"] => Ok(Call::Flush),
         ["shutdown"] => Ok(Call::Shutdown),
         _ => Err(Refusal::BadCommand),

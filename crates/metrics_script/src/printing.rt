@@ -24,6 +24,7 @@ pub fn write_reply<W: Write>(output: &mut W, reply: &Reply) -> io::Result<()> {
         Reply::Meter(Some(number)) => writeln!(output, "meter {number}"),
         Reply::Meter(None) => writeln!(output, "meter none"),
         Reply::Instrument(number) => writeln!(output, "instrument {number}"),
+        Reply::Handle(number) => writeln!(output, "handle {number}"),
         Reply::Done => writeln!(output, "ok"),
         Reply::Refused(fault) => {
             let number = fault.number();

@@ -7,6 +7,7 @@ use std::test::Fail;
 
 mod failing;
 mod guide;
+mod handles;
 mod lines;
 mod observed;
 mod points;

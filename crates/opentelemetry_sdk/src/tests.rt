@@ -2,6 +2,7 @@
 
 mod callbacks;
 mod calls;
+mod handles;
 mod kinds;
 mod observed;
 mod replies;

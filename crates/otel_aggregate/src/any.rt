@@ -24,6 +24,7 @@ use otel_common::lists::Items;
 use otel_common::metrics::Temporality;
 use otel_data::aggregated::{AggregatedMetrics, MetricData};
 use otel_data::numbers::NumberValue;
+use otel_value_map::hashing::SetHashBuilder;
 use std::alloc::Global;
 use std::marker::Model;
 
@@ -60,8 +61,11 @@ impl AnyAggregate {
     /// with `Delta` each collection starts it again, with any other it goes on from `now`, the moment of
     /// the making, in nanoseconds since 1970. Any limit is taken: with 0 every set but the empty one goes
     /// to the overflow point.
+    ///
+    /// Sets are hashed with `hasher`, which nothing shows.
     pub fn new(
         alloc: Global,
+        hasher: SetHashBuilder,
         settings: AnySettings,
         is_signed: bool,
         temporality: Temporality,
@@ -81,15 +85,42 @@ impl AnyAggregate {
         let inner = match settings {
             AnySettings::Sum {
                 is_monotonic: rises,
-            } => new_sum(alloc, is_signed, temporality, allow, limit, now, rises)?,
+            } => new_sum(
+                alloc,
+                hasher,
+                is_signed,
+                temporality,
+                allow,
+                limit,
+                now,
+                rises,
+            )?,
             AnySettings::PrecomputedSum {
                 is_monotonic: rises,
-            } => new_precomputed_sum(alloc, is_signed, temporality, allow, limit, now, rises)?,
+            } => new_precomputed_sum(
+                alloc,
+                hasher,
+                is_signed,
+                temporality,
+                allow,
+                limit,
+                now,
+                rises,
+            )?,
             AnySettings::LastValue => {
-                new_last_value(alloc, is_signed, temporality, allow, limit, now)?
+                new_last_value(alloc, hasher, is_signed, temporality, allow, limit, now)?
             }
             AnySettings::Histogram(settings) => {
-                new_histogram(alloc, is_signed, temporality, allow, limit, now, settings)?
+                new_histogram(
+                    alloc,
+                    hasher,
+                    is_signed,
+                    temporality,
+                    allow,
+                    limit,
+                    now,
+                    settings,
+                )?
             }
         };
         Ok(AnyAggregate { inner })

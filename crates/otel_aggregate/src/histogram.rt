@@ -20,6 +20,7 @@ use otel_common::metrics::Temporality;
 use otel_data::histograms::Histogram as HistogramData;
 use otel_value_map::bounds::Bounds;
 use otel_value_map::buckets::Buckets;
+use otel_value_map::hashing::SetHashBuilder;
 use otel_value_map::number::Number;
 use otel_value_map::saved::Saved;
 use std::alloc::Global;
@@ -46,8 +47,11 @@ impl<T: Number + Drop> Histogram<T> {
     /// `temporality` is the reader's answer: with `Delta` each collection starts the histograms again,
     /// with any other they go on from `now`, the moment of the making, in nanoseconds since 1970. Any
     /// limit is taken: with 0 every set but the empty one goes to the overflow point.
+    ///
+    /// Sets are hashed with `hasher`, which nothing shows.
     pub fn new(
         alloc: Global,
+        hasher: SetHashBuilder,
         temporality: Temporality,
         allow: Option<Items<Key>>,
         limit: usize,
@@ -67,7 +71,7 @@ impl<T: Number + Drop> Histogram<T> {
             has_min_max,
             has_sum,
         };
-        let stream = Stream::new(alloc, settings, temporality, allow, limit, now)?;
+        let stream = Stream::new(alloc, hasher, settings, temporality, allow, limit, now)?;
         Ok(Histogram { stream })
     }
 

@@ -18,6 +18,7 @@ use otel_common::lists::Items;
 use otel_common::metrics::Temporality;
 use otel_data::gauges::Gauge;
 use otel_value_map::assign::Assign;
+use otel_value_map::hashing::SetHashBuilder;
 use otel_value_map::number::Number;
 use otel_value_map::saved::Saved;
 use std::alloc::Global;
@@ -41,8 +42,11 @@ impl<T: Number + Drop> LastValue<T> {
     /// Last values without records. `temporality` is the reader's answer: with `Delta` each collection
     /// forgets the values, with any other they stay. The moment of the making is `now`, in nanoseconds
     /// since 1970. Any limit is taken: with 0 every set but the empty one goes to the overflow point.
+    ///
+    /// Sets are hashed with `hasher`, which nothing shows.
     pub fn new(
         alloc: Global,
+        hasher: SetHashBuilder,
         temporality: Temporality,
         allow: Option<Items<Key>>,
         limit: usize,
@@ -54,7 +58,7 @@ impl<T: Number + Drop> LastValue<T> {
         ensures room { IfOk result (λ made. made.room ≡ false) }
         ensures only_memory { IsOkUnless result Fault.OutOfMemory }
     {
-        let stream = Stream::new(alloc, (), temporality, allow, limit, now)?;
+        let stream = Stream::new(alloc, hasher, (), temporality, allow, limit, now)?;
         Ok(LastValue { stream })
     }
 

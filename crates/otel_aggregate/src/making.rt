@@ -16,11 +16,13 @@ use otel_common::faults::Fault;
 use otel_common::keys::Key;
 use otel_common::lists::Items;
 use otel_common::metrics::Temporality;
+use otel_value_map::hashing::SetHashBuilder;
 use std::alloc::Global;
 
 /// Sums of unsigned or signed numbers.
 pub fn new_sum(
     alloc: Global,
+    hasher: SetHashBuilder,
     is_signed: bool,
     temporality: Temporality,
     allow: Option<Items<Key>>,
@@ -32,10 +34,10 @@ pub fn new_sum(
     ensures only_memory { IsOkUnless result Fault.OutOfMemory }
 {
     if is_signed {
-        let made = Sum::new(alloc, temporality, allow, limit, now, is_monotonic)?;
+        let made = Sum::new(alloc, hasher, temporality, allow, limit, now, is_monotonic)?;
         Ok(Inner::SumI64(made))
     } else {
-        let made = Sum::new(alloc, temporality, allow, limit, now, is_monotonic)?;
+        let made = Sum::new(alloc, hasher, temporality, allow, limit, now, is_monotonic)?;
         Ok(Inner::SumU64(made))
     }
 }
@@ -43,6 +45,7 @@ pub fn new_sum(
 /// Observed sums of unsigned or signed numbers.
 pub fn new_precomputed_sum(
     alloc: Global,
+    hasher: SetHashBuilder,
     is_signed: bool,
     temporality: Temporality,
     allow: Option<Items<Key>>,
@@ -54,10 +57,26 @@ pub fn new_precomputed_sum(
     ensures only_memory { IsOkUnless result Fault.OutOfMemory }
 {
     if is_signed {
-        let made = PrecomputedSum::new(alloc, temporality, allow, limit, now, is_monotonic)?;
+        let made = PrecomputedSum::new(
+            alloc,
+            hasher,
+            temporality,
+            allow,
+            limit,
+            now,
+            is_monotonic,
+        )?;
         Ok(Inner::PrecomputedSumI64(made))
     } else {
-        let made = PrecomputedSum::new(alloc, temporality, allow, limit, now, is_monotonic)?;
+        let made = PrecomputedSum::new(
+            alloc,
+            hasher,
+            temporality,
+            allow,
+            limit,
+            now,
+            is_monotonic,
+        )?;
         Ok(Inner::PrecomputedSumU64(made))
     }
 }
@@ -65,6 +84,7 @@ pub fn new_precomputed_sum(
 /// Last values of unsigned or signed numbers.
 pub fn new_last_value(
     alloc: Global,
+    hasher: SetHashBuilder,
     is_signed: bool,
     temporality: Temporality,
     allow: Option<Items<Key>>,
@@ -75,10 +95,10 @@ pub fn new_last_value(
     ensures only_memory { IsOkUnless result Fault.OutOfMemory }
 {
     if is_signed {
-        let made = LastValue::new(alloc, temporality, allow, limit, now)?;
+        let made = LastValue::new(alloc, hasher, temporality, allow, limit, now)?;
         Ok(Inner::LastValueI64(made))
     } else {
-        let made = LastValue::new(alloc, temporality, allow, limit, now)?;
+        let made = LastValue::new(alloc, hasher, temporality, allow, limit, now)?;
         Ok(Inner::LastValueU64(made))
     }
 }
@@ -86,6 +106,7 @@ pub fn new_last_value(
 /// Histograms of unsigned or signed numbers.
 pub fn new_histogram(
     alloc: Global,
+    hasher: SetHashBuilder,
     is_signed: bool,
     temporality: Temporality,
     allow: Option<Items<Key>>,
@@ -99,6 +120,7 @@ pub fn new_histogram(
     if is_signed {
         let made = Histogram::new(
             alloc,
+            hasher,
             temporality,
             allow,
             limit,
@@ -111,6 +133,7 @@ pub fn new_histogram(
     } else {
         let made = Histogram::new(
             alloc,
+            hasher,
             temporality,
             allow,
             limit,

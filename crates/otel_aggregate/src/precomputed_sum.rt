@@ -24,6 +24,7 @@ use otel_common::metrics::Temporality;
 use otel_data::points::SumDataPoint;
 use otel_data::sums::Sum as SumData;
 use otel_value_map::assign::Assign;
+use otel_value_map::hashing::SetHashBuilder;
 use otel_value_map::number::Number;
 use otel_value_map::saved::Saved;
 use std::alloc::Global;
@@ -133,8 +134,11 @@ impl<T: Number + Drop> PrecomputedSum<T> {
     /// what was added since the one before, with any other the values themselves. The moment of the
     /// making is `now`, in nanoseconds since 1970. Any limit is taken: with 0 every set but the empty one
     /// goes to the overflow point.
+    ///
+    /// Sets are hashed with `hasher`, which nothing shows.
     pub fn new(
         alloc: Global,
+        hasher: SetHashBuilder,
         temporality: Temporality,
         allow: Option<Items<Key>>,
         limit: usize,
@@ -145,8 +149,8 @@ impl<T: Number + Drop> PrecomputedSum<T> {
         ensures unprepared { IfOk result (λ made. made.pending ≡ None) }
         ensures only_memory { IsOkUnless result Fault.OutOfMemory }
     {
-        let reported = BoundMap::new(alloc, (), limit)?;
-        let stream = Stream::new(alloc, (), temporality, allow, limit, now)?;
+        let reported = BoundMap::new(alloc, hasher, (), limit)?;
+        let stream = Stream::new(alloc, hasher, (), temporality, allow, limit, now)?;
         Ok(PrecomputedSum {
             stream,
             reported,

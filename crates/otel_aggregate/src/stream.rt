@@ -20,6 +20,7 @@ use otel_common::faults::Fault;
 use otel_common::keys::Key;
 use otel_common::lists::Items;
 use otel_common::metrics::Temporality;
+use otel_value_map::hashing::SetHashBuilder;
 use otel_value_map::saved::Saved;
 use std::alloc::Global;
 use std::marker::Model;
@@ -82,6 +83,7 @@ impl<A: Shows> Stream<A> {
     /// A stream without records, made at `start`, in nanoseconds since 1970.
     pub fn new(
         alloc: Global,
+        hasher: SetHashBuilder,
         settings: A::Settings,
         temporality: Temporality,
         allow: Option<Items<Key>>,
@@ -94,7 +96,7 @@ impl<A: Shows> Stream<A> {
         ensures room { IfOk result (λ made. made.room ≡ false) }
         ensures only_memory { IsOkUnless result Fault.OutOfMemory }
     {
-        let map = BoundMap::new(alloc, A::config(&settings), limit)?;
+        let map = BoundMap::new(alloc, hasher, A::config(&settings), limit)?;
         Ok(Stream {
             settings,
             map,

@@ -18,6 +18,7 @@ use otel_common::lists::Items;
 use otel_common::metrics::Temporality;
 use otel_data::sums::Sum as SumData;
 use otel_value_map::aggregator::Increment;
+use otel_value_map::hashing::SetHashBuilder;
 use otel_value_map::number::Number;
 use otel_value_map::saved::Saved;
 use std::alloc::Global;
@@ -41,8 +42,11 @@ impl<T: Number + Drop> Sum<T> {
     /// Sums without records. `temporality` is the reader's answer: with `Delta` each collection starts
     /// the sums again, with any other they go on from `now`, the moment of the making, in nanoseconds
     /// since 1970. Any limit is taken: with 0 every set but the empty one goes to the overflow point.
+    ///
+    /// Sets are hashed with `hasher`, which nothing shows.
     pub fn new(
         alloc: Global,
+        hasher: SetHashBuilder,
         temporality: Temporality,
         allow: Option<Items<Key>>,
         limit: usize,
@@ -55,7 +59,7 @@ impl<T: Number + Drop> Sum<T> {
         ensures room { IfOk result (λ made. made.room ≡ false) }
         ensures only_memory { IsOkUnless result Fault.OutOfMemory }
     {
-        let stream = Stream::new(alloc, is_monotonic, temporality, allow, limit, now)?;
+        let stream = Stream::new(alloc, hasher, is_monotonic, temporality, allow, limit, now)?;
         Ok(Sum { stream })
     }
 

@@ -40,6 +40,22 @@ pub fn record(instrument: usize, attributes: Vec<KeyValue>) -> Call {
     }
 }
 
+/// Binds a handle at the first instrument.
+pub fn bind(attributes: Vec<KeyValue>) -> Call {
+    Call::Bind {
+        instrument: 0,
+        attributes: Items::from(attributes),
+    }
+}
+
+/// Records 1 through the first handle.
+pub fn record_bound() -> Call {
+    Call::RecordBound {
+        handle: 0,
+        value: NumberValue::U64(1),
+    }
+}
+
 /// Collects what the first reader's streams have.
 pub fn collect(alloc: Global) -> Call {
     Call::Collect {

@@ -16,6 +16,15 @@ pub enum Case {
     OtherOrder {
         sort: InstrumentSort,
     },
+    /// Records of one set of 4 attributes, always in the order in which it came first, which is not that of the keys.
+    FirstOrder {
+        sort: InstrumentSort,
+    },
+    /// Records through a handle with 4 attributes, at each of this many readers.
+    Bound {
+        sort: InstrumentSort,
+        readers: usize,
+    },
     /// Records of one set of 4 attributes, sorted by key, of which a view keeps this many.
     Allowed {
         sort: InstrumentSort,
@@ -67,7 +76,10 @@ pub fn case_named(name: &str) -> Option<Case> {
         "known4" => known(sort, 4, 1),
         "known10" => known(sort, 10, 1),
         "known4_two_readers" => known(sort, 4, 2),
+        "known4_first_order" => Some(Case::FirstOrder { sort }),
         "known4_other_order" => Some(Case::OtherOrder { sort }),
+        "bound4" => Some(Case::Bound { sort, readers: 1 }),
+        "bound4_two_readers" => Some(Case::Bound { sort, readers: 2 }),
         "known4_two_kept" => Some(Case::Allowed { sort, kept: 2 }),
         "histogram4" => known(InstrumentSort::U64Histogram, 4, 1),
         "gauge4" => known(InstrumentSort::U64Gauge, 4, 1),

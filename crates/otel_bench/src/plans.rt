@@ -2,8 +2,8 @@
 
 use crate::attributes::{falling_set, sorted_set};
 use crate::calls::{
-    add_builds, add_builds_of_meters, add_records_of_instruments, add_records_of_sets, collect,
-    instrument, meters, record,
+    add_builds, add_builds_of_meters, add_records_of_instruments, add_records_of_sets, bind,
+    collect, instrument, meters, record, record_bound,
 };
 use crate::cases::Case;
 use opentelemetry_sdk::common::{Fault, KeyValue};
@@ -93,6 +93,23 @@ fn other_order(alloc: Global, sort: InstrumentSort) -> Result<Plan, Fault> {
     known_set(alloc, sort, first, then)
 }
 
+/// Records of one set of 4 attributes, always in one order that is not that of the keys.
+fn first_order(alloc: Global, sort: InstrumentSort) -> Result<Plan, Fault> {
+    let first = falling_set(alloc, 4)?;
+    let then = falling_set(alloc, 4)?;
+    known_set(alloc, sort, first, then)
+}
+
+/// Records through a handle with 4 attributes.
+fn through_handle(alloc: Global, sort: InstrumentSort, readers: usize) -> Result<Plan, Fault> {
+    let mut before = instrument(alloc, sort)?;
+    before.push(bind(sorted_set(alloc, 4)?))?;
+    let counted = vec![in alloc; record_bound()]?;
+    let mut plan = Plan::new(alloc, before, counted);
+    plan.readers = readers;
+    Ok(plan)
+}
+
 /// Records of new sets.
 fn new_sets(alloc: Global, sort: InstrumentSort) -> Result<Plan, Fault> {
     let before = instrument(alloc, sort)?;
@@ -151,6 +168,8 @@ pub fn plan_of(alloc: Global, case: Case) -> Result<Plan, Fault> {
             readers,
         } => sorted(alloc, sort, attributes, readers),
         Case::OtherOrder { sort } => other_order(alloc, sort),
+        Case::FirstOrder { sort } => first_order(alloc, sort),
+        Case::Bound { sort, readers } => through_handle(alloc, sort, readers),
         Case::Allowed { sort, kept } => allowed(alloc, sort, kept),
         Case::NewSets { sort } => new_sets(alloc, sort),
         Case::PastLimit { sort } => past_limit(alloc, sort),

@@ -57,15 +57,20 @@ impl<A: Aggregator> Model for BoundMap<A> {
 }
 
 impl<A: Aggregator> BoundMap<A> {
-    /// A map with no entry but that of the empty set, and no handle. It takes memory for that entry, for the set of the overflow
-    /// entry, and what an aggregator takes.
-    pub fn new(alloc: Global, config: A::InitConfig, limit: usize) -> Result<Self, Fault>
+    /// A map with no entry but that of the empty set, and no handle, which hashes sets with this hasher. It takes memory
+    /// for that entry, for the set of the overflow entry, and what an aggregator takes.
+    pub fn new(
+        alloc: Global,
+        hasher: SetHashBuilder,
+        config: A::InitConfig,
+        limit: usize,
+    ) -> Result<Self, Fault>
         ensures made { IfOk result (λ made. made ≡ record { state = new_map limit (A.empty config); live = []; pending = None; room = false }) }
         ensures only_memory { IsOkUnless result Fault.OutOfMemory }
     {
         Ok(BoundMap {
-            map: ValueMap::new(alloc, config, limit)?,
-            live: IndexMap::with_hasher(alloc, SetHashBuilder::default()),
+            map: ValueMap::new(alloc, hasher, config, limit)?,
+            live: IndexMap::with_hasher(alloc, hasher),
             room: false,
         })
     }

@@ -2,4 +2,4 @@
 #![tactic(auto)]
 
 pub mod bound_map;
-mod links;
+pub mod links;

@@ -9,17 +9,17 @@ use otel_value_map::hashing::SetHashBuilder;
 use std::alloc::AllocError;
 
 /// The number of the entry of each handle, in order of making.
-pub(crate) type Links = IndexMap<u64, usize, SetHashBuilder>;
+pub type Links = IndexMap<u64, usize, SetHashBuilder>;
 
 /// The number of the entry of a handle.
-pub(crate) fn number_in(links: &Links, handle: u64) -> Option<usize>
+pub fn number_in(links: &Links, handle: u64) -> Option<usize>
     ensures { result ≡ lookup (nat_eq handle) links.now.entries }
 {
     links.get(&handle).copied()
 }
 
 /// Makes room for a handle more.
-pub(crate) fn make_room(links: &mut Links) -> Result<(), AllocError>
+pub fn make_room(links: &mut Links) -> Result<(), AllocError>
     ensures links { links.new.entries ≡ links.old.entries }
     ensures room { OnOk result (0 < spare links.new) }
     ensures kept { spare links.old ≤ spare links.new }
@@ -28,7 +28,7 @@ pub(crate) fn make_room(links: &mut Links) -> Result<(), AllocError>
 }
 
 /// Adds a handle.
-pub(crate) fn add(links: &mut Links, handle: u64, number: usize)
+pub fn add(links: &mut Links, handle: u64, number: usize)
     requires absent { lookup (nat_eq handle) links.old.entries ≡ None }
     requires room { 0 < spare links.old }
     ensures links { links.new.entries ≡ links.old.entries ++ (handle, number) ∷ [] }
@@ -37,7 +37,7 @@ pub(crate) fn add(links: &mut Links, handle: u64, number: usize)
 }
 
 /// Takes a handle out; the others stay in order.
-pub(crate) fn take_out(links: &mut Links, handle: u64)
+pub fn take_out(links: &mut Links, handle: u64)
     ensures links { links.new.entries ≡ shift_remove_entry (nat_eq handle) links.old.entries }
     ensures room { spare links.old ≤ spare links.new }
 {

@@ -1,12 +1,12 @@
-//! A counter, a histogram and an observable gauge of a service.
+//! A counter, a histogram with a handle, and an observable gauge of a service.
 
 ghost use Rattle.std.specs.Prelude.{◌≡◌, ◌∷◌, [], map, IfOk};
 
 use crate::calls::text;
 use opentelemetry_sdk::Resource;
-use opentelemetry_sdk::common::{Fault, Items, StringValue, Value};
+use opentelemetry_sdk::common::{Fault, Items, KeyValue, StringValue, Value};
 use opentelemetry_sdk::metrics::callback::{Observation, ObserveU64};
-use opentelemetry_sdk::metrics::meter::{Histogram, Meter};
+use opentelemetry_sdk::metrics::meter::{Bound, Histogram, Meter};
 use opentelemetry_sdk::metrics::provider::{Parts, Provider, SdkMeterProvider};
 use opentelemetry_sdk::metrics::reader::MetricReader;
 use std::alloc::Global;
@@ -91,6 +91,36 @@ fn latency_of<P: Parts>(
         .build(provider, 100)
 }
 
+/// Records durations in milliseconds through a handle.
+fn record_each<P: Parts>(
+    provider: &mut Provider<P>,
+    handle: &Bound<u64>,
+    durations: &[u64],
+) -> Result<(), Fault> {
+    for milliseconds in durations {
+        handle.record(provider, *milliseconds)?;
+    }
+    Ok(())
+}
+
+/// Records durations of requests that have the same attributes, which are looked up once.
+fn record_all<P: Parts>(
+    provider: &mut Provider<P>,
+    latency: Histogram<u64>,
+    attributes: &[KeyValue],
+    durations: &[u64],
+) -> Result<(), Fault> {
+    let handle = latency.bind(provider, attributes)?;
+    let recorded = record_each(provider, &handle, durations);
+    match handle.unbind(provider) {
+        Ok(()) => recorded,
+        Err((handle, fault)) => {
+            let _ = handle.into_number();
+            Err(fault)
+        }
+    }
+}
+
 /// Serves two requests of a path: counts them, and how long each took.
 pub fn serve_two<P: Parts>(alloc: Global, provider: &mut Provider<P>) -> Result<(), Fault> {
     let name = String::from_str(alloc, "requests")?;
@@ -98,9 +128,6 @@ pub fn serve_two<P: Parts>(alloc: Global, provider: &mut Provider<P>) -> Result<
     let requests = meter.u64_counter(name).build(provider, 100)?;
     let latency = latency_of(alloc, provider, meter)?;
     let path = [text(alloc, "path", "/cart")?];
-    for milliseconds in [7, 250] {
-        requests.add(provider, 1, &path)?;
-        latency.record(provider, milliseconds, &path)?;
-    }
-    Ok(())
+    requests.add(provider, 2, &path)?;
+    record_all(provider, latency, &path, &[7, 250])
 }

@@ -21,7 +21,7 @@ use Rattle.otel_model.specs.Accepted.{accepted_for}
 use Rattle.otel_model.specs.Laws.{IsAccepted}
 use Rattle.otel_model.proofs.Single.{get_map, step_cases, part_after}
 use Rattle.otel_model.proofs.Recorded.{held_is, by_unbind, collect_keeps, keeps_when}
-use Rattle.otel_model_laws.specs.Lawful.{EachOf, HandlesAreSound, numbers, IsAccounted, IsOfEvents, PartIsLawful, IsLawful, IsBalanced, IsPaidFor, IsLawfulAtFirst, EachCallKeepsLawful, EachRunKeepsLawful, LawfulBalances}
+use Rattle.otel_model_laws.specs.Lawful.{EachOf, HandlesAreSound, TakesRecords, numbers, IsAccounted, IsOfEvents, PartIsLawful, IsLawful, IsBalanced, IsPaidFor, IsLawfulAtFirst, EachCallKeepsLawful, EachRunKeepsLawful, LawfulBalances}
 use Rattle.otel_model_laws.proofs.OfEvents.{events_after, events_at_first, balanced_events}
 use Rattle.otel_model_laws.proofs.Amounts.{each_weaker, each_push, each_map, each_at, each_without, not_fed, when_fed, new_adds_nothing, nothing_accepted, kinds_of, same_kinds, same_number, AreDistinct, distinct_push, distinct_without, held_for, held_push, held_when_fed, held_without}
 use Rattle.otel_model_laws.proofs.Feeding.{fed_or_new, known_feed, held_before, none_held, fed_demanded, demands_kind, known_kind, known_after, demanded_known, same_answers, same_feeds, streams_after}
@@ -70,19 +70,43 @@ next_above n = omega arith
 grown : (a b : ℕ) → a < b → a < b + 1
 grown a b h = omega arith
 
+some_instrument : (a b : InstrumentState) → Some a ≡ Some b → a ≡ b
+some_instrument a b e = cc
+
+get_pushed : (is : List InstrumentState) (new : InstrumentState) (n : ℕ) (i : InstrumentState) → slice_get is n ≡ Some i → slice_get (is ++ new ∷ []) n ≡ Some i
+get_pushed [] new n i e = absurd (cc)
+get_pushed (j ∷ is) new zero i e = e
+get_pushed (j ∷ is) new (suc n) i e = get_pushed is new n i e
+
+-- what accepts a record takes in records as before
+takes_accepted : (v : Amount) (m : ℕ) (is : List InstrumentState) (n : ℕ) → TakesRecords is n → TakesRecords (changed_at m (instrument_after_record v) is) n
+takes_accepted v m [] n t = t
+takes_accepted v zero (j ∷ is) zero t = let is_it : j ≡ t.0 = some_instrument j t.0 t.1 in (instrument_after_record v j, refl, ap (λ (i : InstrumentState). is_observable i.kind) is_it ∙ t.2)
+takes_accepted v zero (j ∷ is) (suc n) t = t
+takes_accepted v (suc m) (j ∷ is) zero t = t
+takes_accepted v (suc m) (j ∷ is) (suc n) t = takes_accepted v m is n t
+
+takes_accepted_by : (o : Option ℕ) (v : Amount) (is : List InstrumentState) (n : ℕ) → TakesRecords is n → TakesRecords (accepted_by o v is) n
+takes_accepted_by None v is n t = t
+takes_accepted_by (Some m) v is n t = takes_accepted v m is n t
+
 shared_sound : (s : Shared) (readers : ℕ) (c : Call) → refusal s readers c ≡ None → HandlesAreSound s → HandlesAreSound (shared_after s c)
-shared_sound s readers (Meter scope) e a = record { bound = a.bound; below = a.below; distinct = a.distinct }
+shared_sound s readers (Meter scope) e a = record { bound = a.bound; below = a.below; distinct = a.distinct; synchronous = a.synchronous }
 shared_sound s readers (Build meter about now) e a = record {
   bound = each_weaker (λ (p : LiveHandle). p.1 < length s.instruments) (λ (p : LiveHandle). p.1 < length (s.instruments ++ new_instrument about ∷ [])) s.live
       (λ p h. less_weaker p.1 (length s.instruments) (length (s.instruments ++ new_instrument about ∷ [])) h (length_push s.instruments (new_instrument about))) a.bound;
   below = a.below;
   distinct = a.distinct;
+  synchronous = each_weaker (λ (p : LiveHandle). TakesRecords s.instruments p.1) (λ (p : LiveHandle). TakesRecords (s.instruments ++ new_instrument about ∷ []) p.1) s.live
+      (λ p t. (t.0, get_pushed s.instruments (new_instrument about) p.1 t.0 t.1, t.2)) a.synchronous;
 }
 shared_sound s readers (Record n v l) e a = record {
   bound = each_weaker (λ (p : LiveHandle). p.1 < length s.instruments) (λ (p : LiveHandle). p.1 < length (changed_at n (instrument_after_record v.amount) s.instruments)) s.live
       (λ p h. same_bound p.1 (length s.instruments) (length (changed_at n (instrument_after_record v.amount) s.instruments)) (same_number n (instrument_after_record v.amount) s.instruments) h) a.bound;
   below = a.below;
   distinct = a.distinct;
+  synchronous = each_weaker (λ (p : LiveHandle). TakesRecords s.instruments p.1) (λ (p : LiveHandle). TakesRecords (changed_at n (instrument_after_record v.amount) s.instruments) p.1) s.live
+      (λ p t. takes_accepted v.amount n s.instruments p.1 t) a.synchronous;
 }
 shared_sound s readers (Bind n l) e a =
     let there = bound_there s.next (slice_get s.instruments n) e in
@@ -90,21 +114,25 @@ shared_sound s readers (Bind n l) e a =
       bound = each_push (λ (p : LiveHandle). p.1 < length s.instruments) s.live (s.next, n) a.bound (get_lt s.instruments n there.0 there.1);
       below = each_push (λ (p : LiveHandle). p.0 < s.next + 1) s.live (s.next, n) (each_weaker (λ (p : LiveHandle). p.0 < s.next) (λ (p : LiveHandle). p.0 < s.next + 1) s.live (λ p h. grown p.0 s.next h) a.below) (next_above s.next);
       distinct = distinct_push s.next n s.live a.below a.distinct;
+      synchronous = each_push (λ (p : LiveHandle). TakesRecords s.instruments p.1) s.live (s.next, n) a.synchronous there;
     }
 shared_sound s readers (RecordBound h v) e a = record {
   bound = each_weaker (λ (p : LiveHandle). p.1 < length s.instruments) (λ (p : LiveHandle). p.1 < length (accepted_by (instrument_held h s.live) v.amount s.instruments)) s.live
       (λ p q. same_bound p.1 (length s.instruments) (length (accepted_by (instrument_held h s.live) v.amount s.instruments)) (accepted_number (instrument_held h s.live) v.amount s.instruments) q) a.bound;
   below = a.below;
   distinct = a.distinct;
+  synchronous = each_weaker (λ (p : LiveHandle). TakesRecords s.instruments p.1) (λ (p : LiveHandle). TakesRecords (accepted_by (instrument_held h s.live) v.amount s.instruments) p.1) s.live
+      (λ p t. takes_accepted_by (instrument_held h s.live) v.amount s.instruments p.1 t) a.synchronous;
 }
 shared_sound s readers (Unbind h) e a = record {
   bound = each_without (λ (p : LiveHandle). p.1 < length s.instruments) h s.live a.bound;
   below = each_without (λ (p : LiveHandle). p.0 < s.next) h s.live a.below;
   distinct = distinct_without h s.live a.distinct;
+  synchronous = each_without (λ (p : LiveHandle). TakesRecords s.instruments p.1) h s.live a.synchronous;
 }
 shared_sound s readers (Collect r now os) e a = a
 shared_sound s readers Flush e a = a
-shared_sound s readers Shutdown e a = record { bound = a.bound; below = a.below; distinct = a.distinct }
+shared_sound s readers Shutdown e a = record { bound = a.bound; below = a.below; distinct = a.distinct; synchronous = a.synchronous }
 
 -- ======== one stream ========
 -- a synchronous stream isn't drained
@@ -383,7 +411,7 @@ first_parts [] = tt
 first_parts (answers ∷ readers) = (record { known = λ n y f. absurd (false≢true f); kinds = λ n y k f g. absurd (false≢true f); as_many = refl; streams = tt; of_events = tt; unheld = tt }, first_parts readers)
 
 pub first_lawful : IsLawfulAtFirst
-first_lawful resource identity readers = record { handles = record { bound = tt; below = tt; distinct = tt }; parts = first_parts readers }
+first_lawful resource identity readers = record { handles = record { bound = tt; below = tt; distinct = tt; synchronous = tt }; parts = first_parts readers }
 
 -- ======== balances ========
 both_of : (p : ReaderPart) (feeds : List (List Identity)) (live : List LiveHandle) (is : List InstrumentState) (qs : List Stream) → EachOf (IsAccounted feeds live is) qs → EachOf (IsOfEvents p.answers) qs

@@ -38,11 +38,16 @@ abbrev pub AreDistinct : List LiveHandle → Type 0
 AreDistinct [] = Unit {0}
 AreDistinct (p ∷ ps) = (has_number p.0 (handles_of ps) ≡ false) × AreDistinct ps
 
--- live handles have instruments that are there, and numbers of their own, below the next
+-- the instrument of this number is there, and takes in records
+abbrev pub TakesRecords : List InstrumentState → ℕ → Type 0
+TakesRecords is n = (i : InstrumentState) × (slice_get is n ≡ Some i) × (is_observable i.kind ≡ false)
+
+-- live handles have instruments that are there and take in records, and numbers of their own, below the next
 pub record HandlesAreSound (s : Shared) : Type 0 where
   pub bound : EachOf (λ (p : LiveHandle). p.1 < length s.instruments) s.live
   pub below : EachOf (λ (p : LiveHandle). p.0 < s.next) s.live
   pub distinct : AreDistinct s.live
+  pub synchronous : EachOf (λ (p : LiveHandle). TakesRecords s.instruments p.1) s.live
 
 -- ======== streams ========
 abbrev pub numbers : Handles → List ℕ

@@ -31,6 +31,7 @@ use otel_stream::answers::Answers;
 use otel_stream::demand::Identity;
 use otel_stream::laws::kind_laws;
 use otel_stream::stream as settings;
+use otel_value_map::hashing::SetHashBuilder;
 use std::alloc::Global;
 use std::marker::Model;
 
@@ -38,6 +39,7 @@ use std::marker::Model;
 #[derive(Drop)]
 pub struct Pipeline {
     pub(crate) alloc: Global,
+    pub(crate) hasher: SetHashBuilder,
     pub(crate) answers: Answers,
     pub(crate) identities: IndexSet<Identity>,
     /// A demand that drops has a place here too, so that it is known; nothing feeds it, and no collection
@@ -67,19 +69,27 @@ impl Model for Pipeline {
 
 impl Pipeline {
     /// What a reader with these answers has at first: no streams. Takes no memory.
-    pub fn new(alloc: Global, answers: Answers) -> Pipeline
+    pub fn new(alloc: Global, hasher: SetHashBuilder, answers: Answers) -> Pipeline
         ensures answers { result.answers ≡ answers }
         ensures streams { result.streams ≡ [] }
         ensures feeds { result.feeds ≡ [] }
     {
         Pipeline {
             alloc,
+            hasher,
             answers,
             identities: IndexSet::new(alloc),
             streams: Vec::new(alloc),
             feeds: Vec::new(alloc),
             plan: None,
         }
+    }
+
+    /// From now on new streams hash sets with this. Nothing shows it. Takes no memory.
+    pub fn set_hasher(&mut self, hasher: SetHashBuilder)
+        ensures { self.new ≡ self.old }
+    {
+        self.hasher = hasher;
     }
 
     /// Plans a build of this instrument, of which each view answered this. Without a scope it demands nothing. What the
@@ -119,6 +129,7 @@ impl Pipeline {
             return;
         };
         let Plan {
+            hasher: _,
             feeds,
             mut identities,
             mut added,

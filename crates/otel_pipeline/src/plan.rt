@@ -17,12 +17,14 @@ use otel_common::faults::Fault;
 use otel_stream::answers::Answers;
 use otel_stream::demand::{Demand, Identity};
 use otel_stream::laws::kind_laws;
+use otel_value_map::hashing::SetHashBuilder;
 use std::alloc::Global;
 use std::marker::Model;
 
 /// The numbers of the streams that the new instrument will feed, and the streams that are new, with their identities.
 #[derive(Drop)]
 pub(crate) struct Plan {
+    pub(crate) hasher: SetHashBuilder,
     pub(crate) feeds: Vec<usize>,
     pub(crate) identities: IndexSet<Identity>,
     pub(crate) added: Vec<Stream>,
@@ -51,6 +53,7 @@ fn add_key(identities: &mut IndexSet<Identity>, identity: Identity)
 /// A new stream of this demand, with its identity.
 fn new_stream(
     alloc: Global,
+    hasher: SetHashBuilder,
     answers: &Answers,
     demand: Demand,
     now: u64,
@@ -61,15 +64,19 @@ fn new_stream(
 {
     let temporality = temporality_of(answers, &demand);
     let identity = demand.identity.clone()?;
-    Ok((identity, Stream::new(alloc, temporality, demand, now)?))
+    Ok((
+        identity,
+        Stream::new(alloc, hasher, temporality, demand, now)?,
+    ))
 }
 
 impl Plan {
     /// Nothing.
-    pub(crate) fn new(alloc: Global) -> Plan
+    pub(crate) fn new(alloc: Global, hasher: SetHashBuilder) -> Plan
         ensures { result ≡ record { feeds = []; added = [] } }
     {
         Plan {
+            hasher,
             feeds: Vec::new(alloc),
             identities: IndexSet::new(alloc),
             added: Vec::new(alloc),
@@ -139,7 +146,7 @@ impl Plan {
         kind_laws();
         self.identities.reserve(1)?;
         self.added.reserve(1)?;
-        let (identity, stream) = new_stream(alloc, answers, demand, now)?;
+        let (identity, stream) = new_stream(alloc, self.hasher, answers, demand, now)?;
         add_key(&mut self.identities, identity);
         self.added.push_reserved(stream);
         Ok(())

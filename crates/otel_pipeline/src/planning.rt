@@ -71,7 +71,7 @@ impl Pipeline {
         // These two tell the prover that no identity stands twice.
         kind_laws();
         let _ = self.identities.len();
-        Plan::new(self.alloc)
+        Plan::new(self.alloc, self.hasher)
     }
 
     /// Plans one demand more.

@@ -21,6 +21,7 @@ use otel_data::collections::Metric;
 use otel_data::numbers::NumberValue;
 use otel_stream::demand::Demand;
 use otel_stream::instrument::InstrumentKind;
+use otel_value_map::hashing::SetHashBuilder;
 use std::alloc::Global;
 use std::marker::Model;
 
@@ -79,6 +80,7 @@ impl Stream {
     /// A stream without records, made at a moment, of a reader that answered this.
     pub(crate) fn new(
         alloc: Global,
+        hasher: SetHashBuilder,
         temporality: Temporality,
         demand: Demand,
         now: u64,
@@ -92,6 +94,7 @@ impl Stream {
         let allow = demand.allow.clone()?;
         let aggregate = AnyAggregate::new(
             alloc,
+            hasher,
             settings,
             demand.identity.signed,
             temporality,

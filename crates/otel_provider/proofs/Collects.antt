@@ -10,7 +10,7 @@ use Rattle.otel_model.specs.Demands.{Views}
 use Rattle.otel_model.specs.Machine.{changed_at, part_after_call, accepted_after}
 use Rattle.otel_model.specs.Refusals.{observations_refusal}
 use Rattle.otel_model.specs.Resources.{Resource}
-use Rattle.otel_model.specs.State.{InstrumentState, ReaderPart}
+use Rattle.otel_model.specs.State.{LiveHandle, InstrumentState, ReaderPart}
 use Rattle.otel_model.specs.Steps.{collect_reply, reply_by, after_by}
 use Rattle.otel_pipeline.specs.Collections.{IsCollectedFrom}
 use Rattle.otel_pipeline.specs.Pipelines.{Piped, part_of}
@@ -49,15 +49,15 @@ abbrev fault_by : Bool → Bool → Option model.Fault → Option model.Fault
 fault_by known shut bad = cond known (cond shut (Some model.Fault.ReaderShutDown) bad) (Some model.Fault.UnknownReader)
 
 -- a collection of a reader that is there, with good observations
-pub collection-made : (shut : Bool) (resource : Resource) (identity : ℕ) (meters : List InstrumentationScope) (instruments : List InstrumentState) (ps : List Piped) (readers : List ReaderPart) (r now : ℕ) (os : List model.Observed) (p : Piped) (c : ResourceMetrics)
+pub collection-made : (shut : Bool) (resource : Resource) (identity : ℕ) (meters : List InstrumentationScope) (instruments : List InstrumentState) (live : List LiveHandle) (next : ℕ) (ps : List Piped) (readers : List ReaderPart) (r now : ℕ) (os : List model.Observed) (p : Piped) (c : ResourceMetrics)
     → shut ≡ false → slice_get ps r ≡ Some p → observations_refusal instruments os ≡ None → IsCollectedFrom resource meters now os (part_of p) c → readers ≡ changed_at r (part_after_call 0 (model.Call.Collect r now os)) (map part_of ps)
-    → (views : Views) → IsMade views (state_of shut resource identity meters instruments ps) (model.Call.Collect r now os) (model.Reply.Collected c) (record { shared = shared_of shut resource identity meters instruments; readers = readers })
-collection-made shut resource identity meters instruments ps readers r now os p c opened at good given left views =
+    → (views : Views) → IsMade views (state_of shut resource identity meters instruments live next ps) (model.Call.Collect r now os) (model.Reply.Collected c) (record { shared = shared_of shut resource identity meters instruments live next; readers = readers })
+collection-made shut resource identity meters instruments live next ps readers r now os p c opened at good given left views =
     let known : nat_lt r (length (map part_of ps)) ≡ true = lt-ltb r (length (map part_of ps)) (rw length-map (get-some ps r p at)) in
     let found : slice_get (map part_of ps) r ≡ Some (part_of p) = slice_get-map part_of ps r ∙ ap (option_map part_of) at in
     record {
-      answer = ap model.Reply.Collected (given (shared_of shut resource identity meters instruments) refl refl)
-          ∙ sym (λ i. reply_by (fault_by (known i) (opened i) (good i)) (collect_reply (shared_of shut resource identity meters instruments) now os (found i)));
-      state = (λ i. record { shared = shared_of shut resource identity meters instruments; readers = left i })
-          ∙ sym (λ i. after_by (fault_by (known i) (opened i) (good i)) (state_of shut resource identity meters instruments ps) (accepted_after views (state_of shut resource identity meters instruments ps) (model.Call.Collect r now os)));
+      answer = ap model.Reply.Collected (given (shared_of shut resource identity meters instruments live next) refl refl)
+          ∙ sym (λ i. reply_by (fault_by (known i) (opened i) (good i)) (collect_reply (shared_of shut resource identity meters instruments live next) now os (found i)));
+      state = (λ i. record { shared = shared_of shut resource identity meters instruments live next; readers = left i })
+          ∙ sym (λ i. after_by (fault_by (known i) (opened i) (good i)) (state_of shut resource identity meters instruments live next ps) (accepted_after views (state_of shut resource identity meters instruments live next ps) (model.Call.Collect r now os)));
     }

@@ -9,3 +9,4 @@ pub mod Runs
 pub mod StepLemmas
 pub mod Stepped
 pub mod Typed
+pub mod Held

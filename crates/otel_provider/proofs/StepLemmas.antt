@@ -17,7 +17,7 @@ use Rattle.otel_model.specs.Machine as machine
 use Rattle.otel_model.specs.Refusals.{meter_refusal, record_refusal}
 use Rattle.otel_model.specs.Resources.{Resource}
 use Rattle.otel_model.specs.Sent.{has_scope}
-use Rattle.otel_model.specs.State.{ReaderPart, InstrumentState}
+use Rattle.otel_model.specs.State.{ReaderPart, InstrumentState, LiveHandle}
 use Rattle.otel_model.specs.Steps.{number_from, reply_by, after_by}
 use Rattle.otel_pipeline.specs.Pipelines.{Piped, part_of, part_after_record, IsBuildableIn, IsPreparedFor}
 use Rattle.otel_pipeline.proofs.Builds.{any-position, position-cons}
@@ -140,39 +140,39 @@ get-inside (y ∷ xs) (suc n) x e = let q = get-inside xs n x e in omega arith
 
 -- ======== whole calls ========
 -- a build of a meter that isn't there
-pub no_meter-fault : (shut : Bool) (resource : Resource) (identity : ℕ) (meters : List InstrumentationScope) (instruments : List InstrumentState) (meter : Option ℕ) (f : Fault) → IsNoMeter meters meter f → IsFault (meter_refusal (shared_of shut resource identity meters instruments) meter) f
-no_meter-fault shut resource identity meters instruments meter f none =
-    let P : Fault → Type 0 = λ g. IsFault (meter_refusal (shared_of shut resource identity meters instruments) meter) g in
-    subst P (sym none.is) (none.unknown shut resource identity instruments)
+pub no_meter-fault : (shut : Bool) (resource : Resource) (identity : ℕ) (meters : List InstrumentationScope) (instruments : List InstrumentState) (live : List LiveHandle) (next : ℕ) (meter : Option ℕ) (f : Fault) → IsNoMeter meters meter f → IsFault (meter_refusal (shared_of shut resource identity meters instruments live next) meter) f
+no_meter-fault shut resource identity meters instruments live next meter f none =
+    let P : Fault → Type 0 = λ g. IsFault (meter_refusal (shared_of shut resource identity meters instruments live next) meter) g in
+    subst P (sym none.is) (none.unknown shut resource identity instruments live next)
 
 -- a record that is accepted
-pub record-made : (shut : Bool) (resource : Resource) (identity : ℕ) (meters : List InstrumentationScope) (instruments more : List InstrumentState) (ps : List Piped) (readers : List ReaderPart) (n : ℕ) (v : model.Number) (l : List KeyValue)
+pub record-made : (shut : Bool) (resource : Resource) (identity : ℕ) (meters : List InstrumentationScope) (instruments more : List InstrumentState) (live : List LiveHandle) (next : ℕ) (ps : List Piped) (readers : List ReaderPart) (n : ℕ) (v : model.Number) (l : List KeyValue)
     → record_refusal (slice_get instruments n) v.signed ≡ None
     → more ≡ machine.changed_at n (machine.instrument_after_record v.amount) instruments
     → readers ≡ map (machine.part_after_call 0 (model.Call.Record n v l)) (map part_of ps)
-    → (views : Views) → IsMade views (state_of shut resource identity meters instruments ps) (model.Call.Record n v l) model.Reply.Done (record { shared = shared_of shut resource identity meters more; readers = readers })
-record-made shut resource identity meters instruments more ps readers n v l fits accepted sent views = record {
+    → (views : Views) → IsMade views (state_of shut resource identity meters instruments live next ps) (model.Call.Record n v l) model.Reply.Done (record { shared = shared_of shut resource identity meters more live next; readers = readers })
+record-made shut resource identity meters instruments more live next ps readers n v l fits accepted sent views = record {
   answer = sym (ap (λ o. reply_by o model.Reply.Done) fits);
   state =
-      (λ i. record { shared = shared_of shut resource identity meters (accepted i); readers = sent i })
-      ∙ sym (ap (λ o. after_by o (state_of shut resource identity meters instruments ps) (machine.accepted_after views (state_of shut resource identity meters instruments ps) (model.Call.Record n v l))) fits);
+      (λ i. record { shared = shared_of shut resource identity meters (accepted i) live next; readers = sent i })
+      ∙ sym (ap (λ o. after_by o (state_of shut resource identity meters instruments live next ps) (machine.accepted_after views (state_of shut resource identity meters instruments live next ps) (model.Call.Record n v l))) fits);
 }
 
 -- a build, of an instrument that may be bad
-pub build-made : (views : Views) (answered : List (Option StreamSpec)) (shut : Bool) (resource : Resource) (identity : ℕ) (meters : List InstrumentationScope) (instruments more : List InstrumentState) (ps : List Piped) (readers : List ReaderPart) (meter : Option ℕ) (scope named : Option InstrumentationScope) (about : model.About) (now n : ℕ)
+pub build-made : (views : Views) (answered : List (Option StreamSpec)) (shut : Bool) (resource : Resource) (identity : ℕ) (meters : List InstrumentationScope) (instruments more : List InstrumentState) (live : List LiveHandle) (next : ℕ) (ps : List Piped) (readers : List ReaderPart) (meter : Option ℕ) (scope named : Option InstrumentationScope) (about : model.About) (now n : ℕ)
     → IsScopeOf meters meter scope → named ≡ cond (is_good about) scope None → n ≡ length instruments → more ≡ instruments ++ machine.new_instrument about ∷ []
     → AreAsked views named about answered → readers ≡ map (machine.part_after_build (views_answering answered) named about now) (map part_of ps)
-    → IsMade views (state_of shut resource identity meters instruments ps) (model.Call.Build meter about now) (model.Reply.Instrument n) (record { shared = shared_of shut resource identity meters more; readers = readers })
-build-made views answered shut resource identity meters instruments more ps readers meter scope named about now n at named_is number made asked built =
-    let known : meter_refusal (shared_of shut resource identity meters instruments) meter ≡ None = at.known shut resource identity instruments in
+    → IsMade views (state_of shut resource identity meters instruments live next ps) (model.Call.Build meter about now) (model.Reply.Instrument n) (record { shared = shared_of shut resource identity meters more live next; readers = readers })
+build-made views answered shut resource identity meters instruments more live next ps readers meter scope named about now n at named_is number made asked built =
+    let known : meter_refusal (shared_of shut resource identity meters instruments live next) meter ≡ None = at.known shut resource identity instruments live next in
     record {
       answer = ap model.Reply.Instrument number ∙ sym (ap (λ o. reply_by o (model.Reply.Instrument (length instruments))) known);
       state =
           (λ i. record {
-            shared = shared_of shut resource identity meters (made i);
+            shared = shared_of shut resource identity meters (made i) live next;
             readers = (built ∙ (all-asked views named about now answered asked (map part_of ps) ∙ (ap (λ s. map (machine.part_after_build views s about now) (map part_of ps)) named_is ∙ (all-alike views scope about now (is_good about) refl (map part_of ps) ∙ ap (λ s. map (machine.part_after_build views s about now) (map part_of ps)) at.is)))) i;
           })
-          ∙ sym (ap (λ o. after_by o (state_of shut resource identity meters instruments ps) (machine.accepted_after views (state_of shut resource identity meters instruments ps) (model.Call.Build meter about now))) known);
+          ∙ sym (ap (λ o. after_by o (state_of shut resource identity meters instruments live next ps) (machine.accepted_after views (state_of shut resource identity meters instruments live next ps) (model.Call.Build meter about now))) known);
     }
 
 position-first : {X : Type 0} (p : X → Bool) (xs : List X) (n : ℕ) → position p xs ≡ Some n → n ≡ position_or_len p xs
@@ -185,28 +185,28 @@ position-first p (x ∷ xs) n e = next (p x) (position p xs) (λ m q. position-f
     next false (Some m) rest q = let z : suc m ≡ n = cc in let y = rest m refl in omega arith
 
 -- the meter of a scope, where the provider was not shut down
-pub meter-made : (shut : Bool) (resource : Resource) (identity : ℕ) (meters more : List InstrumentationScope) (instruments : List InstrumentState) (ps : List Piped) (scope : InstrumentationScope) (n : ℕ) → shut ≡ false → n ≡ position_or_len (scope_eq scope) meters → more ≡ machine.with_meter scope meters
-    → (views : Views) → IsMade views (state_of shut resource identity meters instruments ps) (model.Call.Meter scope) (model.Reply.Meter (Some n)) (state_of shut resource identity more instruments ps)
-meter-made shut resource identity meters more instruments ps scope n opened first made views = record {
+pub meter-made : (shut : Bool) (resource : Resource) (identity : ℕ) (meters more : List InstrumentationScope) (instruments : List InstrumentState) (live : List LiveHandle) (next : ℕ) (ps : List Piped) (scope : InstrumentationScope) (n : ℕ) → shut ≡ false → n ≡ position_or_len (scope_eq scope) meters → more ≡ machine.with_meter scope meters
+    → (views : Views) → IsMade views (state_of shut resource identity meters instruments live next ps) (model.Call.Meter scope) (model.Reply.Meter (Some n)) (state_of shut resource identity more instruments live next ps)
+meter-made shut resource identity meters more instruments live next ps scope n opened first made views = record {
   answer = ap model.Reply.Meter (meter_number scope meters n first ∙ sym (ap (λ b. cond b None (number_from 0 scope (machine.with_meter scope meters))) opened));
-  state = ap (λ ms. state_of shut resource identity ms instruments ps) (made ∙ sym (ap (λ b. cond b meters (machine.with_meter scope meters)) opened));
+  state = ap (λ ms. state_of shut resource identity ms instruments live next ps) (made ∙ sym (ap (λ b. cond b meters (machine.with_meter scope meters)) opened));
 }
 
 -- there is none once it was shut down
-pub meter-none : (shut : Bool) (resource : Resource) (identity : ℕ) (meters : List InstrumentationScope) (instruments : List InstrumentState) (ps : List Piped) (scope : InstrumentationScope) → shut ≡ true
-    → (views : Views) → IsMade views (state_of shut resource identity meters instruments ps) (model.Call.Meter scope) (model.Reply.Meter None) (state_of shut resource identity meters instruments ps)
-meter-none shut resource identity meters instruments ps scope closed views = record {
+pub meter-none : (shut : Bool) (resource : Resource) (identity : ℕ) (meters : List InstrumentationScope) (instruments : List InstrumentState) (live : List LiveHandle) (next : ℕ) (ps : List Piped) (scope : InstrumentationScope) → shut ≡ true
+    → (views : Views) → IsMade views (state_of shut resource identity meters instruments live next ps) (model.Call.Meter scope) (model.Reply.Meter None) (state_of shut resource identity meters instruments live next ps)
+meter-none shut resource identity meters instruments live next ps scope closed views = record {
   answer = ap model.Reply.Meter (sym (ap (λ b. cond b None (number_from 0 scope (machine.with_meter scope meters))) closed));
-  state = ap (λ ms. state_of shut resource identity ms instruments ps) (sym (ap (λ b. cond b meters (machine.with_meter scope meters)) closed));
+  state = ap (λ ms. state_of shut resource identity ms instruments live next ps) (sym (ap (λ b. cond b meters (machine.with_meter scope meters)) closed));
 }
 
 -- a meter that is known stays as it is, where the provider was not shut down
-pub meter-known : (shut : Bool) (resource : Resource) (identity : ℕ) (meters : List InstrumentationScope) (instruments : List InstrumentState) (ps : List Piped) (scope : InstrumentationScope) (n : ℕ) → shut ≡ false → position (scope_eq scope) meters ≡ Some n
-    → (views : Views) → IsMade views (state_of shut resource identity meters instruments ps) (model.Call.Meter scope) (model.Reply.Meter (Some n)) (state_of shut resource identity meters instruments ps)
-meter-known shut resource identity meters instruments ps scope n opened at views =
+pub meter-known : (shut : Bool) (resource : Resource) (identity : ℕ) (meters : List InstrumentationScope) (instruments : List InstrumentState) (live : List LiveHandle) (next : ℕ) (ps : List Piped) (scope : InstrumentationScope) (n : ℕ) → shut ≡ false → position (scope_eq scope) meters ≡ Some n
+    → (views : Views) → IsMade views (state_of shut resource identity meters instruments live next ps) (model.Call.Meter scope) (model.Reply.Meter (Some n)) (state_of shut resource identity meters instruments live next ps)
+meter-known shut resource identity meters instruments live next ps scope n opened at views =
     let there : list_any (scope_eq scope) meters ≡ true = sym (any-position (scope_eq scope) meters) ∙ ap is_some at in
     let first : n ≡ position_or_len (scope_eq scope) meters = position-first (scope_eq scope) meters n at in
-    meter-made shut resource identity meters meters instruments ps scope n opened first (sym (ap (λ b. cond b meters (meters ++ scope ∷ [])) (has_scope-flip scope meters ∙ there))) views
+    meter-made shut resource identity meters meters instruments live next ps scope n opened first (sym (ap (λ b. cond b meters (meters ++ scope ∷ [])) (has_scope-flip scope meters ∙ there))) views
 
 pub meter-unknown : (meters : List InstrumentationScope) (scope : InstrumentationScope) → position (scope_eq scope) meters ≡ None → has_scope scope meters ≡ false
 meter-unknown meters scope at = has_scope-flip scope meters ∙ (sym (any-position (scope_eq scope) meters) ∙ ap is_some at)

@@ -68,6 +68,20 @@ record-step views (Err f) old new n v [] made same fault free =
     refused-step views old new (model.Call.Record n v []) f (λ e. absurd (subst IsNamed e (free refl))) fault same
 record-step views (Err f) old new n v (a ∷ l) made same fault free = refused-step views old new (model.Call.Record n v (a ∷ l)) f (λ _. refl) fault same
 
+-- a bind
+pub bind-step : (views : Views) (r : Result ℕ Fault) (old new : State) (n : ℕ) (l : List KeyValue)
+    → IfOk r (λ h. (views : Views) → IsMade views old (model.Call.Bind n l) (model.Reply.Handle h) new) → OnErr r (new ≡ old) → IfErr r (IsFaultOf old (model.Call.Bind n l))
+    → Step views old (model.Call.Bind n l) (reply_from (λ h. model.Reply.Handle h) r) new
+bind-step views (Ok h) old new n l made same fault = let m = made views in (m.answer, m.state)
+bind-step views (Err f) old new n l made same fault = refused-step views old new (model.Call.Bind n l) f (λ _. refl) fault same
+
+-- a call that takes no memory, and is answered by no value
+pub free-step : (views : Views) (r : Result (Unit {0}) Fault) (old new : State) (call : model.Call)
+    → OnOk r ((views : Views) → IsMade views old call model.Reply.Done new) → OnErr r (new ≡ old) → IfErr r (IsFaultOf old call) → IfErr r IsNamed
+    → Step views old call (reply_from (λ _. model.Reply.Done) r) new
+free-step views (Ok u) old new call made same fault free = let m = made views in (m.answer, m.state)
+free-step views (Err f) old new call made same fault free = refused-step views old new call f (λ e. absurd (subst IsNamed e free)) fault same
+
 -- a collection
 pub collect-step : (views : Views) (r : Result ResourceMetrics Fault) (old new : State) (n now : ℕ) (os : List model.Observed)
     → IfOk r (λ c. (views : Views) → IsMade views old (model.Call.Collect n now os) (model.Reply.Collected c) new) → OnErr r (new ≡ old) → IfErr r (IsFaultOf old (model.Call.Collect n now os))

@@ -14,7 +14,7 @@ use Rattle.otel_data.specs.declared.numbers.NumberValue.TheVariants as number
 use Rattle.otel_model.specs.Calls as model
 use Rattle.otel_stream.specs.Requests.{Outcome}
 use Rattle.otel_provider.specs.declared.calls.Call.{Call}
-use Rattle.otel_provider.specs.declared.calls.Call.TheVariants.{Meter, Build, Record, Collect, Flush, Shutdown}
+use Rattle.otel_provider.specs.declared.calls.Call.TheVariants.{Meter, Build, Record, Bind, RecordBound, Unbind, Collect, Flush, Shutdown}
 use Rattle.otel_provider.specs.declared.calls.Reply.{Reply}
 use Rattle.otel_provider.specs.declared.calls.Reply.TheVariants as reply
 use Rattle.otel_provider.specs.declared.sorts.InstrumentSort.{InstrumentSort}
@@ -55,6 +55,9 @@ abbrev pub call_of : Call → model.Call
 call_of (Meter scope) = model.Call.Meter scope
 call_of (Build meter sort name description unit boundaries now) = model.Call.Build meter (about sort name description unit boundaries) now
 call_of (Record instrument value attributes) = model.Call.Record instrument (number_of value) attributes
+call_of (Bind instrument attributes) = model.Call.Bind instrument attributes
+call_of (RecordBound handle value) = model.Call.RecordBound handle (number_of value)
+call_of (Unbind handle) = model.Call.Unbind handle
 call_of (Collect reader now observations) = model.Call.Collect reader now (map observed_of observations)
 call_of Flush = model.Call.Flush
 call_of Shutdown = model.Call.Shutdown
@@ -76,6 +79,7 @@ fault_of (fault.InternalFailure (inner.Readers failed first)) = model.Fault.Read
 abbrev pub reply_of : Reply → model.Reply
 reply_of (reply.Meter number) = model.Reply.Meter number
 reply_of (reply.Instrument number) = model.Reply.Instrument number
+reply_of (reply.Handle number) = model.Reply.Handle number
 reply_of reply.Done = model.Reply.Done
 reply_of (reply.Collected collection) = model.Reply.Collected collection
 reply_of (reply.Refused f) = model.Reply.Refused (fault_of f)

@@ -1,5 +1,5 @@
 -- The state of a provider in the words of the model, and what a call does to it.
-use Rattle.std.specs.Prelude.{◌≡◌, ℕ, Bool, true, List, [], map, length, slice_get, Option, None, Some}
+use Rattle.std.specs.Prelude.{◌≡◌, ℕ, Bool, true, false, List, [], map, length, slice_get, Option, None, Some}
 use Rattle.std.specs.List.{AllByRecursion as EachOf}
 use Rattle.otel_callback.specs.declared.observation.Observed.{Observed}
 use Rattle.otel_common.specs.declared.faults.Fault.{Fault}
@@ -9,19 +9,18 @@ use Rattle.otel_common.specs.declared.scopes.InstrumentationScope.{Instrumentati
 use Rattle.otel_model.specs.Calls as model
 use Rattle.otel_model.specs.Demands.{Identity, StreamSpec, View, Views, instrument_of, is_good}
 use Rattle.otel_model.specs.Resources.{Resource}
-use Rattle.otel_model.specs.State.{InstrumentState, Shared, ReaderPart, State}
+use Rattle.otel_model.specs.State.{InstrumentState, LiveHandle, Shared, ReaderPart, State}
 use Rattle.otel_model.specs.Refusals.{refusal, meter_refusal}
 use Rattle.otel_model.specs.Sent.{is_fed, scope_of}
 use Rattle.otel_model.specs.Steps.{reply_of, after}
 use Rattle.otel_pipeline.specs.Pipelines.{Piped, part_of, FeedsType}
 use Rattle.otel_provider.specs.Correspondence.{observed_of}
 
--- providers have no handles yet
-abbrev pub shared_of : Bool → Resource → ℕ → List InstrumentationScope → List InstrumentState → Shared
-shared_of shut resource identity meters instruments = record { resource = resource; identity = identity; meters = meters; instruments = instruments; live = []; next = 0; shut = shut }
+abbrev pub shared_of : Bool → Resource → ℕ → List InstrumentationScope → List InstrumentState → List LiveHandle → ℕ → Shared
+shared_of shut resource identity meters instruments live next = record { resource = resource; identity = identity; meters = meters; instruments = instruments; live = live; next = next; shut = shut }
 
-abbrev pub state_of : Bool → Resource → ℕ → List InstrumentationScope → List InstrumentState → List Piped → State
-state_of shut resource identity meters instruments pipelines = record { shared = shared_of shut resource identity meters instruments; readers = map part_of pipelines }
+abbrev pub state_of : Bool → Resource → ℕ → List InstrumentationScope → List InstrumentState → List LiveHandle → ℕ → List Piped → State
+state_of shut resource identity meters instruments live next pipelines = record { shared = shared_of shut resource identity meters instruments live next; readers = map part_of pipelines }
 
 -- the call is answered and carried out as the model's machine does, with these views
 pub record IsMade (views : Views) (old : State) (call : model.Call) (reply : model.Reply) (new : State) : Type 0 where
@@ -62,12 +61,12 @@ IsNamed (fault.InternalFailure f) = Unit {0}
 -- the scope that a build's meter has among these
 pub record IsScopeOf (meters : List InstrumentationScope) (meter : Option ℕ) (scope : Option InstrumentationScope) : Type 0 where
   pub is : scope ≡ scope_of meters meter
-  pub known : (shut : Bool) (resource : Resource) (identity : ℕ) (instruments : List InstrumentState) → meter_refusal (shared_of shut resource identity meters instruments) meter ≡ None
+  pub known : (shut : Bool) (resource : Resource) (identity : ℕ) (instruments : List InstrumentState) (live : List LiveHandle) (next : ℕ) → meter_refusal (shared_of shut resource identity meters instruments live next) meter ≡ None
 
 -- there is no such meter
 pub record IsNoMeter (meters : List InstrumentationScope) (meter : Option ℕ) (f : Fault) : Type 0 where
   pub is : f ≡ fault.UnknownMeter
-  pub unknown : (shut : Bool) (resource : Resource) (identity : ℕ) (instruments : List InstrumentState) → meter_refusal (shared_of shut resource identity meters instruments) meter ≡ Some model.Fault.UnknownMeter
+  pub unknown : (shut : Bool) (resource : Resource) (identity : ℕ) (instruments : List InstrumentState) (live : List LiveHandle) (next : ℕ) → meter_refusal (shared_of shut resource identity meters instruments live next) meter ≡ Some model.Fault.UnknownMeter
 
 -- an instrument without a scope ignores its records; with one its name, unit and bounds are good
 abbrev pub IsGoodIn : Option InstrumentationScope → model.About → Type 0
@@ -99,6 +98,12 @@ pub record IsTakenBy (instruments : List InstrumentState) (n : ℕ) (v : model.N
   pub instrument : InstrumentState
   pub there : slice_get instruments n ≡ Some instrument
   pub typed : v.signed ≡ instrument.signed
+
+-- an instrument at which handles can be bound
+pub record IsBindable (instruments : List InstrumentState) (n : ℕ) : Type 0 where
+  pub instrument : InstrumentState
+  pub there : slice_get instruments n ≡ Some instrument
+  pub synchronous : model.is_observable instrument.kind ≡ false
 
 -- what was observed is of an instrument that takes its value
 abbrev pub IsTaken : List InstrumentState → Observed → Type 0

@@ -11,6 +11,7 @@ use Rattle.otel_provider.specs.Correspondence.{about, fault_of}
 use Rattle.otel_provider.specs.Providers.{identity_of}
 use Rattle.otel_provider.specs.declared.async_builders.AsyncInstrumentBuilder.{AsyncInstrumentBuilder}
 use Rattle.otel_provider.specs.declared.asynchronous.Asynchronous.{Asynchronous}
+use Rattle.otel_provider.specs.declared.bound.Bound.{Bound}
 use Rattle.otel_provider.specs.declared.builders.InstrumentBuilder.{InstrumentBuilder}
 use Rattle.otel_provider.specs.declared.meters.Meter.{Meter}
 use Rattle.otel_provider.specs.declared.provider.Provider.{Provider}
@@ -62,6 +63,14 @@ observable_number i = i.number
 abbrev pub IsObservableOf : {K T P V R U I : Type 0} → Asynchronous K T → Provider P V R U I → Type 0
 IsObservableOf i p = i.identity ≡ identity_of p
 
+-- ======== handles ========
+abbrev pub handle_number : {T : Type 0} → Bound T → ℕ
+handle_number b = b.handle
+
+-- it has the provider's identity
+abbrev pub IsBoundOf : {T P V R U I : Type 0} → Bound T → Provider P V R U I → Type 0
+IsBoundOf b p = b.identity ≡ identity_of p
+
 -- ======== replies ========
 -- the reply that says what was given, or by which fault the call was refused
 abbrev pub reply_from : {X : Type 0} → (X → model.Reply) → Result X Fault → model.Reply
@@ -80,6 +89,15 @@ observed_reply r = reply_from (λ i. model.Reply.Instrument i.number) r
 
 abbrev pub record_reply : Result (Unit {0}) Fault → model.Reply
 record_reply r = reply_from (λ _. model.Reply.Done) r
+
+-- of a bind
+abbrev pub bind_reply : {T : Type 0} → Result (Bound T) Fault → model.Reply
+bind_reply r = reply_from (λ b. model.Reply.Handle b.handle) r
+
+-- of the end of a handle, which is handed back where it is refused
+abbrev pub unbind_reply : {T : Type 0} → Result (Unit {0}) (Bound T × Fault) → model.Reply
+unbind_reply (Ok _) = model.Reply.Done
+unbind_reply (Err e) = model.Reply.Refused (fault_of e.1)
 
 -- of a collection that is handed back in this value
 abbrev pub collect_reply : Result (Unit {0}) Fault → ResourceMetrics → model.Reply

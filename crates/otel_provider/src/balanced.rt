@@ -232,4 +232,57 @@ impl BalancedCore {
         }
         self.core.record(instrument, value, attributes)
     }
+
+    /// Binds a handle with attributes at an instrument of a provider of this identity.
+    pub(crate) fn bind(
+        &mut self,
+        identity: u64,
+        instrument: usize,
+        attributes: &[KeyValue],
+    ) -> Result<u64, Fault>
+        ensures step { identity ≡ self.old.shared.identity → (views : Views) → Step views self.old (model.Call.Bind instrument attributes.now) (reply_from (λ h. model.Reply.Handle h) result) self.new }
+        ensures foreign { ¬ (identity ≡ self.old.shared.identity) → (result ≡ Err Fault.UnknownInstrument) × (self.new ≡ self.old) }
+        ensures identity { self.new.shared.identity ≡ self.old.shared.identity }
+        ensures balances { Balances self.new }
+        ensures readers { KeepsReaders self.old self.new }
+    {
+        if identity == self.core.identity() {
+            self.core.bind(instrument, attributes)
+        } else {
+            Err(Fault::UnknownInstrument)
+        }
+    }
+
+    /// Records a value through a handle of a provider of this identity.
+    pub(crate) fn record_bound(
+        &mut self,
+        identity: u64,
+        handle: u64,
+        value: NumberValue,
+    ) -> Result<(), Fault>
+        ensures step { identity ≡ self.old.shared.identity → (views : Views) → Step views self.old (model.Call.RecordBound handle (number_of value)) (reply_from (λ _. model.Reply.Done) result) self.new }
+        ensures foreign { ¬ (identity ≡ self.old.shared.identity) → (result ≡ Err Fault.UnknownHandle) × (self.new ≡ self.old) }
+        ensures balances { Balances self.new }
+        ensures readers { KeepsReaders self.old self.new }
+    {
+        if identity == self.core.identity() {
+            self.core.record_bound(handle, value)
+        } else {
+            Err(Fault::UnknownHandle)
+        }
+    }
+
+    /// Ends a handle of a provider of this identity.
+    pub(crate) fn unbind(&mut self, identity: u64, handle: u64) -> Result<(), Fault>
+        ensures step { identity ≡ self.old.shared.identity → (views : Views) → Step views self.old (model.Call.Unbind handle) (reply_from (λ _. model.Reply.Done) result) self.new }
+        ensures foreign { ¬ (identity ≡ self.old.shared.identity) → (result ≡ Err Fault.UnknownHandle) × (self.new ≡ self.old) }
+        ensures balances { Balances self.new }
+        ensures readers { KeepsReaders self.old self.new }
+    {
+        if identity == self.core.identity() {
+            self.core.unbind(handle)
+        } else {
+            Err(Fault::UnknownHandle)
+        }
+    }
 }

@@ -41,6 +41,22 @@ pub enum Call {
         value: NumberValue,
         attributes: Items<KeyValue>,
     },
+    /// Binds a handle at an instrument, with attributes in any order (Metrics API, "Synchronous Instrument API"). Its records
+    /// go where a record with the attributes would go now, for good. A bind at an observable instrument is refused. It is made
+    /// in all streams that the instrument feeds or in none.
+    Bind {
+        instrument: usize,
+        attributes: Items<KeyValue>,
+    },
+    /// Records a value through a handle, in the unit of its instrument. A value of the other number type is refused.
+    RecordBound {
+        handle: u64,
+        value: NumberValue,
+    },
+    /// Ends a handle.
+    Unbind {
+        handle: u64,
+    },
     /// Collects what a reader's streams have: sums, last values and histograms. `now` is the moment of the
     /// collection, in nanoseconds since 1970. What was observed goes first, in order, to the streams of this reader
     /// alone that the instruments feed. The first observation that is bad refuses the collection: of an instrument that
@@ -66,7 +82,9 @@ pub enum Reply {
     Meter(Option<usize>),
     /// The number of the new instrument: how many were built before it.
     Instrument(usize),
-    /// The record was made, or ignored where the instrument ignores its records; or each reader did what it was asked to.
+    /// The number of the new handle: how many were bound before it.
+    Handle(u64),
+    /// The handle was ended; or the record was made, or ignored where the instrument ignores its records; or each reader did what it was asked to.
     Done,
     /// What was collected.
     Collected(ResourceMetrics),

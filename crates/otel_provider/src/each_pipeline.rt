@@ -1,11 +1,12 @@
 //! What is done to the streams of all readers, one reader after another.
 
 ghost use Rattle.std.specs.Prelude.{◌≡◌, [], false, All, map, IsOk, OnOk, OnErr, IsOkUnless};
-ghost use Rattle.std.specs.List.{list_any};
+ghost use Rattle.std.specs.List.{list_any, AllByRecursion as EachOf};
 ghost use Rattle.std.specs.Option.{option_map};
 ghost use Rattle.otel_model.specs.Calls as model;
 ghost use Rattle.otel_model.specs.Machine as machine;
 ghost use Rattle.otel_model.specs.Machine.{part_after_call};
+ghost use Rattle.otel_pipeline.specs.Handles.{FeedsSynchronous, IsNewAt, IsHeldByFed, IsReadyToBindAt, IsPreparedHeldAt, part_after_bind, part_after_unbind};
 ghost use Rattle.otel_pipeline.specs.Pipelines.{part_of, has_stream_at, piped_after_build, part_after_record, IsBuildableIn, IsPlanned, IsReadyFor, IsPreparedFor};
 ghost use Rattle.otel_pipeline.specs.Views.{views_answering};
 ghost use Rattle.otel_provider.specs.Correspondence.{number_of};
@@ -18,6 +19,7 @@ use otel_data::numbers::NumberValue;
 use otel_pipeline::about::About;
 use otel_pipeline::pipeline::Pipeline;
 use otel_stream::stream::Stream;
+use otel_value_map::hashing::SetHashBuilder;
 
 /// Plans a build, of which each view answered this, at all readers. What they have stays as it was.
 fn plan_all(
@@ -74,6 +76,59 @@ fn commit_all(pipelines: &mut [Pipeline], instrument: usize, value: NumberValue)
     }
 }
 
+/// Prepares a bind in the streams that an instrument feeds, at all readers.
+fn prepare_bind_all(
+    pipelines: &mut [Pipeline],
+    instrument: usize,
+    attributes: &[KeyValue],
+) -> Result<(), Fault>
+    ensures same { map part_of pipelines.new ≡ map part_of pipelines.old }
+    ensures ready { OnOk result (All (IsReadyToBindAt instrument attributes.now) pipelines.new) }
+    ensures only_memory { IsOkUnless result Fault.OutOfMemory }
+{
+    for i in 0..pipelines.len() {
+        pipelines[i].prepare_bind(instrument, attributes)?;
+    }
+    Ok(())
+}
+
+/// Makes the bind in the streams that an instrument feeds, at all readers.
+fn bind_all(pipelines: &mut [Pipeline], instrument: usize, handle: u64)
+    ensures { map part_of pipelines.new ≡ map (part_after_bind instrument handle) pipelines.old }
+{
+    for i in 0..pipelines.len() {
+        pipelines[i].bind(instrument, handle);
+    }
+}
+
+/// Prepares a record through a handle, or its end, in the streams that its instrument feeds, at all readers.
+fn prepare_held_all(pipelines: &mut [Pipeline], instrument: usize, handle: u64)
+    ensures same { map part_of pipelines.new ≡ map part_of pipelines.old }
+    ensures prepared { All (IsPreparedHeldAt instrument handle) pipelines.new }
+{
+    for i in 0..pipelines.len() {
+        pipelines[i].prepare_held(instrument, handle);
+    }
+}
+
+/// Ends a handle in the streams that its instrument feeds, at all readers.
+fn unbind_all(pipelines: &mut [Pipeline], instrument: usize, handle: u64)
+    ensures { map part_of pipelines.new ≡ map (part_after_unbind instrument handle) pipelines.old }
+{
+    for i in 0..pipelines.len() {
+        pipelines[i].unbind(instrument, handle);
+    }
+}
+
+/// From now on new streams of all readers hash sets with this.
+pub(crate) fn set_hashers(pipelines: &mut [Pipeline], hasher: SetHashBuilder)
+    ensures { pipelines.new ≡ pipelines.old }
+{
+    for i in 0..pipelines.len() {
+        pipelines[i].set_hasher(hasher);
+    }
+}
+
 /// Whether an instrument feeds a stream of some reader.
 pub(crate) fn any_stream(pipelines: &[Pipeline], instrument: usize) -> bool
     ensures { result ≡ list_any (λ p. has_stream_at instrument (part_of p)) pipelines.now }
@@ -117,4 +172,48 @@ pub(crate) fn record_or_none(
     prepare_all(pipelines, instrument, attributes)?;
     commit_all(pipelines, instrument, value);
     Ok(())
+}
+
+/// Binds a new handle in the streams that an instrument feeds, at all readers or at none.
+pub(crate) fn bind_or_none(
+    pipelines: &mut [Pipeline],
+    instrument: usize,
+    handle: u64,
+    attributes: &[KeyValue],
+) -> Result<(), Fault>
+    requires synchronous { EachOf (FeedsSynchronous instrument) (map part_of pipelines.old) }
+    requires new { EachOf (IsNewAt handle) (map part_of pipelines.old) }
+    ensures ok { OnOk result (map part_of pipelines.new ≡ map (part_after_call handle (model.Call.Bind instrument attributes.now)) (map part_of pipelines.old)) }
+    ensures err { OnErr result (map part_of pipelines.new ≡ map part_of pipelines.old) }
+    ensures only_memory { IsOkUnless result Fault.OutOfMemory }
+{
+    prepare_bind_all(pipelines, instrument, attributes)?;
+    bind_all(pipelines, instrument, handle);
+    Ok(())
+}
+
+/// Makes a record through a handle in the streams that its instrument feeds, at all readers.
+pub(crate) fn record_held(
+    pipelines: &mut [Pipeline],
+    instrument: usize,
+    handle: u64,
+    value: NumberValue,
+)
+    requires typed { FeedType instrument (number_of value) (map part_of pipelines.old) }
+    requires synchronous { EachOf (FeedsSynchronous instrument) (map part_of pipelines.old) }
+    requires held { EachOf (IsHeldByFed instrument handle) (map part_of pipelines.old) }
+    ensures { map part_of pipelines.new ≡ map (part_after_call 0 (model.Call.RecordBound handle (number_of value))) (map part_of pipelines.old) }
+{
+    prepare_held_all(pipelines, instrument, handle);
+    commit_all(pipelines, instrument, value);
+}
+
+/// Ends a handle in the streams that its instrument feeds, at all readers.
+pub(crate) fn unbind_held(pipelines: &mut [Pipeline], instrument: usize, handle: u64)
+    requires synchronous { EachOf (FeedsSynchronous instrument) (map part_of pipelines.old) }
+    requires held { EachOf (IsHeldByFed instrument handle) (map part_of pipelines.old) }
+    ensures { map part_of pipelines.new ≡ map (part_after_call 0 (model.Call.Unbind handle)) (map part_of pipelines.old) }
+{
+    prepare_held_all(pipelines, instrument, handle);
+    unbind_all(pipelines, instrument, handle);
 }

@@ -73,6 +73,16 @@ impl FreshCore {
         }
     }
 
+    /// With this seed of the hashes of sets, which nothing shows.
+    pub(crate) fn with_hash_seed(self, seed: u64) -> FreshCore
+        ensures { result ≡ self }
+    {
+        let FreshCore { core } = self;
+        FreshCore {
+            core: core.with_hash_seed(seed),
+        }
+    }
+
     /// The core of a provider with these readers.
     pub(crate) fn into_core(self) -> Core
         ensures { result ≡ new_state self.resource self.identity self.readers }

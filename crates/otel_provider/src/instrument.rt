@@ -1,7 +1,8 @@
 //! Instruments, as the provider keeps them.
 
-ghost use Rattle.std.specs.Prelude.{◌≡◌, Some, None, OnOk, IfErr};
+ghost use Rattle.std.specs.Prelude.{◌≡◌, true, false, Some, None, OnOk, IfErr};
 ghost use Rattle.otel_aggregate.specs.Any.{is_signed_value};
+ghost use Rattle.otel_model.specs.Calls.{is_observable};
 ghost use Rattle.otel_model.specs.Machine.{instrument_after_record};
 ghost use Rattle.otel_model.specs.Refusals.{record_refusal, number_refusal, observation_refusal};
 ghost use Rattle.otel_provider.specs.Instruments.{new_state};
@@ -44,7 +45,7 @@ impl Instrument {
     }
 
     /// Whether a value has the instrument's number type.
-    fn check_number(&self, value: NumberValue) -> Result<(), Fault>
+    pub(crate) fn check_number(&self, value: NumberValue) -> Result<(), Fault>
         ensures typed { OnOk result (is_signed_value value ≡ self.now.signed) }
         ensures fits { OnOk result (number_refusal self.now.signed (is_signed_value value) ≡ None) }
         ensures fault { IfErr result (IsFault (number_refusal self.now.signed (is_signed_value value))) }
@@ -56,6 +57,17 @@ impl Instrument {
         Ok(())
     }
 
+    /// Whether the instrument takes in records, so that a handle can be bound at it.
+    pub(crate) fn check_kind(&self) -> Result<(), Fault>
+        ensures synchronous { OnOk result (is_observable self.now.kind ≡ false) }
+        ensures fault { IfErr result (λ f. (f ≡ Fault.WrongKind) × (is_observable self.now.kind ≡ true)) }
+    {
+        if self.sort.is_observable() {
+            return Err(Fault::WrongKind);
+        }
+        Ok(())
+    }
+
     /// Whether the instrument takes in records, and a value has its number type.
     pub(crate) fn check(&self, value: NumberValue) -> Result<(), Fault>
         ensures typed { OnOk result ((number_of value).signed ≡ self.now.signed) }
@@ -63,8 +75,8 @@ impl Instrument {
         ensures fault { IfErr result (IsFault (record_refusal (Some self.now) (number_of value).signed)) }
         ensures named { IfErr result IsNamed }
     {
-        if self.sort.is_observable() {
-            return Err(Fault::WrongKind);
+        if let Err(fault) = self.check_kind() {
+            return Err(fault);
         }
         self.check_number(value)
     }

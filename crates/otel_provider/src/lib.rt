@@ -5,6 +5,7 @@ mod asking;
 pub mod async_builders;
 pub mod asynchronous;
 mod balanced;
+pub mod bound;
 pub mod builders;
 pub mod calls;
 mod each_pipeline;

@@ -164,6 +164,28 @@ impl<P: Parts> ProviderBuilder<P> {
         }
     }
 
+    /// The seed of the hashes by which the provider finds sets of attributes; without one it is fixed. Where clients
+    /// choose attributes, take it from a source that they can't know: then they can't make attributes that collide, which
+    /// slow records down. Nothing else depends on it. Takes no memory.
+    pub fn with_hash_seed(self, seed: u64) -> Self
+        ensures answers { answers_of_readers result ≡ answers_of_readers self }
+        ensures resource { resource_of result ≡ resource_of self }
+        ensures identity { identity_of_builder result ≡ identity_of_builder self }
+        ensures kept { builder_readers result ≡ builder_readers self }
+        ensures views { builder_views result ≡ builder_views self }
+    {
+        let ProviderBuilder {
+            core,
+            views,
+            readers,
+        } = self;
+        ProviderBuilder {
+            core: core.with_hash_seed(seed),
+            views,
+            readers,
+        }
+    }
+
     /// The provider, without meters and instruments, and with the resource, the identity and the readers of the
     /// builder. It always succeeds, and takes no memory.
     pub fn build(self) -> Result<Provider<P>, Fault>

@@ -1,33 +1,37 @@
 //! The state of a provider: all of it that is no boxed object.
 
-ghost use Rattle.std.specs.Prelude.{◌≡◌, ◌∷◌, ◌++◌, [], Option, All, cond, length, map, slice_get, Some, None, true, false, OnOk, OnErr, IfOk, IfErr, IsOk, IsOkUnless, MatchResult};
+ghost use Rattle.std.specs.Prelude.{◌≡◌, ◌<◌, ◌-◌, ◌^◌, ◌∷◌, ◌++◌, [], Option, All, cond, length, map, slice_get, Some, None, true, false, OnOk, OnErr, IfOk, IfErr, IsOk, IsOkUnless, MatchResult};
 ghost use Rattle.std.specs.Option.{option_map};
 ghost use Rattle.otel_aggregate.specs.Any.{is_signed_value};
 ghost use Rattle.otel_model.specs.Calls as model;
 ghost use Rattle.otel_model.specs.Demands.{Views, is_good, are_good_bounds};
 ghost use Rattle.otel_model.specs.Machine.{new_state, new_part, new_instrument, part_after_build};
-ghost use Rattle.otel_model.specs.Refusals.{meter_refusal, record_refusal, observation_refusal, observations_refusal};
+ghost use Rattle.otel_model.specs.Refusals.{meter_refusal, record_refusal, bind_refusal, held_refusal, observation_refusal, observations_refusal};
 ghost use Rattle.otel_model.specs.Resources.{empty_resource, merged_resource};
 ghost use Rattle.otel_model.specs.Sent.{has_scope};
 ghost use Rattle.otel_model.specs.Steps.{Step, Run};
+ghost use Rattle.otel_model_laws.specs.Lawful.{IsLawful};
 ghost use Rattle.otel_pipeline.specs.Pipelines.{part_of};
 ghost use Rattle.otel_pipeline.specs.Views.{views_answering};
 ghost use Rattle.otel_provider.specs.Callbacks.{has_stream, collect_refusal};
 ghost use Rattle.otel_provider.specs.Correspondence.{fault_of, about, kind_of, is_signed, number_of, observed_of, call_of, reply_of, reply_to};
 ghost use Rattle.otel_provider.specs.Readers.{AreReached, AreReachedBy, ShutsDown, StepReaches, RunReaches};
-ghost use Rattle.otel_provider.specs.States.{IsMade, IsFault, IsFaultOf, IsNamed, IsScopeOf, IsNoMeter, IsGoodIn, IsTakenBy, IsTaken};
+ghost use Rattle.otel_provider.specs.States.{IsMade, IsFault, IsFaultOf, IsNamed, IsScopeOf, IsNoMeter, IsGoodIn, IsTakenBy, IsTaken, IsBindable};
 ghost use Rattle.otel_stream.specs.Requests.{wanted_by};
 ghost use Rattle.otel_provider.specs.declared.sorts.InstrumentSort.{InstrumentSort};
 
 use crate::asking::ask_in;
 use crate::calls::{Call, Reply};
-use crate::each_pipeline::{any_stream, build_or_none, record_or_none};
+use crate::each_pipeline::{
+    any_stream, bind_or_none, build_or_none, record_held, record_or_none, set_hashers, unbind_held,
+};
 use crate::instrument::Instrument;
 use crate::instrument_checks::{
     validate_bucket_boundaries, validate_instrument_name, validate_instrument_unit,
 };
 use crate::sorts::InstrumentSort;
-use indexmap::IndexSet;
+use indexmap::{IndexMap, IndexSet};
+use otel_bound_map::links::{Links, add, make_room, number_in, take_out};
 use otel_callback::observation::Observed;
 use otel_common::attributes::KeyValue;
 use otel_common::faults::{Fault, InternalFault, OTelSdkResult};
@@ -46,6 +50,7 @@ use otel_stream::instrument::InstrumentKind;
 use otel_stream::reader::MetricReader;
 use otel_stream::stream::Stream;
 use otel_stream::view::View;
+use otel_value_map::hashing::SetHashBuilder;
 use std::alloc::Global;
 use std::marker::Model;
 
@@ -54,12 +59,17 @@ use std::marker::Model;
 #[derive(Drop)]
 pub struct Core {
     alloc: Global,
+    hasher: SetHashBuilder,
     shut: bool,
     resource: Resource,
     identity: u64,
     meters: IndexSet<InstrumentationScope>,
     instruments: Vec<Instrument>,
     pipelines: Vec<Pipeline>,
+    /// The instrument of each live handle.
+    handles: Links,
+    /// How many handles were bound.
+    next: u64,
 }
 
 impl Model for Core {
@@ -70,7 +80,7 @@ impl Model for Core {
 
     ghost Value = { State };
 
-    ghost view = { λ c. state_of c.shut c.resource c.identity c.meters.keys c.instruments.items c.pipelines.items };
+    ghost view = { λ c. state_of c.shut c.resource c.identity c.meters.keys c.instruments.items c.handles.entries c.next c.pipelines.items };
 
     ghost invariant = { λ c. AreTyped c.instruments.items (map part_of c.pipelines.items) };
 }
@@ -165,6 +175,43 @@ fn check_observation(instruments: &[Instrument], observed: &Observed) -> Result<
     }
 }
 
+/// Whether there is an instrument of this number at which a handle can be bound, and a number for one after so many.
+fn check_bind(instruments: &[Instrument], instrument: usize, next: u64) -> Result<(), Fault>
+    ensures bindable { OnOk result (IsBindable instruments.now instrument) }
+    ensures fits { OnOk result (bind_refusal next (slice_get instruments.now instrument) ≡ None) }
+    ensures more { OnOk result (next < 2 ^ 64 - 1) }
+    ensures fault { IfErr result (IsFault (bind_refusal next (slice_get instruments.now instrument))) }
+{
+    let found = match instruments.get(instrument) {
+        Some(found) => found,
+        None => return Err(Fault::UnknownInstrument),
+    };
+    if let Err(fault) = found.check_kind() {
+        return Err(fault);
+    }
+    if next == u64::MAX {
+        return Err(Fault::Exhausted);
+    }
+    Ok(())
+}
+
+/// Whether a value has the number type of a handle's instrument.
+fn check_held(
+    instruments: &[Instrument],
+    instrument: usize,
+    value: NumberValue,
+) -> Result<(), Fault>
+    ensures taken { OnOk result (IsTakenBy instruments.now instrument (number_of value)) }
+    ensures fits { OnOk result (held_refusal (slice_get instruments.now instrument) (number_of value).signed ≡ None) }
+    ensures fault { IfErr result (IsFault (held_refusal (slice_get instruments.now instrument) (number_of value).signed)) }
+    ensures named { IfErr result IsNamed }
+{
+    match instruments.get(instrument) {
+        Some(found) => found.check_number(value),
+        None => Err(Fault::UnknownHandle),
+    }
+}
+
 /// Whether all observations are good; else the fault of the first bad one. Takes no memory.
 fn check_observations(instruments: &[Instrument], observations: &[Observed]) -> Result<(), Fault>
     ensures taken { OnOk result (All (IsTaken instruments.now) observations.now) }
@@ -222,14 +269,18 @@ impl Core {
     pub(crate) fn new(alloc: Global) -> Core
         ensures { result ≡ new_state empty_resource 0 [] }
     {
+        let hasher = SetHashBuilder::default();
         Core {
             alloc,
+            hasher,
             shut: false,
             resource: Resource::builder_empty(alloc).build(),
             identity: 0,
             meters: IndexSet::new(alloc),
             instruments: Vec::new(alloc),
             pipelines: Vec::new(alloc),
+            handles: IndexMap::with_hasher(alloc, hasher),
+            next: 0,
         }
     }
 
@@ -245,22 +296,28 @@ impl Core {
     {
         let Core {
             alloc,
+            hasher,
             shut,
             resource: old,
             identity,
             meters,
             instruments,
             pipelines,
+            handles,
+            next,
         } = self;
         let resource = old.merged_with(resource)?;
         Ok(Core {
             alloc,
+            hasher,
             shut,
             resource,
             identity,
             meters,
             instruments,
             pipelines,
+            handles,
+            next,
         })
     }
 
@@ -280,6 +337,18 @@ impl Core {
         core
     }
 
+    /// With this seed of all hashes of sets, which nothing shows. The map of handles, whose keys are the provider's own,
+    /// keeps its seed.
+    pub(crate) fn with_hash_seed(self, seed: u64) -> Core
+        ensures { result ≡ self }
+    {
+        let hasher = SetHashBuilder::new(seed);
+        let mut core = self;
+        core.hasher = hasher;
+        set_hashers(&mut core.pipelines, hasher);
+        core
+    }
+
     /// A reader more, without streams, which answered this.
     pub(crate) fn with_reader(self, answers: Answers) -> Result<Core, Fault>
         requires { self.shared.instruments ≡ [] }
@@ -287,7 +356,7 @@ impl Core {
         ensures only_memory { IsOkUnless result Fault.OutOfMemory }
     {
         let mut core = self;
-        let pipeline = Pipeline::new(core.alloc, answers);
+        let pipeline = Pipeline::new(core.alloc, core.hasher, answers);
         core.pipelines.push(pipeline)?;
         Ok(core)
     }
@@ -388,6 +457,61 @@ impl Core {
         }
         record_or_none(&mut self.pipelines, instrument, value, attributes)?;
         self.instruments[instrument].accept(value);
+        Ok(())
+    }
+
+    /// Binds a handle at an instrument, in all the streams that it feeds or in none, and tells its number.
+    pub(crate) fn bind(&mut self, instrument: usize, attributes: &[KeyValue]) -> Result<u64, Fault>
+        requires { IsLawful self.old }
+        ensures ok { IfOk result (λ h. (views : Views) → IsMade views self.old (model.Call.Bind instrument attributes.now) (model.Reply.Handle h) self.new) }
+        ensures err { OnErr result (self.new ≡ self.old) }
+        ensures fault { IfErr result (IsFaultOf self.old (model.Call.Bind instrument attributes.now)) }
+    {
+        if let Err(fault) = check_bind(&self.instruments, instrument, self.next) {
+            return Err(fault);
+        }
+        make_room(&mut self.handles)?;
+        let handle = self.next;
+        bind_or_none(&mut self.pipelines, instrument, handle, attributes)?;
+        add(&mut self.handles, handle, instrument);
+        self.next += 1;
+        Ok(handle)
+    }
+
+    /// Records a value through a handle, in all the streams that its instrument feeds. It takes no memory.
+    pub(crate) fn record_bound(&mut self, handle: u64, value: NumberValue) -> Result<(), Fault>
+        requires { IsLawful self.old }
+        ensures ok { OnOk result ((views : Views) → IsMade views self.old (model.Call.RecordBound handle (number_of value)) model.Reply.Done self.new) }
+        ensures err { OnErr result (self.new ≡ self.old) }
+        ensures fault { IfErr result (IsFaultOf self.old (model.Call.RecordBound handle (number_of value))) }
+        ensures free { IfErr result IsNamed }
+    {
+        let instrument = match number_in(&self.handles, handle) {
+            Some(instrument) => instrument,
+            None => return Err(Fault::UnknownHandle),
+        };
+        if let Err(fault) = check_held(&self.instruments, instrument, value) {
+            return Err(fault);
+        }
+        record_held(&mut self.pipelines, instrument, handle, value);
+        self.instruments[instrument].accept(value);
+        Ok(())
+    }
+
+    /// Ends a handle, in all the streams that its instrument feeds. It takes no memory.
+    pub(crate) fn unbind(&mut self, handle: u64) -> Result<(), Fault>
+        requires { IsLawful self.old }
+        ensures ok { OnOk result ((views : Views) → IsMade views self.old (model.Call.Unbind handle) model.Reply.Done self.new) }
+        ensures err { OnErr result (self.new ≡ self.old) }
+        ensures fault { IfErr result (IsFaultOf self.old (model.Call.Unbind handle)) }
+        ensures free { IfErr result IsNamed }
+    {
+        let instrument = match number_in(&self.handles, handle) {
+            Some(instrument) => instrument,
+            None => return Err(Fault::UnknownHandle),
+        };
+        unbind_held(&mut self.pipelines, instrument, handle);
+        take_out(&mut self.handles, handle);
         Ok(())
     }
 
@@ -499,6 +623,36 @@ impl Core {
         }
     }
 
+    fn step_bind(&mut self, instrument: usize, attributes: &[KeyValue]) -> Reply
+        requires { IsLawful self.old }
+        ensures { (views : Views) → Step views self.old (model.Call.Bind instrument attributes.now) (reply_of result) self.new }
+    {
+        match self.bind(instrument, attributes) {
+            Ok(handle) => Reply::Handle(handle),
+            Err(fault) => Reply::Refused(fault),
+        }
+    }
+
+    fn step_record_bound(&mut self, handle: u64, value: NumberValue) -> Reply
+        requires { IsLawful self.old }
+        ensures { (views : Views) → Step views self.old (model.Call.RecordBound handle (number_of value)) (reply_of result) self.new }
+    {
+        match self.record_bound(handle, value) {
+            Ok(()) => Reply::Done,
+            Err(fault) => Reply::Refused(fault),
+        }
+    }
+
+    fn step_unbind(&mut self, handle: u64) -> Reply
+        requires { IsLawful self.old }
+        ensures { (views : Views) → Step views self.old (model.Call.Unbind handle) (reply_of result) self.new }
+    {
+        match self.unbind(handle) {
+            Ok(()) => Reply::Done,
+            Err(fault) => Reply::Refused(fault),
+        }
+    }
+
     /// Makes a collection of a reader at a moment, with what was observed, unless the provider was shut down.
     pub(crate) fn collect_unless_shut(
         &mut self,
@@ -551,6 +705,7 @@ impl Core {
         readers: &mut [R],
         call: &Call,
     ) -> Reply
+        requires { IsLawful self.old }
         ensures step { Step (map V.answer views.now) self.old (call_of call.now) (reply_of result) self.new }
         ensures reached { StepReaches R.flushes R.shuts self.old.shared.shut (call_of call.now) readers.old (reply_of result) readers.new }
         ensures wants { map (wanted_by R.preference R.limit R.aggregation) readers.new ≡ map (wanted_by R.preference R.limit R.aggregation) readers.old }
@@ -581,6 +736,12 @@ impl Core {
                 value,
                 attributes,
             } => { self.step_record(*instrument, *value, attributes.as_slice()) }
+            Call::Bind {
+                instrument,
+                attributes,
+            } => self.step_bind(*instrument, attributes.as_slice()),
+            Call::RecordBound { handle, value } => self.step_record_bound(*handle, *value),
+            Call::Unbind { handle } => self.step_unbind(*handle),
             Call::Collect {
                 reader,
                 now,
@@ -599,6 +760,7 @@ impl Core {
         alloc: Global,
         calls: &[Call],
     ) -> Result<Vec<Reply>, Fault>
+        requires { IsLawful self.old }
         ensures run { IfOk result (λ replies. Run (map V.answer views.now) self.old (map call_of calls.now) (map reply_of replies.items) self.new) }
         ensures unmade { OnErr result (self.new ≡ self.old) }
         ensures only_memory { IsOkUnless result Fault.OutOfMemory }

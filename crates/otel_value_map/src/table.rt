@@ -247,17 +247,17 @@ fn copy_slot<A: Aggregator>(alloc: Global, slot: &Slot<A>) -> Result<Slot<A>, Fa
 
 impl<A: Aggregator> Table<A> {
     /// No entry but that of the empty set, with an aggregator that has no records. It takes memory for that one slot.
-    pub fn new(alloc: Global, aggregator: A) -> Result<Table<A>, Fault>
+    pub fn new(alloc: Global, hasher: SetHashBuilder, aggregator: A) -> Result<Table<A>, Fault>
         ensures table { IfOk result (λ made. made.table ≡ new_table (A.meaning aggregator)) }
         ensures sets { IfOk result (λ made. made.numbers.sets ≡ []) }
         ensures given { IfOk result (λ made. made.given ≡ []) }
         ensures only_memory { IsOkUnless result Fault.OutOfMemory }
     {
-        Table::with_none(alloc, Slot::new(aggregator, false, true))
+        Table::with_none(alloc, hasher, Slot::new(aggregator, false, true))
     }
 
     /// No entry but that of the empty set, of which this is kept.
-    fn with_none(alloc: Global, slot: Slot<A>) -> Result<Table<A>, Fault>
+    fn with_none(alloc: Global, hasher: SetHashBuilder, slot: Slot<A>) -> Result<Table<A>, Fault>
         requires lasting { slot.lasting ≡ true }
         requires uncounted { slot.counted ≡ false }
         ensures table { IfOk result (λ made. made.table ≡ record { none = entry_of none_set (Some (kept_of A.meaning slot)); entries = [] }) }
@@ -271,8 +271,8 @@ impl<A: Aggregator> Table<A> {
         Ok(Table {
             slots,
             none,
-            sets: IndexMap::with_hasher(alloc, SetHashBuilder::default()),
-            given: IndexMap::with_hasher(alloc, SetHashBuilder::default()),
+            sets: IndexMap::with_hasher(alloc, hasher),
+            given: IndexMap::with_hasher(alloc, hasher),
         })
     }
 
@@ -460,7 +460,7 @@ impl<A: Aggregator> Table<A> {
         ensures only_memory { IsOkUnless result Fault.OutOfMemory }
     {
         let none = self.slots.get(self.none).unwrap();
-        let mut made = Table::with_none(alloc, copy_slot(alloc, none)?)?;
+        let mut made = Table::with_none(alloc, *self.sets.hasher(), copy_slot(alloc, none)?)?;
         copy_entries(alloc, &self.slots, &self.sets, &mut made)?;
         Ok(made)
     }

@@ -15,6 +15,7 @@ ghost use Rattle.otel_value_map.specs.Numbers.{number_of, without_handles, AreHa
 ghost use Rattle.otel_value_map.specs.Slots.{HasForm, copies};
 
 use crate::aggregator::Aggregator;
+use crate::hashing::SetHashBuilder;
 use crate::pending::{Pending, make_key, make_unused, plan, take_slot};
 use crate::saved::Saved;
 use crate::set_key::SetKey;
@@ -81,16 +82,21 @@ impl<A: Aggregator> Model for ValueMap<A> {
 }
 
 impl<A: Aggregator> ValueMap<A> {
-    /// A map with no entry but that of the empty set. It takes memory for that, for the set of the overflow entry,
-    /// and what an aggregator takes.
-    pub fn new(alloc: Global, config: A::InitConfig, limit: usize) -> Result<Self, Fault>
+    /// A map with no entry but that of the empty set, which hashes sets with this hasher. It takes memory for that entry,
+    /// for the set of the overflow entry, and what an aggregator takes.
+    pub fn new(
+        alloc: Global,
+        hasher: SetHashBuilder,
+        config: A::InitConfig,
+        limit: usize,
+    ) -> Result<Self, Fault>
         ensures made { IfOk result (λ made. made.state ≡ new_map limit (A.empty config)) }
         ensures given { IfOk result (λ made. made.given ≡ []) }
         ensures unprepared { IfOk result (λ made. made.pending ≡ None) }
         ensures only_memory { IsOkUnless result Fault.OutOfMemory }
     {
         let none = A::create(alloc, &config)?;
-        let table = Table::new(alloc, none)?;
+        let table = Table::new(alloc, hasher, none)?;
         let overflow = SetKey::owned(overflow_set(alloc)?);
         Ok(ValueMap {
             alloc,

@@ -200,3 +200,36 @@ fn observed(rt: HostRuntime) -> Result<(), Fail> {
          point disk written sum delta monotonic 200 300 disk=s:a 400\n",
     )
 }
+
+/// A handle, and its end.
+#[test]
+fn handles(rt: HostRuntime) -> Result<(), Fail> {
+    assert_prints(
+        &rt,
+        rt.alloc(),
+        b"# A handle for requests that come again and again, and then its end.\n\
+          reader delta\n\
+          go\n\
+          meter shop\n\
+          build 0 u64_counter requests 100\n\
+          bind 0 path=s:/cart\n\
+          recordbound 0 u:1\n\
+          recordbound 0 u:2\n\
+          record 0 u:4 path=s:/cart\n\
+          collect 0 200\n\
+          unbind 0\n\
+          recordbound 0 u:1\n\
+          collect 0 300\n",
+        "meter 0\n\
+         instrument 0\n\
+         handle 0\n\
+         ok\n\
+         ok\n\
+         ok\n\
+         collected 1\n\
+         point shop requests sum delta monotonic 100 200 path=s:/cart 7\n\
+         ok\n\
+         refused 4 unknown handle\n\
+         collected 0\n",
+    )
+}

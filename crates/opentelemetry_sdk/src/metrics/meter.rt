@@ -6,6 +6,7 @@ pub use otel_provider::asynchronous::{
     Asynchronous, ObservableCounter, ObservableCounterKind, ObservableGauge, ObservableGaugeKind,
     ObservableUpDownCounter, ObservableUpDownCounterKind,
 };
+pub use otel_provider::bound::Bound;
 pub use otel_provider::builders::{HistogramBuilder, InstrumentBuilder};
 pub use otel_provider::instrument_checks::{
     validate_bucket_boundaries, validate_instrument_name, validate_instrument_unit,

@@ -2,7 +2,7 @@
 
 use super::replies::{attributes, text, values, write_attributes};
 use crate::common::{InstrumentationScope, Key, KeyValue, StringValue, canonical};
-use crate::metrics::internal::Sum;
+use crate::metrics::internal::{SetHashBuilder, Sum};
 use crate::metrics::reader::MetricReader;
 use crate::metrics::{InstrumentKind, ManualReader, Temporality};
 use std::alloc::Global;
@@ -44,7 +44,15 @@ fn measure_values(alloc: Global, sum: &mut Sum<u64>) -> Result<(), Fail> {
 /// Records whose attribute has equal values share a point, whatever the kind of the value.
 #[test]
 fn points_by_value(rt: HostRuntime) -> Result<(), Fail> {
-    let mut sum = Sum::new(rt.alloc(), Temporality::Cumulative, None, 2000, 100, true)?;
+    let mut sum = Sum::new(
+        rt.alloc(),
+        SetHashBuilder::default(),
+        Temporality::Cumulative,
+        None,
+        2000,
+        100,
+        true,
+    )?;
     measure_values(rt.alloc(), &mut sum)?;
     measure_values(rt.alloc(), &mut sum)?;
     let collected = sum.collect(rt.alloc(), 200)?;

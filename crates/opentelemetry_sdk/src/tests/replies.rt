@@ -250,6 +250,7 @@ pub fn text_of(alloc: Global, reply: &Reply) -> Result<String, Fail> {
         Reply::Meter(Some(number)) => Ok(format!(in alloc; "meter {number}")?),
         Reply::Meter(None) => Ok(String::from_str(alloc, "meter none")?),
         Reply::Instrument(number) => Ok(format!(in alloc; "instrument {number}")?),
+        Reply::Handle(number) => Ok(format!(in alloc; "handle {number}")?),
         Reply::Done => Ok(String::from_str(alloc, "done")?),
         Reply::Refused(fault) => Ok(format!(in alloc; "refused {}", fault.number())?),
         Reply::Collected(collected) => {

@@ -58,7 +58,7 @@ fn collected<P: Parts>(alloc: Global, provider: &mut Provider<P>) -> Result<Stri
 }
 
 /// The same of the collection that is wanted.
-fn wanted(alloc: Global) -> Result<String, Fail> {
+pub(super) fn wanted(alloc: Global) -> Result<String, Fail> {
     let size = Spread {
         bounds: &[10],
         buckets: &[0, 1],

@@ -8,6 +8,7 @@ use otel_common::metrics::Temporality;
 use otel_data::histograms::Histogram as HistogramData;
 use otel_data::points::HistogramDataPoint;
 use otel_value_map::bounds::Bounds;
+use otel_value_map::hashing::SetHashBuilder;
 use otel_value_map::number::Number;
 use std::alloc::Global;
 use std::test::Fail;
@@ -39,6 +40,7 @@ fn made<T: Number + Drop>(
 ) -> Result<Histogram<T>, Fault> {
     Histogram::new(
         alloc,
+        SetHashBuilder::default(),
         temporality,
         None,
         10,

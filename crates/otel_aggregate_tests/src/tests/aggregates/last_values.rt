@@ -7,6 +7,7 @@ use otel_common::lists::Items;
 use otel_common::metrics::Temporality;
 use otel_data::gauges::Gauge;
 use otel_data::points::GaugeDataPoint;
+use otel_value_map::hashing::SetHashBuilder;
 use otel_value_map::number::Number;
 use std::alloc::Global;
 use std::test::Fail;
@@ -39,7 +40,7 @@ pub fn are_last_values<T: Copy + Drop + PartialEq>(
 
 /// Last values with a limit of 10, made at 100.
 fn made<T: Number + Drop>(alloc: Global, temporality: Temporality) -> Result<LastValue<T>, Fault> {
-    LastValue::new(alloc, temporality, None, 10, 100)
+    LastValue::new(alloc, SetHashBuilder::default(), temporality, None, 10, 100)
 }
 
 fn measure<T: Number + Drop>(
@@ -138,6 +139,7 @@ fn writes_through(alloc: Global, gauge: &mut LastValue<u64>) -> Result<bool, Fau
 fn bind_writes_through_bound_handle(rt: HostRuntime) -> Result<(), Fail> {
     let mut gauge: LastValue<u64> = LastValue::new(
         rt.alloc(),
+        SetHashBuilder::default(),
         Temporality::Cumulative,
         None,
         100,
@@ -160,7 +162,14 @@ fn is_shown_once(alloc: Global, gauge: &mut LastValue<u64>) -> Result<bool, Faul
 
 #[test]
 fn bound_handle_drop_decrements_bound_count(rt: HostRuntime) -> Result<(), Fail> {
-    let mut gauge: LastValue<u64> = LastValue::new(rt.alloc(), Temporality::Delta, None, 100, 100)?;
+    let mut gauge: LastValue<u64> = LastValue::new(
+        rt.alloc(),
+        SetHashBuilder::default(),
+        Temporality::Delta,
+        None,
+        100,
+        100,
+    )?;
     assert!(rt; is_shown_once(rt.alloc(), &mut gauge).unwrap_or(false));
     Ok(())
 }

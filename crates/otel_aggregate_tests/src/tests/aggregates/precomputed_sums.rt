@@ -5,6 +5,7 @@ use super::{B, Set, X, attributes};
 use otel_aggregate::precomputed_sum::PrecomputedSum;
 use otel_common::faults::Fault;
 use otel_common::metrics::Temporality;
+use otel_value_map::hashing::SetHashBuilder;
 use otel_value_map::number::Number;
 use std::alloc::Global;
 use std::test::Fail;
@@ -14,7 +15,15 @@ fn made<T: Number + Drop>(
     alloc: Global,
     temporality: Temporality,
 ) -> Result<PrecomputedSum<T>, Fault> {
-    PrecomputedSum::new(alloc, temporality, None, 10, 100, true)
+    PrecomputedSum::new(
+        alloc,
+        SetHashBuilder::default(),
+        temporality,
+        None,
+        10,
+        100,
+        true,
+    )
 }
 
 /// Observes a value of a set in two phases.

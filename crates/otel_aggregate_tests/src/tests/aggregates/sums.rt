@@ -9,6 +9,7 @@ use otel_common::lists::Items;
 use otel_common::metrics::Temporality;
 use otel_data::points::SumDataPoint;
 use otel_data::sums::Sum as SumData;
+use otel_value_map::hashing::SetHashBuilder;
 use otel_value_map::number::Number;
 use std::alloc::Global;
 use std::test::Fail;
@@ -174,6 +175,7 @@ fn made<T: Number + Drop>(alloc: Global, kind: Kind, limit: usize) -> Result<Sum
     };
     Ok(Sum::new(
         alloc,
+        SetHashBuilder::default(),
         kind.temporality,
         allow,
         limit,

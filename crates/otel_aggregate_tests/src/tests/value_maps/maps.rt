@@ -6,6 +6,7 @@ use otel_common::faults::Fault;
 use otel_common::lists::Items;
 use otel_value_map::aggregator::Increment;
 use otel_value_map::assign::Assign;
+use otel_value_map::hashing::SetHashBuilder;
 use otel_value_map::number::Number;
 use otel_value_map::value_map::ValueMap;
 use std::alloc::Global;
@@ -126,7 +127,7 @@ fn drains(
 #[test]
 fn a_map_drains(rt: HostRuntime) -> Result<(), Fail> {
     let alloc = rt.alloc();
-    let mut map: ValueMap<Increment<u64>> = ValueMap::new(alloc, (), 2)?;
+    let mut map: ValueMap<Increment<u64>> = ValueMap::new(alloc, SetHashBuilder::default(), (), 2)?;
     assert!(rt; record(alloc, &mut map, TURNED, 1).is_ok());
     assert!(rt; finds(alloc, &map, BOTH, 1).unwrap_or(false));
     assert!(rt; gives(alloc, &mut map, &[(BOTH, 1)]).unwrap_or(false));
@@ -153,7 +154,7 @@ fn restores(
 #[test]
 fn a_map_is_restored(rt: HostRuntime) -> Result<(), Fail> {
     let alloc = rt.alloc();
-    let mut map: ValueMap<Increment<u64>> = ValueMap::new(alloc, (), 1)?;
+    let mut map: ValueMap<Increment<u64>> = ValueMap::new(alloc, SetHashBuilder::default(), (), 1)?;
     assert!(rt; restores(alloc, &mut map, NONE, &[], 0).unwrap_or(false));
     assert!(rt; restores(alloc, &mut map, BOTH, &[], 0).unwrap_or(false));
     assert!(rt; record(alloc, &mut map, NONE, 4).is_ok());
@@ -168,7 +169,7 @@ fn a_map_is_restored(rt: HostRuntime) -> Result<(), Fail> {
 #[test]
 fn a_map_gives_its_sets_in_order(rt: HostRuntime) -> Result<(), Fail> {
     let alloc = rt.alloc();
-    let mut map: ValueMap<Increment<u64>> = ValueMap::new(alloc, (), 2)?;
+    let mut map: ValueMap<Increment<u64>> = ValueMap::new(alloc, SetHashBuilder::default(), (), 2)?;
     assert!(rt; record(alloc, &mut map, TURNED, 1).is_ok());
     assert!(rt; takes_in(alloc, &mut map, BOTH, 2).unwrap_or(false));
     assert!(rt; gives_up(alloc, &mut map, OTHER).unwrap_or(false));
@@ -183,7 +184,7 @@ fn a_map_gives_its_sets_in_order(rt: HostRuntime) -> Result<(), Fail> {
 #[test]
 fn a_map_of_signed_sums(rt: HostRuntime) -> Result<(), Fail> {
     let alloc = rt.alloc();
-    let mut map: ValueMap<Increment<i64>> = ValueMap::new(alloc, (), 2)?;
+    let mut map: ValueMap<Increment<i64>> = ValueMap::new(alloc, SetHashBuilder::default(), (), 2)?;
     assert!(rt; record(alloc, &mut map, TURNED, 1).is_ok());
     assert!(rt; takes_in(alloc, &mut map, NONE, -4).unwrap_or(false));
     assert!(rt; record(alloc, &mut map, BOTH, 2).is_ok());
@@ -200,7 +201,7 @@ fn row_31(rt: HostRuntime) -> Result<(), Fail> {
     let alloc = rt.alloc();
     let given = attributes(alloc, TURNED)?;
     let sorted = attributes(alloc, BOTH)?;
-    let mut map: ValueMap<Assign<i64>> = ValueMap::new(alloc, (), 10)?;
+    let mut map: ValueMap<Assign<i64>> = ValueMap::new(alloc, SetHashBuilder::default(), (), 10)?;
     map.measure(1, &given)?;
     assert!(rt; map.keys() == 2 && map.count() == 1);
     assert!(rt; map.knows(&given) && map.knows(&sorted));
@@ -217,7 +218,7 @@ fn row_32(rt: HostRuntime) -> Result<(), Fail> {
     let alloc = rt.alloc();
     let given = attributes(alloc, TURNED)?;
     let sorted = attributes(alloc, BOTH)?;
-    let mut map: ValueMap<Assign<i64>> = ValueMap::new(alloc, (), 10)?;
+    let mut map: ValueMap<Assign<i64>> = ValueMap::new(alloc, SetHashBuilder::default(), (), 10)?;
     map.measure(1, &sorted)?;
     map.measure(2, &given)?;
     assert!(rt; map.keys() == 1 && !map.knows(&given));

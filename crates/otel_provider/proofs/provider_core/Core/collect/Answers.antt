@@ -41,7 +41,7 @@ returns-clause-ok c =
     let at : slice_get ps c.args.reader ≡ Some c.index_mut.result.now = get-at ps c.args.reader c.index_mut.result.now inside c.index_mut.ensures.value in
     let good : observations_refusal c.self.inside.instruments.items os ≡ None = ap (λ is. observations_refusal is os) (sym c.deref.ensures.value) ∙ c.in_default.ensures.fits in
     rw (← c.self.view_is)
-    (IfOk-both c.collect.result (λ x given left. collection-made c.self.inside.shut c.self.inside.resource c.self.inside.identity c.self.inside.meters.keys c.self.inside.instruments.items ps _ c.args.reader c.args.now os c.index_mut.result.now x (ap (λ (st : State). st.shared.shut) c.self.view_is ∙ c.requires) at good given (set-seen _ ps c.args.reader c.index_mut.result.now c.collect.new.self at (left c.args.reader)))
+    (IfOk-both c.collect.result (λ x given left. collection-made c.self.inside.shut c.self.inside.resource c.self.inside.identity c.self.inside.meters.keys c.self.inside.instruments.items c.self.inside.handles.entries c.self.inside.next ps _ c.args.reader c.args.now os c.index_mut.result.now x (ap (λ (st : State). st.shared.shut) c.self.view_is ∙ c.requires) at good given (set-seen _ ps c.args.reader c.index_mut.result.now c.collect.new.self at (left c.args.reader)))
     c.collect.ensures.collection c.collect.ensures.ok)
 
 pub returns-clause-err : goal.returns-clause-err
@@ -50,4 +50,4 @@ returns-clause-err c =
     let inside : c.args.reader < length ps = omega (arith, c.if-reader-len.false, c.len.ensures, c.self.inside.pipelines.ok.0) in
     let at : slice_get ps c.args.reader ≡ Some c.index_mut.result.now = get-at ps c.args.reader c.index_mut.result.now inside c.index_mut.ensures.value in
     rw (← c.self.view_is)
-    (OnErr-weaker c.collect.result (λ same. λ i. record { shared = shared_of c.self.inside.shut c.self.inside.resource c.self.inside.identity c.self.inside.meters.keys c.self.inside.instruments.items; readers = set-unseen ps c.args.reader c.index_mut.result.now c.collect.new.self at same i }) c.collect.ensures.err)
+    (OnErr-weaker c.collect.result (λ same. λ i. record { shared = shared_of c.self.inside.shut c.self.inside.resource c.self.inside.identity c.self.inside.meters.keys c.self.inside.instruments.items c.self.inside.handles.entries c.self.inside.next; readers = set-unseen ps c.args.reader c.index_mut.result.now c.collect.new.self at same i }) c.collect.ensures.err)

@@ -14,14 +14,14 @@ returns-clause-ok c =
     let copy : c.in_ok-copy_scope.field-0 ≡ scope = c.in_ok-copy_scope.ensures.copy in
     let first : c.in_ok-number.number ≡ position_or_len (scope_eq scope) keys = c.in_ok-number.ensures.index ∙ ap (λ s. position_or_len (scope_eq s) keys) copy in
     rw (← c.self.view_is)
-    (meter-made c.self.inside.shut c.self.inside.resource c.self.inside.identity keys _ c.self.inside.instruments.items c.self.inside.pipelines.items scope c.in_ok-number.number
+    (meter-made c.self.inside.shut c.self.inside.resource c.self.inside.identity keys _ c.self.inside.instruments.items c.self.inside.handles.entries c.self.inside.next c.self.inside.pipelines.items scope c.in_ok-number.number
     (ap (λ (st : State). st.shared.shut) c.self.view_is ∙ c.requires) first
     (c.in_ok-number.ensures.keys ∙ (ap (λ s. cond (list_any (scope_eq s) keys) keys (keys ++ s ∷ [])) copy ∙ ap (λ b. cond b keys (keys ++ scope ∷ [])) (sym (has_scope-flip scope keys)))))
 
 -- a known one is found
 pub returns-in-Some-clause-ok : goal.returns-in-Some-clause-ok
 returns-in-Some-clause-ok c =
-    rw (← c.self.view_is) (meter-known c.self.inside.shut c.self.inside.resource c.self.inside.identity c.self.inside.meters.keys c.self.inside.instruments.items c.self.inside.pipelines.items c.args.scope.now c.in-Some.number
+    rw (← c.self.view_is) (meter-known c.self.inside.shut c.self.inside.resource c.self.inside.identity c.self.inside.meters.keys c.self.inside.instruments.items c.self.inside.handles.entries c.self.inside.next c.self.inside.pipelines.items c.args.scope.now c.in-Some.number
     (ap (λ (st : State). st.shared.shut) c.self.view_is ∙ c.requires) (sym c.get_index_of.ensures.index ∙ c.in-Some.is))
 
 -- one that is known was found

@@ -47,7 +47,7 @@ returns-clause-ok c =
     let there : n < length instruments = get-inside instruments n taken.instrument (ap (λ is. slice_get is n) (sym c.deref.ensures.value) ∙ taken.there) in
     let fits : record_refusal (slice_get instruments n) v.signed ≡ None = ap (λ is. record_refusal (slice_get is n) v.signed) (sym c.deref.ensures.value) ∙ c.in_default.ensures.fits in
     rw (← c.self.view_is)
-    (record-made c.self.inside.shut c.self.inside.resource c.self.inside.identity c.self.inside.meters.keys instruments _ c.self.inside.pipelines.items _ n v c.args.attributes.now fits
+    (record-made c.self.inside.shut c.self.inside.resource c.self.inside.identity c.self.inside.meters.keys instruments _ c.self.inside.handles.entries c.self.inside.next c.self.inside.pipelines.items _ n v c.args.attributes.now fits
     (set-changed (instrument_after_record v.amount) instruments n c.index_mut.result.now c.accept.new.self there c.index_mut.ensures.value c.accept.ensures)
     (ap (map part_of) lent
     ∙ (c.in_ok-record_or_none.ensures.ok ∙ ap (λ ps. map (part_after_call 0 (model.Call.Record n v c.args.attributes.now)) (map part_of ps)) c.deref_mut.ensures.value)))

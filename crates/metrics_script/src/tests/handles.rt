@@ -1,0 +1,118 @@
+//! Bound handles.
+
+use super::assert_prints;
+use std::test::Fail;
+
+/// A handle that was bound past the limit stays with the overflow point, also once its attributes have a place.
+#[test]
+fn row_8(rt: HostRuntime) -> Result<(), Fail> {
+    assert_prints(
+        &rt,
+        rt.alloc(),
+        b"reader delta\n\
+          view c limit=1\n\
+          go\n\
+          meter m\n\
+          build 0 u64_counter c 100\n\
+          record 0 u:1 x=i:1\n\
+          bind 0 y=i:1\n\
+          collect 0 200\n\
+          collect 0 300\n\
+          record 0 u:2 y=i:1\n\
+          recordbound 0 u:4\n\
+          collect 0 400\n",
+        "meter 0\n\
+         instrument 0\n\
+         ok\n\
+         handle 0\n\
+         collected 1\n\
+         point m c sum delta monotonic 100 200 x=i:1 1\n\
+         collected 0\n\
+         ok\n\
+         ok\n\
+         collected 2\n\
+         point m c sum delta monotonic 300 400 otel.metric.overflow=b:true 4\n\
+         point m c sum delta monotonic 300 400 y=i:1 2\n",
+    )
+}
+
+/// A handle has a point at a cumulative reader also without records.
+#[test]
+fn row_9(rt: HostRuntime) -> Result<(), Fail> {
+    assert_prints(
+        &rt,
+        rt.alloc(),
+        b"reader cumulative\n\
+          go\n\
+          meter m\n\
+          build 0 u64_histogram h 100\n\
+          bind 0 k=s:v\n\
+          collect 0 200\n",
+        "meter 0\n\
+         instrument 0\n\
+         handle 0\n\
+         collected 1\n\
+         point m h histogram cumulative 100 200 k=s:v 0 0 none none 0,0,0,0,0,0,0,0,0,0,0,0,0,0,0,0\n",
+    )
+}
+
+/// A handle of a gauge, which ends once; its number is not used again.
+#[test]
+fn row_27(rt: HostRuntime) -> Result<(), Fail> {
+    assert_prints(
+        &rt,
+        rt.alloc(),
+        b"reader cumulative\n\
+          go\n\
+          meter m\n\
+          build 0 u64_gauge g 100\n\
+          bind 0 k=s:v\n\
+          recordbound 0 u:7\n\
+          recordbound 0 u:42\n\
+          collect 0 200\n\
+          unbind 0\n\
+          unbind 0\n\
+          recordbound 0 u:1\n\
+          bind 0 -\n",
+        "meter 0\n\
+         instrument 0\n\
+         handle 0\n\
+         ok\n\
+         ok\n\
+         collected 1\n\
+         point m g gauge 100 200 k=s:v 42\n\
+         ok\n\
+         refused 4 unknown handle\n\
+         refused 4 unknown handle\n\
+         handle 1\n",
+    )
+}
+
+/// What a handle refuses: other kinds, other number types, instruments and handles that aren't there.
+#[test]
+fn refused(rt: HostRuntime) -> Result<(), Fail> {
+    assert_prints(
+        &rt,
+        rt.alloc(),
+        b"reader cumulative\n\
+          go\n\
+          meter m\n\
+          build 0 u64_counter c 100\n\
+          build 0 u64_observable_counter o 100\n\
+          bind 2 -\n\
+          bind 1 -\n\
+          bind 0 -\n\
+          recordbound 0 i:1\n\
+          recordbound 1 u:1\n\
+          unbind 1\n",
+        "meter 0\n\
+         instrument 0\n\
+         instrument 1\n\
+         refused 3 unknown instrument\n\
+         refused 7 wrong instrument kind\n\
+         handle 0\n\
+         refused 6 wrong number type\n\
+         refused 4 unknown handle\n\
+         refused 4 unknown handle\n",
+    )
+}

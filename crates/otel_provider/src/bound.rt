@@ -1,0 +1,135 @@
+//! Handles: attributes that a program binds once, to record with them at less cost.
+
+ghost use Rattle.std.specs.Prelude.{◌≡◌, Err, IfErr, IfOk};
+ghost use Rattle.otel_model.specs.Calls as model;
+ghost use Rattle.otel_model.specs.Laws.{KeepsReaders};
+ghost use Rattle.otel_model.specs.Steps.{Step};
+ghost use Rattle.otel_model_laws.specs.Lawful.{Balances};
+ghost use Rattle.otel_provider.specs.Correspondence.{number_of};
+ghost use Rattle.otel_provider.specs.Providers.{state_of, views_of, provider_readers, provider_views, callbacks_of};
+ghost use Rattle.otel_provider.specs.Typed.{IsInstrumentOf, IsBoundOf, instrument_number, handle_number, record_reply, bind_reply, unbind_reply};
+
+use crate::parts::Parts;
+use crate::provider::Provider;
+use crate::synchronous::Synchronous;
+use otel_common::attributes::KeyValue;
+use otel_common::faults::Fault;
+use otel_data::numbers::NumberType;
+use std::marker::PhantomData;
+
+/// A live handle of an instrument with values of type `T` (Metrics API, "Synchronous Instrument API"). It is the number of a
+/// handle and the identity of its provider.
+///
+/// It holds a place in each stream that the instrument feeds, for as long as it is live, so it must be spent: by `unbind`,
+/// which ends it, or by `into_number`, which leaves that to `Call::Unbind`. A program that lets one go is not accepted.
+pub struct Bound<T> {
+    pub(crate) identity: u64,
+    pub(crate) handle: u64,
+    of: PhantomData<T>,
+}
+
+impl<K, T: NumberType> Synchronous<K, T> {
+    /// Binds a handle with attributes, in any order. From then on its records go where a record with these attributes would
+    /// go now: to the point of what a stream keeps of them, which it holds, or past the limit to the overflow point. It is
+    /// what `step` does with `Call::Bind`: made in all streams or in none.
+    ///
+    /// Looks the attributes up in each stream that the instrument feeds, as a record does, and the handle's number once.
+    /// Refused with `UnknownInstrument` where the instrument is of a provider of another identity, before anything else is
+    /// looked at; with `Exhausted` once 2^64 - 1 handles were bound; else only for want of memory. Then nothing changed.
+    pub fn bind<P: Parts>(
+        &self,
+        provider: &mut Provider<P>,
+        attributes: &[KeyValue],
+    ) -> Result<Bound<T>, Fault>
+        ensures step { IsInstrumentOf self.now provider.old → Step (views_of P.View.answer provider.old) (state_of provider.old) (model.Call.Bind (instrument_number self.now) attributes.now) (bind_reply result) (state_of provider.new) }
+        ensures foreign { ¬ IsInstrumentOf self.now provider.old → (result ≡ Err Fault.UnknownInstrument) × (state_of provider.new ≡ state_of provider.old) }
+        ensures own { IfOk result (λ b. IsBoundOf b provider.new) }
+        ensures balances { Balances (state_of provider.new) }
+        ensures readers { KeepsReaders (state_of provider.old) (state_of provider.new) }
+        ensures kept { provider_readers provider.new ≡ provider_readers provider.old }
+        ensures views { provider_views provider.new ≡ provider_views provider.old }
+        ensures callbacks { callbacks_of provider.new ≡ callbacks_of provider.old }
+    {
+        match provider.core.bind(self.identity, self.number, attributes) {
+            Ok(handle) => Ok(Bound {
+                identity: self.identity,
+                handle,
+                of: PhantomData,
+            }),
+            Err(fault) => Err(fault),
+        }
+    }
+}
+
+impl<T: NumberType> Bound<T> {
+    /// Adds a value, in the instrument's unit, with the attributes of the handle. It is what `step` does with
+    /// `Call::RecordBound`: it takes no memory, and looks nothing up but the handle, once in the provider and once in each
+    /// stream.
+    ///
+    /// Refused with `UnknownHandle` where the handle is of a provider of another identity, before anything else is looked
+    /// at. Where two providers of one identity mix up their handles, it is refused with `UnknownHandle` or `WrongNumber`, or
+    /// goes to the handle of the same number. Else it is not refused. A refused call changes nothing.
+    pub fn add<P: Parts>(&self, provider: &mut Provider<P>, value: T) -> Result<(), Fault>
+        ensures step { IsBoundOf self.now provider.old → Step (views_of P.View.answer provider.old) (state_of provider.old) (model.Call.RecordBound (handle_number self.now) (number_of (T.value value))) (record_reply result) (state_of provider.new) }
+        ensures foreign { ¬ IsBoundOf self.now provider.old → (result ≡ Err Fault.UnknownHandle) × (state_of provider.new ≡ state_of provider.old) }
+        ensures balances { Balances (state_of provider.new) }
+        ensures readers { KeepsReaders (state_of provider.old) (state_of provider.new) }
+        ensures kept { provider_readers provider.new ≡ provider_readers provider.old }
+        ensures views { provider_views provider.new ≡ provider_views provider.old }
+        ensures callbacks { callbacks_of provider.new ≡ callbacks_of provider.old }
+    {
+        provider
+            .core
+            .record_bound(self.identity, self.handle, value.into_value())
+    }
+
+    /// Records a value. It is the same call as `add`.
+    pub fn record<P: Parts>(&self, provider: &mut Provider<P>, value: T) -> Result<(), Fault>
+        ensures step { IsBoundOf self.now provider.old → Step (views_of P.View.answer provider.old) (state_of provider.old) (model.Call.RecordBound (handle_number self.now) (number_of (T.value value))) (record_reply result) (state_of provider.new) }
+        ensures foreign { ¬ IsBoundOf self.now provider.old → (result ≡ Err Fault.UnknownHandle) × (state_of provider.new ≡ state_of provider.old) }
+        ensures balances { Balances (state_of provider.new) }
+        ensures readers { KeepsReaders (state_of provider.old) (state_of provider.new) }
+        ensures kept { provider_readers provider.new ≡ provider_readers provider.old }
+        ensures views { provider_views provider.new ≡ provider_views provider.old }
+        ensures callbacks { callbacks_of provider.new ≡ callbacks_of provider.old }
+    {
+        self.add(provider, value)
+    }
+}
+
+impl<T> Bound<T> {
+    /// The handle's number, with which `Call::RecordBound` and `Call::Unbind` go on.
+    pub fn into_number(self) -> u64
+        ensures { result ≡ handle_number self }
+    {
+        let Bound {
+            identity: _,
+            handle,
+            of: _,
+        } = self;
+        handle
+    }
+
+    /// Ends the handle. It is what `step` does with `Call::Unbind`, and takes no memory.
+    ///
+    /// Refused with `UnknownHandle` where the handle is of a provider of another identity, before anything else is looked
+    /// at, or where the provider has no such handle. Then nothing changed, and the handle is given back.
+    pub fn unbind<P: Parts>(self, provider: &mut Provider<P>) -> Result<(), (Bound<T>, Fault)>
+        ensures step { IsBoundOf self provider.old → Step (views_of P.View.answer provider.old) (state_of provider.old) (model.Call.Unbind (handle_number self)) (unbind_reply result) (state_of provider.new) }
+        ensures foreign { ¬ IsBoundOf self provider.old → (result ≡ Err (self, Fault.UnknownHandle)) × (state_of provider.new ≡ state_of provider.old) }
+        ensures back { IfErr result (λ e. e.0 ≡ self) }
+        ensures balances { Balances (state_of provider.new) }
+        ensures readers { KeepsReaders (state_of provider.old) (state_of provider.new) }
+        ensures kept { provider_readers provider.new ≡ provider_readers provider.old }
+        ensures views { provider_views provider.new ≡ provider_views provider.old }
+        ensures callbacks { callbacks_of provider.new ≡ callbacks_of provider.old }
+    {
+        match provider.core.unbind(self.identity, self.handle) {
+            Ok(()) => {
+                let _ = self.into_number();
+                Ok(())
+            }
+            Err(fault) => Err((self, fault)),
+        }
+    }
+}
