@@ -19,3 +19,4 @@ pub mod Undone
 pub mod ViewLemmas
 pub mod Writes
 pub mod Handles
+pub mod Known

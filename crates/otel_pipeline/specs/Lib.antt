@@ -6,3 +6,4 @@ pub mod Observations
 pub mod Pipelines
 pub mod Streams
 pub mod Views
+pub mod Known

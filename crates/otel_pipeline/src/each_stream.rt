@@ -1,8 +1,9 @@
 //! What is done to the streams of one reader, one after another.
 
-ghost use Rattle.std.specs.Prelude.{◌≡◌, ◌<◌, [], slice_get, OnOk, IsOk, IsOkUnless};
+ghost use Rattle.std.specs.Prelude.{◌≡◌, ◌<◌, [], All, slice_get, OnOk, IsOk, IsOkUnless};
 ghost use Rattle.otel_model.specs.Calls.{or_else};
 ghost use Rattle.otel_pipeline.specs.Handles.{AreReadyToBind, ArePreparedHeld, bound_each, unbound_each};
+ghost use Rattle.otel_pipeline.specs.Known.{IsKnownIfThere};
 ghost use Rattle.otel_pipeline.specs.Pipelines.{AreNumbers, ArePrepared, all_without_pending, committed_each, all_after_collection};
 
 use crate::stream::Stream;
@@ -31,6 +32,7 @@ pub(crate) fn prepare_each(
     ensures same { all_without_pending streams.new.items ≡ all_without_pending streams.old.items }
     ensures prepared { OnOk result (ArePrepared attributes.now streams.new.items feeds.now) }
     ensures free { attributes.now ≡ [] → IsOk result }
+    ensures known { All (λ n. IsKnownIfThere attributes.now (slice_get (all_without_pending streams.old.items) n)) feeds.now → IsOk result }
     ensures only_memory { IsOkUnless result Fault.OutOfMemory }
 {
     for k in feeds {

@@ -1,11 +1,12 @@
 //! What one reader has: its answers, its streams, and what feeds them.
 
-ghost use Rattle.std.specs.Prelude.{◌≡◌, [], ℕ, IfOk, OnOk, OnErr, IsOk, IsOkUnless, map};
+ghost use Rattle.std.specs.Prelude.{◌≡◌, [], true, ℕ, IfOk, OnOk, OnErr, IsOk, IsOkUnless, map};
 ghost use Rattle.otel_model.specs.Calls as model;
 ghost use Rattle.otel_model.specs.Machine.{part_after_call};
 ghost use Rattle.std.specs.Option.{option_map};
 ghost use Rattle.otel_pipeline.specs.Collections.{IsCollectedFrom};
 ghost use Rattle.otel_pipeline.specs.Handles.{AreObservableFor, IsReadyToBindAt, IsPreparedHeldAt, part_after_bind, part_after_unbind};
+ghost use Rattle.otel_pipeline.specs.Known.{is_known_at};
 ghost use Rattle.otel_pipeline.specs.Observations.{AreTypedFor, observed_of};
 ghost use Rattle.otel_pipeline.specs.Pipelines.{part_of, has_stream_at, piped_after_build, part_after_record, IsBuildableIn, IsPlanned, IsReadyFor, IsPreparedFor};
 ghost use Rattle.otel_pipeline.specs.Views.{views_answering};
@@ -154,6 +155,7 @@ impl Pipeline {
         ensures same { part_of self.new ≡ part_of self.old }
         ensures prepared { OnOk result (IsPreparedFor instrument attributes.now self.new) }
         ensures free { attributes.now ≡ [] → IsOk result }
+        ensures known { is_known_at instrument attributes.now (part_of self.old) ≡ true → IsOk result }
         ensures only_memory { IsOkUnless result Fault.OutOfMemory }
     {
         // These two tell the prover that no identity stands twice.

@@ -5,6 +5,7 @@ ghost use Rattle.otel_common.specs.Temporalities.{resets};
 ghost use Rattle.otel_model.specs.Calls.{is_observable};
 ghost use Rattle.otel_model.specs.Collections.{number_of_points};
 ghost use Rattle.otel_model.specs.Sent.{set_for};
+ghost use Rattle.otel_pipeline.specs.Known.{is_known_to};
 ghost use Rattle.otel_pipeline.specs.Handles.{IsReadyToBind, IsPreparedHeld};
 ghost use Rattle.otel_pipeline.specs.Observations.{IsSavedOf, held_after_restore, saved_by};
 ghost use Rattle.otel_pipeline.specs.Streams.{IsMakeable, new_held, without_pending, held_after_commit, held_after_bind, held_after_unbind, held_after_collection, shown_metric, if_points};
@@ -122,6 +123,7 @@ impl Stream {
         ensures same { without_pending self.new ≡ without_pending self.old }
         ensures ready { OnOk result (self.new.pending ≡ Some (set_for self.old.stream.demand attributes.now)) }
         ensures free { attributes.now ≡ [] → IsOk result }
+        ensures known { is_known_to attributes.now self.old.stream ≡ true → IsOk result }
         ensures only_memory { IsOkUnless result Fault.OutOfMemory }
     {
         self.aggregate.prepare(attributes)

@@ -7,3 +7,4 @@ pub mod Providers
 pub mod Readers
 pub mod States
 pub mod Typed
+pub mod Known

@@ -11,7 +11,9 @@ ghost use Rattle.otel_model.specs.Steps.{Step, Run};
 ghost use Rattle.otel_model_laws.specs.Lawful.{Balances};
 ghost use Rattle.otel_provider.specs.Callbacks.{has_stream, collect_refusal};
 ghost use Rattle.otel_provider.specs.Correspondence.{fault_of, call_of, reply_of, reply_to, kind_of, is_signed, number_of, observed_of};
+ghost use Rattle.otel_provider.specs.Known.{is_known, IsKnown, HasMemory};
 ghost use Rattle.otel_provider.specs.Readers.{AreReached, ShutsDown, StepReaches, RunReaches};
+ghost use Rattle.otel_provider.specs.States.{IsNamed};
 ghost use Rattle.otel_provider.specs.Typed.{reply_from};
 ghost use Rattle.otel_stream.specs.Requests.{wanted_by};
 
@@ -69,6 +71,7 @@ impl BalancedCore {
         call: &Call,
     ) -> Reply
         ensures step { Step (map V.answer views.now) self.old (call_of call.now) (reply_of result) self.new }
+        ensures known { IsKnown self.old (call_of call.now) → HasMemory result }
         ensures balances { Balances self.new }
         ensures reached { StepReaches R.flushes R.shuts self.old.shared.shut (call_of call.now) readers.old (reply_of result) readers.new }
         ensures wants { map (wanted_by R.preference R.limit R.aggregation) readers.new ≡ map (wanted_by R.preference R.limit R.aggregation) readers.old }
@@ -224,6 +227,7 @@ impl BalancedCore {
     ) -> Result<(), Fault>
         ensures step { identity ≡ self.old.shared.identity → (views : Views) → Step views self.old (model.Call.Record instrument (number_of value) attributes.now) (reply_from (λ _. model.Reply.Done) result) self.new }
         ensures foreign { ¬ (identity ≡ self.old.shared.identity) → (result ≡ Err Fault.UnknownInstrument) × (self.new ≡ self.old) }
+        ensures known { is_known instrument attributes.now self.old ≡ true → IfErr result IsNamed }
         ensures balances { Balances self.new }
         ensures readers { KeepsReaders self.old self.new }
     {

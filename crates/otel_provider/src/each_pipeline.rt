@@ -1,12 +1,13 @@
 //! What is done to the streams of all readers, one reader after another.
 
-ghost use Rattle.std.specs.Prelude.{◌≡◌, [], false, All, map, IsOk, OnOk, OnErr, IsOkUnless};
-ghost use Rattle.std.specs.List.{list_any, AllByRecursion as EachOf};
+ghost use Rattle.std.specs.Prelude.{◌≡◌, [], true, false, All, map, IsOk, OnOk, OnErr, IsOkUnless};
+ghost use Rattle.std.specs.List.{list_any, list_all, AllByRecursion as EachOf};
 ghost use Rattle.std.specs.Option.{option_map};
 ghost use Rattle.otel_model.specs.Calls as model;
 ghost use Rattle.otel_model.specs.Machine as machine;
 ghost use Rattle.otel_model.specs.Machine.{part_after_call};
 ghost use Rattle.otel_pipeline.specs.Handles.{FeedsSynchronous, IsNewAt, IsHeldByFed, IsReadyToBindAt, IsPreparedHeldAt, part_after_bind, part_after_unbind};
+ghost use Rattle.otel_pipeline.specs.Known.{is_known_at};
 ghost use Rattle.otel_pipeline.specs.Pipelines.{part_of, has_stream_at, piped_after_build, part_after_record, IsBuildableIn, IsPlanned, IsReadyFor, IsPreparedFor};
 ghost use Rattle.otel_pipeline.specs.Views.{views_answering};
 ghost use Rattle.otel_provider.specs.Correspondence.{number_of};
@@ -59,6 +60,7 @@ fn prepare_all(
     ensures same { map part_of pipelines.new ≡ map part_of pipelines.old }
     ensures prepared { OnOk result (All (IsPreparedFor instrument attributes.now) pipelines.new) }
     ensures free { attributes.now ≡ [] → IsOk result }
+    ensures known { list_all (is_known_at instrument attributes.now) (map part_of pipelines.old) ≡ true → IsOk result }
     ensures only_memory { IsOkUnless result Fault.OutOfMemory }
 {
     for i in 0..pipelines.len() {
@@ -167,6 +169,7 @@ pub(crate) fn record_or_none(
     ensures ok { OnOk result (map part_of pipelines.new ≡ map (part_after_call 0 (model.Call.Record instrument (number_of value) attributes.now)) (map part_of pipelines.old)) }
     ensures err { OnErr result (map part_of pipelines.new ≡ map part_of pipelines.old) }
     ensures free { attributes.now ≡ [] → IsOk result }
+    ensures known { list_all (is_known_at instrument attributes.now) (map part_of pipelines.old) ≡ true → IsOk result }
     ensures only_memory { IsOkUnless result Fault.OutOfMemory }
 {
     prepare_all(pipelines, instrument, attributes)?;

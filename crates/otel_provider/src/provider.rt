@@ -17,6 +17,7 @@ ghost use Rattle.otel_provider.specs.Callbacks.{collect_refusal, IsCollectionOf}
 ghost use Rattle.otel_provider.specs.Headline.{OfReaders, OfStreams, OfAnswers, InAnyOrder};
 ghost use Rattle.otel_provider.specs.Providers.{state_of, identity_of, resource_of, identity_of_builder, answers_of_readers, views_of, builder_readers, builder_views, provider_readers, provider_views, callbacks_of, wants_of};
 ghost use Rattle.otel_provider.specs.Correspondence.{call_of, reply_of, reply_to};
+ghost use Rattle.otel_provider.specs.Known.{IsKnown, HasMemory};
 ghost use Rattle.otel_provider.specs.Readers.{AreReached, ShutsDown, StepReaches, RunReaches};
 ghost use Rattle.otel_provider.specs.Typed.{collect_reply};
 ghost use Rattle.otel_stream.specs.Answers.{IsAnsweredBy};
@@ -272,6 +273,7 @@ impl<P: Parts> Provider<P> {
     /// `reached` says what became of the readers: a flush and a shutdown ask them, any other call leaves them.
     pub fn step(&mut self, call: &Call) -> Reply
         ensures step { Step (views_of P.View.answer self.old) (state_of self.old) (call_of call.now) (reply_of result) (state_of self.new) }
+        ensures known { IsKnown (state_of self.old) (call_of call.now) → HasMemory result }
         ensures balances { Balances (state_of self.new) }
         ensures readers { KeepsReaders (state_of self.old) (state_of self.new) }
         ensures reached { StepReaches P.Reader.flushes P.Reader.shuts (state_of self.old).shared.shut (call_of call.now) (provider_readers self.old) (reply_of result) (provider_readers self.new) }

@@ -15,6 +15,7 @@ ghost use Rattle.otel_pipeline.specs.Pipelines.{part_of};
 ghost use Rattle.otel_pipeline.specs.Views.{views_answering};
 ghost use Rattle.otel_provider.specs.Callbacks.{has_stream, collect_refusal};
 ghost use Rattle.otel_provider.specs.Correspondence.{fault_of, about, kind_of, is_signed, number_of, observed_of, call_of, reply_of, reply_to};
+ghost use Rattle.otel_provider.specs.Known.{is_known, IsKnown, HasMemory};
 ghost use Rattle.otel_provider.specs.Readers.{AreReached, AreReachedBy, ShutsDown, StepReaches, RunReaches};
 ghost use Rattle.otel_provider.specs.States.{IsMade, IsFault, IsFaultOf, IsNamed, IsScopeOf, IsNoMeter, IsGoodIn, IsTakenBy, IsTaken, IsBindable};
 ghost use Rattle.otel_stream.specs.Requests.{wanted_by};
@@ -451,6 +452,7 @@ impl Core {
         ensures err { OnErr result (self.new ≡ self.old) }
         ensures fault { IfErr result (IsFaultOf self.old (model.Call.Record instrument (number_of value) attributes.now)) }
         ensures free { attributes.now ≡ [] → IfErr result IsNamed }
+        ensures known { is_known instrument attributes.now self.old ≡ true → IfErr result IsNamed }
     {
         if let Err(fault) = check_value(&self.instruments, instrument, value) {
             return Err(fault);
@@ -615,7 +617,8 @@ impl Core {
         value: NumberValue,
         attributes: &[KeyValue],
     ) -> Reply
-        ensures { (views : Views) → Step views self.old (model.Call.Record instrument (number_of value) attributes.now) (reply_of result) self.new }
+        ensures step { (views : Views) → Step views self.old (model.Call.Record instrument (number_of value) attributes.now) (reply_of result) self.new }
+        ensures known { is_known instrument attributes.now self.old ≡ true → HasMemory result }
     {
         match self.record(instrument, value, attributes) {
             Ok(()) => Reply::Done,
@@ -707,6 +710,7 @@ impl Core {
     ) -> Reply
         requires { IsLawful self.old }
         ensures step { Step (map V.answer views.now) self.old (call_of call.now) (reply_of result) self.new }
+        ensures known { IsKnown self.old (call_of call.now) → HasMemory result }
         ensures reached { StepReaches R.flushes R.shuts self.old.shared.shut (call_of call.now) readers.old (reply_of result) readers.new }
         ensures wants { map (wanted_by R.preference R.limit R.aggregation) readers.new ≡ map (wanted_by R.preference R.limit R.aggregation) readers.old }
     {

@@ -1,12 +1,14 @@
 //! Synchronous instruments: counters, gauges and histograms to which a program hands values.
 
-ghost use Rattle.std.specs.Prelude.{◌≡◌, Err};
+ghost use Rattle.std.specs.Prelude.{◌≡◌, true, Err, IfErr};
 ghost use Rattle.otel_model.specs.Calls as model;
 ghost use Rattle.otel_model.specs.Laws.{KeepsReaders};
 ghost use Rattle.otel_model.specs.Steps.{Step};
 ghost use Rattle.otel_model_laws.specs.Lawful.{Balances};
 ghost use Rattle.otel_provider.specs.Correspondence.{number_of};
+ghost use Rattle.otel_provider.specs.Known.{is_known};
 ghost use Rattle.otel_provider.specs.Providers.{state_of, views_of, provider_readers, provider_views, callbacks_of};
+ghost use Rattle.otel_provider.specs.States.{IsNamed};
 ghost use Rattle.otel_provider.specs.Typed.{IsInstrumentOf, instrument_number, record_reply};
 
 use crate::parts::Parts;
@@ -79,6 +81,7 @@ impl<K: Adds, T: NumberType> Synchronous<K, T> {
     ) -> Result<(), Fault>
         ensures step { IsInstrumentOf self.now provider.old → Step (views_of P.View.answer provider.old) (state_of provider.old) (model.Call.Record (instrument_number self.now) (number_of (T.value value)) attributes.now) (record_reply result) (state_of provider.new) }
         ensures foreign { ¬ IsInstrumentOf self.now provider.old → (result ≡ Err Fault.UnknownInstrument) × (state_of provider.new ≡ state_of provider.old) }
+        ensures known { is_known (instrument_number self.now) attributes.now (state_of provider.old) ≡ true → IfErr result IsNamed }
         ensures balances { Balances (state_of provider.new) }
         ensures readers { KeepsReaders (state_of provider.old) (state_of provider.new) }
         ensures kept { provider_readers provider.new ≡ provider_readers provider.old }
@@ -101,6 +104,7 @@ impl<K: Records, T: NumberType> Synchronous<K, T> {
     ) -> Result<(), Fault>
         ensures step { IsInstrumentOf self.now provider.old → Step (views_of P.View.answer provider.old) (state_of provider.old) (model.Call.Record (instrument_number self.now) (number_of (T.value value)) attributes.now) (record_reply result) (state_of provider.new) }
         ensures foreign { ¬ IsInstrumentOf self.now provider.old → (result ≡ Err Fault.UnknownInstrument) × (state_of provider.new ≡ state_of provider.old) }
+        ensures known { is_known (instrument_number self.now) attributes.now (state_of provider.old) ≡ true → IfErr result IsNamed }
         ensures balances { Balances (state_of provider.new) }
         ensures readers { KeepsReaders (state_of provider.old) (state_of provider.new) }
         ensures kept { provider_readers provider.new ≡ provider_readers provider.old }

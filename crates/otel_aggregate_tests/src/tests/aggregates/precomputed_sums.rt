@@ -50,12 +50,21 @@ fn gives(
 }
 
 /// Whether one value is shown as it was observed.
-fn aggregates(alloc: Global, temporality: Temporality) -> Result<bool, Fault> {
-    let mut sum = made::<u64>(alloc, temporality)?;
+fn shows_one(
+    alloc: Global,
+    sum: &mut PrecomputedSum<u64>,
+    temporality: Temporality,
+) -> Result<bool, Fault> {
     sum.measure(3, &attributes(alloc, B)?)?;
     let data = sum.collect(alloc, 200)?;
     let is_of = data.temporality() == temporality && data.is_monotonic();
     Ok(is_of && are_sums(alloc, &data, 100, 200, &[(B, 3)])?)
+}
+
+/// The same of new sums.
+fn aggregates(alloc: Global, temporality: Temporality) -> Result<bool, Fault> {
+    let mut sum = made::<u64>(alloc, temporality)?;
+    shows_one(alloc, &mut sum, temporality)
 }
 
 #[test]

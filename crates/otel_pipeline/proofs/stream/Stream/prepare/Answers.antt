@@ -1,0 +1,7 @@
+use Rattle.std.proofs.Common.{◌≡◌, true, sym, subst}
+use Rattle.otel_aggregate.specs.Streams.{StreamState, is_known}
+use Rattle.otel_pipeline.proofs.stream.Stream.prepare.Goals as goal
+
+-- the aggregate is the one that the demand asks for
+pub returns-clause-known : goal.returns-clause-known
+returns-clause-known c = rw (← c.self.view_is) (λ known. c.prepare.ensures.known (subst (λ (s : StreamState). is_known s.allow c.args.attributes.now s.map_state ≡ true) (sym c.self.invariant.state) known))
