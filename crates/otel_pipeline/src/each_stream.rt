@@ -13,6 +13,7 @@ use otel_common::lists::Items;
 use otel_data::numbers::NumberValue;
 
 /// The numbers of the streams that an instrument feeds.
+#[inline(always)]
 pub(crate) fn streams_fed(feeds: &[Items<usize>], instrument: usize) -> &[usize]
     ensures { result.now ≡ or_else (slice_get feeds.now instrument) [] }
 {
@@ -23,6 +24,7 @@ pub(crate) fn streams_fed(feeds: &[Items<usize>], instrument: usize) -> &[usize]
 }
 
 /// Prepares a record in each of these streams.
+#[inline(always)]
 pub(crate) fn prepare_each(
     streams: &mut Vec<Stream>,
     feeds: &[usize],
@@ -69,6 +71,7 @@ pub(crate) fn bind_each(streams: &mut Vec<Stream>, feeds: &[usize], handle: u64)
 }
 
 /// Prepares a record through this handle, or its end, in each of these streams.
+#[inline(always)]
 pub(crate) fn prepare_held_each(streams: &mut Vec<Stream>, feeds: &[usize], handle: u64)
     requires { AreNumbers (all_without_pending streams.old.items) feeds.now }
     ensures same { all_without_pending streams.new.items ≡ all_without_pending streams.old.items }
@@ -99,6 +102,7 @@ pub(crate) fn finish_each(streams: &mut Vec<Stream>, now: u64)
 }
 
 /// Makes the record in each of these streams.
+#[inline(always)]
 pub(crate) fn commit_each(streams: &mut Vec<Stream>, feeds: &[usize], value: NumberValue)
     requires { AreNumbers streams.old.items feeds.now }
     ensures { streams.new.items ≡ committed_each value feeds.now streams.old.items }

@@ -151,6 +151,7 @@ impl Pipeline {
     /// stays as it was.
     ///
     /// Looks the attributes up once in each of these streams; see `AnyAggregate::prepare` for when it takes no memory.
+    #[inline(always)]
     pub fn prepare(&mut self, instrument: usize, attributes: &[KeyValue]) -> Result<(), Fault>
         ensures same { part_of self.new ≡ part_of self.old }
         ensures prepared { OnOk result (IsPreparedFor instrument attributes.now self.new) }
@@ -170,6 +171,7 @@ impl Pipeline {
 
     /// Makes the record that was prepared in the streams that the instrument feeds. Takes no memory, and looks
     /// nothing up.
+    #[inline(always)]
     pub fn commit(&mut self, instrument: usize, value: NumberValue)
         ensures { part_of self.new ≡ part_after_record instrument value self.old }
     {
@@ -212,6 +214,7 @@ impl Pipeline {
 
     /// Prepares a record through a handle, or its end, in the streams that its instrument feeds. What the reader has stays as it was. Looks up
     /// nothing but the handle, once in each of these streams, and takes no memory.
+    #[inline(always)]
     pub fn prepare_held(&mut self, instrument: usize, handle: u64)
         ensures same { part_of self.new ≡ part_of self.old }
         ensures prepared { IsPreparedHeldAt instrument handle self.new }

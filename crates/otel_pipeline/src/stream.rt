@@ -119,6 +119,7 @@ impl Stream {
     }
 
     /// Prepares a record of these attributes. What the stream shows stays as it was.
+    #[inline(always)]
     pub(crate) fn prepare(&mut self, attributes: &[KeyValue]) -> Result<(), Fault>
         ensures same { without_pending self.new ≡ without_pending self.old }
         ensures ready { OnOk result (self.new.pending ≡ Some (set_for self.old.stream.demand attributes.now)) }
@@ -130,6 +131,7 @@ impl Stream {
     }
 
     /// Takes in the record that is prepared, if there is one, of a value of the stream's number type.
+    #[inline(always)]
     pub(crate) fn commit(&mut self, value: NumberValue)
         ensures { self.new ≡ held_after_commit value self.old }
     {
@@ -158,6 +160,7 @@ impl Stream {
     }
 
     /// Prepares a record through a handle, or its end, if the stream has it. What it shows stays as it was. It takes no memory.
+    #[inline(always)]
     pub(crate) fn prepare_held(&mut self, handle: u64)
         ensures same { without_pending self.new ≡ without_pending self.old }
         ensures ready { IsPreparedHeld handle self.new }

@@ -52,6 +52,7 @@ fn build_all(pipelines: &mut [Pipeline])
 }
 
 /// Prepares a record in the streams that an instrument feeds, at all readers.
+#[inline(always)]
 fn prepare_all(
     pipelines: &mut [Pipeline],
     instrument: usize,
@@ -70,6 +71,7 @@ fn prepare_all(
 }
 
 /// Makes the record in the streams that an instrument feeds, at all readers.
+#[inline(always)]
 fn commit_all(pipelines: &mut [Pipeline], instrument: usize, value: NumberValue)
     ensures { map part_of pipelines.new ≡ map (part_after_record instrument value) pipelines.old }
 {
@@ -104,6 +106,7 @@ fn bind_all(pipelines: &mut [Pipeline], instrument: usize, handle: u64)
 }
 
 /// Prepares a record through a handle, or its end, in the streams that its instrument feeds, at all readers.
+#[inline(always)]
 fn prepare_held_all(pipelines: &mut [Pipeline], instrument: usize, handle: u64)
     ensures same { map part_of pipelines.new ≡ map part_of pipelines.old }
     ensures prepared { All (IsPreparedHeldAt instrument handle) pipelines.new }
@@ -159,6 +162,7 @@ pub(crate) fn build_or_none(
 }
 
 /// Makes a record in the streams that an instrument feeds, at all readers or at none.
+#[inline(always)]
 pub(crate) fn record_or_none(
     pipelines: &mut [Pipeline],
     instrument: usize,
@@ -196,6 +200,7 @@ pub(crate) fn bind_or_none(
 }
 
 /// Makes a record through a handle in the streams that its instrument feeds, at all readers.
+#[inline(always)]
 pub(crate) fn record_held(
     pipelines: &mut [Pipeline],
     instrument: usize,
