@@ -261,6 +261,10 @@ impl<P: Parts> Provider<P> {
     ///   copy and looks that up, and a new set takes memory besides. Without attributes there is no look-up, and
     ///   the call is never refused for memory. A histogram finds the value's bucket by halving its bounds. A
     ///   record is made in all streams or in none.
+    /// - `Bind` looks the attributes up in each stream as a record does, holds a place there, and takes memory for the
+    ///   number of the handle in each stream and in the provider. It is made in all streams or in none.
+    /// - `RecordBound` and `Unbind` look nothing up but the handle, once in the provider and once in each stream that its
+    ///   instrument feeds. They take no memory.
     /// - `Collect` looks at each observation, in order, before it changes anything. Each goes to the streams of this
     ///   reader that its instrument feeds, as a record does; for want of memory all are undone. Then it goes once over the
     ///   reader's streams, their points and the meters. It copies the resource, and of what is shown scopes, texts and
@@ -270,7 +274,8 @@ impl<P: Parts> Provider<P> {
     ///   refused with how many did and the first of them; such a shutdown has shut the provider down too. After a
     ///   shutdown they are refused, and ask none. They take no memory beside what readers take.
     ///
-    /// `reached` says what became of the readers: a flush and a shutdown ask them, any other call leaves them.
+    /// `known` says when a record with attributes takes no memory. `reached` says what became of the readers: a flush and a
+    /// shutdown ask them, any other call leaves them.
     pub fn step(&mut self, call: &Call) -> Reply
         ensures step { Step (views_of P.View.answer self.old) (state_of self.old) (call_of call.now) (reply_of result) (state_of self.new) }
         ensures known { IsKnown (state_of self.old) (call_of call.now) → HasMemory result }
