@@ -2,10 +2,10 @@
 use Rattle.std.proofs.Common.{◌≡◌, ℕ, ◌+◌, ◌==◌, Bool, true, false, cond, not, ◌&&◌, is_some, [], ◌∷◌, Option, Some, None, refl, sym, ◌∙◌, ap, subst, true≢false}
 use Rattle.std.specs.Bool.{beq}
 use Rattle.otel_data.specs.declared.numbers.NumberValue.{NumberValue}
-use Rattle.otel_model_stream.specs.Entries.{Entry, Table, is_of, on, write, place, recorded_at}
+use Rattle.otel_model_stream.specs.Entries.{Table, place, recorded_at}
 use Rattle.otel_model_stream.specs.Events.{Handles, held_by, without}
 use Rattle.otel_model_stream.specs.Machine.{Machine, let_go}
-use Rattle.otel_model_stream.specs.Folds.{Amount, Sample, sample_of, wrap}
+use Rattle.otel_model_stream.specs.Folds.{Amount, sample_of, wrap}
 use Rattle.otel_model_stream.specs.Sets.{AttributeSet}
 use Rattle.otel_model_stream.specs.Totals.{size}
 use Rattle.otel_model.specs.Demands.{Demand}

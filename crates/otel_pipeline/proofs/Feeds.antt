@@ -2,7 +2,7 @@
 use Rattle.std.proofs.Common.{◌≡◌, ◌==◌, ℕ, not, List, [], ◌∷◌, ◌++◌, length, slice_get, refl, ◌∙◌, ap, arith, ne_eqb}
 use Rattle.otel_model.specs.Calls.{or_else}
 use Rattle.otel_model.specs.Demands.{Identity, ReaderAnswers}
-use Rattle.otel_pipeline.specs.Pipelines.{has_stream_at, identity_at, named_identities, part_by, some_stream}
+use Rattle.otel_pipeline.specs.Pipelines.{has_stream_at, named_identities, part_by, some_stream}
 use Rattle.otel_pipeline.specs.Streams.{Held}
 use Rattle.otel_pipeline.proofs.Records.{fed-named, HaveStreams, identity_at-is}
 

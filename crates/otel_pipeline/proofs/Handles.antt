@@ -15,21 +15,21 @@ use Rattle.otel_model_stream.specs.Sets.{AttributeSet, none_set, over_set}
 use Rattle.otel_model_stream.specs.Totals.{has_number, size}
 use Rattle.otel_model_stream.specs.Folds.{wrap}
 use Rattle.otel_value_map.specs.Numbers.{is_placed}
-use Rattle.otel_model.specs.Calls.{InstrumentKind, Counter, UpDownCounter, Histogram, ObservableCounter, ObservableUpDownCounter, Gauge, ObservableGauge, is_observable, or_else, Number, Call, Bind, RecordBound, Unbind}
+use Rattle.otel_model.specs.Calls.{InstrumentKind, Counter, UpDownCounter, Histogram, ObservableCounter, ObservableUpDownCounter, Gauge, ObservableGauge, is_observable, or_else, Number, Bind, RecordBound, Unbind}
 use Rattle.otel_model.specs.Demands as model
 use Rattle.otel_model.specs.Machine.{stream_after, part_after_call, if_held}
 use Rattle.otel_model.specs.Sent.{is_fed, set_for}
-use Rattle.otel_model.specs.State.{ReaderPart, Stream}
+use Rattle.otel_model.specs.State.{Stream}
 use Rattle.otel_model.specs.Streams.{aggregate_of, is_drained, observes_sums}
-use Rattle.otel_pipeline.specs.Handles.{FeedsSynchronous, FeedsObservable, AreObservableFor, IsNewAt, IsHeldByFed, IsReadyToBind, IsReadyIfThere, AreReadyToBind, IsReadyToBindAt, bound_each, part_after_bind, IsPreparedHeld, IsHeldIfThere, ArePreparedHeld, IsPreparedHeldAt, unbound_each, part_after_unbind}
-use Rattle.otel_pipeline.specs.Observations.{AreObservable, AreObservableIn, changed_in, observing_numbers}
+use Rattle.otel_pipeline.specs.Handles.{FeedsSynchronous, FeedsObservable, AreObservableFor, IsNewAt, IsHeldByFed, IsReadyToBind, IsReadyIfThere, IsReadyToBindAt, bound_each, part_after_bind, IsPreparedHeld, IsHeldIfThere, IsPreparedHeldAt, unbound_each, part_after_unbind}
+use Rattle.otel_pipeline.specs.Observations.{AreObservable, AreObservableIn}
 use Rattle.otel_pipeline.specs.Pipelines.{Piped, AreNumbers, FeedsType, identity_of, is_streamed, fates_of, model_streams, named_identities, part_by, part_of, fed_by, committed_each, part_after_record}
-use Rattle.otel_pipeline.specs.Streams.{Held, with_bind, bound_by, held_after_bind, with_record, committed_by, held_after_commit, without_handle, held_after_unbind}
+use Rattle.otel_pipeline.specs.Streams.{Held, with_bind, bound_by, held_after_bind, committed_by, held_after_commit, without_handle, held_after_unbind}
 use Rattle.otel_pipeline.proofs.Answered.{KeepsAnswer, commits}
 use Rattle.otel_pipeline.proofs.Commits.{fold-changed}
 use Rattle.otel_pipeline.proofs.Identities.{AreApart, are_apart}
 use Rattle.otel_pipeline.proofs.PipelineLemmas.{demands-changed, demands-committed, feeds-same}
-use Rattle.otel_pipeline.proofs.Records.{HaveStreams, all_sent, committed-twice, fed-at, fed-numbers, fits, number, some_same, typed-fits}
+use Rattle.otel_pipeline.proofs.Records.{all_sent, committed-twice, fed-at, fed-numbers, number, some_same, typed-fits}
 
 -- ======== kinds ========
 drained-by : (kind : InstrumentKind) → is_observable kind ≡ false → observes_sums kind ≡ false

@@ -1,5 +1,5 @@
 -- What handles are in one reader's streams (Metrics API, "Synchronous Instrument API").
-use Rattle.std.specs.Prelude.{◌≡◌, ℕ, Bool, true, false, not, List, [], fold, All, Option, None, Some, slice_get}
+use Rattle.std.specs.Prelude.{◌≡◌, ℕ, true, false, not, List, fold, All, Option, None, Some, slice_get}
 use Rattle.std.specs.List.{AllByRecursion as EachOf}
 use Rattle.otel_callback.specs.declared.observation.Observed.{Observed}
 use Rattle.otel_common.specs.declared.attributes.KeyValue.{KeyValue}

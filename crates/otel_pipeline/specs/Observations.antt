@@ -1,6 +1,6 @@
 -- What a collection takes in of what was observed, and what is kept to undo that (Metrics SDK, "Observations inside
 -- asynchronous callbacks").
-use Rattle.std.specs.Prelude.{◌≡◌, ◌≤◌, ℕ, suc, Bool, true, false, cond, List, [], ◌∷◌, fold, length, All, Option, None, Some, slice_get}
+use Rattle.std.specs.Prelude.{◌≡◌, ◌≤◌, ℕ, suc, Bool, true, cond, List, [], ◌∷◌, fold, length, All, Option, None, Some, slice_get}
 use Rattle.std.specs.Bool.{beq}
 use Rattle.otel_callback.specs.declared.observation.Observed.{Observed}
 use Rattle.otel_model_stream.specs.Entries.{Table}

@@ -1,13 +1,12 @@
 -- Handles at all readers, and the calls on them as the machine makes them.
-use Rattle.std.proofs.Common.{◌≡◌, ℕ, ◌+◌, ◌<◌, ◌-◌, ◌^◌, ◌==◌, Bool, true, false, cond, List, [], ◌∷◌, ◌++◌, map, length, Option, Some, None, slice_get, nat_eq, refl, sym, ◌∙◌, ap, subst, arith, suc, ne_eqb}
+use Rattle.std.proofs.Common.{◌≡◌, ℕ, ◌+◌, ◌<◌, ◌==◌, Bool, true, false, cond, List, [], ◌∷◌, ◌++◌, map, Option, Some, None, slice_get, nat_eq, refl, sym, ◌∙◌, ap, subst, arith, suc, ne_eqb}
 use Rattle.std.proofs.lemmas.Bool.Decides.{nat_tests}
 use Rattle.std.specs.List.{AllByRecursion as EachOf}
 use Rattle.std.specs.Map.{lookup, remove_entry}
-use Rattle.std.specs.Prelude.{All, nat_lt}
+use Rattle.std.specs.Prelude.{All}
 use Rattle.otel_common.specs.declared.attributes.KeyValue.{KeyValue}
 use Rattle.otel_common.specs.declared.scopes.InstrumentationScope.{InstrumentationScope}
 use Rattle.otel_data.specs.declared.numbers.NumberValue.{NumberValue}
-use Rattle.otel_aggregate.specs.Any.{is_signed_value, amount_of}
 use Rattle.otel_model.specs.Calls as model
 use Rattle.otel_model.specs.Calls.{is_observable}
 use Rattle.otel_model.specs.Demands.{Views}
@@ -23,7 +22,7 @@ use Rattle.otel_pipeline.specs.Handles.{FeedsSynchronous, IsNewAt, IsHeldByFed, 
 use Rattle.otel_pipeline.specs.Pipelines.{Piped, part_of, part_after_record}
 use Rattle.otel_pipeline.proofs.Handles.{bound-sent, update-sent, unbind-sent}
 use Rattle.otel_provider.specs.Correspondence.{number_of}
-use Rattle.otel_provider.specs.States.{IsMade, IsTyped, AreTyped, FeedType, state_of, shared_of}
+use Rattle.otel_provider.specs.States.{IsMade, AreTyped, FeedType, state_of, shared_of}
 use Rattle.otel_provider.proofs.StepLemmas.{number-is}
 
 -- ======== all readers ========

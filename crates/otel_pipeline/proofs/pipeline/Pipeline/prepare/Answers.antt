@@ -5,7 +5,7 @@ use Rattle.otel_model.specs.Calls.{or_else}
 use Rattle.otel_model.specs.Demands.{identity_eq}
 use Rattle.otel_model.specs.Streams.{is_delta}
 use Rattle.otel_pipeline.specs.Known.{is_known_by, IsKnownIfThere}
-use Rattle.otel_pipeline.specs.Pipelines.{stream_identities, model_streams, named_identities, all_without_pending, ArePrepared, part_by}
+use Rattle.otel_pipeline.specs.Pipelines.{stream_identities, model_streams, all_without_pending, ArePrepared, part_by}
 use Rattle.otel_pipeline.proofs.Answered.{answered-settled}
 use Rattle.otel_pipeline.proofs.Identities.{distinct-same, are_apart}
 use Rattle.otel_pipeline.proofs.Known.{known-numbers}

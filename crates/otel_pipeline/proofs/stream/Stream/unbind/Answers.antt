@@ -1,5 +1,4 @@
-use Rattle.std.proofs.Common.{◌∙◌, sym, ap, is_some}
-use Rattle.otel_pipeline.specs.Streams.{Held}
+use Rattle.std.proofs.Common.{◌∙◌, sym}
 use Rattle.otel_pipeline.proofs.Asked.{unbind-then}
 use Rattle.otel_pipeline.proofs.stream.Stream.unbind.Goals as goal
 

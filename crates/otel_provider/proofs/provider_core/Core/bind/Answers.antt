@@ -1,19 +1,16 @@
-use Rattle.std.proofs.Common.{◌≡◌, ◌<◌, ◌∙◌, ◌++◌, ◌∷◌, [], refl, ap, sym, subst, List, map, length, slice_get, Option, Some, None, arith, nat_eq}
+use Rattle.std.proofs.Common.{◌≡◌, ◌∙◌, ◌++◌, ◌∷◌, [], refl, ap, sym, subst, List, map, slice_get, None, arith, nat_eq}
 use Rattle.std.specs.List.{AllByRecursion as EachOf}
 use Rattle.std.specs.Map.{lookup}
 use Rattle.otel_model.specs.Calls as model
-use Rattle.otel_model.specs.Machine.{instrument_after_record, changed_at, part_after_call}
-use Rattle.otel_model.specs.Refusals.{bind_refusal, held_refusal, instrument_held}
+use Rattle.otel_model.specs.Machine.{part_after_call}
+use Rattle.otel_model.specs.Refusals.{bind_refusal}
 use Rattle.otel_model.specs.State.{InstrumentState, LiveHandle, State}
 use Rattle.otel_model_laws.specs.Lawful.{IsLawful}
-use Rattle.otel_pipeline.specs.Handles.{FeedsSynchronous, IsNewAt, IsHeldByFed}
+use Rattle.otel_pipeline.specs.Handles.{IsNewAt}
 use Rattle.otel_pipeline.specs.Pipelines.{part_of}
-use Rattle.otel_pipeline.proofs.Writes.{set-changed}
-use Rattle.otel_provider.specs.Correspondence.{number_of}
-use Rattle.otel_provider.specs.States.{IsBindable, IsTakenBy, AreTyped, state_of}
-use Rattle.otel_provider.proofs.StepLemmas.{lent_back, get-inside}
-use Rattle.otel_provider.proofs.Typed.{typed-feeds, typed-sent}
-use Rattle.otel_provider.proofs.Held.{feeds-synchronous, next-new, held-fed, held-lookup, without-removed, next-absent, typed-kept, bind-made, update-made, unbind-made, synchronous-held}
+use Rattle.otel_provider.specs.States.{IsBindable, AreTyped, state_of}
+use Rattle.otel_provider.proofs.StepLemmas.{lent_back}
+use Rattle.otel_provider.proofs.Held.{feeds-synchronous, next-new, next-absent, typed-kept, bind-made}
 use Rattle.otel_provider.proofs.provider_core.Core.bind.Goals as goal
 
 -- the instrument feeds no observable stream
