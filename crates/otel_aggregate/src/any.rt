@@ -243,8 +243,9 @@ impl AnyAggregate {
         }
     }
 
-    /// Prepares a record through a handle, if it is live, in the place of what was prepared before; else that is given up. It looks
-    /// up nothing but the handle, and takes no memory. Observed sums have no handles: they stay as they were.
+    /// Prepares a record through a handle, if it is live, in the place of what was prepared before; else that is given
+    /// up. It looks up nothing but the handle, and takes no memory. Observed sums have no handles: they stay as they
+    /// were.
     pub fn prepare_held(&mut self, handle: u64)
         ensures same { self.new.state ≡ self.old.state }
         ensures live { self.new.live ≡ self.old.live }
@@ -267,8 +268,8 @@ impl AnyAggregate {
         }
     }
 
-    /// Takes in a record through a handle, if it is live and the value has the stream's number type. Answers whether it did. It
-    /// looks up nothing but the handle and takes no memory.
+    /// Takes in a record through a handle, if it is live and the value has the stream's number type. Answers whether it
+    /// did. It looks up nothing but the handle and takes no memory.
     pub fn update_bound(&mut self, handle: u64, value: NumberValue) -> bool
         ensures updated { self.new ≡ any_after_update handle value self.old }
         ensures told { result ≡ is_updated handle value self.old }
@@ -437,8 +438,8 @@ impl AnyAggregate {
         Ok(SavedAggregate::of(inner))
     }
 
-    /// Puts saved entries in the place of its own, where no handle is live, and gives up a record that was prepared. What observed
-    /// sums reported stays as it was. It takes no memory.
+    /// Puts saved entries in the place of its own, where no handle is live, and gives up a record that was prepared.
+    /// What observed sums reported stays as it was. It takes no memory.
     pub fn restore(&mut self, saved: SavedAggregate)
         requires { IsLike saved self.old }
         ensures { self.new ≡ with_saved saved self.old }

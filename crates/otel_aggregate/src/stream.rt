@@ -205,8 +205,8 @@ impl<A: Shows> Stream<A> {
         Ok(())
     }
 
-    /// Prepares a record through a handle, if it is live, in the place of what was prepared before; else that is given up. It looks
-    /// up nothing but the handle, and takes no memory.
+    /// Prepares a record through a handle, if it is live, in the place of what was prepared before; else that is given
+    /// up. It looks up nothing but the handle, and takes no memory.
     pub fn prepare_held(&mut self, handle: u64)
         ensures same { self.new.state ≡ self.old.state }
         ensures live { self.new.live ≡ self.old.live }
@@ -217,8 +217,8 @@ impl<A: Shows> Stream<A> {
         self.map.prepare_held(handle);
     }
 
-    /// Takes in a record through a handle, if it is live, and tells whether it is. It looks up nothing but the handle, takes no
-    /// memory, and gives up what was prepared.
+    /// Takes in a record through a handle, if it is live, and tells whether it is. It looks up nothing but the handle,
+    /// takes no memory, and gives up what was prepared.
     pub fn update_bound(&mut self, handle: u64, value: A::Value) -> bool
         ensures updated { self.new ≡ stream_after_update handle (record { bits = A.Value.bits value; wide = A.Value.wide value }) self.old }
         ensures told { result ≡ is_some (held_by handle self.old.live) }
@@ -227,7 +227,8 @@ impl<A: Shows> Stream<A> {
         self.map.update_bound(handle, record)
     }
 
-    /// Ends a handle, if it is live. It takes no memory, goes over the handles that are younger, and gives up what was prepared.
+    /// Ends a handle, if it is live. It takes no memory, goes over the handles that are younger, and gives up what was
+    /// prepared.
     pub fn unbind(&mut self, handle: u64)
         ensures unbound { self.new ≡ stream_after_unbind handle self.old }
     {
@@ -324,8 +325,8 @@ impl<A: Shows> Stream<A> {
         self.map.save(alloc)
     }
 
-    /// Puts saved entries in the place of its own, where no handle is live, and gives up a record that was prepared. It takes no
-    /// memory.
+    /// Puts saved entries in the place of its own, where no handle is live, and gives up a record that was prepared. It
+    /// takes no memory.
     pub fn restore(&mut self, saved: Saved<A>)
         requires { self.old.live ≡ [] }
         ensures state { self.new.state ≡ record self.old.state { map_state = record self.old.state.map_state { table = saved } } }

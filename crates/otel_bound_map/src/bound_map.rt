@@ -30,8 +30,8 @@ use std::marker::Model;
 /// A bounded map from sets of attributes to aggregators, in which handles of the caller's own numbers hold entries
 /// (Metrics SDK, "Cardinality limits").
 ///
-/// An entry that a live handle holds stays at a resetting collection, and a handle stays with its entry for good: also with
-/// the overflow entry, once its set could have one of its own.
+/// An entry that a live handle holds stays at a resetting collection, and a handle stays with its entry for good: also
+/// with the overflow entry, once its set could have one of its own.
 #[derive(Drop)]
 pub struct BoundMap<A: Aggregator> {
     map: ValueMap<A>,
@@ -88,8 +88,8 @@ impl<A: Aggregator> BoundMap<A> {
         self.map.prepare(attributes)
     }
 
-    /// Prepares a record or a bind of those of the attributes whose key is in the allow-list, as `ValueMap::prepare_allowed`
-    /// does.
+    /// Prepares a record or a bind of those of the attributes whose key is in the allow-list, as
+    /// `ValueMap::prepare_allowed` does.
     pub fn prepare_allowed(&mut self, allow: &[Key], attributes: &[KeyValue]) -> Result<(), Fault>
         ensures same { self.new.state ≡ self.old.state }
         ensures live { self.new.live ≡ self.old.live }
@@ -120,8 +120,8 @@ impl<A: Aggregator> BoundMap<A> {
         self.map.is_prepared()
     }
 
-    /// Prepares a record through a handle, if it is live, in the place of what was prepared before; else that is given up. It looks
-    /// up nothing but the handle, and takes no memory.
+    /// Prepares a record through a handle, if it is live, in the place of what was prepared before; else that is given
+    /// up. It looks up nothing but the handle, and takes no memory.
     pub fn prepare_held(&mut self, handle: u64)
         ensures same { self.new.state ≡ self.old.state }
         ensures live { self.new.live ≡ self.old.live }
@@ -152,8 +152,8 @@ impl<A: Aggregator> BoundMap<A> {
         self.map.told_numbers();
     }
 
-    /// Carries out the bind that was prepared, as a handle of this number, if one was, room was made for it and no live handle
-    /// has the number. It takes no memory.
+    /// Carries out the bind that was prepared, as a handle of this number, if one was, room was made for it and no live
+    /// handle has the number. It takes no memory.
     pub fn bind_ready(&mut self, handle: u64)
         ensures bound { self.new ≡ after_bind handle self.old }
     {
@@ -168,8 +168,8 @@ impl<A: Aggregator> BoundMap<A> {
         self.room = false;
     }
 
-    /// Takes in a record through a handle, if it is live, and tells whether it is. It looks up nothing but the handle, takes no
-    /// memory, and gives up what was prepared.
+    /// Takes in a record through a handle, if it is live, and tells whether it is. It looks up nothing but the handle,
+    /// takes no memory, and gives up what was prepared.
     pub fn update_bound(&mut self, handle: u64, value: A::PreComputedValue) -> bool
         ensures updated { self.new ≡ after_update handle (A.sample value) self.old }
         ensures told { result ≡ is_some (held_by handle self.old.live) }
@@ -186,7 +186,8 @@ impl<A: Aggregator> BoundMap<A> {
         }
     }
 
-    /// Ends a handle, if it is live. It takes no memory, goes over the handles that are younger, and gives up what was prepared.
+    /// Ends a handle, if it is live. It takes no memory, goes over the handles that are younger, and gives up what was
+    /// prepared.
     pub fn unbind(&mut self, handle: u64)
         ensures unbound { self.new ≡ after_unbind handle self.old }
     {
@@ -214,8 +215,8 @@ impl<A: Aggregator> BoundMap<A> {
         self.map.total(every)
     }
 
-    /// Forgets all records. An entry that had none since the last time and that no handle holds goes, but for the overflow
-    /// entry. A record that was prepared is given up.
+    /// Forgets all records. An entry that had none since the last time and that no handle holds goes, but for the
+    /// overflow entry. A record that was prepared is given up.
     pub fn reset_and_evict(&mut self)
         ensures state { self.new.state ≡ evicted_map self.old.state }
         ensures live { self.new.live ≡ self.old.live }
@@ -246,8 +247,8 @@ impl<A: Aggregator> BoundMap<A> {
         self.map.save(alloc)
     }
 
-    /// Puts saved entries in the place of its own, where no handle is live, and gives up a record that was prepared. It takes
-    /// no memory.
+    /// Puts saved entries in the place of its own, where no handle is live, and gives up a record that was prepared. It
+    /// takes no memory.
     pub fn restore(&mut self, saved: Saved<A>)
         requires { self.old.live ≡ [] }
         ensures state { self.new.state ≡ record self.old.state { table = saved } }

@@ -182,8 +182,8 @@ impl Pipeline {
         );
     }
 
-    /// Prepares a bind of these attributes in the streams that the instrument feeds, and makes room for its handle there. What the
-    /// reader has stays as it was.
+    /// Prepares a bind of these attributes in the streams that the instrument feeds, and makes room for its handle
+    /// there. What the reader has stays as it was.
     ///
     /// Looks the attributes up once in each of these streams.
     pub fn prepare_bind(&mut self, instrument: usize, attributes: &[KeyValue]) -> Result<(), Fault>
@@ -212,8 +212,8 @@ impl Pipeline {
         );
     }
 
-    /// Prepares a record through a handle, or its end, in the streams that its instrument feeds. What the reader has stays as it was. Looks up
-    /// nothing but the handle, once in each of these streams, and takes no memory.
+    /// Prepares a record through a handle, or its end, in the streams that its instrument feeds. What the reader has
+    /// stays as it was. Looks up nothing but the handle, once in each of these streams, and takes no memory.
     #[inline(always)]
     pub fn prepare_held(&mut self, instrument: usize, handle: u64)
         ensures same { part_of self.new ≡ part_of self.old }

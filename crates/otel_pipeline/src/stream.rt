@@ -159,7 +159,8 @@ impl Stream {
         }
     }
 
-    /// Prepares a record through a handle, or its end, if the stream has it. What it shows stays as it was. It takes no memory.
+    /// Prepares a record through a handle, or its end, if the stream has it. What it shows stays as it was. It takes no
+    /// memory.
     #[inline(always)]
     pub(crate) fn prepare_held(&mut self, handle: u64)
         ensures same { without_pending self.new ≡ without_pending self.old }

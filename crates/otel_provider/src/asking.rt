@@ -63,7 +63,8 @@ fn ask_each<V: View>(
     Ok(answers)
 }
 
-/// Asks each view once for the instrument of a build; without a scope none is asked. Where no view is there it takes no memory.
+/// Asks each view once for the instrument of a build; without a scope none is asked. Where no view is there it takes no
+/// memory.
 pub(crate) fn ask_in<V: View>(
     alloc: Global,
     views: &[V],

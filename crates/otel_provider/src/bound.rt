@@ -17,11 +17,12 @@ use otel_common::faults::Fault;
 use otel_data::numbers::NumberType;
 use std::marker::PhantomData;
 
-/// A live handle of an instrument with values of type `T` (Metrics API, "Synchronous Instrument API"). It is the number of a
-/// handle and the identity of its provider.
+/// A live handle of an instrument with values of type `T` (Metrics API, "Synchronous Instrument API"). It is the number
+/// of a handle and the identity of its provider.
 ///
-/// It holds a place in each stream that the instrument feeds, for as long as it is live, so it must be spent: by `unbind`,
-/// which ends it, or by `into_number`, which leaves that to `Call::Unbind`. A program that lets one go is not accepted.
+/// It holds a place in each stream that the instrument feeds, for as long as it is live, so it must be spent: by
+/// `unbind`, which ends it, or by `into_number`, which leaves that to `Call::Unbind`. A program that lets one go is not
+/// accepted.
 pub struct Bound<T> {
     pub(crate) identity: u64,
     pub(crate) handle: u64,
@@ -29,13 +30,14 @@ pub struct Bound<T> {
 }
 
 impl<K, T: NumberType> Synchronous<K, T> {
-    /// Binds a handle with attributes, in any order. From then on its records go where a record with these attributes would
-    /// go now: to the point of what a stream keeps of them, which it holds, or past the limit to the overflow point. It is
-    /// what `step` does with `Call::Bind`: made in all streams or in none.
+    /// Binds a handle with attributes, in any order. From then on its records go where a record with these attributes
+    /// would go now: to the point of what a stream keeps of them, which it holds, or past the limit to the overflow
+    /// point. It is what `step` does with `Call::Bind`: made in all streams or in none.
     ///
-    /// Looks the attributes up in each stream that the instrument feeds, as a record does, and the handle's number once.
-    /// Refused with `UnknownInstrument` where the instrument is of a provider of another identity, before anything else is
-    /// looked at; with `Exhausted` once 2^64 - 1 handles were bound; else only for want of memory. Then nothing changed.
+    /// Looks the attributes up in each stream that the instrument feeds, as a record does, and the handle's number
+    /// once. Refused with `UnknownInstrument` where the instrument is of a provider of another identity, before
+    /// anything else is looked at; with `Exhausted` once 2^64 - 1 handles were bound; else only for want of memory.
+    /// Then nothing changed.
     pub fn bind<P: Parts>(
         &self,
         provider: &mut Provider<P>,
@@ -63,12 +65,13 @@ impl<K, T: NumberType> Synchronous<K, T> {
 
 impl<T: NumberType> Bound<T> {
     /// Adds a value, in the instrument's unit, with the attributes of the handle. It is what `step` does with
-    /// `Call::RecordBound`: it takes no memory, and looks nothing up but the handle, once in the provider and once in each
-    /// stream.
+    /// `Call::RecordBound`: it takes no memory, and looks nothing up but the handle, once in the provider and once in
+    /// each stream.
     ///
-    /// Refused with `UnknownHandle` where the handle is of a provider of another identity, before anything else is looked
-    /// at. Where two providers of one identity mix up their handles, it is refused with `UnknownHandle` or `WrongNumber`, or
-    /// goes to the handle of the same number. Else it is not refused. A refused call changes nothing.
+    /// Refused with `UnknownHandle` where the handle is of a provider of another identity, before anything else is
+    /// looked at, and where `Call::Unbind` ended it by its number. Where two providers of one identity mix up their
+    /// handles, it is refused with `UnknownHandle` or `WrongNumber`, or goes to the handle of the same number. Else it
+    /// is not refused. A refused call changes nothing.
     pub fn add<P: Parts>(&self, provider: &mut Provider<P>, value: T) -> Result<(), Fault>
         ensures step { IsBoundOf self.now provider.old → Step (views_of P.View.answer provider.old) (state_of provider.old) (model.Call.RecordBound (handle_number self.now) (number_of (T.value value))) (record_reply result) (state_of provider.new) }
         ensures foreign { ¬ IsBoundOf self.now provider.old → (result ≡ Err Fault.UnknownHandle) × (state_of provider.new ≡ state_of provider.old) }

@@ -41,9 +41,9 @@ pub enum Call {
         value: NumberValue,
         attributes: Items<KeyValue>,
     },
-    /// Binds a handle at an instrument, with attributes in any order (Metrics API, "Synchronous Instrument API"). Its records
-    /// go where a record with the attributes would go now, for good. A bind at an observable instrument is refused. It is made
-    /// in all streams that the instrument feeds or in none.
+    /// Binds a handle at an instrument, with attributes in any order (Metrics API, "Synchronous Instrument API"). Its
+    /// records go where a record with the attributes would go now, for good. A bind at an observable instrument is
+    /// refused. It is made in all streams that the instrument feeds or in none.
     Bind {
         instrument: usize,
         attributes: Items<KeyValue>,
@@ -84,7 +84,8 @@ pub enum Reply {
     Instrument(usize),
     /// The number of the new handle: how many were bound before it.
     Handle(u64),
-    /// The handle was ended; or the record was made, or ignored where the instrument ignores its records; or each reader did what it was asked to.
+    /// The handle was ended; or the record was made, or ignored where the instrument ignores its records; or each
+    /// reader did what it was asked to.
     Done,
     /// What was collected.
     Collected(ResourceMetrics),

@@ -274,8 +274,8 @@ impl<P: Parts> Provider<P> {
     ///   refused with how many did and the first of them; such a shutdown has shut the provider down too. After a
     ///   shutdown they are refused, and ask none. They take no memory beside what readers take.
     ///
-    /// `known` says when a record with attributes takes no memory. `reached` says what became of the readers: a flush and a
-    /// shutdown ask them, any other call leaves them.
+    /// `known` says when a record with attributes takes no memory. `reached` says what became of the readers: a flush
+    /// and a shutdown ask them, any other call leaves them.
     pub fn step(&mut self, call: &Call) -> Reply
         ensures step { Step (views_of P.View.answer self.old) (state_of self.old) (call_of call.now) (reply_of result) (state_of self.new) }
         ensures known { IsKnown (state_of self.old) (call_of call.now) → HasMemory result }
@@ -292,9 +292,9 @@ impl<P: Parts> Provider<P> {
     /// Makes a collection of a reader at a moment, in nanoseconds since 1970, and puts it in the place of whatever
     /// `metrics` held (Metrics SDK, "Collect").
     ///
-    /// Runs each callback once, on an empty list, in the order in which their instruments were built, up to the first that
-    /// answers a fault. Then it is the same as a step by `Call::Collect` with all that was observed: that goes to the
-    /// streams of this reader alone. Costs what the step and the callbacks do.
+    /// Runs each callback once, on an empty list, in the order in which their instruments were built, up to the first
+    /// that answers a fault. Then it is the same as a step by `Call::Collect` with all that was observed: that goes to
+    /// the streams of this reader alone. Costs what the step and the callbacks do.
     ///
     /// Refused where no reader has this number and where the provider was shut down, and then no callback runs; with the
     /// fault of a callback; where a callback observed another instrument's number type; and for want of memory. Then
@@ -350,7 +350,8 @@ impl<P: Parts> Provider<P> {
     /// "Shutdown"). The same as a step by `Call::Shutdown`.
     ///
     /// Refused where the provider was shut down before, and then no reader is asked; and where readers failed, with how
-    /// many did and the number of the first: then too the provider is shut down. Takes no memory beside what readers take.
+    /// many did and the number of the first: then too the provider is shut down. Takes no memory beside what readers
+    /// take.
     pub fn shutdown(&mut self) -> OTelSdkResult
         ensures step { Step (views_of P.View.answer self.old) (state_of self.old) model.Call.Shutdown (reply_to result) (state_of self.new) }
         ensures asked { AreReached (ShutsDown P.Reader.shuts) (state_of self.old).shared.shut (provider_readers self.old) (provider_readers self.new) result }

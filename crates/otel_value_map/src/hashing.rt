@@ -11,8 +11,9 @@ const MULTIPLIER: u64 = 0x9e37_79b9_7f4a_7c15;
 
 /// A hasher for sets of attributes, which begins with a seed. It is no cryptographic one.
 ///
-/// A key or a text costs a multiplication for each 16 bytes that it has, with its length, so that two texts are told apart
-/// from two others that are the same bytes in a row. A single byte, such as the end of a text, costs one of 64 bits.
+/// A key or a text costs a multiplication for each 16 bytes that it has, with its length, so that two texts are told
+/// apart from two others that are the same bytes in a row. A single byte, such as the end of a text, costs one of 64
+/// bits.
 #[derive(Clone, Copy)]
 pub struct SetHasher {
     state: u64,

@@ -51,8 +51,8 @@ fn other_key(alloc: Global, list: &SetKey, set: &SetKey) -> Result<Option<SetKey
 
 /// What a record of the list is to do. `few` says whether the entries that count are below the limit.
 ///
-/// It looks the list up as it stands, and takes no memory where it leads to an entry or is empty. Else it sorts a copy and
-/// looks that up.
+/// It looks the list up as it stands, and takes no memory where it leads to an entry or is empty. Else it sorts a copy
+/// and looks that up.
 pub fn plan<A: Aggregator>(
     alloc: Global,
     table: &Table<A>,

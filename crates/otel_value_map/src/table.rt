@@ -369,8 +369,8 @@ impl<A: Aggregator> Table<A> {
         keep_filled(&mut self.given, &self.slots);
     }
 
-    /// Adds an entry for a set that has none: a slot, and keys of the set and of the list that admitted it, if that is another.
-    /// Tells its number. What lasts is that of the overflow set alone.
+    /// Adds an entry for a set that has none: a slot, and keys of the set and of the list that admitted it, if that is
+    /// another. Tells its number. What lasts is that of the overflow set alone.
     pub fn add(
         &mut self,
         set: SetKey<'static>,

@@ -166,9 +166,9 @@ impl<A: Aggregator> ValueMap<A> {
     /// Prepares a record or a bind of the attributes, under their canonical form, in the place of one that was
     /// prepared before. What the map holds stays as it was.
     ///
-    /// The first of two phases: a record of many maps is prepared in all of them, and then taken in by
-    /// all. It looks the attributes up as they stand, which is all where they lead to an entry: as its set, or as the list
-    /// that admitted it. It takes no memory then, nor without attributes. Else it sorts a copy and looks that up.
+    /// The first of two phases: a record of many maps is prepared in all of them, and then taken in by all. It looks
+    /// the attributes up as they stand, which is all where they lead to an entry: as its set, or as the list that
+    /// admitted it. It takes no memory then, nor without attributes. Else it sorts a copy and looks that up.
     pub fn prepare(&mut self, attributes: &[KeyValue]) -> Result<(), Fault>
         ensures same { self.new.state ≡ self.old.state }
         ensures numbers { self.new.numbers ≡ self.old.numbers }
@@ -205,8 +205,8 @@ impl<A: Aggregator> ValueMap<A> {
         self.prepare_list(&SetKey::allowed(allow, attributes))
     }
 
-    /// Prepares a record at the entry of this number, in the place of one that was prepared before. It looks nothing up and
-    /// takes no memory.
+    /// Prepares a record at the entry of this number, in the place of one that was prepared before. It looks nothing up
+    /// and takes no memory.
     pub fn prepare_at(&mut self, number: usize)
         requires { (s : AttributeSet) × (number_of s self.old.numbers ≡ Some number) }
         ensures same { self.new.state ≡ self.old.state }
@@ -291,8 +291,8 @@ impl<A: Aggregator> ValueMap<A> {
         number
     }
 
-    /// Binds a handle at the attributes, under their canonical form, and tells the number of its entry, which stays with it
-    /// for its life. It takes memory as a record of them does, and lets them lead to an entry as that does.
+    /// Binds a handle at the attributes, under their canonical form, and tells the number of its entry, which stays
+    /// with it for its life. It takes memory as a record of them does, and lets them lead to an entry as that does.
     pub fn bind(&mut self, attributes: &[KeyValue]) -> Result<usize, Fault>
         requires { AreHandlesFew self.old.state.table }
         ensures ok { OnOk result (known_of self.new ≡ bound_list attributes.now (known_of self.old)) }
@@ -308,8 +308,8 @@ impl<A: Aggregator> ValueMap<A> {
         Ok(self.bind_ready())
     }
 
-    /// Takes in a record through a handle, by the number of its entry. It looks nothing up and takes no memory, and gives up
-    /// what was prepared.
+    /// Takes in a record through a handle, by the number of its entry. It looks nothing up and takes no memory, and
+    /// gives up what was prepared.
     pub fn update_bound(&mut self, number: usize, value: A::PreComputedValue)
         ensures updated { (s : AttributeSet) → number_of s self.old.numbers ≡ Some number → self.new.state ≡ updated_bound s (A.sample value) self.old.state }
         ensures numbers { self.new.numbers ≡ self.old.numbers }
@@ -331,8 +331,8 @@ impl<A: Aggregator> ValueMap<A> {
         self.table.release(number);
     }
 
-    /// Whether the attributes lead to an entry as they stand: as its set, or as the list that admitted it. Without attributes
-    /// they do. A record or a bind of such attributes takes no memory.
+    /// Whether the attributes lead to an entry as they stand: as its set, or as the list that admitted it. Without
+    /// attributes they do. A record or a bind of such attributes takes no memory.
     pub fn knows(&self, attributes: &[KeyValue]) -> bool
         ensures { result ≡ knows attributes.now (known_of self.now) }
     {
@@ -343,8 +343,8 @@ impl<A: Aggregator> ValueMap<A> {
         self.table.find(&list).is_some()
     }
 
-    /// How many keys it has: the sets of its entries, and the lists as they were given that admitted one of them in another
-    /// form. There are at most two of an entry.
+    /// How many keys it has: the sets of its entries, and the lists as they were given that admitted one of them in
+    /// another form. There are at most two of an entry.
     pub fn keys(&self) -> usize
         ensures number { result ≡ keys (known_of self.now) }
         ensures few { result ≤ 2 * length self.now.state.table.entries }
@@ -367,8 +367,8 @@ impl<A: Aggregator> ValueMap<A> {
         self.count
     }
 
-    /// The sets with copies of their aggregators: the empty set if it was updated, and then the entries
-    /// in order of making, every one or those that were updated. The map stays as it was. It copies each set that it gives.
+    /// The sets with copies of their aggregators: the empty set if it was updated, and then the entries in order of
+    /// making, every one or those that were updated. The map stays as it was. It copies each set that it gives.
     pub fn points(&self, alloc: Global, every: bool) -> Result<Vec<(Items<KeyValue>, A)>, Fault>
         ensures points { IfOk result (λ given. copies A.meaning given.items ≡ points every self.now.state.table) }
         ensures only_memory { IsOkUnless result Fault.OutOfMemory }
@@ -383,8 +383,8 @@ impl<A: Aggregator> ValueMap<A> {
         self.table.total(every)
     }
 
-    /// Forgets all records. An entry that had none since the last time and that no handle holds goes, but for the overflow
-    /// entry, and with it the list that admitted it. A record that was prepared is given up.
+    /// Forgets all records. An entry that had none since the last time and that no handle holds goes, but for the
+    /// overflow entry, and with it the list that admitted it. A record that was prepared is given up.
     pub fn reset_and_evict(&mut self)
         ensures state { self.new.state ≡ evicted_map self.old.state }
         ensures numbers { KeepLeft (evicted_map self.old.state).table.entries self.old.numbers self.new.numbers }

@@ -430,8 +430,8 @@ fn makes_room(alloc: Global, sum: &mut Sum<u64>) -> bool {
     still_shows(alloc, sum) && sum.make_room().is_ok()
 }
 
-/// Binds a handle; where memory is refused, at a second try. Whether the sum shows what it showed, and the handle is live then
-/// and wasn't where it was refused.
+/// Binds a handle; where memory is refused, at a second try. Whether the sum shows what it showed, and the handle is
+/// live then and wasn't where it was refused.
 fn binds(alloc: Global, sum: &mut Sum<u64>, handle: u64, attributes: &[KeyValue]) -> bool {
     if sum.bind(handle, attributes).is_ok() {
         return still_shows(alloc, sum);
