@@ -1,4 +1,4 @@
--- Words of the lines of a script that are calls.
+-- Words of the lines that are calls.
 use Rattle.std.specs.Prelude.{◌≡◌, ℕ, List, codes, Option, Some, None}
 use Rattle.std.specs.Str.Parse.{digits_value}
 use Rattle.otel_callback.specs.declared.observation.Observed.{Observed}
@@ -9,7 +9,7 @@ use Rattle.otel_provider.specs.declared.sorts.InstrumentSort.TheVariants.{U64Cou
 use Rattle.metrics_script.specs.Attributes.{ReadsAttributes}
 use Rattle.metrics_script.specs.Numbers.{IsUnsigned, IsNumberWord}
 
--- the number of a meter, an instrument or a reader, or a moment
+-- an unsigned number, such as that of a meter, an instrument or a reader, a moment, or a limit
 abbrev pub IsIndexWord : List ℕ → ℕ → Type 0
 IsIndexWord word number = IsUnsigned word × (number ≡ digits_value 10 word)
 
@@ -18,7 +18,7 @@ abbrev pub IsMeterWord : List ℕ → Option ℕ → Type 0
 IsMeterWord word None = word ≡ codes "none"
 IsMeterWord word (Some number) = IsIndexWord word number
 
--- the name of the builder of each sort of instruments
+-- the name of the builder of this sort of instrument
 abbrev pub IsSortWord : List ℕ → InstrumentSort → Type 0
 IsSortWord word U64Counter = word ≡ codes "u64_counter"
 IsSortWord word U64ObservableCounter = word ≡ codes "u64_observable_counter"
@@ -30,7 +30,7 @@ IsSortWord word U64ObservableGauge = word ≡ codes "u64_observable_gauge"
 IsSortWord word I64ObservableGauge = word ≡ codes "i64_observable_gauge"
 IsSortWord word U64Histogram = word ≡ codes "u64_histogram"
 
--- what was observed: the instrument, the value and the attributes
+-- an observation: the instrument, the value and the attributes
 abbrev pub IsObservedOf : List ℕ → List ℕ → List ℕ → Observed → Type 0
 IsObservedOf instrument number attributes observed = IsIndexWord instrument observed.instrument × IsNumberWord number observed.value × ReadsAttributes attributes observed.attributes
 

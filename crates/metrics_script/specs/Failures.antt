@@ -3,7 +3,7 @@ use Rattle.std.specs.Prelude.{ℕ}
 use Rattle.metrics_script.specs.declared.failures.Failure.{Failure}
 use Rattle.metrics_script.specs.declared.failures.Failure.TheVariants.{BadLine, OutOfMemory, InputOrOutput}
 
--- the status that the program ends with
+-- the exit status of the program
 abbrev pub status_of : Failure → ℕ
 status_of (BadLine _) = 2
 status_of OutOfMemory = 3

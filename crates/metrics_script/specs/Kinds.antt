@@ -3,7 +3,7 @@ use Rattle.std.specs.Prelude.{ℕ, List, codes}
 use Rattle.otel_stream.specs.declared.instrument.InstrumentKind.{InstrumentKind}
 use Rattle.otel_stream.specs.declared.instrument.InstrumentKind.TheVariants.{Counter, UpDownCounter, Histogram, ObservableCounter, ObservableUpDownCounter, Gauge, ObservableGauge}
 
--- the word of each kind
+-- the word for each kind
 abbrev pub kind_word : InstrumentKind → List ℕ
 kind_word Counter = codes "counter"
 kind_word UpDownCounter = codes "updowncounter"

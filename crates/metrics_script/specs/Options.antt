@@ -1,4 +1,4 @@
--- What a line that builds an instrument may add about it.
+-- Options of a line that builds an instrument.
 use Rattle.std.specs.Prelude.{◌≡◌, ◌==◌, ◌<◌, ◌||◌, ℕ, Bool, IsTrue, List, map, filter, length, codes, Option, None, MatchOption}
 use Rattle.std.specs.Bool.{MatchBool}
 use Rattle.std.specs.Cmp.Lexicographic.{pointwise}
@@ -10,23 +10,23 @@ use Rattle.metrics_script.specs.Boundaries.{ReadsBoundaries}
 use Rattle.metrics_script.specs.Texts.{text_of_word}
 use Rattle.metrics_script.specs.declared.options.Options.{Options}
 
--- a text, which has to be UTF-8
+-- a text, with escapes, that has to be UTF-8
 abbrev pub ReadsText : List ℕ → List ℕ → Type 0
 ReadsText word text = (text ≡ text_of_word word) × IsUtf8 text
 
--- whether this name stands before the first `=` of the word
+-- whether the text before the first `=` of the word is this name
 abbrev pub is_named : List ℕ → List ℕ → Bool
 is_named name word = pointwise ◌==◌ (before_first is_equals_sign word) name
 
--- a name, `=` and a value
+-- the name of an option, `=` and a value
 abbrev pub IsOptionWord : List ℕ → Type 0
 IsOptionWord word = (position_or_len is_equals_sign word < length word) × IsTrue (is_named (codes "description") word || is_named (codes "unit") word || is_named (codes "bounds") word)
 
--- what stands behind the first `=` of the words of this name
+-- the texts after the first `=` of the words with this name
 abbrev pub values_named : List ℕ → List (List ℕ) → List (List ℕ)
 values_named name words = map (after_first is_equals_sign) (filter (is_named name) words)
 
--- the option of this name: none if no word has the name, and else what its only word says
+-- the option with this name: none if no word has the name, and otherwise what the only word that has it says
 abbrev pub ReadsOption : {X : Type 0} → (List ℕ → X → Type 0) → List ℕ → List (List ℕ) → Option X → Type 0
 ReadsOption Reads name words option = AllZip Reads (values_named name words) (option_to_list option)
 
@@ -34,7 +34,7 @@ ReadsOption Reads name words option = AllZip Reads (values_named name words) (op
 abbrev pub ReadsOptions : List (List ℕ) → Options → Type 0
 ReadsOptions words options = All IsOptionWord words × ReadsOption ReadsText (codes "description") words options.description × ReadsOption ReadsText (codes "unit") words options.unit × ReadsOption ReadsBoundaries (codes "bounds") words options.boundaries
 
--- a word of this name says what was not said before; any other leaves the option as it was
+-- a word with this name sets the option, which was not set before; any other word leaves the option as it was
 abbrev pub AddsOption : {X : Type 0} → (List ℕ → X → Type 0) → List ℕ → List ℕ → Option X → Option X → Type 0
 AddsOption Reads name word old new = MatchBool (is_named name word) ((old ≡ None) × MatchOption new ⊥ (Reads (after_first is_equals_sign word))) (new ≡ old)
 

@@ -1,4 +1,4 @@
--- Readers of a script.
+-- Readers in a script.
 use Rattle.std.specs.Prelude.{◌≡◌, ◌++◌, ℕ, IsTrue, List, ◌∷◌, map, codes, Option, None, Ok}
 use Rattle.std.specs.List.{list_all}
 use Rattle.std.specs.Option.{option_or}
@@ -14,23 +14,23 @@ use Rattle.metrics_script.specs.Kinds.{kind_word}
 use Rattle.metrics_script.specs.Named.{has_name_of}
 use Rattle.metrics_script.specs.Options.{ReadsOption}
 
--- a number that is a good limit
+-- a number that is a valid limit
 abbrev pub IsLimitWord : List ℕ → ℕ → Type 0
 IsLimitWord word limit = IsIndexWord word limit × (limit_fault limit ≡ None)
 
--- the name of the limit of a kind
+-- the name of a kind's limit
 abbrev pub limit_name : InstrumentKind → List ℕ
 limit_name kind = codes "limit:" ++ kind_word kind
 
--- the name of the aggregation of a kind
+-- the name of a kind's aggregation
 abbrev pub aggregation_name : InstrumentKind → List ℕ
 aggregation_name kind = codes "agg:" ++ kind_word kind
 
--- what a line may say of a reader
+-- the names of what a line may say of a reader
 abbrev pub reader_names : List (List ℕ)
 reader_names = codes "limit" ∷ (map limit_name kinds ++ map aggregation_name kinds)
 
--- the kind's own limit, or else the one for all kinds
+-- the kind's own limit, or else the limit for all kinds
 abbrev pub ReadsLimit : List (List ℕ) → Option ℕ → InstrumentKind → Option ℕ → Type 0
 ReadsLimit words for_all kind limit = (own : Option ℕ) × ReadsOption IsLimitWord (limit_name kind) words own × (limit ≡ option_or own for_all)
 
@@ -40,7 +40,8 @@ ReadsKind words for_all reader kind =
     ReadsLimit words for_all kind (limit_of reader kind)
     × ReadsOption IsAggregationWord (aggregation_name kind) words (aggregation_of reader kind)
 
--- the temporality, and what the other words say: each something, and nothing is said twice
+-- the first word names the reader's temporality; each other word says something of the reader, and nothing is said
+-- twice
 abbrev pub ReadsReader : List ℕ → List (List ℕ) → Wants → Type 0
 ReadsReader temporality words reader =
     (temporality_named temporality ≡ Ok reader.temporality)

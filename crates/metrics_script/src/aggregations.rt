@@ -9,7 +9,7 @@ use crate::refusals::Refusal;
 use opentelemetry_sdk::metrics::Aggregation;
 use std::alloc::Global;
 
-/// The aggregation of a word: a name alone, or a kind of histogram and its bounds.
+/// Reads the aggregation of a word: a name alone, or a kind of histogram and its bounds.
 pub fn aggregation_of(alloc: Global, word: &str) -> Result<Aggregation, Refusal>
     ensures aggregation { IfOk result (IsAggregationWord word.now) }
     ensures meaningless { IfErr result (λ refusal. refusal ≡ Refusal.BadCommand → StandsForNothing IsAggregationWord word.now) }
@@ -23,7 +23,7 @@ pub fn aggregation_of(alloc: Global, word: &str) -> Result<Aggregation, Refusal>
     }
 }
 
-/// The histogram of a word: `hist` keeps the least and the greatest value, `plain` does not.
+/// Reads the histogram of a word: `hist` keeps the least and the greatest value, `plain` does not.
 fn histogram_of(alloc: Global, word: &str) -> Result<Aggregation, Refusal>
     ensures aggregation { IfOk result (IsAggregationWord word.now) }
     ensures meaningless { IfErr result (λ refusal. refusal ≡ Refusal.BadCommand → (bounds : List ℤ) (record_min_max : Bool) → ¬ IsAggregationWord word.now (Aggregation.ExplicitBucketHistogram bounds record_min_max)) }

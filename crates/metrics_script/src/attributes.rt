@@ -11,7 +11,7 @@ use crate::texts::unescaped;
 use opentelemetry_sdk::common::{KeyValue, Value};
 use std::alloc::Global;
 
-/// The attributes of a word: `-` for none, else pairs with commas between them.
+/// Reads the attributes of a word: `-` for none, otherwise pairs separated by commas.
 pub fn attributes_of(alloc: Global, word: &str) -> Result<Vec<KeyValue>, Refusal>
     ensures attributes { IfOk result (λ attributes. ReadsAttributes word.now attributes.items) }
     ensures meaningless { IfErr result (λ refusal. refusal ≡ Refusal.BadCommand → StandsForNothing ReadsAttributes word.now) }
@@ -26,7 +26,7 @@ pub fn attributes_of(alloc: Global, word: &str) -> Result<Vec<KeyValue>, Refusal
     Ok(attributes)
 }
 
-/// A key and a value, with the pair's first `=` between them.
+/// Reads a key and a value, which the pair's first `=` separates.
 fn attribute_of(alloc: Global, pair: &str) -> Result<KeyValue, Refusal>
     ensures attribute { IfOk result (IsAttributeWord pair.now) }
     ensures meaningless { IfErr result (λ refusal. refusal ≡ Refusal.BadCommand → StandsForNothing IsAttributeWord pair.now) }
@@ -39,7 +39,7 @@ fn attribute_of(alloc: Global, pair: &str) -> Result<KeyValue, Refusal>
     Ok(KeyValue::new(key, value))
 }
 
-/// A truth value, a signed number or a text.
+/// Reads a truth value, a signed number or a text.
 fn value_of(alloc: Global, word: &str) -> Result<Value, Refusal>
     ensures value { IfOk result (IsValueWord word.now) }
     ensures meaningless { IfErr result (λ refusal. refusal ≡ Refusal.BadCommand → StandsForNothing IsValueWord word.now) }
@@ -55,7 +55,7 @@ fn value_of(alloc: Global, word: &str) -> Result<Value, Refusal>
     }
 }
 
-/// `true` or `false`.
+/// Reads `true` or `false`.
 fn truth_of(word: &str) -> Result<bool, Refusal>
     ensures truth { IfOk result (IsTruthWord word.now) }
     ensures meaningless { OnErr result (StandsForNothing IsTruthWord word.now) }

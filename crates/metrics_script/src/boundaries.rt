@@ -8,7 +8,7 @@ use crate::numbers::signed;
 use crate::refusals::Refusal;
 use std::alloc::Global;
 
-/// The boundaries of a word: signed numbers with commas between them; the empty word is none.
+/// Reads the boundaries of a word: signed numbers separated by commas. The empty word has none.
 pub fn boundaries_of(alloc: Global, word: &str) -> Result<Vec<i64>, Refusal>
     ensures boundaries { IfOk result (λ boundaries. ReadsBoundaries word.now boundaries.items) }
     ensures meaningless { IfErr result (λ refusal. refusal ≡ Refusal.BadCommand → StandsForNothing ReadsBoundaries word.now) }

@@ -18,7 +18,7 @@ use opentelemetry_sdk::common::InstrumentationScope;
 use opentelemetry_sdk::metrics::provider::{Call, InstrumentSort, Observed};
 use std::alloc::Global;
 
-/// The call that the words of a line ask for, but for a collection.
+/// Reads the call of the words of a line, unless it is a collection.
 pub fn call_of(alloc: Global, words: &[&str]) -> Result<Call, Refusal> {
     match words {
         ["meter", name] => Ok(Call::Meter {
@@ -52,7 +52,7 @@ pub fn call_of(alloc: Global, words: &[&str]) -> Result<Call, Refusal> {
     }
 }
 
-/// The collection that the words of a line ask for, with what was observed before.
+/// Reads the collection of the words of a line, with what was observed before it.
 pub fn collect_of(reader: &str, now: &str, observations: Vec<Observed>) -> Result<Call, Refusal>
     ensures collect { IfOk result (IsCollectOf reader.now now.now observations.items) }
     ensures meaningless { OnErr result ((call : Call) → ¬ IsCollectOf reader.now now.now observations.items call) }
@@ -65,7 +65,7 @@ pub fn collect_of(reader: &str, now: &str, observations: Vec<Observed>) -> Resul
     })
 }
 
-/// What the words of a line say was observed.
+/// Reads the observation of the words of a line.
 pub fn observed_of(
     alloc: Global,
     instrument: &str,
@@ -82,7 +82,7 @@ pub fn observed_of(
     })
 }
 
-/// The build that the words of a line ask for.
+/// Reads the build of the words of a line.
 fn build_of(
     alloc: Global,
     meter: &str,
@@ -111,7 +111,7 @@ fn build_of(
     })
 }
 
-/// The scope of a name and, if one is given, a version.
+/// Makes the scope of a name and, if one is given, a version.
 fn scope_of(
     alloc: Global,
     name: &str,
@@ -128,7 +128,7 @@ fn scope_of(
     Ok(builder.build()?)
 }
 
-/// The number of a meter, or `none`.
+/// Reads the number of a meter, or `none`.
 fn meter_of(word: &str) -> Result<Option<usize>, Refusal>
     ensures meter { IfOk result (IsMeterWord word.now) }
     ensures meaningless { OnErr result (StandsForNothing IsMeterWord word.now) }
@@ -140,7 +140,7 @@ fn meter_of(word: &str) -> Result<Option<usize>, Refusal>
     }
 }
 
-/// The sort of an instrument, by the name of its builder.
+/// Reads the sort of an instrument: the name of its builder.
 fn sort_of(word: &str) -> Result<InstrumentSort, Refusal>
     ensures sort { IfOk result (IsSortWord word.now) }
     ensures meaningless { OnErr result (StandsForNothing IsSortWord word.now) }

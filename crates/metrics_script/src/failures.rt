@@ -1,4 +1,4 @@
-//! Why a script ends before its end.
+//! Why a script ends early.
 
 ghost use Rattle.std.specs.Prelude.{◌≡◌};
 ghost use Rattle.metrics_script.specs.Failures.{status_of};
@@ -8,13 +8,13 @@ use opentelemetry_sdk::common::Fault;
 use std::alloc::{AllocError, AllocFailed};
 use thiserror::Error;
 
-/// Why a script ends before its end. Its text goes to standard error.
+/// Why a script ends early. Its text goes to standard error.
 #[derive(Debug, Drop, Error)]
 pub enum Failure {
     /// The number of the first bad line, from 1.
     #[error("line {0}: bad command")]
     BadLine(u64),
-    /// There was no memory for something that is no call's reply.
+    /// There was no memory for something other than a call's reply.
     #[error("out of memory")]
     OutOfMemory,
     /// A read or a write failed.
@@ -23,7 +23,7 @@ pub enum Failure {
 }
 
 impl Failure {
-    /// The status that the script ends with.
+    /// Returns the status that the script ends with.
     pub fn status(&self) -> u8
         ensures { result ≡ status_of self.now }
     {

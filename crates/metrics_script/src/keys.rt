@@ -9,7 +9,7 @@ use crate::texts::unescaped;
 use opentelemetry_sdk::common::Key;
 use std::alloc::Global;
 
-/// The keys of a word, with commas between them; the empty word is none.
+/// Reads the keys of a word, which are separated by commas. The empty word has none.
 pub fn keys_of(alloc: Global, word: &str) -> Result<Vec<Key>, Refusal>
     ensures keys { IfOk result (λ keys. ReadsKeys word.now keys.items) }
     ensures meaningless { IfErr result (λ refusal. refusal ≡ Refusal.BadCommand → StandsForNothing ReadsKeys word.now) }
@@ -24,7 +24,7 @@ pub fn keys_of(alloc: Global, word: &str) -> Result<Vec<Key>, Refusal>
     Ok(keys)
 }
 
-/// The key of a word with escapes.
+/// Reads the key of a word, which may have escapes.
 pub fn key_of(alloc: Global, word: &str) -> Result<Key, Refusal>
     ensures key { IfOk result (IsKeyWord word.now) }
     ensures meaningless { IfErr result (λ refusal. refusal ≡ Refusal.BadCommand → StandsForNothing IsKeyWord word.now) }

@@ -16,7 +16,7 @@ pub const KINDS: [InstrumentKind; 7] = [
     InstrumentKind::ObservableGauge,
 ];
 
-/// The name of the option that is the kind's limit.
+/// Returns the name of the option for the kind's limit.
 pub fn limit_name(kind: InstrumentKind) -> &'static str
     ensures { result.now ≡ limit_name kind }
 {
@@ -31,7 +31,7 @@ pub fn limit_name(kind: InstrumentKind) -> &'static str
     }
 }
 
-/// The name of the option that is the kind's aggregation.
+/// Returns the name of the option for the kind's aggregation.
 pub fn aggregation_name(kind: InstrumentKind) -> &'static str
     ensures { result.now ≡ aggregation_name kind }
 {

@@ -1,4 +1,4 @@
-//! Words of a line that are a name, `=` and a value.
+//! Words of a line that consist of a name, `=` and a value.
 
 ghost use Rattle.std.specs.Prelude.{◌≡◌, ◌==◌, ◌<◌, IsTrue, map, length, IfOk, IfErr, OnErr, IsOkUnless};
 ghost use Rattle.std.specs.Cmp.Lexicographic.{pointwise};
@@ -50,7 +50,7 @@ fn is_one_of(given: &str, names: &[&str]) -> bool
     false
 }
 
-/// The value of the only word of this name, or none if no word has it.
+/// Returns the value of the only word with this name, or none if no word has it.
 pub fn value_named<'a>(words: &[&'a str], name: &str) -> Result<Option<&'a str>, Refusal>
     ensures value { IfOk result (λ value. option_to_list (option_map (λ text. text.now) value) ≡ values_named name.now (map (λ word. word.now) words.now)) }
     ensures meaningless { OnErr result (IsTrue (list_all has_value (map (λ word. word.now) words.now)) → 1 < length (values_named name.now (map (λ word. word.now) words.now))) }
@@ -68,7 +68,7 @@ pub fn value_named<'a>(words: &[&'a str], name: &str) -> Result<Option<&'a str>,
     Ok(value)
 }
 
-/// The text of the only word of this name, or none if no word has it.
+/// Reads the text of the only word with this name, or none if no word has it.
 pub fn text_named(alloc: Global, words: &[&str], name: &str) -> Result<Option<String>, Refusal>
     ensures text { IfOk result (λ text. ReadsOption ReadsText name.now (map (λ word. word.now) words.now) (option_map string_bytes text)) }
     ensures meaningless { IfErr result (λ refusal. refusal ≡ Refusal.BadCommand → ReadsNothing ReadsText name.now (map (λ word. word.now) words.now)) }
@@ -79,7 +79,7 @@ pub fn text_named(alloc: Global, words: &[&str], name: &str) -> Result<Option<St
     }
 }
 
-/// The aggregation of the only word of this name, or none if no word has it.
+/// Reads the aggregation of the only word with this name, or none if no word has it.
 pub fn aggregation_named(
     alloc: Global,
     words: &[&str],

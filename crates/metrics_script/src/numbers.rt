@@ -8,7 +8,7 @@ ghost use Rattle.metrics_script.specs.Refusals.{StandsForNothing};
 use crate::refusals::Refusal;
 use opentelemetry_sdk::metrics::provider::NumberValue;
 
-/// A number without a sign.
+/// Reads a number without a sign.
 pub fn unsigned(word: &str) -> Result<u64, Refusal>
     ensures number { OkIff result (IsUnsigned word.now) (digits_value 10 word.now) }
     ensures refused { IsOkUnless result Refusal.BadCommand }
@@ -22,7 +22,7 @@ pub fn unsigned(word: &str) -> Result<u64, Refusal>
     }
 }
 
-/// A number with an optional minus.
+/// Reads a number with an optional minus.
 pub fn signed(word: &str) -> Result<i64, Refusal>
     ensures number { OkIff result (IsSigned word.now) (signed_digits_value 10 word.now) }
     ensures refused { IsOkUnless result Refusal.BadCommand }
@@ -36,7 +36,7 @@ pub fn signed(word: &str) -> Result<i64, Refusal>
     }
 }
 
-/// The number of a meter, an instrument or a reader.
+/// Reads the number of a meter, an instrument or a reader, or a limit.
 pub fn index(word: &str) -> Result<usize, Refusal>
     ensures number { OkIff result (IsUnsigned word.now) (digits_value 10 word.now) }
     ensures refused { IsOkUnless result Refusal.BadCommand }
@@ -47,7 +47,7 @@ pub fn index(word: &str) -> Result<usize, Refusal>
     }
 }
 
-/// A value: `u:` and a number without a sign, or `i:` and one with an optional minus.
+/// Reads a value: `u:` and a number without a sign, or `i:` and one with an optional minus.
 pub fn value(word: &str) -> Result<NumberValue, Refusal>
     ensures number { IfOk result (IsNumberWord word.now) }
     ensures meaningless { OnErr result (StandsForNothing IsNumberWord word.now) }

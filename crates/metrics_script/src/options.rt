@@ -18,7 +18,7 @@ pub struct Options {
     pub boundaries: Option<Items<i64>>,
 }
 
-/// The options of a `build` line, each given at most once.
+/// Reads the options of a `build` line, each of which may be given at most once.
 pub fn options_of(alloc: Global, words: &[&str]) -> Result<Options, Refusal>
     ensures options { IfOk result (ReadsOptions (map (λ word. word.now) words.now)) }
 {
@@ -34,7 +34,7 @@ pub fn options_of(alloc: Global, words: &[&str]) -> Result<Options, Refusal>
 }
 
 impl Options {
-    /// Takes in one more word.
+    /// Takes in another word.
     fn add_word(&mut self, alloc: Global, word: &str) -> Result<(), Refusal>
         ensures added { OnOk result (AddsWord word.now self.old self.new) }
     {
@@ -50,7 +50,7 @@ impl Options {
     }
 }
 
-/// Sets an option that wasn't given before.
+/// Sets an option, unless it was given before.
 pub fn set_once<T: Drop>(option: &mut Option<T>, value: T) -> Result<(), Refusal>
     ensures once { OkIff result (option.old ≡ None) tt }
     ensures set { OnOk result (option.new ≡ Some value) }

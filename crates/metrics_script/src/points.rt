@@ -1,4 +1,4 @@
-//! What a script prints of the points of a metric.
+//! What a script prints for the points of a metric.
 
 use crate::printing::{write_attributes, write_name};
 use opentelemetry_sdk::common::KeyValue;
@@ -12,7 +12,7 @@ use std::io;
 use std::io::Write;
 use std::slice::Iter;
 
-/// Whose points are printed: a metric of a scope.
+/// The metric whose points are printed, and its scope.
 #[derive(Clone, Copy)]
 struct Heading<'a> {
     scope: &'a str,
@@ -31,7 +31,7 @@ pub fn write_metric<W: Write>(output: &mut W, scope: &str, metric: &Metric) -> i
     }
 }
 
-/// Prints the points of a metric of one number type.
+/// Prints the points of a metric, which are of one number type.
 fn write_points<W: Write, T: Copy + Display>(
     output: &mut W,
     heading: Heading<'_>,
@@ -100,7 +100,7 @@ fn write_histogram<W: Write, T: Copy + Display>(
     Ok(())
 }
 
-/// Prints what a point of a histogram has beside its attributes, and ends the line.
+/// Prints what a point of a histogram has besides its attributes, and ends the line.
 fn write_spread<W: Write, T: Copy + Display>(
     output: &mut W,
     point: &HistogramDataPoint<T>,
@@ -116,7 +116,7 @@ fn write_spread<W: Write, T: Copy + Display>(
     writeln!(output)
 }
 
-/// Prints a number, or `none`.
+/// Prints a number, or `none` if there is none.
 fn write_or_none<W: Write, T: Copy + Display>(output: &mut W, number: Option<T>) -> io::Result<()> {
     match number {
         Some(number) => write!(output, "{number}"),
@@ -124,7 +124,7 @@ fn write_or_none<W: Write, T: Copy + Display>(output: &mut W, number: Option<T>)
     }
 }
 
-/// Prints the counts of buckets, joined by commas; a hyphen where there are none.
+/// Prints the counts of buckets, joined by commas, or a hyphen if there are none.
 fn write_counts<W: Write>(output: &mut W, counts: Iter<'_, u64>) -> io::Result<()> {
     if counts.len() == 0 {
         return write!(output, "-");
@@ -156,7 +156,7 @@ fn write_value<W: Write, T: Copy + Display>(
     writeln!(output, " {value}")
 }
 
-/// How points relate to those of the collection before.
+/// Returns the word for how points relate to those of the collection before.
 fn temporality_word(temporality: Temporality) -> &'static str {
     match temporality {
         Temporality::Cumulative => "cumulative",
@@ -165,7 +165,7 @@ fn temporality_word(temporality: Temporality) -> &'static str {
     }
 }
 
-/// How many points a collection has.
+/// Counts the points of a collection.
 pub fn count_points(collected: &ResourceMetrics) -> usize {
     let mut count = 0usize;
     for scope in collected.scope_metrics() {
@@ -174,7 +174,7 @@ pub fn count_points(collected: &ResourceMetrics) -> usize {
     count
 }
 
-/// How many points a scope has.
+/// Counts the points of a scope.
 fn count_scope(scope: &ScopeMetrics) -> usize {
     let mut count = 0usize;
     for metric in scope.metrics() {
@@ -183,7 +183,7 @@ fn count_scope(scope: &ScopeMetrics) -> usize {
     count
 }
 
-/// How many points a metric has.
+/// Counts the points of a metric.
 fn count_metric(metric: &Metric) -> usize {
     match metric.data() {
         AggregatedMetrics::U64(points) => count_data(points),
@@ -191,7 +191,7 @@ fn count_metric(metric: &Metric) -> usize {
     }
 }
 
-/// How many points there are, of one number type.
+/// Counts points of one number type.
 fn count_data<T>(points: &MetricData<T>) -> usize {
     match points {
         MetricData::Gauge(gauge) => gauge.data_points().len(),

@@ -1,4 +1,4 @@
-//! What a script prints: a line for each reply, and one for each point.
+//! What a script prints: a line for each reply and one for each point.
 
 use crate::points::{count_points, write_metric};
 use opentelemetry_sdk::common::{Array, KeyValue, Value};
@@ -10,10 +10,10 @@ use std::io;
 use std::io::Write;
 use std::slice::Iter;
 
-/// The bytes that are printed as `%` and two hexadecimal digits, beside those outside ASCII.
+/// The ASCII bytes that are printed as `%` and two hexadecimal digits; so are all bytes outside ASCII.
 const ESCAPED: AsciiSet = ascii_set!(CONTROLS.add(b' ').add(b'%').add(b',').add(b'='));
 
-/// A text as it is printed.
+/// The text as it is printed.
 fn escaped(text: &str) -> PercentEncode<'_> {
     utf8_percent_encode(text, ESCAPED)
 }
@@ -34,7 +34,7 @@ pub fn write_reply<W: Write>(output: &mut W, reply: &Reply) -> io::Result<()> {
     }
 }
 
-/// Prints the number of points and the points, by scopes and metrics.
+/// Prints the number of points, then the points by scope and metric.
 fn write_collected<W: Write>(output: &mut W, collected: &ResourceMetrics) -> io::Result<()> {
     let count = count_points(collected);
     writeln!(output, "collected {count}")?;
@@ -52,7 +52,7 @@ fn write_scope<W: Write>(output: &mut W, scope: &ScopeMetrics) -> io::Result<()>
     Ok(())
 }
 
-/// Prints the name of a scope or a metric; the empty one is a hyphen.
+/// Prints the name of a scope or a metric. The empty name is printed as a hyphen.
 pub fn write_name<W: Write>(output: &mut W, name: &str) -> io::Result<()> {
     match name {
         "" => write!(output, "-"),
@@ -61,7 +61,7 @@ pub fn write_name<W: Write>(output: &mut W, name: &str) -> io::Result<()> {
     }
 }
 
-/// Prints attributes as a script has them.
+/// Prints attributes as they stand in a script.
 pub fn write_attributes<W: Write>(
     output: &mut W,
     attributes: Iter<'_, KeyValue>,
@@ -79,7 +79,7 @@ pub fn write_attributes<W: Write>(
     Ok(())
 }
 
-/// Prints a value as a script has it. A script has no arrays: their items stand in semicolons.
+/// Prints a value as it stands in a script. A script has no arrays; each item of one is followed by a semicolon.
 fn write_value<W: Write>(output: &mut W, value: &Value) -> io::Result<()> {
     match value {
         Value::Bool(value) => write!(output, "b:{value}"),

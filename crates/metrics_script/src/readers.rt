@@ -23,8 +23,8 @@ use opentelemetry_sdk::metrics::{
 use std::alloc::Global;
 use std::str::FromStr;
 
-/// The reader of a line: its temporality, and what it wants for the kinds of instruments. A kind's
-/// own limit wins over the one for all kinds.
+/// Reads the reader of a line: its temporality, and what it wants for each kind of instrument. A kind's own limit wins
+/// over the one for all kinds.
 pub fn reader_of(
     alloc: Global,
     temporality: &str,
@@ -44,7 +44,7 @@ pub fn reader_of(
     Ok(builder.build())
 }
 
-/// The temporality of a word.
+/// Reads the temporality of a word.
 fn temporality_of(word: &str) -> Result<Temporality, Refusal>
     ensures temporality { IfOk result (λ temporality. temporality_named word.now ≡ Ok temporality) }
     ensures meaningless { OnErr result (StandsForNothing (λ word temporality. temporality_named word ≡ Ok temporality) word.now) }
@@ -56,7 +56,7 @@ fn temporality_of(word: &str) -> Result<Temporality, Refusal>
     }
 }
 
-/// Whether each of the words says something of a reader.
+/// Whether each of the words says something about a reader.
 fn are_reader_options(words: &[&str]) -> bool
     ensures { result ≡ list_all (has_name_of reader_names) (map (λ word. word.now) words.now) }
 {
@@ -82,8 +82,8 @@ fn are_reader_options(words: &[&str]) -> bool
     )
 }
 
-/// The builder with the limit and the aggregation that the options give for a kind; `limit` is the
-/// one for all kinds.
+/// Returns the builder with the limit and the aggregation that the options give for a kind; `limit` is the one for all
+/// kinds.
 fn with_options_of(
     alloc: Global,
     builder: ManualReaderBuilder,
@@ -102,7 +102,7 @@ fn with_options_of(
     Ok(with_aggregation(builder, kind, aggregation))
 }
 
-/// The limit of the only word of this name, or none if no word has it.
+/// Reads the limit of the only word with this name, or none if no word has it.
 fn limit_named(words: &[&str], name: &str) -> Result<Option<CardinalityLimit>, Refusal>
     ensures limit { IfOk result (ReadsOption IsLimitWord name.now (map (λ word. word.now) words.now)) }
     ensures meaningless { OnErr result (ReadsNothing IsLimitWord name.now (map (λ word. word.now) words.now)) }
@@ -114,7 +114,7 @@ fn limit_named(words: &[&str], name: &str) -> Result<Option<CardinalityLimit>, R
     }
 }
 
-/// The limit of a word.
+/// Reads the limit of a word.
 fn limit_of_word(word: &str) -> Result<CardinalityLimit, Refusal>
     ensures limit { IfOk result (IsLimitWord word.now) }
     ensures meaningless { OnErr result (StandsForNothing IsLimitWord word.now) }
@@ -126,7 +126,7 @@ fn limit_of_word(word: &str) -> Result<CardinalityLimit, Refusal>
     }
 }
 
-/// The builder with this limit for a kind, if there is one.
+/// Returns the builder with this limit for a kind, if there is one.
 fn with_limit(
     builder: ManualReaderBuilder,
     kind: InstrumentKind,
@@ -143,7 +143,7 @@ fn with_limit(
     }
 }
 
-/// The builder with this aggregation for a kind, if there is one.
+/// Returns the builder with this aggregation for a kind, if there is one.
 fn with_aggregation(
     builder: ManualReaderBuilder,
     kind: InstrumentKind,

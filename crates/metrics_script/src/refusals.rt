@@ -11,7 +11,7 @@ use std::alloc::{AllocError, AllocFailed};
 /// Why a line of a script can't be read.
 #[derive(Clone, Copy, Debug, PartialEq, Eq)]
 pub enum Refusal {
-    /// The line is no line of a script.
+    /// The line is not a line of a script.
     BadCommand,
     /// There is no memory for what the line says.
     OutOfMemory,
@@ -33,7 +33,7 @@ impl<T: Drop> From<AllocFailed<T>> for Refusal {
     }
 }
 
-/// Only for what is refused for want of memory alone, as the building of a scope.
+/// Only for what is refused only for want of memory, such as the building of a scope.
 impl From<Fault> for Refusal {
     ghost from_gives = { λ _ refusal. refusal ≡ OutOfMemory };
 

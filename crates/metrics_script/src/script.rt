@@ -1,4 +1,4 @@
-//! The reading, running and answering of a script, over any reader and writers.
+//! Reads a script, runs it and prints its replies, with any reader and writers.
 
 use crate::failures::Failure;
 use crate::printing::write_reply;
@@ -8,12 +8,10 @@ use opentelemetry_sdk::metrics::provider::Reply;
 use std::alloc::Global;
 use std::io::{BufWriter, ErrorKind, Read, Write};
 
-/// Reads a script, runs it and prints the replies: all input is read and all lines are tested
-/// before anything is run.
+/// Reads a script, runs it and prints the replies. All input is read and all lines are checked before anything is run.
 ///
-/// Answers the status: 0 where the script ran to its end, also if calls were refused; 2 for a bad
-/// line; 3 for want of memory for something that is no call's reply; 4 for a read or a write that
-/// failed.
+/// Returns the status: 0 if the script ran to its end, even if calls were refused; 2 for a bad line; 3 for want of
+/// memory for something other than a call's reply; 4 for a read or a write that failed.
 pub fn script<R: Read + Drop, W: Write + Drop, E: Write + Drop>(
     alloc: Global,
     input: R,
@@ -23,14 +21,14 @@ pub fn script<R: Read + Drop, W: Write + Drop, E: Write + Drop>(
     match run_script(alloc, input, output) {
         Ok(()) => 0,
         Err(failure) => {
-            // The status stays as it is if this fails.
+            // If this fails, the status stays the same.
             let _ = writeln!(errors, "{failure}");
             failure.status()
         }
     }
 }
 
-/// The same without the last word on standard error.
+/// Does the same without the message on standard error.
 fn run_script<R: Read + Drop, W: Write + Drop>(
     alloc: Global,
     input: R,
@@ -54,7 +52,7 @@ fn run_script<R: Read + Drop, W: Write + Drop>(
     write_replies(alloc, output, replies.as_slice())
 }
 
-/// All that the reader has.
+/// Reads all that the reader has.
 fn read_all<R: Read + Drop>(alloc: Global, mut input: R) -> Result<Vec<u8>, Failure> {
     let mut bytes = Vec::new(alloc);
     match input.read_to_end(&mut bytes) {
@@ -66,7 +64,7 @@ fn read_all<R: Read + Drop>(alloc: Global, mut input: R) -> Result<Vec<u8>, Fail
     }
 }
 
-/// Prints the replies. After a write that failed nothing more is written.
+/// Prints the replies. After a write that failed, nothing more is written.
 fn write_replies<W: Write + Drop>(
     alloc: Global,
     output: W,
@@ -83,7 +81,7 @@ fn write_replies<W: Write + Drop>(
     }
 }
 
-/// Prints the replies and passes all of them on.
+/// Prints the replies and flushes the writer.
 fn write_and_flush<W: Write>(output: &mut W, replies: &[Reply]) -> std::io::Result<()> {
     for reply in replies {
         write_reply(output, reply)?;

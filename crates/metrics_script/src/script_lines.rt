@@ -1,4 +1,4 @@
-//! A whole script: what stands before `go`, and the calls after it.
+//! A whole script: what comes before `go`, and the calls after it.
 
 use crate::calls::{call_of, collect_of, observed_of};
 use crate::failures::Failure;
@@ -10,8 +10,7 @@ use opentelemetry_sdk::metrics::provider::{Call, Observed};
 use std::alloc::{AllocError, Global};
 use std::mem::replace;
 
-/// What a script asks for: the provider's readers and views, each in the order of their lines, and
-/// the calls.
+/// What a script asks for: the provider's readers and views, each in the order of their lines, and the calls.
 #[derive(Drop)]
 pub struct Script {
     pub readers: Vec<ManualReader>,
@@ -19,19 +18,19 @@ pub struct Script {
     pub calls: Vec<Call>,
 }
 
-/// A script that is read line by line.
+/// A script that is being read, line by line.
 #[derive(Drop)]
 struct Reading {
     script: Script,
-    /// Whether the line `go` was there.
+    /// Whether the line `go` has been read.
     is_started: bool,
-    /// What was observed since the last call, for the next collection.
+    /// What has been observed since the last call, for the next collection.
     observations: Vec<Observed>,
 }
 
-/// The script that these bytes are, or the number of its first bad line.
+/// Reads the script of these bytes, or returns the number of its first bad line.
 ///
-/// A script without `go`, and one that ends with observations, is bad at the line after its last.
+/// A script without `go`, or one that ends with observations, is bad at the line after its last one.
 pub fn script_of(alloc: Global, input: &[u8]) -> Result<Script, Failure> {
     let mut reading = Reading {
         script: Script {
@@ -61,12 +60,12 @@ fn without_end(line: &[u8]) -> &[u8] {
     line.strip_suffix(b"\n").unwrap_or(line)
 }
 
-/// Whether the line says nothing: it has spaces alone, or begins with `#`.
+/// Whether the line is skipped: it has only spaces, or begins with `#`.
 fn is_skipped(line: &[u8]) -> bool {
     line.first() == Some(&b'#') || line.iter().all(|byte| *byte == b' ')
 }
 
-/// The words of a line, which stand between runs of spaces.
+/// The words of a line, which are separated by runs of spaces.
 fn words_of(alloc: Global, line: &str) -> Result<Vec<&str>, AllocError> {
     line.split(' ')
         .filter(|word| !word.is_empty())
@@ -89,8 +88,8 @@ impl Reading {
         self.set_up(alloc, words.as_slice())
     }
 
-    /// Takes in the words of a line after `go`. Observations wait for the next collection, before which no other call
-    /// may stand.
+    /// Takes in the words of a line after `go`. Observations wait for the next collection; no other call may come
+    /// before it.
     fn go_on(&mut self, alloc: Global, words: &[&str]) -> Result<(), Refusal> {
         match words {
             ["observe", instrument, number, attributes] => {

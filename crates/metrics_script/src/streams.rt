@@ -17,7 +17,7 @@ use opentelemetry_sdk::common::Key;
 use opentelemetry_sdk::metrics::{Aggregation, Stream, StreamBuilder};
 use std::alloc::Global;
 
-/// The stream that these words ask for, each with another name. Its settings have to be good.
+/// Reads the stream that these words ask for, each with another name. Its settings must be good.
 pub fn stream_of(alloc: Global, words: &[&str]) -> Result<Stream, Refusal>
     ensures stream { IfOk result (ReadsStream (map (λ word. word.now) words.now)) }
     ensures meaningless { IfErr result (λ refusal. refusal ≡ Refusal.BadCommand → SaysNoStream (map (λ word. word.now) words.now)) }
@@ -41,7 +41,7 @@ pub fn stream_of(alloc: Global, words: &[&str]) -> Result<Stream, Refusal>
     }
 }
 
-/// The limit, if one is given.
+/// Reads the limit, if there is one.
 fn limit_of(words: &[&str]) -> Result<Option<usize>, Refusal>
     ensures limit { IfOk result (ReadsOption IsIndexWord (codes "limit") (map (λ word. word.now) words.now)) }
     ensures meaningless { OnErr result (ReadsNothing IsIndexWord (codes "limit") (map (λ word. word.now) words.now)) }
@@ -53,7 +53,7 @@ fn limit_of(words: &[&str]) -> Result<Option<usize>, Refusal>
     }
 }
 
-/// The keys that are kept, if they are given.
+/// Reads the keys that are kept, if they are given.
 fn allowed_keys_of(alloc: Global, words: &[&str]) -> Result<Option<Vec<Key>>, Refusal>
     ensures keys { IfOk result (λ keys. ReadsOption ReadsKeys (codes "keys") (map (λ word. word.now) words.now) (option_map (λ keys. keys.items) keys)) }
     ensures meaningless { IfErr result (λ refusal. refusal ≡ Refusal.BadCommand → ReadsNothing ReadsKeys (codes "keys") (map (λ word. word.now) words.now)) }

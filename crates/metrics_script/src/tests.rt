@@ -1,4 +1,4 @@
-//! Tests of the whole program over memory.
+//! Tests of the whole program, in memory.
 
 use crate::script::script;
 use std::alloc::Global;
@@ -17,7 +17,7 @@ mod sorts;
 mod views;
 mod words;
 
-/// What the program wrote, and the status that it answered.
+/// What the program wrote, and the status that it returned.
 #[derive(Drop)]
 struct Outcome {
     status: u8,

@@ -10,7 +10,7 @@ use crate::refusals::Refusal;
 use percent_encoding::percent_decode_str;
 use std::alloc::Global;
 
-/// The text that stands for itself but for escapes: `%` and two hexadecimal digits are one byte.
+/// Decodes a text, in which `%` and two hexadecimal digits stand for one byte and all else stands for itself.
 pub fn unescaped(alloc: Global, escaped: &str) -> Result<String, Refusal>
     ensures text { IfOk result (λ text. string_bytes text ≡ percent_decode escaped.now) }
     ensures utf8 { IsUtf8 (percent_decode escaped.now) → IsOkUnless result Refusal.OutOfMemory }
@@ -20,7 +20,7 @@ pub fn unescaped(alloc: Global, escaped: &str) -> Result<String, Refusal>
     Ok(text.into_owned(alloc)?)
 }
 
-/// The text of a word: the word `-` alone is the empty text, any other has escapes.
+/// Reads the text of a word: the word `-` alone is the empty text, any other may have escapes.
 pub fn text_of_word(alloc: Global, word: &str) -> Result<String, Refusal>
     ensures text { IfOk result (λ text. string_bytes text ≡ text_of_word word.now) }
     ensures utf8 { IsUtf8 (text_of_word word.now) → IsOkUnless result Refusal.OutOfMemory }

@@ -13,10 +13,10 @@ use opentelemetry_sdk::metrics::view::View;
 use opentelemetry_sdk::metrics::{Instrument, Stream};
 use std::alloc::Global;
 
-/// A view that has one stream for all of its instruments.
+/// A view that gives all of its instruments the same settings of a stream.
 #[derive(Drop)]
 pub struct NamedView {
-    /// The name of its instruments; without one all are its own.
+    /// The name of its instruments; without one, all instruments are its own.
     pub name: Option<StringValue>,
     pub stream: Stream,
 }
@@ -36,7 +36,7 @@ impl View for NamedView {
 }
 
 impl NamedView {
-    /// Whether an instrument of this name is one of the view's.
+    /// Whether an instrument with this name is one of the view's.
     fn selects(&self, name: &str) -> bool
         ensures { result ≡ selects self.now.name name.now }
     {
@@ -47,7 +47,7 @@ impl NamedView {
     }
 }
 
-/// The view of a line: which instruments it is for, and what it says of their stream.
+/// Reads the view of a line: which instruments it is for, and what it says about their streams.
 pub fn view_of(alloc: Global, selector: &str, options: &[&str]) -> Result<NamedView, Refusal>
     ensures view { IfOk result (ReadsView selector.now (map (λ word. word.now) options.now)) }
     ensures meaningless { IfErr result (λ refusal. refusal ≡ Refusal.BadCommand → StandsForNothing IsSelectorWord selector.now ⊎ SaysNoStream (map (λ word. word.now) options.now)) }
@@ -58,7 +58,7 @@ pub fn view_of(alloc: Global, selector: &str, options: &[&str]) -> Result<NamedV
     })
 }
 
-/// The name of a view's instruments, or none where the word is `*`.
+/// Reads the name of a view's instruments, or none if the word is `*`.
 fn name_of(alloc: Global, word: &str) -> Result<Option<StringValue>, Refusal>
     ensures name { IfOk result (IsSelectorWord word.now) }
     ensures meaningless { IfErr result (λ refusal. refusal ≡ Refusal.BadCommand → StandsForNothing IsSelectorWord word.now) }

@@ -1,16 +1,16 @@
-//! Metrics: a provider hands out meters, meters make instruments, instruments take in records, and
-//! each reader collects their sums as points by scope, metric and set of attributes.
+//! Metrics: a provider hands out meters, meters make instruments, instruments take in records, and each reader collects
+//! what was recorded, as points by scope, metric and set of attributes.
 //!
-//! This crate gives the modules of the crates below under one roof:
+//! This crate gathers the modules of the crates below it:
 //!
 //! - [`common`]: attributes and their canonical sets, instrumentation scopes, faults;
 //! - [`resource`]: what all the metrics of a provider come from;
 //! - [`metrics`]: the provider and its calls, checks of instruments, views and settings of streams, readers, the data
 //!   of a collection, aggregation.
 //!
-//! A provider is made by its builder, from views and readers in boxes. Then it is asked by calls, each of which
-//! is answered by a reply; a refused call changes nothing. A counter that takes in two records and is
-//! collected:
+//! A builder makes a provider from views and readers in boxes. Then calls are made on the provider, and each of them
+//! has a reply. A refused call changes nothing, except for a flush or a shutdown in which readers failed. Here a
+//! counter takes in two records and is collected:
 //!
 //! ```
 //! let reader = Box::new(alloc, ManualReader::default())?;

@@ -1,4 +1,4 @@
-//! The provider of meters and what belongs to it.
+//! The provider of meters, and what belongs to it.
 
 pub mod callback;
 pub mod instrument;

@@ -1,4 +1,4 @@
-//! Tests that cross the crates.
+//! Tests that span the crates.
 
 mod callbacks;
 mod calls;

@@ -1,4 +1,4 @@
--- A stream of any aggregate and either number type.
+-- A stream with any aggregate and either number type.
 use Rattle.std.specs.Prelude.{ℕ, ℤ, pos, ◌≡◌, Bool, true, false, not, cond, ◌&&◌, ◌||◌, is_some, List, [], Option, None}
 use Rattle.std.specs.Bool.{beq}
 use Rattle.std.specs.Int.{cast_unsigned, w64}
@@ -21,9 +21,9 @@ use Rattle.otel_aggregate.specs.Data.{sum_data, gauge_data, histogram_data}
 use Rattle.otel_aggregate.specs.Streams.{StreamState, HeldStream, new_stream, points_now, stream_after_collection, stream_after_commit, stream_after_bind, stream_after_update, stream_after_unbind}
 use Rattle.otel_aggregate.specs.Observed.{ObservedState, HeldObserved, drained_at, observed_data}
 
--- whether its numbers are signed, the stream, its live handles, the set of the record or bind that is prepared, whether room
--- is made for a handle, whether each collection empties it, as one of observed sums, and what such a stream reported in the
--- last one. One of observed sums has no handles
+-- whether its numbers are signed; the stream; its live handles; the set of the prepared record or bind, if any; whether
+-- room is made for a handle; whether each collection empties it, as it does observed sums; and what a stream of these
+-- reported in the last collection. A stream of observed sums has no handles
 pub record HeldAny : Type 0 where
   pub is_signed : Bool
   pub state : StreamState
@@ -40,7 +40,7 @@ aggregate_of (settings.PrecomputedSum is_monotonic) = LastValue
 aggregate_of settings.LastValue = LastValue
 aggregate_of (settings.Histogram s) = Histogram s.bounds s.has_min_max s.has_sum
 
--- whether only values of at least 0 are added
+-- whether it is a sum to which only values of at least 0 are added
 abbrev pub is_monotonic_of : AnySettings → Bool
 is_monotonic_of (settings.Sum is_monotonic) = is_monotonic
 is_monotonic_of (settings.PrecomputedSum is_monotonic) = is_monotonic
@@ -54,18 +54,18 @@ drains_of (settings.PrecomputedSum is_monotonic) = true
 drains_of settings.LastValue = false
 drains_of (settings.Histogram s) = false
 
--- whether a value is of the signed number type
+-- whether a value is of the signed number type, `i64`
 abbrev pub is_signed_value : NumberValue → Bool
 is_signed_value (number.U64 n) = false
 is_signed_value (number.I64 z) = true
 
--- a value as the model's
+-- a value in the words of the model
 abbrev pub amount_of : NumberValue → Amount
 amount_of (number.U64 n) = record { bits = n; wide = pos n }
 amount_of (number.I64 z) = record { bits = cast_unsigned w64 z; wide = z }
 
 -- ======== streams ========
--- one without records of these settings, of this limit, made at this moment
+-- a stream without records, with these settings and this limit, made at this moment
 abbrev pub new_any : AnySettings → Bool → AllowList → Bool → ℕ → ℕ → HeldAny
 new_any s is_signed allow resets limit start = record {
   is_signed = is_signed;
@@ -77,66 +77,68 @@ new_any s is_signed allow resets limit start = record {
   reported = [];
 }
 
--- one of one number type
+-- a stream with one number type, which collections do not empty
 abbrev pub of_type : Bool → HeldStream → HeldAny
 of_type is_signed s = record { is_signed = is_signed; state = s.state; live = s.live; pending = s.pending; room = s.room; drains = false; reported = [] }
 
--- observed sums of one number type
+-- a stream of observed sums with one number type
 abbrev pub of_observed : Bool → HeldObserved → HeldAny
 of_observed is_signed s = record { is_signed = is_signed; state = s.state.stream; live = []; pending = s.pending; room = false; drains = true; reported = s.state.reported }
 
--- the stream by itself
+-- the stream alone
 abbrev pub stream_in : HeldAny → HeldStream
 stream_in a = record { state = a.state; live = a.live; pending = a.pending; room = a.room }
 
--- with this one in its place
+-- with this stream in its place
 abbrev pub with_stream : HeldAny → HeldStream → HeldAny
 with_stream a s = record a { state = s.state; live = s.live; pending = s.pending; room = s.room }
 
 -- ======== records ========
--- after the record that is prepared, if there is one, of a value that has the stream's number type
+-- after the prepared record, if there is one, of a value; a stream of the other number type doesn't change
 abbrev pub any_after_commit : NumberValue → HeldAny → HeldAny
 any_after_commit value a = cond (beq (is_signed_value value) a.is_signed) (with_stream a (stream_after_commit (amount_of value) (stream_in a))) a
 
--- whether a record is made so
+-- whether that makes a record
 abbrev pub is_taken : NumberValue → HeldAny → Bool
 is_taken value a = beq (is_signed_value value) a.is_signed && is_some a.pending
 
 -- ======== handles ========
--- once room is made for a handle
+-- with room made for a handle; in a stream of observed sums there is none
 abbrev pub any_with_room : HeldAny → HeldAny
 any_with_room a = record a { room = not a.drains }
 
--- after the bind that is prepared, as this handle, where room is made and the handle isn't live
+-- after the prepared bind as this handle, if room is made and no such handle is live; a stream of observed sums
+-- doesn't change
 abbrev pub any_after_bind : ℕ → HeldAny → HeldAny
 any_after_bind h a = cond a.drains a (with_stream a (stream_after_bind h (stream_in a)))
 
--- after a record through a handle, if it is live, of a value that has the stream's number type
+-- after a record through this handle, if it is live, of a value; what was prepared is given up. A stream of observed
+-- sums doesn't change, nor does one of the other number type
 abbrev pub any_after_update : ℕ → NumberValue → HeldAny → HeldAny
 any_after_update h value a = cond (not a.drains && beq (is_signed_value value) a.is_signed) (with_stream a (stream_after_update h (amount_of value) (stream_in a))) a
 
--- whether a record is made so
+-- whether that makes a record; a stream of observed sums has no live handles
 abbrev pub is_updated : ℕ → NumberValue → HeldAny → Bool
 is_updated h value a = beq (is_signed_value value) a.is_signed && is_some (held_by h a.live)
 
--- after the end of a handle, if it is live
+-- after the end of this handle, if it is live; what was prepared is given up. A stream of observed sums doesn't change
 abbrev pub any_after_unbind : ℕ → HeldAny → HeldAny
 any_after_unbind h a = cond a.drains a (with_stream a (stream_after_unbind h (stream_in a)))
 
 -- ======== collections ========
--- what a collection at a moment gives, by its aggregate
+-- what a collection at a moment gives of a stream, by its aggregate
 module _ {T : Type 0} (of_bits : ℕ → T) (of_whole : ℤ → T) where
   abbrev pub data_of : Aggregate → ℕ → StreamState → MetricData T
   data_of Sum now a = metric.Sum (sum_data of_bits of_whole now a)
   data_of LastValue now a = metric.Gauge (gauge_data of_bits of_whole now a)
   data_of (Histogram bounds has_min_max has_sum) now a = metric.Histogram (histogram_data of_bits of_whole now a)
 
--- and by its number type
+-- the same, by its number type
 abbrev pub metrics_of : Bool → ℕ → StreamState → AggregatedMetrics
 metrics_of false now a = metrics.U64 (data_of (λ n. n) natural_of a.aggregate now a)
 metrics_of true now a = metrics.I64 (data_of signed_of (λ z. z) a.aggregate now a)
 
--- the stream as one of observed sums
+-- the stream, as one of observed sums
 abbrev pub observed_in : HeldAny → ObservedState
 observed_in a = record { stream = a.state; reported = a.reported }
 
@@ -145,28 +147,28 @@ abbrev pub observed_metrics : Bool → ℕ → ObservedState → AggregatedMetri
 observed_metrics false now a = metrics.U64 (metric.Sum (observed_data (λ n. n) natural_of now a))
 observed_metrics true now a = metrics.I64 (metric.Sum (observed_data signed_of (λ z. z) now a))
 
--- what a collection at a moment gives
+-- what a collection at a moment gives of any stream
 abbrev pub metrics_now : ℕ → HeldAny → AggregatedMetrics
 metrics_now now a = cond a.drains (observed_metrics a.is_signed now (observed_in a)) (metrics_of a.is_signed now a.state)
 
--- the points whose total is told; of observed sums the values, and not the differences that are shown
+-- the points that are added up to the total of a collection: of observed sums the values, not the differences shown
 abbrev pub any_points : HeldAny → List Point
 any_points a = cond a.drains (draining_points a.state.map_state) (points_now a.state)
 
--- with observed sums in its place
+-- with this stream of observed sums in its place
 abbrev pub with_observed : HeldAny → ObservedState → HeldAny
 with_observed a s = record a { state = s.stream; reported = s.reported }
 
--- the state after a collection at a moment
+-- the stream after a collection at a moment, but for what was prepared
 abbrev pub state_after_collection : ℕ → HeldAny → HeldAny
 state_after_collection now a = cond a.drains (with_observed a (drained_at now (observed_in a))) (record a { state = stream_after_collection now a.state })
 
--- after a collection at a moment: where it empties the stream or starts it again, a record that was prepared is given up
+-- after a collection at a moment; if it empties or resets the stream, what was prepared is given up
 abbrev pub any_after_collection : ℕ → HeldAny → HeldAny
 any_after_collection now a = record (state_after_collection now a) { pending = cond (a.drains || a.state.resets) None a.pending }
 
 -- ======== saved entries ========
--- what a stream keeps of the records of a set: their sum, the last of them, or how they spread
+-- what a stream keeps of a set's records: their sum, the last of them, or how they spread
 pub data Form : Type 0 where
   Sums : Form
   LastValues : Form
@@ -177,22 +179,22 @@ form_of Sum = Sums
 form_of LastValue = LastValues
 form_of (Histogram bounds has_min_max has_sum) = Spreads
 
--- the entries of a stream, with the form and the number type of what it keeps of each set
+-- the entries of a stream, with its number type and the form of what it keeps of each set
 pub record HeldSaved : Type 0 where
   pub is_signed : Bool
   pub form : Form
   pub table : Table
 
--- the entries of this stream, which no handle holds
+-- the entries of this stream, without its handles
 abbrev pub saved_of : HeldAny → HeldSaved
 saved_of a = record { is_signed = a.is_signed; form = form_of a.state.aggregate; table = without_handles a.state.map_state.table }
 
--- these entries can be those of the stream: of its number type and form, where no handle is live
+-- the saved entries can replace those of the stream: the number type and the form are the same, and no handle is live
 pub record IsLike (saved : HeldSaved) (a : HeldAny) : Type 0 where
   pub number : saved.is_signed ≡ a.is_signed
   pub form : saved.form ≡ form_of a.state.aggregate
   pub unheld : a.live ≡ []
 
--- with these entries in place of its own; a record that was prepared is given up
+-- with the saved entries in place of its own; what was prepared is given up
 abbrev pub with_saved : HeldSaved → HeldAny → HeldAny
 with_saved saved a = record a { state = record a.state { map_state = record a.state.map_state { table = saved.table } }; pending = None }

@@ -12,7 +12,7 @@ use Rattle.otel_aggregate.specs.Streams.{StreamState, points_now}
 abbrev pub temporality_of : StreamState → Temporality
 temporality_of a = cond a.resets Delta Cumulative
 
--- collected at a moment; `of_bits` and `of_whole` give the number of these 64 bits and of this value
+-- collected at the moment `now`; `of_bits` makes a number of type T of its 64 bits, and `of_whole` of its value
 module _ {T : Type 0} (of_bits : ℕ → T) (of_whole : ℤ → T) where
   abbrev pub sum_data : ℕ → StreamState → Sum T
   sum_data now a = sum of_bits of_whole (temporality_of a) a.is_monotonic a.start now (points_now a)

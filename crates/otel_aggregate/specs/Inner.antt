@@ -14,7 +14,7 @@ any_of (inner.LastValueI64 s) = of_type true s
 any_of (inner.HistogramU64 s) = of_type false s
 any_of (inner.HistogramI64 s) = of_type true s
 
--- what it keeps of each set
+-- what it keeps of each set's records
 abbrev pub form_in : Inner → Form
 form_in (inner.SumU64 s) = Sums
 form_in (inner.SumI64 s) = Sums

@@ -1,5 +1,5 @@
--- A stream of sums that are observed, which are values that were summed before (Metrics SDK, "Asynchronous
--- Counter" and "MetricReader").
+-- A stream of observed sums: values that are already sums when they are observed (Metrics SDK, "Asynchronous Counter"
+-- and "MetricReader").
 use Rattle.std.specs.Prelude.{ℕ, ℤ, Bool, false, cond, List, [], map, Option, None, Some}
 use Rattle.otel_common.specs.declared.attributes.KeyValue.{KeyValue}
 use Rattle.otel_data.specs.declared.sums.Sum.{Sum}
@@ -12,17 +12,17 @@ use Rattle.otel_model_stream.specs.Data.{sum}
 use Rattle.otel_aggregate.specs.Streams.{StreamState, HeldStream, new_stream, recorded_set, recorded_attributes, stream_after_commit}
 use Rattle.otel_aggregate.specs.Data.{temporality_of}
 
--- what was observed since the last collection, and the values that a delta stream reported in that one
+-- what was observed since the last collection, and the values that a delta stream reported in that collection
 pub record ObservedState : Type 0 where
   pub stream : StreamState
   pub reported : List Point
 
--- that, and the set of the observation that is prepared
+-- that, and the set of the prepared observation, if there is one
 pub record HeldObserved : Type 0 where
   pub state : ObservedState
   pub pending : Option AttributeSet
 
--- a stream without observations, of this limit, made at this moment
+-- a stream without observations, with this limit, made at this moment
 abbrev pub new_observed : Bool → AllowList → Bool → ℕ → ℕ → ObservedState
 new_observed is_monotonic allow resets limit start = record { stream = new_stream LastValue is_monotonic allow resets limit start; reported = [] }
 
@@ -35,33 +35,33 @@ observed_set s v a = record { stream = recorded_set s v a.stream; reported = a.r
 abbrev pub observed_attributes : List KeyValue → Amount → ObservedState → ObservedState
 observed_attributes l v a = record { stream = recorded_attributes l v a.stream; reported = a.reported }
 
--- without the values that were reported
+-- the stream without the reported values
 abbrev pub stream_in : HeldObserved → HeldStream
 stream_in s = record { state = s.state.stream; live = []; pending = s.pending; room = false }
 
--- with these
+-- the stream with these reported values
 abbrev pub with_reported : List Point → HeldStream → HeldObserved
 with_reported ps s = record { state = record { stream = s.state; reported = ps }; pending = s.pending }
 
--- after the observation that is prepared, if there is one
+-- after the prepared observation, if there is one
 abbrev pub observed_after_commit : Amount → HeldObserved → HeldObserved
 observed_after_commit v s = with_reported s.state.reported (stream_after_commit v (stream_in s))
 
 -- ======== collections ========
--- the values that were observed
+-- the observed values
 abbrev pub values_now : ObservedState → List Point
 values_now a = draining_points a.stream.map_state
 
--- a value, or what it is more than the one that was reported before
+-- the point, or, given the points reported before, the point less what was reported for its set
 abbrev pub since_reported : Option (List Point) → Point → Point
 since_reported None p = p
 since_reported (Some before) p = difference before p
 
--- what a collection gives: the values; in a delta stream what each is more than the one reported before
+-- what a collection gives: the values; in a delta stream, each less what was reported for its set before
 abbrev pub sums_now : ObservedState → List Point
 sums_now a = cond a.stream.resets (map (difference a.reported) (values_now a)) (values_now a)
 
--- after a collection at a moment: nothing that was observed is left, and a delta stream has reported it
+-- after a collection at a moment: no observations are left, and a delta stream has reported them and starts again
 abbrev pub drained_at : ℕ → ObservedState → ObservedState
 drained_at now a = record {
   stream = record a.stream { map_state = drained_map a.stream.map_state; start = cond a.stream.resets now a.stream.start };

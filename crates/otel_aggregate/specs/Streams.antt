@@ -1,4 +1,5 @@
--- One stream of one reader: its map of sets, and what a collection does to it (Metrics SDK, "MetricReader").
+-- One stream of one reader: its map of sets, and what records, handles and collections do to it (Metrics SDK,
+-- "MetricReader").
 use Rattle.std.specs.Prelude.{ℕ, Bool, true, false, not, ◌&&◌, cond, List, [], ◌∷◌, ◌++◌, Option, None, Some, is_none}
 use Rattle.otel_common.specs.declared.attributes.KeyValue.{KeyValue}
 use Rattle.otel_model_stream.specs.Sets.{AttributeSet, AllowList, allowed_part, set_of}
@@ -15,19 +16,19 @@ pub record StreamState : Type 0 where
   pub resets : Bool
   pub start : ℕ
 
--- whether an aggregate keeps the least and the greatest value: none but a histogram does
+-- whether an aggregate keeps the least and the greatest value; only a histogram may
 abbrev pub keeps_min_max : Aggregate → Bool
 keeps_min_max Sum = false
 keeps_min_max LastValue = false
 keeps_min_max (Histogram bounds has_min_max has_sum) = has_min_max
 
--- whether a histogram has a sum
+-- whether an aggregate is a histogram that keeps a sum
 abbrev pub keeps_sum : Aggregate → Bool
 keeps_sum Sum = false
 keeps_sum LastValue = false
 keeps_sum (Histogram bounds has_min_max has_sum) = has_sum
 
--- a stream without records, of this limit, made at this moment
+-- a stream without records, with this limit, made at this moment
 abbrev pub new_stream : Aggregate → Bool → AllowList → Bool → ℕ → ℕ → StreamState
 new_stream aggregate is_monotonic allow resets limit start = record {
   map_state = new_map limit (empty_of aggregate);
@@ -38,14 +39,14 @@ new_stream aggregate is_monotonic allow resets limit start = record {
   start = start;
 }
 
--- a stream, its live handles, the set of the record or bind that is prepared, and whether room is made for a handle
+-- a stream, its live handles, the set of the prepared record or bind, if any, and whether room is made for a handle
 pub record HeldStream : Type 0 where
   pub state : StreamState
   pub live : Handles
   pub pending : Option AttributeSet
   pub room : Bool
 
--- what is kept of these attributes is nothing or, in its order, the set of an entry
+-- whether the allowed part of these attributes is empty or, in the order given, the set of an entry
 abbrev pub is_known : AllowList → List KeyValue → MapState → Bool
 is_known allow l m = knows (allowed_part allow l) (without_lists m)
 
@@ -57,48 +58,49 @@ recorded_set s v a = record a { map_state = measured_map s (sample_of a.aggregat
 abbrev pub recorded_attributes : List KeyValue → Amount → StreamState → StreamState
 recorded_attributes l v a = recorded_set (set_of a.allow l) v a
 
--- what a collection gives: the updated entries where the stream resets, else all
+-- what a collection gives: the updated entries if the stream resets, and otherwise all, but for the empty set's entry
+-- if that was not updated
 abbrev pub points_now : StreamState → List Point
 points_now a = points (not a.resets) a.map_state.table
 
--- after a collection at a moment
+-- after a collection at a moment, which changes only a stream that resets
 abbrev pub stream_after_collection : ℕ → StreamState → StreamState
 stream_after_collection now a = cond a.resets (record a { map_state = evicted_map a.map_state; start = now }) a
 
--- after a record of this set, if there is one, which was prepared
+-- after a prepared record of this set, if there is one
 abbrev pub taken_from : Option AttributeSet → Amount → HeldStream → HeldStream
 taken_from None v s = s
 taken_from (Some set) v s = record s { state = recorded_set set v s.state; pending = None }
 
--- after the record that is prepared, if there is one
+-- after the prepared record, if there is one
 abbrev pub stream_after_commit : Amount → HeldStream → HeldStream
 stream_after_commit v s = taken_from s.pending v s
 
 -- ======== handles ========
--- after the bind of this set, if there is one, as this handle: it uses the room
+-- after a bind of this set, if there is one, as this handle; it uses the room
 abbrev pub bind_of : Option AttributeSet → ℕ → HeldStream → HeldStream
 bind_of None h s = s
 bind_of (Some set) h s = record { state = record s.state { map_state = bound_map set s.state.map_state }; live = s.live ++ (h, bound_to set s.state.map_state) ∷ []; pending = None; room = false }
 
--- after the bind that is prepared, where room is made for a handle of this number, which isn't live
+-- after the prepared bind as the handle with this number, if room is made and no such handle is live
 abbrev pub stream_after_bind : ℕ → HeldStream → HeldStream
 stream_after_bind h s = cond (s.room && is_none (held_by h s.live)) (bind_of s.pending h s) s
 
--- after a record through a handle of the entry of this set, if there is one
+-- after a record through a handle of this set's entry, if there is a set
 abbrev pub update_at : Option AttributeSet → Amount → StreamState → StreamState
 update_at None v a = a
 update_at (Some g) v a = record a { map_state = updated_bound g (sample_of a.aggregate v) a.map_state }
 
--- through the handle of this number; what was prepared is given up
+-- after a record through the handle with this number, if it is live; what was prepared is given up
 abbrev pub stream_after_update : ℕ → Amount → HeldStream → HeldStream
 stream_after_update h v s = record s { state = update_at (held_by h s.live) v s.state; pending = None }
 
--- after the end of a handle of the entry of this set, if there is one
+-- after the end of a handle of this set's entry, if there is a set
 abbrev pub unbind_at : Option AttributeSet → StreamState → StreamState
 unbind_at None a = a
 unbind_at (Some g) a = record a { map_state = unbound_map g a.map_state }
 
--- of the handle of this number; what was prepared is given up
+-- after the end of the handle with this number, if it is live; what was prepared is given up
 abbrev pub stream_after_unbind : ℕ → HeldStream → HeldStream
 stream_after_unbind h s = record s { state = unbind_at (held_by h s.live) s.state; live = without h s.live; pending = None }
 

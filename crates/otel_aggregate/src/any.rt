@@ -28,7 +28,7 @@ use otel_value_map::hashing::SetHashBuilder;
 use std::alloc::Global;
 use std::marker::Model;
 
-/// A stream by its aggregate and number type.
+/// A stream, by its aggregate and number type.
 #[derive(Drop)]
 pub enum Inner {
     SumU64(Sum<u64>),
@@ -57,12 +57,11 @@ impl Model for AnyAggregate {
 }
 
 impl AnyAggregate {
-    /// A stream without records, of unsigned or signed numbers. `temporality` is the reader's answer:
-    /// with `Delta` each collection starts it again, with any other it goes on from `now`, the moment of
-    /// the making, in nanoseconds since 1970. Any limit is taken: with 0 every set but the empty one goes
-    /// to the overflow point.
+    /// Makes a stream without records, of unsigned or signed numbers, at the moment `now`, in nanoseconds since 1970.
+    /// `temporality` is the reader's answer: with `Delta` the stream starts again at each collection; with any other
+    /// it goes on from `now`. Any limit is accepted; with 0, every set but the empty one goes to the overflow point.
     ///
-    /// Sets are hashed with `hasher`, which nothing shows.
+    /// Sets are hashed with `hasher`, which has no visible effect.
     pub fn new(
         alloc: Global,
         hasher: SetHashBuilder,
@@ -142,13 +141,13 @@ impl AnyAggregate {
         }
     }
 
-    /// Prepares a record of these attributes, in the place of one that was prepared before. What the
-    /// stream shows stays as it was.
+    /// Prepares a record with these attributes, in place of one that was prepared before. What the stream shows stays
+    /// unchanged.
     ///
-    /// The first of two phases: a record of many streams is prepared in all of them, and then taken
-    /// in by all. It looks what is kept of the attributes up where they stand, and takes no memory
-    /// where that is nothing, or, in their order, the set of an entry: sorted by key, no key twice.
-    /// Else it copies and sorts it.
+    /// This is the first of two phases: a record for several streams is prepared in all of them and then taken in by
+    /// all. What is kept of the attributes is looked up without a copy. This takes no memory if nothing is kept, or if
+    /// what is kept is in the given order the set of an entry, sorted by key and with no key twice. If what is kept
+    /// leads to no entry as given, it is copied and sorted.
     pub fn prepare(&mut self, attributes: &[KeyValue]) -> Result<(), Fault>
         ensures same { self.new.state ≡ self.old.state }
         ensures live { self.new.live ≡ self.old.live }
@@ -189,8 +188,8 @@ impl AnyAggregate {
         }
     }
 
-    /// Takes in the record that was prepared, if there is one and the value has the stream's number type.
-    /// Answers whether it did. The second phase; it takes no memory, and looks nothing up.
+    /// Takes in the prepared record, if there is one and the value has the stream's number type, and returns whether
+    /// it did. This is the second phase; it takes no memory, and looks nothing up for a set that has an entry.
     pub fn commit(&mut self, value: NumberValue) -> bool
         ensures taken { self.new ≡ any_after_commit value self.old }
         ensures told { result ≡ is_taken value self.old }
@@ -208,7 +207,7 @@ impl AnyAggregate {
         }
     }
 
-    /// Makes room for a handle. A bind uses it. Observed sums have no handles.
+    /// Makes room for a handle, which a bind uses up. Observed sums have no handles.
     pub fn make_room(&mut self) -> Result<(), Fault>
         ensures room { OnOk result (self.new ≡ any_with_room self.old) }
         ensures refused { OnErr result (self.new ≡ self.old) }
@@ -226,8 +225,8 @@ impl AnyAggregate {
         }
     }
 
-    /// Carries out the bind that was prepared, as a handle of this number, if one was, room was made for it and no live
-    /// handle has the number. The second phase; it takes no memory.
+    /// Carries out the prepared bind for a handle with this number, if a bind is prepared, room was made for the
+    /// handle and no live handle has the number. This is the second phase; it takes no memory.
     pub fn bind_ready(&mut self, handle: u64)
         ensures bound { self.new ≡ any_after_bind handle self.old }
     {
@@ -243,9 +242,9 @@ impl AnyAggregate {
         }
     }
 
-    /// Prepares a record through a handle, if it is live, in the place of what was prepared before; else that is given
-    /// up. It looks up nothing but the handle, and takes no memory. Observed sums have no handles: they stay as they
-    /// were.
+    /// Prepares a record through a handle, if it is live, in place of what was prepared before; otherwise only gives
+    /// that up. Looks up nothing but the handle, and takes no memory. Observed sums have no handles and stay
+    /// unchanged.
     pub fn prepare_held(&mut self, handle: u64)
         ensures same { self.new.state ≡ self.old.state }
         ensures live { self.new.live ≡ self.old.live }
@@ -268,8 +267,9 @@ impl AnyAggregate {
         }
     }
 
-    /// Takes in a record through a handle, if it is live and the value has the stream's number type. Answers whether it
-    /// did. It looks up nothing but the handle and takes no memory.
+    /// Takes in a record through a handle, if it is live and the value has the stream's number type, and returns
+    /// whether it did. Looks up nothing but the handle, and takes no memory. Gives up what was prepared, except in
+    /// observed sums, which have no handles, or if the value has another type.
     pub fn update_bound(&mut self, handle: u64, value: NumberValue) -> bool
         ensures updated { self.new ≡ any_after_update handle value self.old }
         ensures told { result ≡ is_updated handle value self.old }
@@ -293,7 +293,8 @@ impl AnyAggregate {
         }
     }
 
-    /// Ends a handle, if it is live. It takes no memory, and goes over the handles that are younger.
+    /// Ends a handle, if it is live. Takes no memory, and goes over the handles made after it. Gives up what was
+    /// prepared, except in observed sums, which have no handles.
     pub fn unbind(&mut self, handle: u64)
         ensures unbound { self.new ≡ any_after_unbind handle self.old }
     {
@@ -309,8 +310,8 @@ impl AnyAggregate {
         }
     }
 
-    /// What a collection at a moment, in nanoseconds since 1970, gives: the start, the points and
-    /// `now`. The stream stays as it was. It copies each set that is shown.
+    /// What a collection at the moment `now`, in nanoseconds since 1970, gives: the start, the points and `now`. The
+    /// stream stays unchanged. Copies each set that it shows.
     pub fn points(&self, alloc: Global, now: u64) -> Result<AggregatedMetrics, Fault>
         ensures points { IfOk result (λ given. given ≡ metrics_now now self.now) }
         ensures only_memory { IsOkUnless result Fault.OutOfMemory }
@@ -351,8 +352,8 @@ impl AnyAggregate {
         }
     }
 
-    /// What the points of a collection now would add up to, modulo 2^64: of a sum the 64 bits of its
-    /// values, of a histogram how many records it counts, of last values and observed sums nothing.
+    /// What the points of a collection made now would add up to, modulo 2^64: the 64 bits of the values of a sum, the
+    /// number of records in a histogram, and 0 for last values and observed sums.
     pub fn total(&self) -> u64
         ensures { result ≡ wrap (points_total (any_points self.now)) }
     {
@@ -368,7 +369,7 @@ impl AnyAggregate {
         }
     }
 
-    /// Whether each collection starts again.
+    /// Whether the stream starts again at each collection.
     pub fn resets(&self) -> bool
         ensures { result ≡ self.now.state.resets }
     {
@@ -384,7 +385,7 @@ impl AnyAggregate {
         }
     }
 
-    /// Whether each collection empties it: a stream of observed sums.
+    /// Whether each collection empties the stream, as it does for observed sums.
     pub fn drains(&self) -> bool
         ensures { result ≡ self.now.drains }
     {
@@ -400,9 +401,9 @@ impl AnyAggregate {
         }
     }
 
-    /// Ends a collection whose points were taken, at a moment in nanoseconds since 1970: where the stream
-    /// resets, it starts again from there; where it drains, what was observed is forgotten. In both a
-    /// record that was prepared is given up.
+    /// Ends a collection, whose points were taken, at the moment `now`, in nanoseconds since 1970. If the stream
+    /// resets, it starts again from then; if it drains, what was observed is forgotten. In either case a prepared
+    /// record is given up.
     pub fn finish(&mut self, now: u64)
         ensures ended { self.new ≡ any_after_collection now self.old }
     {
@@ -418,7 +419,7 @@ impl AnyAggregate {
         }
     }
 
-    /// A copy of the entries, which no handle holds, to be restored later. It takes memory also without entries.
+    /// A copy of the entries, held by no handle, to be restored later. Takes memory even if there are no entries.
     pub fn save(&self, alloc: Global) -> Result<SavedAggregate, Fault>
         ensures saved { IfOk result (λ saved. saved ≡ saved_of self.now) }
         ensures only_memory { IsOkUnless result Fault.OutOfMemory }
@@ -438,13 +439,13 @@ impl AnyAggregate {
         Ok(SavedAggregate::of(inner))
     }
 
-    /// Puts saved entries in the place of its own, where no handle is live, and gives up a record that was prepared.
-    /// What observed sums reported stays as it was. It takes no memory.
+    /// Puts saved entries in place of the stream's own, and gives up a prepared record. No handle may be live. What
+    /// observed sums reported stays unchanged. Takes no memory.
     pub fn restore(&mut self, saved: SavedAggregate)
         requires { IsLike saved self.old }
         ensures { self.new ≡ with_saved saved self.old }
     {
-        // Tells the prover what is kept of each set, so that no entries are of another form.
+        // Tells the prover what is kept of each set, so that the saved entries can't be of another form.
         told_form(&self.inner);
         match (&mut self.inner, saved.into_inner()) {
             (Inner::SumU64(stream), SavedInner::SumU64(saved)) => stream.restore(saved),
@@ -459,7 +460,7 @@ impl AnyAggregate {
         }
     }
 
-    /// The law that no entry is held where no handle is live, and that observed sums have no handles.
+    /// The law that no entry is held if no handle is live, and that observed sums have no handles.
     pub fn told_unheld(&self)
         ensures unheld { self.now.live ≡ [] → without_handles self.now.state.map_state.table ≡ self.now.state.map_state.table }
         ensures observed { self.now.drains ≡ true → self.now.live ≡ [] }

@@ -1,4 +1,4 @@
-//! The aggregation of records.
+//! Aggregation of records.
 
 pub use crate::any::AnyAggregate;
 pub use crate::histogram::Histogram;

@@ -1,5 +1,5 @@
-//! The aggregates of records by sets of attributes: streams over a map, the sums, observed sums, last
-//! values and histograms that are such streams, and streams of any of these.
+//! Aggregates of records by set of attributes: streams over a map; sums, observed sums, last values and histograms,
+//! which are such streams; and streams of any of these.
 #![tactic(auto)]
 
 pub mod any;

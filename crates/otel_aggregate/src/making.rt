@@ -1,4 +1,4 @@
-//! What a stream of any aggregate is made of.
+//! Makes streams of each aggregate and either number type.
 
 ghost use Rattle.std.specs.Prelude.{◌≡◌, IfOk, IsOkUnless};
 ghost use Rattle.otel_common.specs.Temporalities.{resets};
@@ -19,7 +19,7 @@ use otel_common::metrics::Temporality;
 use otel_value_map::hashing::SetHashBuilder;
 use std::alloc::Global;
 
-/// Sums of unsigned or signed numbers.
+/// Makes sums of unsigned or signed numbers.
 pub fn new_sum(
     alloc: Global,
     hasher: SetHashBuilder,
@@ -42,7 +42,7 @@ pub fn new_sum(
     }
 }
 
-/// Observed sums of unsigned or signed numbers.
+/// Makes observed sums of unsigned or signed numbers.
 pub fn new_precomputed_sum(
     alloc: Global,
     hasher: SetHashBuilder,
@@ -81,7 +81,7 @@ pub fn new_precomputed_sum(
     }
 }
 
-/// Last values of unsigned or signed numbers.
+/// Makes last values of unsigned or signed numbers.
 pub fn new_last_value(
     alloc: Global,
     hasher: SetHashBuilder,
@@ -103,7 +103,7 @@ pub fn new_last_value(
     }
 }
 
-/// Histograms of unsigned or signed numbers.
+/// Makes histograms of unsigned or signed numbers.
 pub fn new_histogram(
     alloc: Global,
     hasher: SetHashBuilder,
@@ -146,7 +146,7 @@ pub fn new_histogram(
     }
 }
 
-/// The law that a stream keeps of each set what its variant says.
+/// The law that a stream keeps for each set what its variant says.
 pub fn told_form(inner: &Inner)
     ensures { form_of (any_of inner.now).state.aggregate ≡ form_in inner.now }
 {

@@ -1,4 +1,4 @@
-//! Sums that are observed.
+//! Observed sums.
 
 ghost use Rattle.std.specs.Prelude.{◌≡◌, [], cond, map, is_some, None, Some, IsTrue, IsSome, OnOk, OnErr, IfOk, IsOk, IsOkUnless};
 ghost use Rattle.std.specs.Option.{option_map};
@@ -30,7 +30,7 @@ use otel_value_map::saved::Saved;
 use std::alloc::Global;
 use std::marker::Model;
 
-/// One number less another, modulo 2^64.
+/// One number minus another, modulo 2^64.
 fn difference_of<T: Number>(value: T, before: T) -> T
     ensures { T.bits result ≡ less (T.bits value) (T.bits before) }
 {
@@ -39,7 +39,7 @@ fn difference_of<T: Number>(value: T, before: T) -> T
     value.subtract(before)
 }
 
-/// The value that was reported of a set, 0 if it had no point.
+/// The value that was reported for a set, or 0 if it had no point.
 fn value_in<T: Number + Drop>(reported: &BoundMap<Assign<T>>, attributes: &[KeyValue]) -> T
     ensures { T.bits result ≡ value_before (draining_points reported.now.state) attributes.now }
 {
@@ -49,7 +49,7 @@ fn value_in<T: Number + Drop>(reported: &BoundMap<Assign<T>>, attributes: &[KeyV
     }
 }
 
-/// A value that was observed of a set, or what it is more than the one that was reported before.
+/// A value observed for a set, less the set's value in `reported` if that is given.
 fn shown_value<T: Number + Drop>(
     reported: Option<&BoundMap<Assign<T>>>,
     attributes: &[KeyValue],
@@ -77,7 +77,7 @@ fn shown_point<T: Number + Drop>(
     SumDataPoint::new(attributes, Items::from(Vec::new(alloc)), value)
 }
 
-/// The points of values that were observed.
+/// The points of observed values.
 fn shown_points<T: Number + Drop>(
     alloc: Global,
     reported: Option<&BoundMap<Assign<T>>>,
@@ -93,20 +93,19 @@ fn shown_points<T: Number + Drop>(
     Ok(Items::from(points))
 }
 
-/// The sums that a stream's asynchronous counters observe, by set: values that were summed before
-/// (Metrics SDK, "Asynchronous Counter"). Of several observations of a set between two collections
-/// the last one stands.
+/// The sums that a stream's asynchronous counters observe, by set: values that are already summed (Metrics SDK,
+/// "Asynchronous Counter"). Of several observations of a set between two collections, the last one counts.
 ///
-/// Each collection empties it, so a set that was not observed since the last one has no point. Where
-/// the reader's answer is `Delta`, a point is what the value is more than the one that the set had in
-/// the collection before, modulo 2^64; a set that had no point there counts from 0.
+/// Each collection empties it, so a set that was not observed since the last one has no point. If the reader's answer
+/// is `Delta`, a point is the observed value less the set's value in the collection before, modulo 2^64; a set that
+/// had no point there counts from 0.
 ///
-/// It has two maps, for what is observed and for what was reported, and a collection swaps them: no
-/// value is copied to be kept.
+/// It has two maps, one for what is observed and one for what was reported. With `Delta` a collection swaps them, so
+/// that no value is copied to be kept.
 #[derive(Drop)]
 pub struct PrecomputedSum<T: Number + Drop> {
     stream: Stream<Assign<T>>,
-    /// What the last collection reported. A stream that doesn't reset keeps it empty.
+    /// What the last collection reported; always empty in a stream that doesn't reset.
     reported: BoundMap<Assign<T>>,
     is_monotonic: bool,
 }
@@ -130,12 +129,11 @@ impl<T: Number + Drop> Model for PrecomputedSum<T> {
 }
 
 impl<T: Number + Drop> PrecomputedSum<T> {
-    /// Sums without observations. `temporality` is the reader's answer: with `Delta` a collection gives
-    /// what was added since the one before, with any other the values themselves. The moment of the
-    /// making is `now`, in nanoseconds since 1970. Any limit is taken: with 0 every set but the empty one
-    /// goes to the overflow point.
+    /// Makes sums without observations at the moment `now`, in nanoseconds since 1970. `temporality` is the reader's
+    /// answer: with `Delta` a collection gives what was added since the one before; with any other it gives the values
+    /// themselves. Any limit is accepted; with 0, every set but the empty one goes to the overflow point.
     ///
-    /// Sets are hashed with `hasher`, which nothing shows.
+    /// Sets are hashed with `hasher`, which has no visible effect.
     pub fn new(
         alloc: Global,
         hasher: SetHashBuilder,
@@ -158,13 +156,13 @@ impl<T: Number + Drop> PrecomputedSum<T> {
         })
     }
 
-    /// Prepares an observation of these attributes, in the place of one that was prepared before. The
-    /// sums stay as they were.
+    /// Prepares an observation with these attributes, in place of one that was prepared before. The sums stay
+    /// unchanged.
     ///
-    /// The first of two phases: the observations of a collection are all prepared before any is taken
-    /// in. It looks what is kept of the attributes up where they stand, and takes no memory where that
-    /// is nothing, or, in their order, the set of an entry: sorted by key, no key twice. Else it copies
-    /// and sorts it.
+    /// This is the first of two phases: an observation for several streams is prepared in all of them and then taken
+    /// in by all. What is kept of the attributes is looked up without a copy. This takes no memory if nothing is kept,
+    /// or if what is kept is in the given order the set of an entry, sorted by key and with no key twice. If what is
+    /// kept leads to no entry as given, it is copied and sorted.
     pub fn prepare(&mut self, attributes: &[KeyValue]) -> Result<(), Fault>
         ensures same { self.new.state ≡ self.old.state }
         ensures ready { OnOk result (self.new.pending ≡ Some (set_of self.old.state.stream.allow attributes.now)) }
@@ -182,7 +180,7 @@ impl<T: Number + Drop> PrecomputedSum<T> {
         self.stream.is_prepared()
     }
 
-    /// Takes in the observation that was prepared. The second phase.
+    /// Takes in the prepared observation. This is the second phase.
     pub fn measure_ready(&mut self, value: T)
         requires { IsSome self.old.pending }
         ensures measured { (s : AttributeSet) → self.old.pending ≡ Some s → self.new.state ≡ observed_set s (record { bits = T.bits value; wide = T.wide value }) self.old.state }
@@ -191,7 +189,7 @@ impl<T: Number + Drop> PrecomputedSum<T> {
         self.stream.measure_ready(value);
     }
 
-    /// Takes in the observation that was prepared, if there is one, and answers whether there was.
+    /// Takes in the prepared observation, if there is one, and returns whether there was.
     pub fn commit(&mut self, value: T) -> bool
         ensures taken { self.new ≡ observed_after_commit (record { bits = T.bits value; wide = T.wide value }) self.old }
         ensures told { result ≡ is_some self.old.pending }
@@ -199,7 +197,7 @@ impl<T: Number + Drop> PrecomputedSum<T> {
         self.stream.commit(value)
     }
 
-    /// Takes in an observation of these attributes. It takes no memory where `prepare` takes none.
+    /// Takes in an observation with these attributes. Takes no memory where `prepare` takes none.
     pub fn measure(&mut self, value: T, attributes: &[KeyValue]) -> Result<(), Fault>
         ensures ok { OnOk result (self.new.state ≡ observed_attributes attributes.now (record { bits = T.bits value; wide = T.wide value }) self.old.state) }
         ensures err { OnErr result (self.new.state ≡ self.old.state) }
@@ -212,7 +210,7 @@ impl<T: Number + Drop> PrecomputedSum<T> {
         Ok(())
     }
 
-    /// What the last collection reported, where differences to it are shown.
+    /// What the last collection reported, if points show differences from it.
     fn reported(&self) -> Option<&BoundMap<Assign<T>>>
         ensures { option_map (λ before. draining_points before.now.state) result ≡ cond self.now.state.stream.resets (Some self.now.state.reported) None }
     {
@@ -223,8 +221,8 @@ impl<T: Number + Drop> PrecomputedSum<T> {
         }
     }
 
-    /// What a collection at a moment, in nanoseconds since 1970, gives: the start, the sums and `now`. The
-    /// sums stay as they were. It copies each set that is shown, and with `Delta` looks each up.
+    /// What a collection at the moment `now`, in nanoseconds since 1970, gives: the start, the sums and `now`. The
+    /// sums stay unchanged. Copies each set that it shows, and with `Delta` looks each up.
     pub fn points(&self, alloc: Global, now: u64) -> Result<SumData<T>, Fault>
         ensures data { IfOk result (λ given. given ≡ observed_data T.of_bits T.of_wide now self.now.state) }
         ensures only_memory { IsOkUnless result Fault.OutOfMemory }
@@ -241,23 +239,23 @@ impl<T: Number + Drop> PrecomputedSum<T> {
         ))
     }
 
-    /// Whether collections give what was added since the one before.
+    /// Whether each collection gives what was added since the one before.
     pub fn resets(&self) -> bool
         ensures { result ≡ self.now.state.stream.resets }
     {
         self.stream.resets()
     }
 
-    /// What was observed since the last collection adds up to nothing, as last values do.
+    /// What the values observed since the last collection add up to, which is 0, as for all last values.
     pub fn total(&self) -> u64
         ensures { result ≡ wrap (points_total (values_now self.now.state)) }
     {
         self.stream.total_of_every()
     }
 
-    /// Ends a collection whose points were taken, at a moment in nanoseconds since 1970: what was observed is
-    /// forgotten, and an observation that was prepared is given up. With `Delta` the values are what was
-    /// reported from now on, and the next start is `now`.
+    /// Ends a collection, whose points were taken, at the moment `now`, in nanoseconds since 1970. What was observed
+    /// is forgotten, and a prepared observation is given up. With `Delta` the observed values become what was
+    /// reported, and the next start is `now`.
     pub fn finish(&mut self, now: u64)
         ensures state { self.new.state ≡ drained_at now self.old.state }
         ensures unprepared { self.new.pending ≡ None }
@@ -269,7 +267,7 @@ impl<T: Number + Drop> PrecomputedSum<T> {
         }
     }
 
-    /// A copy of what was observed, to be restored later. It takes memory also without observations.
+    /// A copy of what was observed, to be restored later. Takes memory even if there are no observations.
     pub fn save(&self, alloc: Global) -> Result<Saved<Assign<T>>, Fault>
         ensures saved { IfOk result (λ saved. saved ≡ without_handles self.now.state.stream.map_state.table) }
         ensures only_memory { IsOkUnless result Fault.OutOfMemory }
@@ -277,8 +275,8 @@ impl<T: Number + Drop> PrecomputedSum<T> {
         self.stream.save(alloc)
     }
 
-    /// Puts saved observations in the place of its own, and gives up one that was prepared. What was
-    /// reported stays as it was. It takes no memory.
+    /// Puts saved observations in place of the stream's own, and gives up a prepared one. What was reported stays
+    /// unchanged. Takes no memory.
     pub fn restore(&mut self, saved: Saved<Assign<T>>)
         ensures state { self.new.state ≡ record self.old.state { stream = record self.old.state.stream { map_state = record self.old.state.stream.map_state { table = saved } } } }
         ensures unprepared { self.new.pending ≡ None }
@@ -302,8 +300,8 @@ impl<T: Number + Drop> PrecomputedSum<T> {
         let _ = self.stream.settings();
     }
 
-    /// A collection at a moment, in nanoseconds since 1970: `points`, and then `finish`. Where it is
-    /// refused, an observation that was prepared stays prepared.
+    /// Makes a collection at the moment `now`, in nanoseconds since 1970: `points`, and then `finish`. If it fails,
+    /// nothing changes, and a prepared observation stays prepared.
     pub fn collect(&mut self, alloc: Global, now: u64) -> Result<SumData<T>, Fault>
         ensures data { IfOk result (λ given. given ≡ observed_data T.of_bits T.of_wide now self.old.state) }
         ensures ok { OnOk result (self.new.state ≡ drained_at now self.old.state) }

@@ -1,4 +1,4 @@
-//! Saved entries of a stream of any aggregate.
+//! The saved entries of a stream of any aggregate.
 
 ghost use Rattle.std.specs.Prelude.{◌≡◌};
 
@@ -8,7 +8,7 @@ use otel_value_map::buckets::Buckets;
 use otel_value_map::saved::Saved;
 use std::marker::Model;
 
-/// Saved entries by what is kept of each set, and its number type. Observed sums keep last values.
+/// Saved entries, by what is kept of each set and by number type. Observed sums keep last values.
 #[derive(Drop)]
 pub enum SavedInner {
     SumU64(Saved<Increment<u64>>),
@@ -19,7 +19,7 @@ pub enum SavedInner {
     HistogramI64(Saved<Buckets<i64>>),
 }
 
-/// The entries of a stream as they were when it was saved, to be put back into it.
+/// A stream's entries as they were when they were saved, to be put back into it.
 #[derive(Drop)]
 pub struct SavedAggregate {
     inner: SavedInner,
@@ -37,14 +37,14 @@ impl Model for SavedAggregate {
 impl SavedAggregate {
     ghost use Rattle.otel_aggregate.specs.SavedInner.{saved_in};
 
-    /// By their form.
+    /// Wraps saved entries of any form.
     pub(crate) fn of(inner: SavedInner) -> Self
         ensures { result ≡ saved_in inner }
     {
         SavedAggregate { inner }
     }
 
-    /// Their form, and the entries.
+    /// Unwraps the saved entries, with their form.
     pub(crate) fn into_inner(self) -> SavedInner
         ensures { saved_in result ≡ self }
     {

@@ -2,13 +2,13 @@
 
 use otel_value_map::bounds::Bounds;
 
-/// The bounds of a histogram, and what it keeps besides the counts of its buckets.
+/// The bounds of a histogram's buckets, and what it keeps besides their counts.
 #[derive(Drop)]
 pub struct HistogramSettings {
     pub bounds: Bounds,
     /// Whether the least and the greatest value are kept.
     pub has_min_max: bool,
-    /// Whether there is a sum; without one it is 0.
+    /// Whether a sum is kept; if not, it is 0.
     pub has_sum: bool,
 }
 
@@ -20,7 +20,8 @@ pub enum AnySettings {
         /// Whether only values of at least 0 are added.
         is_monotonic: bool,
     },
-    /// Keeps the last one of values that were summed before, and forgets all at each collection.
+    /// Keeps the last one of values that were already summed when they were observed, and forgets all at each
+    /// collection.
     PrecomputedSum {
         /// Whether only values of at least 0 are added.
         is_monotonic: bool,

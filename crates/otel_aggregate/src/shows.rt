@@ -1,4 +1,4 @@
-//! From aggregators to the points of a metric.
+//! How aggregators become the points of a metric.
 
 ghost use Rattle.std.specs.Prelude.{◌≡◌, ℕ, Bool, List, false, map, IfOk, IsOkUnless};
 ghost use Rattle.std.specs.Option.{option_map};
@@ -23,21 +23,21 @@ use otel_value_map::buckets::{Buckets, BucketsConfig};
 use otel_value_map::number::Number;
 use std::alloc::Global;
 
-/// An aggregator whose records are shown by a collection.
+/// An aggregator that a collection can show as a point.
 pub trait Shows: Aggregator {
-    /// A value that is recorded.
+    /// The type of recorded values.
     type Value: Number + Drop;
 
     /// What all sets of a stream share.
     type Settings: Drop;
 
-    /// A point.
+    /// The type of points.
     type Point: Drop;
 
-    /// The points of a stream, with their moments.
+    /// The type of a stream's points together with their moments.
     type Data: Drop;
 
-    /// The model's aggregate.
+    /// The aggregate as the model sees it.
     ghost aggregate: { Self.Settings → Aggregate };
 
     /// Whether only values of at least 0 are added.
@@ -46,14 +46,14 @@ pub trait Shows: Aggregator {
     /// The point of a set whose records come to this.
     ghost point: { Aggregate → Point → Self.Point };
 
-    /// These points since a moment, collected at another.
+    /// The data of points that count from one moment and are collected at another.
     ghost collection: { Bool → TemporalityValue → ℕ → ℕ → List Self.Point → Self.Data };
 
-    /// What the aggregator of a set is made with.
+    /// What the aggregator of a set is made from.
     fn config(settings: &Self::Settings) -> Self::InitConfig
         ensures { Self.empty result ≡ empty_of (aggregate settings.now) };
 
-    /// The record of a value.
+    /// The record that a value makes.
     fn record(settings: &Self::Settings, value: Self::Value) -> Self::PreComputedValue
         ensures { Self.sample result ≡ sample_of (aggregate settings.now) (record { bits = Self.Value.bits value; wide = Self.Value.wide value }) };
 
@@ -67,7 +67,7 @@ pub trait Shows: Aggregator {
         ensures point { IfOk result (λ made. made ≡ point (aggregate settings.now) (attributes, Self.meaning self)) }
         ensures only_memory { IsOkUnless result Fault.OutOfMemory };
 
-    /// These points with their moments, in nanoseconds since 1970.
+    /// The data of these points, which count from `start` and are collected at `now`, in nanoseconds since 1970.
     fn into_data(
         settings: &Self::Settings,
         points: Items<Self::Point>,
@@ -173,7 +173,7 @@ impl<T: Number + Drop> Shows for Assign<T> {
     }
 }
 
-/// The same value, told by its whole number.
+/// Returns the value, and tells the prover that its whole number determines it.
 fn told<T: Number>(value: Option<T>) -> Option<T>
     ensures { result ≡ option_map T.of_wide (option_map T.wide value) }
 {
@@ -257,7 +257,7 @@ impl<T: Number + Drop> Shows for Buckets<T> {
     }
 }
 
-/// The points of sets with their aggregators.
+/// Makes points of sets and their aggregators.
 pub fn into_points<A: Shows>(
     alloc: Global,
     settings: &A::Settings,

@@ -1,4 +1,4 @@
-//! The stream of one instrument at one reader, whatever its aggregate.
+//! One stream of one reader, whatever its aggregate.
 
 ghost use Rattle.std.specs.Prelude.{◌≡◌, [], true, false, cond, map, is_some, None, Some, IsTrue, IsSome, IfOk, OnOk, OnErr, IsOk, IsOkUnless};
 ghost use Rattle.otel_common.specs.Temporalities.{resets};
@@ -26,7 +26,7 @@ use std::alloc::Global;
 use std::marker::Model;
 use std::mem::swap;
 
-/// Whether a stream resets at each collection, by its reader's answer.
+/// Whether a stream resets at each collection, given its reader's answer.
 fn is_delta(temporality: Temporality) -> bool
     ensures { result ≡ resets temporality }
 {
@@ -37,7 +37,7 @@ fn is_delta(temporality: Temporality) -> bool
     }
 }
 
-/// The temporality of the points of a stream that resets at each collection, or doesn't.
+/// The temporality of a stream's points, given whether it resets at each collection.
 pub fn shown_temporality(resets: bool) -> Temporality
     ensures { result ≡ cond resets shown.Delta shown.Cumulative }
 {
@@ -48,13 +48,13 @@ pub fn shown_temporality(resets: bool) -> Temporality
     }
 }
 
-/// A stream's records by set (Metrics SDK, "MetricReader").
+/// The records of a stream, by set (Metrics SDK, "MetricReader").
 #[derive(Drop)]
 pub struct Stream<A: Shows> {
     settings: A::Settings,
     map: BoundMap<A>,
     allow: Option<Items<Key>>,
-    /// Whether each collection starts again.
+    /// Whether the stream starts again at each collection.
     resets: bool,
     start: u64,
 }
@@ -80,7 +80,7 @@ impl<A: Shows> Model for Stream<A> {
 }
 
 impl<A: Shows> Stream<A> {
-    /// A stream without records, made at `start`, in nanoseconds since 1970.
+    /// Makes a stream without records at the moment `start`, in nanoseconds since 1970.
     pub fn new(
         alloc: Global,
         hasher: SetHashBuilder,
@@ -106,13 +106,13 @@ impl<A: Shows> Stream<A> {
         })
     }
 
-    /// Prepares a record of these attributes, in the place of one that was prepared before. What the
-    /// stream shows stays as it was.
+    /// Prepares a record with these attributes, in place of one that was prepared before. What the stream shows stays
+    /// unchanged.
     ///
-    /// The first of two phases: a record of many streams is prepared in all of them, and then taken
-    /// in by all. It looks what is kept of the attributes up where they stand, and takes no memory
-    /// where that is nothing, or, in their order, the set of an entry: sorted by key, no key twice.
-    /// Else it copies and sorts it.
+    /// This is the first of two phases: a record for several streams is prepared in all of them and then taken in by
+    /// all. What is kept of the attributes is looked up without a copy. This takes no memory if nothing is kept, or if
+    /// what is kept is in the given order the set of an entry, sorted by key and with no key twice. If what is kept
+    /// leads to no entry as given, it is copied and sorted.
     pub fn prepare(&mut self, attributes: &[KeyValue]) -> Result<(), Fault>
         ensures same { self.new.state ≡ self.old.state }
         ensures live { self.new.live ≡ self.old.live }
@@ -135,7 +135,7 @@ impl<A: Shows> Stream<A> {
         self.map.is_prepared()
     }
 
-    /// Takes in the record that was prepared. The second phase.
+    /// Takes in the prepared record. This is the second phase.
     pub fn measure_ready(&mut self, value: A::Value)
         requires { IsSome self.old.pending }
         ensures measured { (s : AttributeSet) → self.old.pending ≡ Some s → self.new.state ≡ recorded_set s (record { bits = A.Value.bits value; wide = A.Value.wide value }) self.old.state }
@@ -147,7 +147,7 @@ impl<A: Shows> Stream<A> {
         self.map.measure_ready(record);
     }
 
-    /// Takes in the record that was prepared, if there is one, and answers whether there was.
+    /// Takes in the prepared record, if there is one, and returns whether there was.
     pub fn commit(&mut self, value: A::Value) -> bool
         ensures taken { self.new ≡ stream_after_commit (record { bits = A.Value.bits value; wide = A.Value.wide value }) self.old }
         ensures told { result ≡ is_some self.old.pending }
@@ -159,7 +159,7 @@ impl<A: Shows> Stream<A> {
         true
     }
 
-    /// Takes in a record of these attributes. It takes no memory where `prepare` takes none.
+    /// Takes in a record with these attributes. Takes no memory where `prepare` takes none.
     pub fn measure(&mut self, value: A::Value, attributes: &[KeyValue]) -> Result<(), Fault>
         ensures ok { OnOk result (self.new.state ≡ recorded_attributes attributes.now (record { bits = A.Value.bits value; wide = A.Value.wide value }) self.old.state) }
         ensures err { OnErr result (self.new.state ≡ self.old.state) }
@@ -174,7 +174,7 @@ impl<A: Shows> Stream<A> {
         Ok(())
     }
 
-    /// Makes room for a handle. A bind uses it.
+    /// Makes room for a handle, which a bind uses up.
     pub fn make_room(&mut self) -> Result<(), Fault>
         ensures room { OnOk result (self.new ≡ record self.old { room = true }) }
         ensures refused { OnErr result (self.new ≡ self.old) }
@@ -183,16 +183,17 @@ impl<A: Shows> Stream<A> {
         self.map.make_room()
     }
 
-    /// Carries out the bind that was prepared, as a handle of this number, if one was, room was made for it and no live
-    /// handle has the number. The second phase; it takes no memory.
+    /// Carries out the prepared bind for a handle with this number, if a bind is prepared, room was made for the
+    /// handle and no live handle has the number. This is the second phase; it takes no memory.
     pub fn bind_ready(&mut self, handle: u64)
         ensures bound { self.new ≡ stream_after_bind handle self.old }
     {
         self.map.bind_ready(handle);
     }
 
-    /// Binds a handle of this number at these attributes, unless a live one has it (Metrics API, "Synchronous Instrument
-    /// API"). Its records go to the entry that a record of the attributes would go to now, for good.
+    /// Binds a handle with this number to these attributes, unless a live handle has the number (Metrics API,
+    /// "Synchronous Instrument API"). Its records go, for good, to the entry that a record with the attributes would
+    /// go to now.
     pub fn bind(&mut self, handle: u64, attributes: &[KeyValue]) -> Result<(), Fault>
         ensures ok { OnOk result (self.new ≡ stream_after_bind handle (ready_to_bind attributes.now self.old)) }
         ensures err { OnErr result (self.new.state ≡ self.old.state) }
@@ -205,8 +206,8 @@ impl<A: Shows> Stream<A> {
         Ok(())
     }
 
-    /// Prepares a record through a handle, if it is live, in the place of what was prepared before; else that is given
-    /// up. It looks up nothing but the handle, and takes no memory.
+    /// Prepares a record through a handle, if it is live, in place of what was prepared before; otherwise only gives
+    /// that up. Looks up nothing but the handle, and takes no memory.
     pub fn prepare_held(&mut self, handle: u64)
         ensures same { self.new.state ≡ self.old.state }
         ensures live { self.new.live ≡ self.old.live }
@@ -217,7 +218,7 @@ impl<A: Shows> Stream<A> {
         self.map.prepare_held(handle);
     }
 
-    /// Takes in a record through a handle, if it is live, and tells whether it is. It looks up nothing but the handle,
+    /// Takes in a record through a handle, if it is live, and returns whether it is. Looks up nothing but the handle,
     /// takes no memory, and gives up what was prepared.
     pub fn update_bound(&mut self, handle: u64, value: A::Value) -> bool
         ensures updated { self.new ≡ stream_after_update handle (record { bits = A.Value.bits value; wide = A.Value.wide value }) self.old }
@@ -227,7 +228,7 @@ impl<A: Shows> Stream<A> {
         self.map.update_bound(handle, record)
     }
 
-    /// Ends a handle, if it is live. It takes no memory, goes over the handles that are younger, and gives up what was
+    /// Ends a handle, if it is live. Takes no memory, goes over the handles made after it, and gives up what was
     /// prepared.
     pub fn unbind(&mut self, handle: u64)
         ensures unbound { self.new ≡ stream_after_unbind handle self.old }
@@ -235,8 +236,8 @@ impl<A: Shows> Stream<A> {
         self.map.unbind(handle);
     }
 
-    /// What a collection at a moment, in nanoseconds since 1970, gives: the start, the points and
-    /// `now`. The stream stays as it was. It copies each set that is shown.
+    /// What a collection at the moment `now`, in nanoseconds since 1970, gives: the start, the points and `now`. The
+    /// stream stays unchanged. Copies each set that it shows.
     pub fn points(&self, alloc: Global, now: u64) -> Result<A::Data, Fault>
         ensures kind { (s : A.Settings) × (self.now.state.aggregate ≡ A.aggregate s) }
         ensures points { IfOk result (λ given. given ≡ A.collection self.now.state.is_monotonic (temporality_of self.now.state) self.now.state.start now (map (A.point self.now.state.aggregate) (points_now self.now.state))) }
@@ -248,7 +249,7 @@ impl<A: Shows> Stream<A> {
         Ok(A::into_data(&self.settings, points, temporality, self.start, now))
     }
 
-    /// Every set that has an entry, and the empty one if it was updated, with copies of their aggregators.
+    /// Every set that has an entry, and the empty set if it was updated, with copies of their aggregators.
     pub fn every_set(&self, alloc: Global) -> Result<Vec<(Items<KeyValue>, A)>, Fault>
         ensures points { IfOk result (λ given. copies A.meaning given.items ≡ draining_points self.now.state.map_state) }
         ensures only_memory { IsOkUnless result Fault.OutOfMemory }
@@ -256,37 +257,37 @@ impl<A: Shows> Stream<A> {
         self.map.points(alloc, true)
     }
 
-    /// What the points of a collection now would add up to, modulo 2^64.
+    /// What the points of a collection made now would add up to, modulo 2^64.
     pub fn total(&self) -> u64
         ensures { result ≡ wrap (points_total (points_now self.now.state)) }
     {
         self.map.total(!self.resets)
     }
 
-    /// What the points of every set that has an entry, and of the empty one if it was updated, would add
-    /// up to, modulo 2^64.
+    /// What the points of every set that has an entry, and of the empty set if it was updated, would add up to, modulo
+    /// 2^64.
     pub fn total_of_every(&self) -> u64
         ensures { result ≡ wrap (points_total (draining_points self.now.state.map_state)) }
     {
         self.map.total(true)
     }
 
-    /// What all its sets share.
+    /// The settings that all its sets share.
     pub fn settings(&self) -> &A::Settings
         ensures { self.now.state.aggregate ≡ A.aggregate result.now }
     {
         &self.settings
     }
 
-    /// Whether each collection starts again.
+    /// Whether the stream starts again at each collection.
     pub fn resets(&self) -> bool
         ensures { result ≡ self.now.state.resets }
     {
         self.resets
     }
 
-    /// Ends a collection whose points were taken, at a moment in nanoseconds since 1970: where the stream
-    /// resets, it starts again from there, and a record that was prepared is given up.
+    /// Ends a collection, whose points were taken, at the moment `now`, in nanoseconds since 1970. If the stream
+    /// resets, it starts again from then, and a prepared record is given up.
     pub fn finish(&mut self, now: u64)
         ensures state { self.new.state ≡ stream_after_collection now self.old.state }
         ensures live { self.new.live ≡ self.old.live }
@@ -299,14 +300,15 @@ impl<A: Shows> Stream<A> {
         }
     }
 
-    /// The moment since when its records are, in nanoseconds since 1970.
+    /// The moment from which its records count, in nanoseconds since 1970.
     pub fn start(&self) -> u64
         ensures { result ≡ self.now.state.start }
     {
         self.start
     }
 
-    /// Forgets all records and entries, where no handle is live. A record that was prepared is given up.
+    /// Forgets all records, and all entries but that of the empty set. No handle may be live. A prepared record is
+    /// given up.
     pub fn drain(&mut self)
         requires { self.old.live ≡ [] }
         ensures state { self.new.state ≡ record self.old.state { map_state = drained_map self.old.state.map_state } }
@@ -317,7 +319,7 @@ impl<A: Shows> Stream<A> {
         self.map.drain();
     }
 
-    /// A copy of the entries, which no handle holds, to be restored later. It takes memory also without entries.
+    /// A copy of the entries, held by no handle, to be restored later. Takes memory even if there are no entries.
     pub fn save(&self, alloc: Global) -> Result<Saved<A>, Fault>
         ensures saved { IfOk result (λ saved. saved ≡ without_handles self.now.state.map_state.table) }
         ensures only_memory { IsOkUnless result Fault.OutOfMemory }
@@ -325,8 +327,8 @@ impl<A: Shows> Stream<A> {
         self.map.save(alloc)
     }
 
-    /// Puts saved entries in the place of its own, where no handle is live, and gives up a record that was prepared. It
-    /// takes no memory.
+    /// Puts saved entries in place of the stream's own, and gives up a prepared record. No handle may be live. Takes
+    /// no memory.
     pub fn restore(&mut self, saved: Saved<A>)
         requires { self.old.live ≡ [] }
         ensures state { self.new.state ≡ record self.old.state { map_state = record self.old.state.map_state { table = saved } } }
@@ -340,15 +342,15 @@ impl<A: Shows> Stream<A> {
         self.map.restore(saved);
     }
 
-    /// The law that no entry is held where no handle is live.
+    /// The law that no entry is held if no handle is live.
     pub fn told_unheld(&self)
         ensures { self.now.live ≡ [] → without_handles self.now.state.map_state.table ≡ self.now.state.map_state.table }
     {
         self.map.told_unheld();
     }
 
-    /// Puts its records into a map, whose own are forgotten, and starts again with none, at a moment in
-    /// nanoseconds since 1970. No handle is live in either. The two maps are swapped, and nothing is copied.
+    /// Moves its records into a map, whose own are forgotten, and starts again without any at the moment `now`, in
+    /// nanoseconds since 1970. No handle may be live in either. The two maps are swapped; nothing is copied.
     pub fn drain_into(&mut self, kept: &mut BoundMap<A>, now: u64)
         requires unheld { self.old.live ≡ [] }
         requires kept_unheld { kept.old.live ≡ [] }
@@ -363,8 +365,8 @@ impl<A: Shows> Stream<A> {
         self.start = now;
     }
 
-    /// A collection at a moment, in nanoseconds since 1970: `points`, and then `finish`. Where it is
-    /// refused, a record that was prepared stays prepared.
+    /// Makes a collection at the moment `now`, in nanoseconds since 1970: `points`, and then `finish`. If it fails,
+    /// nothing changes, and a prepared record stays prepared.
     pub fn collect(&mut self, alloc: Global, now: u64) -> Result<A::Data, Fault>
         ensures kind { (s : A.Settings) × (self.old.state.aggregate ≡ A.aggregate s) }
         ensures points { IfOk result (λ given. given ≡ A.collection self.old.state.is_monotonic (temporality_of self.old.state) self.old.state.start now (map (A.point self.old.state.aggregate) (points_now self.old.state))) }

@@ -39,11 +39,11 @@ impl<T: Number + Drop> Model for Sum<T> {
 }
 
 impl<T: Number + Drop> Sum<T> {
-    /// Sums without records. `temporality` is the reader's answer: with `Delta` each collection starts
-    /// the sums again, with any other they go on from `now`, the moment of the making, in nanoseconds
-    /// since 1970. Any limit is taken: with 0 every set but the empty one goes to the overflow point.
+    /// Makes sums without records at the moment `now`, in nanoseconds since 1970. `temporality` is the reader's
+    /// answer: with `Delta` the sums start again at each collection; with any other they go on from `now`. Any limit
+    /// is accepted; with 0, every set but the empty one goes to the overflow point.
     ///
-    /// Sets are hashed with `hasher`, which nothing shows.
+    /// Sets are hashed with `hasher`, which has no visible effect.
     pub fn new(
         alloc: Global,
         hasher: SetHashBuilder,
@@ -63,13 +63,12 @@ impl<T: Number + Drop> Sum<T> {
         Ok(Sum { stream })
     }
 
-    /// Prepares a record of these attributes, in the place of one that was prepared before. The sums
-    /// stay as they were.
+    /// Prepares a record with these attributes, in place of one that was prepared before. The sums stay unchanged.
     ///
-    /// The first of two phases: a record of many streams is prepared in all of them, and then taken
-    /// in by all. It looks what is kept of the attributes up where they stand, and takes no memory
-    /// where that is nothing, or, in their order, the set of an entry: sorted by key, no key twice.
-    /// Else it copies and sorts it.
+    /// This is the first of two phases: a record for several streams is prepared in all of them and then taken in by
+    /// all. What is kept of the attributes is looked up without a copy. This takes no memory if nothing is kept, or if
+    /// what is kept is in the given order the set of an entry, sorted by key and with no key twice. If what is kept
+    /// leads to no entry as given, it is copied and sorted.
     pub fn prepare(&mut self, attributes: &[KeyValue]) -> Result<(), Fault>
         ensures same { self.new.state ≡ self.old.state }
         ensures live { self.new.live ≡ self.old.live }
@@ -89,7 +88,7 @@ impl<T: Number + Drop> Sum<T> {
         self.stream.is_prepared()
     }
 
-    /// Takes in the record that was prepared. The second phase.
+    /// Takes in the prepared record. This is the second phase.
     pub fn measure_ready(&mut self, value: T)
         requires { IsSome self.old.pending }
         ensures measured { (s : AttributeSet) → self.old.pending ≡ Some s → self.new.state ≡ recorded_set s (record { bits = T.bits value; wide = T.wide value }) self.old.state }
@@ -100,7 +99,7 @@ impl<T: Number + Drop> Sum<T> {
         self.stream.measure_ready(value);
     }
 
-    /// Takes in the record that was prepared, if there is one, and answers whether there was.
+    /// Takes in the prepared record, if there is one, and returns whether there was.
     pub fn commit(&mut self, value: T) -> bool
         ensures taken { self.new ≡ stream_after_commit (record { bits = T.bits value; wide = T.wide value }) self.old }
         ensures told { result ≡ is_some self.old.pending }
@@ -108,7 +107,7 @@ impl<T: Number + Drop> Sum<T> {
         self.stream.commit(value)
     }
 
-    /// Takes in a record of these attributes. It takes no memory where `prepare` takes none.
+    /// Takes in a record with these attributes. Takes no memory where `prepare` takes none.
     pub fn measure(&mut self, value: T, attributes: &[KeyValue]) -> Result<(), Fault>
         ensures ok { OnOk result (self.new.state ≡ recorded_attributes attributes.now (record { bits = T.bits value; wide = T.wide value }) self.old.state) }
         ensures err { OnErr result (self.new.state ≡ self.old.state) }
@@ -121,7 +120,7 @@ impl<T: Number + Drop> Sum<T> {
         self.stream.measure(value, attributes)
     }
 
-    /// Makes room for a handle. A bind uses it.
+    /// Makes room for a handle, which a bind uses up.
     pub fn make_room(&mut self) -> Result<(), Fault>
         ensures room { OnOk result (self.new ≡ record self.old { room = true }) }
         ensures refused { OnErr result (self.new ≡ self.old) }
@@ -130,16 +129,17 @@ impl<T: Number + Drop> Sum<T> {
         self.stream.make_room()
     }
 
-    /// Carries out the bind that was prepared, as a handle of this number, if one was, room was made for it and no live
-    /// handle has the number. The second phase; it takes no memory.
+    /// Carries out the prepared bind for a handle with this number, if a bind is prepared, room was made for the
+    /// handle and no live handle has the number. This is the second phase; it takes no memory.
     pub fn bind_ready(&mut self, handle: u64)
         ensures bound { self.new ≡ stream_after_bind handle self.old }
     {
         self.stream.bind_ready(handle);
     }
 
-    /// Binds a handle of this number at these attributes, unless a live one has it (Metrics API, "Synchronous Instrument
-    /// API"). Its records go to the entry that a record of the attributes would go to now, for good.
+    /// Binds a handle with this number to these attributes, unless a live handle has the number (Metrics API,
+    /// "Synchronous Instrument API"). Its records go, for good, to the entry that a record with the attributes would
+    /// go to now.
     pub fn bind(&mut self, handle: u64, attributes: &[KeyValue]) -> Result<(), Fault>
         ensures ok { OnOk result (self.new ≡ stream_after_bind handle (ready_to_bind attributes.now self.old)) }
         ensures err { OnErr result (self.new.state ≡ self.old.state) }
@@ -149,8 +149,8 @@ impl<T: Number + Drop> Sum<T> {
         self.stream.bind(handle, attributes)
     }
 
-    /// Prepares a record through a handle, if it is live, in the place of what was prepared before; else that is given
-    /// up. It looks up nothing but the handle, and takes no memory.
+    /// Prepares a record through a handle, if it is live, in place of what was prepared before; otherwise only gives
+    /// that up. Looks up nothing but the handle, and takes no memory.
     pub fn prepare_held(&mut self, handle: u64)
         ensures same { self.new.state ≡ self.old.state }
         ensures live { self.new.live ≡ self.old.live }
@@ -161,7 +161,7 @@ impl<T: Number + Drop> Sum<T> {
         self.stream.prepare_held(handle);
     }
 
-    /// Takes in a record through a handle, if it is live, and tells whether it is. It looks up nothing but the handle,
+    /// Takes in a record through a handle, if it is live, and returns whether it is. Looks up nothing but the handle,
     /// takes no memory, and gives up what was prepared.
     pub fn update_bound(&mut self, handle: u64, value: T) -> bool
         ensures updated { self.new ≡ stream_after_update handle (record { bits = T.bits value; wide = T.wide value }) self.old }
@@ -170,7 +170,7 @@ impl<T: Number + Drop> Sum<T> {
         self.stream.update_bound(handle, value)
     }
 
-    /// Ends a handle, if it is live. It takes no memory, goes over the handles that are younger, and gives up what was
+    /// Ends a handle, if it is live. Takes no memory, goes over the handles made after it, and gives up what was
     /// prepared.
     pub fn unbind(&mut self, handle: u64)
         ensures unbound { self.new ≡ stream_after_unbind handle self.old }
@@ -178,8 +178,8 @@ impl<T: Number + Drop> Sum<T> {
         self.stream.unbind(handle);
     }
 
-    /// What a collection at a moment, in nanoseconds since 1970, gives: the start, the sums and `now`. The
-    /// sums stay as they were. It copies each set that is shown.
+    /// What a collection at the moment `now`, in nanoseconds since 1970, gives: the start, the sums and `now`. The
+    /// sums stay unchanged. Copies each set that it shows.
     pub fn points(&self, alloc: Global, now: u64) -> Result<SumData<T>, Fault>
         ensures sums { self.now.state.aggregate ≡ SumAggregate }
         ensures data { IfOk result (λ given. given ≡ sum_data T.of_bits T.of_wide now self.now.state) }
@@ -188,22 +188,22 @@ impl<T: Number + Drop> Sum<T> {
         self.stream.points(alloc, now)
     }
 
-    /// Whether each collection starts the sums again.
+    /// Whether the sums start again at each collection.
     pub fn resets(&self) -> bool
         ensures { result ≡ self.now.state.resets }
     {
         self.stream.resets()
     }
 
-    /// What the points of a collection now would add up to, modulo 2^64.
+    /// What the points of a collection made now would add up to, modulo 2^64.
     pub fn total(&self) -> u64
         ensures { result ≡ wrap (points_total (points_now self.now.state)) }
     {
         self.stream.total()
     }
 
-    /// Ends a collection whose points were taken, at a moment in nanoseconds since 1970: where the stream
-    /// resets, the sums start again from there, and a record that was prepared is given up.
+    /// Ends a collection, whose points were taken, at the moment `now`, in nanoseconds since 1970. If the stream
+    /// resets, the sums start again from then, and a prepared record is given up.
     pub fn finish(&mut self, now: u64)
         ensures state { self.new.state ≡ stream_after_collection now self.old.state }
         ensures live { self.new.live ≡ self.old.live }
@@ -213,7 +213,7 @@ impl<T: Number + Drop> Sum<T> {
         self.stream.finish(now);
     }
 
-    /// A copy of the sums, which no handle holds, to be restored later. It takes memory also without entries.
+    /// A copy of the sums, held by no handle, to be restored later. Takes memory even if there are no entries.
     pub fn save(&self, alloc: Global) -> Result<Saved<Increment<T>>, Fault>
         ensures saved { IfOk result (λ saved. saved ≡ without_handles self.now.state.map_state.table) }
         ensures only_memory { IsOkUnless result Fault.OutOfMemory }
@@ -221,8 +221,8 @@ impl<T: Number + Drop> Sum<T> {
         self.stream.save(alloc)
     }
 
-    /// Puts saved sums in the place of its own, where no handle is live, and gives up a record that was prepared. It
-    /// takes no memory.
+    /// Puts saved sums in place of the stream's own, and gives up a prepared record. No handle may be live. Takes no
+    /// memory.
     pub fn restore(&mut self, saved: Saved<Increment<T>>)
         requires { self.old.live ≡ [] }
         ensures state { self.new.state ≡ record self.old.state { map_state = record self.old.state.map_state { table = saved } } }
@@ -233,7 +233,7 @@ impl<T: Number + Drop> Sum<T> {
         self.stream.restore(saved);
     }
 
-    /// The law that no entry is held where no handle is live.
+    /// The law that no entry is held if no handle is live.
     pub fn told_unheld(&self)
         ensures { self.now.live ≡ [] → without_handles self.now.state.map_state.table ≡ self.now.state.map_state.table }
     {
@@ -247,8 +247,8 @@ impl<T: Number + Drop> Sum<T> {
         let _ = self.stream.settings();
     }
 
-    /// A collection at a moment, in nanoseconds since 1970: `points`, and then `finish`. Where it is
-    /// refused, a record that was prepared stays prepared.
+    /// Makes a collection at the moment `now`, in nanoseconds since 1970: `points`, and then `finish`. If it fails,
+    /// nothing changes, and a prepared record stays prepared.
     pub fn collect(&mut self, alloc: Global, now: u64) -> Result<SumData<T>, Fault>
         ensures data { IfOk result (λ given. given ≡ sum_data T.of_bits T.of_wide now self.old.state) }
         ensures ok { OnOk result (self.new.state ≡ stream_after_collection now self.old.state) }

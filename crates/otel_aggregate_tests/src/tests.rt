@@ -1,4 +1,4 @@
-//! Worked rows and carried tests, and each public call once, at both number types.
+//! Worked rows and ported tests, with each public function called at least once, at both number types.
 
 mod aggregates;
 mod value_maps;

@@ -3,13 +3,13 @@
 use opentelemetry_sdk::common::{Fault, Key, KeyValue, StringValue, Value};
 use std::alloc::Global;
 
-/// The key of a number.
+/// Makes the key with this number.
 fn key(alloc: Global, number: usize) -> Result<Key, Fault> {
     let name = format!(in alloc; "attribute{number:02}")?;
     Ok(Key::new(alloc, name.as_str())?)
 }
 
-/// The first keys, this many of them.
+/// Makes the first `count` keys.
 pub fn first_keys(alloc: Global, count: usize) -> Result<Vec<Key>, Fault> {
     let mut keys = Vec::new(alloc);
     for number in 0..count {
@@ -18,13 +18,13 @@ pub fn first_keys(alloc: Global, count: usize) -> Result<Vec<Key>, Fault> {
     Ok(keys)
 }
 
-/// An attribute whose key has this number.
+/// Makes an attribute whose key has this number.
 fn attribute(alloc: Global, number: usize, text: String) -> Result<KeyValue, Fault> {
     let key = key(alloc, number)?;
     Ok(KeyValue::new(key, Value::String(StringValue::from(text))))
 }
 
-/// A set of this many attributes, sorted by key.
+/// Makes a set of this many attributes, sorted by key.
 pub fn sorted_set(alloc: Global, count: usize) -> Result<Vec<KeyValue>, Fault> {
     let mut attributes = Vec::new(alloc);
     for number in 0..count {
@@ -34,14 +34,14 @@ pub fn sorted_set(alloc: Global, count: usize) -> Result<Vec<KeyValue>, Fault> {
     Ok(attributes)
 }
 
-/// The same set, from the last key to the first.
+/// Makes the same set, from the last key to the first.
 pub fn falling_set(alloc: Global, count: usize) -> Result<Vec<KeyValue>, Fault> {
     let mut attributes = sorted_set(alloc, count)?;
     attributes.reverse();
     Ok(attributes)
 }
 
-/// A set of 4 attributes, sorted by key, of which the last has this number as its text.
+/// Makes a set of 4 attributes, sorted by key, of which the last has this number as its text.
 pub fn numbered_set(alloc: Global, number: usize) -> Result<Vec<KeyValue>, Fault> {
     let mut attributes = sorted_set(alloc, 3)?;
     let text = format!(in alloc; "{number:07}")?;

@@ -1,18 +1,18 @@
-//! Calls, one and many.
+//! Calls, single and in lists.
 
 use crate::attributes::{numbered_set, sorted_set};
 use opentelemetry_sdk::common::{Fault, InstrumentationScope, Items, KeyValue, StringValue};
 use opentelemetry_sdk::metrics::provider::{Call, InstrumentSort, NumberValue};
 use std::alloc::Global;
 
-/// Asks for the meter of a scope whose name has this number.
+/// A call that asks for the meter of a scope whose name has this number.
 fn meter(alloc: Global, number: usize) -> Result<Call, Fault> {
     let name = format!(in alloc; "meter{number:06}")?;
     let scope = InstrumentationScope::builder(alloc, name).build()?;
     Ok(Call::Meter { scope })
 }
 
-/// Builds an instrument of this sort at a meter. Its name has the number.
+/// A call that builds an instrument of this sort at a meter. The instrument's name has the number.
 pub fn build(
     alloc: Global,
     sort: InstrumentSort,
@@ -31,7 +31,7 @@ pub fn build(
     })
 }
 
-/// Records 1 at an instrument.
+/// A call that records 1 at an instrument.
 pub fn record(instrument: usize, attributes: Vec<KeyValue>) -> Call {
     Call::Record {
         instrument,
@@ -40,7 +40,7 @@ pub fn record(instrument: usize, attributes: Vec<KeyValue>) -> Call {
     }
 }
 
-/// Binds a handle at the first instrument.
+/// A call that binds a handle at the first instrument.
 pub fn bind(attributes: Vec<KeyValue>) -> Call {
     Call::Bind {
         instrument: 0,
@@ -48,7 +48,7 @@ pub fn bind(attributes: Vec<KeyValue>) -> Call {
     }
 }
 
-/// Records 1 through the first handle.
+/// A call that records 1 through the first handle.
 pub fn record_bound() -> Call {
     Call::RecordBound {
         handle: 0,
@@ -56,7 +56,7 @@ pub fn record_bound() -> Call {
     }
 }
 
-/// Collects what the first reader's streams have.
+/// A call that collects what the first reader's streams have.
 pub fn collect(alloc: Global) -> Call {
     Call::Collect {
         reader: 0,
@@ -65,7 +65,7 @@ pub fn collect(alloc: Global) -> Call {
     }
 }
 
-/// Asks for this many meters.
+/// Calls that ask for this many meters.
 pub fn meters(alloc: Global, count: usize) -> Result<Vec<Call>, Fault> {
     let mut calls = Vec::new(alloc);
     for number in 0..count {
@@ -74,14 +74,14 @@ pub fn meters(alloc: Global, count: usize) -> Result<Vec<Call>, Fault> {
     Ok(calls)
 }
 
-/// A meter, and an instrument of it.
+/// Calls that ask for a meter and build an instrument of it.
 pub fn instrument(alloc: Global, sort: InstrumentSort) -> Result<Vec<Call>, Fault> {
     let mut calls = meters(alloc, 1)?;
     calls.push(build(alloc, sort, 0, 0)?)?;
     Ok(calls)
 }
 
-/// Adds builds at the first meter of instruments with the numbers from `first` to before `end`.
+/// Adds builds of instruments at the first meter, with the numbers from `first` up to but not including `end`.
 pub fn add_builds(
     alloc: Global,
     calls: &mut Vec<Call>,
@@ -108,7 +108,7 @@ pub fn add_builds_of_meters(
     Ok(())
 }
 
-/// Adds a record of 4 attributes at each of the first `count` instruments.
+/// Adds a record with 4 attributes at each of the first `count` instruments.
 pub fn add_records_of_instruments(
     alloc: Global,
     calls: &mut Vec<Call>,
@@ -120,7 +120,7 @@ pub fn add_records_of_instruments(
     Ok(())
 }
 
-/// Adds records at the first instrument of sets of 4 attributes, with the numbers from `first` to before `end`.
+/// Adds records at the first instrument with sets of 4 attributes, numbered from `first` up to but not including `end`.
 pub fn add_records_of_sets(
     alloc: Global,
     calls: &mut Vec<Call>,

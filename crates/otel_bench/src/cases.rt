@@ -1,22 +1,22 @@
-//! The cases and their names.
+//! The cases that are measured, and their names.
 
 use opentelemetry_sdk::metrics::Temporality;
 use opentelemetry_sdk::metrics::provider::InstrumentSort;
 
-/// The calls that are counted.
+/// A case: the calls whose instructions are counted.
 #[derive(Clone, Copy)]
 pub enum Case {
-    /// Records of one set of attributes sorted by key, at each of this many readers.
+    /// Records of one set of attributes, sorted by key, at each of this many readers.
     KnownSet {
         sort: InstrumentSort,
         attributes: usize,
         readers: usize,
     },
-    /// Records of one set of 4 attributes, which was recorded in the order of its keys and comes in another.
+    /// Records of one set of 4 attributes, first recorded in the order of its keys and then in another order.
     OtherOrder {
         sort: InstrumentSort,
     },
-    /// Records of one set of 4 attributes, always in the order in which it came first, which is not that of the keys.
+    /// Records of one set of 4 attributes, always in the order in which it first came, which is not that of its keys.
     FirstOrder {
         sort: InstrumentSort,
     },
@@ -30,11 +30,11 @@ pub enum Case {
         sort: InstrumentSort,
         kept: usize,
     },
-    /// Records of sets of 4 attributes, each for the first time; 2,000 in all.
+    /// Records of sets of 4 attributes, each for the first time, 2,000 in all.
     NewSets {
         sort: InstrumentSort,
     },
-    /// Records of sets of 4 attributes where there are 2,000 others.
+    /// Records of sets of 4 attributes when there are 2,000 others.
     PastLimit {
         sort: InstrumentSort,
     },
@@ -43,17 +43,17 @@ pub enum Case {
         sort: InstrumentSort,
         temporality: Temporality,
     },
-    /// Builds of new streams where there are 10,000 others; 2,000 in all.
+    /// Builds of new streams when there are 10,000 others, 2,000 in all.
     Builds {
         sort: InstrumentSort,
     },
-    /// Collections over 10,000 meters of one instrument each.
+    /// Collections over 10,000 meters with one instrument each.
     Meters {
         sort: InstrumentSort,
     },
 }
 
-/// Records of one set of attributes, at each of a number of readers.
+/// The case of records of one set of attributes, at each of this many readers.
 fn known(sort: InstrumentSort, attributes: usize, readers: usize) -> Option<Case> {
     Some(Case::KnownSet {
         sort,
@@ -62,12 +62,12 @@ fn known(sort: InstrumentSort, attributes: usize, readers: usize) -> Option<Case
     })
 }
 
-/// Collections of an instrument's 2,000 sets.
+/// The case of collections of an instrument's 2,000 sets.
 fn collected(sort: InstrumentSort, temporality: Temporality) -> Option<Case> {
     Some(Case::Collections { sort, temporality })
 }
 
-/// The case of a name.
+/// Returns the case of this name, or none if there is no such case.
 pub fn case_named(name: &str) -> Option<Case> {
     let sort = InstrumentSort::U64Counter;
     match name {

@@ -1,4 +1,4 @@
-//! The calls that are counted, over any provider.
+//! The calls that are counted, on any provider.
 
 ghost use Rattle.std.specs.Prelude.{◌≤◌};
 
@@ -17,8 +17,8 @@ fn prepare<P: Parts>(provider: &mut Provider<P>, calls: &[Call]) {
     }
 }
 
-/// Makes this many calls, one after another, and after the last the first again. It says how many were carried out.
-/// `measure.sh` counts the instructions of this function, with all that it calls.
+/// Makes this many calls, one after another, starting over after the last. Returns how many were carried out.
+/// `measure.sh` counts the instructions of this function and of all that it calls.
 #[inline(never)]
 fn counted_calls<P: Parts>(provider: &mut Provider<P>, calls: &[Call], times: u64) -> u64
     ensures { result ≤ times }
@@ -41,7 +41,8 @@ fn counted_calls<P: Parts>(provider: &mut Provider<P>, calls: &[Call], times: u6
     made
 }
 
-/// Counts this many calls, each after calls that are not counted.
+/// Makes this many counted calls, each after calls that are not counted. Returns how many of the counted ones were
+/// carried out.
 fn counted_rounds<P: Parts>(
     provider: &mut Provider<P>,
     between: &[Call],
@@ -58,7 +59,7 @@ fn counted_rounds<P: Parts>(
     made
 }
 
-/// Makes the calls of a plan, of which this many are counted, and says how many of those were carried out.
+/// Makes the calls of a plan, of which this many are counted. Returns how many of the counted ones were carried out.
 pub fn calls_of_plan<P: Parts>(provider: &mut Provider<P>, plan: &Plan, times: u64) -> u64
     ensures { result ≤ times }
 {

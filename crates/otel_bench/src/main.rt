@@ -1,5 +1,5 @@
-//! Makes calls of a provider, so that the instructions of one call can be counted (`measure.sh`): each case by its
-//! name, and how many calls.
+//! Makes calls on a provider, so that the instructions of one call can be counted (`measure.sh`). The arguments are
+//! pairs: the name of a case, and how many calls to make.
 #![tactic(auto)]
 
 mod attributes;
@@ -20,7 +20,7 @@ use std::alloc::Global;
 use std::env;
 use typed::adds_of_known;
 
-/// Makes this many calls of the case of this name, and prints how many of them were carried out.
+/// Makes this many calls of the case with this name, and prints how many of them were carried out.
 fn measure(rt: &impl Print, alloc: Global, name: &str, times: u64) -> Result<(), Error> {
     let Some(case) = case_named(name) else {
         println!(rt; "{name} is no case")?;
@@ -33,7 +33,7 @@ fn measure(rt: &impl Print, alloc: Global, name: &str, times: u64) -> Result<(),
     Ok(())
 }
 
-/// Adds this many times at a counter that is a value, and prints how often that was done.
+/// Adds this many times at a counter as a value, and prints how many of these calls succeeded.
 fn measure_typed(rt: &impl Print, alloc: Global, name: &str, times: u64) -> Result<(), Error> {
     let mut provider = provider_of(alloc, 1, Temporality::Cumulative, None)?;
     let made = adds_of_known(alloc, &mut provider, 4, times)?;
@@ -41,7 +41,7 @@ fn measure_typed(rt: &impl Print, alloc: Global, name: &str, times: u64) -> Resu
     Ok(())
 }
 
-/// Measures what each two words say: a case and a number.
+/// Measures each pair of words: a case and a number of calls.
 fn measure_all(rt: &impl Print, alloc: Global, words: &[String]) -> Result<(), Error> {
     for pair in words.chunks(2) {
         if let [name, times] = pair {

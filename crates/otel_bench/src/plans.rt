@@ -1,4 +1,4 @@
-//! What is done for a case.
+//! What is done for each case.
 
 use crate::attributes::{falling_set, sorted_set};
 use crate::calls::{
@@ -11,35 +11,35 @@ use opentelemetry_sdk::metrics::Temporality;
 use opentelemetry_sdk::metrics::provider::{Call, InstrumentSort};
 use std::alloc::Global;
 
-/// How many sets of attributes have points of their own before the limit.
+/// How many sets of attributes have their own points before the limit.
 const SETS: usize = 2_000;
 
 /// How many sets are recorded past the limit.
 const SETS_PAST: usize = 500;
 
-/// How many streams, or meters, a provider has that has many.
+/// How many streams or meters a provider has that has many.
 const MANY: usize = 10_000;
 
-/// How many streams are built where there are many.
+/// How many streams are built when there are already many.
 const MORE: usize = 2_000;
 
-/// The readers and the view of a provider, and the calls that are made of it.
+/// The readers and the view of a provider, and the calls that are made on it.
 #[derive(Drop)]
 pub struct Plan {
     pub readers: usize,
     pub temporality: Temporality,
-    /// How many keys of attributes a view keeps, if there is a view.
+    /// How many keys of attributes the view keeps, if there is a view.
     pub kept: Option<usize>,
-    /// The calls that are made first, once.
+    /// The calls that are made first, once. They are not counted.
     pub before: Vec<Call>,
-    /// The calls that are made each time before one is counted. They are not counted.
+    /// The calls that are made each time before a counted call. They are not counted.
     pub between: Vec<Call>,
-    /// The calls that are counted, one after another; after the last comes the first again.
+    /// The calls that are counted, one after another, starting over after the last.
     pub counted: Vec<Call>,
 }
 
 impl Plan {
-    /// A plan of one cumulative reader, without calls between those that are counted.
+    /// Makes a plan with one cumulative reader, and with no calls between those that are counted.
     fn new(alloc: Global, before: Vec<Call>, counted: Vec<Call>) -> Plan {
         Plan {
             readers: 1,
@@ -52,7 +52,7 @@ impl Plan {
     }
 }
 
-/// Records of one set, with its attributes as they stand in `then`; it was recorded before as they stand in `first`.
+/// Records of one set, with its attributes in the order of `then`, after one record with them in the order of `first`.
 fn known_set(
     alloc: Global,
     sort: InstrumentSort,
@@ -79,7 +79,7 @@ fn sorted(
     Ok(plan)
 }
 
-/// Records of one set of 4 attributes of which a view keeps this many.
+/// Records of one set of 4 attributes, of which a view keeps this many.
 fn allowed(alloc: Global, sort: InstrumentSort, kept: usize) -> Result<Plan, Fault> {
     let mut plan = sorted(alloc, sort, 4, 1)?;
     plan.kept = Some(kept);
@@ -93,7 +93,7 @@ fn other_order(alloc: Global, sort: InstrumentSort) -> Result<Plan, Fault> {
     known_set(alloc, sort, first, then)
 }
 
-/// Records of one set of 4 attributes, always in one order that is not that of the keys.
+/// Records of one set of 4 attributes, always in the same order, which is not that of their keys.
 fn first_order(alloc: Global, sort: InstrumentSort) -> Result<Plan, Fault> {
     let first = falling_set(alloc, 4)?;
     let then = falling_set(alloc, 4)?;
@@ -127,7 +127,7 @@ fn past_limit(alloc: Global, sort: InstrumentSort) -> Result<Plan, Fault> {
     Ok(Plan::new(alloc, before, counted))
 }
 
-/// Collections of all sets up to the limit, each of them recorded again before each collection.
+/// Collections of all sets up to the limit, all of which are recorded again before each collection.
 fn collections(
     alloc: Global,
     sort: InstrumentSort,
@@ -159,7 +159,7 @@ fn of_meters(alloc: Global, sort: InstrumentSort) -> Result<Plan, Fault> {
     Ok(Plan::new(alloc, before, counted))
 }
 
-/// The plan of a case.
+/// Returns the plan of a case.
 pub fn plan_of(alloc: Global, case: Case) -> Result<Plan, Fault> {
     match case {
         Case::KnownSet {

@@ -39,14 +39,14 @@ impl Parts for Plain {
     type ObserveI64 = NoCallback;
 }
 
-/// A view that keeps this many keys of attributes.
+/// Makes a view that keeps this many keys of attributes.
 fn keeping(alloc: Global, kept: usize) -> Result<OfAll, Error> {
     let keys = first_keys(alloc, kept)?;
     let stream = Stream::builder().with_allowed_attribute_keys(keys).build()?;
     Ok(OfAll { stream })
 }
 
-/// A provider with this many readers of a temporality, and perhaps a view that keeps so many keys.
+/// Makes a provider with this many readers of a temporality and, if `kept` says so, a view that keeps that many keys.
 pub fn provider_of(
     alloc: Global,
     readers: usize,

@@ -1,4 +1,4 @@
-//! Records at a counter that is a value.
+//! Records at a counter as a value.
 
 ghost use Rattle.std.specs.Prelude.{◌≤◌};
 
@@ -8,8 +8,8 @@ use opentelemetry_sdk::metrics::meter::Counter;
 use opentelemetry_sdk::metrics::provider::{Parts, Provider};
 use std::alloc::Global;
 
-/// Adds 1 this many times, and says how often that was done. `measure.sh` counts the instructions of this function, with
-/// all that it calls.
+/// Adds 1 this many times, and returns how many of these calls succeeded. `measure.sh` counts the instructions of this
+/// function and of all that it calls.
 #[inline(never)]
 fn counted_adds<P: Parts>(
     provider: &mut Provider<P>,
@@ -28,8 +28,8 @@ fn counted_adds<P: Parts>(
     made
 }
 
-/// Adds 1 this many times at a counter, with one set of this many attributes sorted by key, at which 1 was added before.
-/// It says how often that was done.
+/// Adds 1 this many times at a counter, with one set of this many attributes sorted by key, for which 1 was added
+/// before. Returns how many of these calls succeeded.
 pub fn adds_of_known<P: Parts>(
     alloc: Global,
     provider: &mut Provider<P>,

@@ -1,4 +1,4 @@
-//! A map of sets with live handles.
+//! A map of sets of attributes with live handles.
 
 ghost use Rattle.std.specs.Prelude.{◌≡◌, [], true, false, is_some, None, Some, IsSome, IsTrue, OnOk, OnErr, IfOk, IsOk, IsOkUnless};
 ghost use Rattle.std.specs.Option.{option_map};
@@ -27,16 +27,16 @@ use otel_value_map::value_map::ValueMap;
 use std::alloc::Global;
 use std::marker::Model;
 
-/// A bounded map from sets of attributes to aggregators, in which handles of the caller's own numbers hold entries
+/// A bounded map from sets of attributes to aggregators, in which handles, numbered by the caller, hold entries
 /// (Metrics SDK, "Cardinality limits").
 ///
-/// An entry that a live handle holds stays at a resetting collection, and a handle stays with its entry for good: also
-/// with the overflow entry, once its set could have one of its own.
+/// An entry that a live handle holds stays at a resetting collection. A handle stays with its entry for good, even
+/// with the overflow entry once its set could have an entry of its own.
 #[derive(Drop)]
 pub struct BoundMap<A: Aggregator> {
     map: ValueMap<A>,
     live: Links,
-    /// Whether room is made for a handle more.
+    /// Whether room is made for one more handle.
     room: bool,
 }
 
@@ -57,8 +57,8 @@ impl<A: Aggregator> Model for BoundMap<A> {
 }
 
 impl<A: Aggregator> BoundMap<A> {
-    /// A map with no entry but that of the empty set, and no handle, which hashes sets with this hasher. It takes memory
-    /// for that entry, for the set of the overflow entry, and what an aggregator takes.
+    /// Makes a map with no entry but that of the empty set, and with no handle, which hashes sets with this hasher.
+    /// Takes memory for that entry, for the set of the overflow entry, and for what an aggregator takes.
     pub fn new(
         alloc: Global,
         hasher: SetHashBuilder,
@@ -75,7 +75,7 @@ impl<A: Aggregator> BoundMap<A> {
         })
     }
 
-    /// Prepares a record or a bind of the attributes, as `ValueMap::prepare` does.
+    /// Prepares a record or a bind for the attributes, as `ValueMap::prepare` does.
     pub fn prepare(&mut self, attributes: &[KeyValue]) -> Result<(), Fault>
         ensures same { self.new.state ≡ self.old.state }
         ensures live { self.new.live ≡ self.old.live }
@@ -88,7 +88,7 @@ impl<A: Aggregator> BoundMap<A> {
         self.map.prepare(attributes)
     }
 
-    /// Prepares a record or a bind of those of the attributes whose key is in the allow-list, as
+    /// Prepares a record or a bind for those of the attributes whose key is in the allow-list, as
     /// `ValueMap::prepare_allowed` does.
     pub fn prepare_allowed(&mut self, allow: &[Key], attributes: &[KeyValue]) -> Result<(), Fault>
         ensures same { self.new.state ≡ self.old.state }
@@ -102,7 +102,7 @@ impl<A: Aggregator> BoundMap<A> {
         self.map.prepare_allowed(allow, attributes)
     }
 
-    /// Makes room for a handle. A bind uses it.
+    /// Makes room for a handle, which a bind uses up.
     pub fn make_room(&mut self) -> Result<(), Fault>
         ensures room { OnOk result (self.new ≡ record self.old { room = true }) }
         ensures refused { OnErr result (self.new ≡ self.old) }
@@ -120,8 +120,8 @@ impl<A: Aggregator> BoundMap<A> {
         self.map.is_prepared()
     }
 
-    /// Prepares a record through a handle, if it is live, in the place of what was prepared before; else that is given
-    /// up. It looks up nothing but the handle, and takes no memory.
+    /// Prepares a record through a handle, if it is live, in place of what was prepared before; otherwise only gives
+    /// that up. Looks up nothing but the handle, and takes no memory.
     pub fn prepare_held(&mut self, handle: u64)
         ensures same { self.new.state ≡ self.old.state }
         ensures live { self.new.live ≡ self.old.live }
@@ -132,14 +132,14 @@ impl<A: Aggregator> BoundMap<A> {
         match number_in(&self.live, handle) {
             Some(number) => {
                 self.map.prepare_at(number);
-                // Tells the prover that what has a number has an entry.
+                // Tells the prover that a set with a number has an entry.
                 self.map.told_numbers();
             }
             None => self.map.give_up(),
         }
     }
 
-    /// Takes in the record that was prepared, without a look-up for a set that has an entry.
+    /// Takes in the prepared record. Looks nothing up for a set that has an entry.
     pub fn measure_ready(&mut self, value: A::PreComputedValue)
         requires { IsSome self.old.pending }
         ensures measured { (s : AttributeSet) → self.old.pending ≡ Some s → self.new.state ≡ measured_map s (A.sample value) self.old.state }
@@ -148,19 +148,19 @@ impl<A: Aggregator> BoundMap<A> {
         ensures spent { self.new.pending ≡ None }
     {
         self.map.measure_ready(value);
-        // Tells the prover that entries that kept their numbers are named by them.
+        // Tells the prover that the entries that kept their numbers are still named by them.
         self.map.told_numbers();
     }
 
-    /// Carries out the bind that was prepared, as a handle of this number, if one was, room was made for it and no live
-    /// handle has the number. It takes no memory.
+    /// Carries out the prepared bind for a handle with this number, if a bind is prepared, room was made for the
+    /// handle and no live handle has the number. Otherwise nothing changes. Takes no memory.
     pub fn bind_ready(&mut self, handle: u64)
         ensures bound { self.new ≡ after_bind handle self.old }
     {
         if !self.room || !self.map.is_prepared() || number_in(&self.live, handle).is_some() {
             return;
         }
-        // Tells the prover that there are less than 2^63 handles.
+        // Tells the prover that there are fewer than 2^63 handles.
         let _ = self.live.len();
         let number = self.map.bind_ready();
         self.map.told_numbers();
@@ -168,7 +168,7 @@ impl<A: Aggregator> BoundMap<A> {
         self.room = false;
     }
 
-    /// Takes in a record through a handle, if it is live, and tells whether it is. It looks up nothing but the handle,
+    /// Takes in a record through a handle, if it is live, and returns whether it is. Looks up nothing but the handle,
     /// takes no memory, and gives up what was prepared.
     pub fn update_bound(&mut self, handle: u64, value: A::PreComputedValue) -> bool
         ensures updated { self.new ≡ after_update handle (A.sample value) self.old }
@@ -186,7 +186,7 @@ impl<A: Aggregator> BoundMap<A> {
         }
     }
 
-    /// Ends a handle, if it is live. It takes no memory, goes over the handles that are younger, and gives up what was
+    /// Ends a handle, if it is live. Takes no memory, goes over the handles made after it, and gives up what was
     /// prepared.
     pub fn unbind(&mut self, handle: u64)
         ensures unbound { self.new ≡ after_unbind handle self.old }
@@ -200,7 +200,7 @@ impl<A: Aggregator> BoundMap<A> {
         }
     }
 
-    /// The sets with copies of their aggregators, as `ValueMap::points` gives them.
+    /// The sets with copies of their aggregators, as `ValueMap::points` returns them.
     pub fn points(&self, alloc: Global, every: bool) -> Result<Vec<(Items<KeyValue>, A)>, Fault>
         ensures points { IfOk result (λ given. copies A.meaning given.items ≡ points every self.now.state.table) }
         ensures only_memory { IsOkUnless result Fault.OutOfMemory }
@@ -208,15 +208,15 @@ impl<A: Aggregator> BoundMap<A> {
         self.map.points(alloc, every)
     }
 
-    /// What the records add up to that `points` shows, modulo 2^64.
+    /// What the records that `points` shows add up to, modulo 2^64.
     pub fn total(&self, every: bool) -> u64
         ensures { result ≡ wrap (points_total (points every self.now.state.table)) }
     {
         self.map.total(every)
     }
 
-    /// Forgets all records. An entry that had none since the last time and that no handle holds goes, but for the
-    /// overflow entry. A record that was prepared is given up.
+    /// Forgets all records, and evicts the entries that had none since the last time and that no handle holds, except
+    /// the overflow entry. A prepared record is given up.
     pub fn reset_and_evict(&mut self)
         ensures state { self.new.state ≡ evicted_map self.old.state }
         ensures live { self.new.live ≡ self.old.live }
@@ -227,7 +227,8 @@ impl<A: Aggregator> BoundMap<A> {
         self.map.told_numbers();
     }
 
-    /// Forgets all records and all entries, where no handle is live. A record that was prepared is given up.
+    /// Forgets all records, and all entries but that of the empty set. No handle may be live. A prepared record is
+    /// given up.
     pub fn drain(&mut self)
         requires { self.old.live ≡ [] }
         ensures state { self.new.state ≡ drained_map self.old.state }
@@ -238,8 +239,8 @@ impl<A: Aggregator> BoundMap<A> {
         self.map.drain();
     }
 
-    /// A copy of the entries, which no handle holds, to be restored later. Of a map without entries it takes memory for
-    /// that of the empty set.
+    /// A copy of the entries, held by no handle, to be restored later. For a map without other entries it takes memory
+    /// for that of the empty set.
     pub fn save(&self, alloc: Global) -> Result<Saved<A>, Fault>
         ensures saved { IfOk result (λ saved. saved ≡ without_handles self.now.state.table) }
         ensures only_memory { IsOkUnless result Fault.OutOfMemory }
@@ -247,8 +248,8 @@ impl<A: Aggregator> BoundMap<A> {
         self.map.save(alloc)
     }
 
-    /// Puts saved entries in the place of its own, where no handle is live, and gives up a record that was prepared. It
-    /// takes no memory.
+    /// Puts saved entries in place of the map's own, and gives up a prepared record. No handle may be live. Takes no
+    /// memory.
     pub fn restore(&mut self, saved: Saved<A>)
         requires { self.old.live ≡ [] }
         ensures state { self.new.state ≡ record self.old.state { table = saved } }
@@ -261,14 +262,14 @@ impl<A: Aggregator> BoundMap<A> {
         self.map.restore(saved);
     }
 
-    /// The law that no entry is held where no handle is live.
+    /// The law that no entry is held if no handle is live.
     pub fn told_unheld(&self)
         ensures { self.now.live ≡ [] → without_handles self.now.state.table ≡ self.now.state.table }
     {
         let _room = self.room;
     }
 
-    /// The aggregator of a set, as `ValueMap::get` finds it.
+    /// The aggregator of a set, as `ValueMap::get` returns it.
     pub fn get(&self, attributes: &[KeyValue]) -> Option<&A>
         ensures { option_map (λ found. A.meaning found.now) result ≡ fold_in (draining_points self.now.state) attributes.now }
     {

@@ -1,4 +1,4 @@
-//! A bounded map from sets of attributes to aggregators, with live handles at its entries.
+//! A bounded map from sets of attributes to aggregators, with live handles on its entries.
 #![tactic(auto)]
 
 pub mod bound_map;

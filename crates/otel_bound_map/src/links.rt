@@ -1,4 +1,4 @@
-//! Handles with the numbers of their entries.
+//! Handles and the numbers of their entries.
 
 ghost use Rattle.std.specs.Prelude.{◌≡◌, ◌<◌, ◌≤◌, ◌∷◌, [], ◌++◌, None, OnOk, nat_eq};
 ghost use Rattle.std.specs.Map.{lookup};
@@ -8,17 +8,17 @@ use indexmap::IndexMap;
 use otel_value_map::hashing::SetHashBuilder;
 use std::alloc::AllocError;
 
-/// The number of the entry of each handle, in order of making.
+/// The number of each handle's entry, in order of making.
 pub type Links = IndexMap<u64, usize, SetHashBuilder>;
 
-/// The number of the entry of a handle.
+/// The number of a handle's entry, or `None` if the handle isn't live.
 pub fn number_in(links: &Links, handle: u64) -> Option<usize>
     ensures { result ≡ lookup (nat_eq handle) links.now.entries }
 {
     links.get(&handle).copied()
 }
 
-/// Makes room for a handle more.
+/// Makes room for one more handle.
 pub fn make_room(links: &mut Links) -> Result<(), AllocError>
     ensures links { links.new.entries ≡ links.old.entries }
     ensures room { OnOk result (0 < spare links.new) }
@@ -27,7 +27,7 @@ pub fn make_room(links: &mut Links) -> Result<(), AllocError>
     links.reserve(1)
 }
 
-/// Adds a handle.
+/// Adds a handle that isn't live, for which there is room.
 pub fn add(links: &mut Links, handle: u64, number: usize)
     requires absent { lookup (nat_eq handle) links.old.entries ≡ None }
     requires room { 0 < spare links.old }
@@ -36,7 +36,7 @@ pub fn add(links: &mut Links, handle: u64, number: usize)
     links.insert(handle, number).unwrap();
 }
 
-/// Takes a handle out; the others stay in order.
+/// Takes a handle out and keeps the others in order.
 pub fn take_out(links: &mut Links, handle: u64)
     ensures links { links.new.entries ≡ shift_remove_entry (nat_eq handle) links.old.entries }
     ensures room { spare links.old ≤ spare links.new }

@@ -1,4 +1,4 @@
-//! A callback in a box is a callback.
+//! A boxed callback is a callback.
 
 ghost use Rattle.otel_stream.specs.Boxes.{Becomes};
 

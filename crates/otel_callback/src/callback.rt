@@ -7,14 +7,14 @@ ghost use Rattle.otel_callback.specs.declared.observation.Observation.{Observati
 use crate::observation::Observation;
 use otel_common::faults::Fault;
 
-/// What observes values of `u64` (Metrics API, "Asynchronous Instrument API").
+/// A callback that observes values of type `u64` (Metrics API, "Asynchronous Instrument API").
 ///
-/// A collection runs each callback once, in the order in which their instruments were built, on an empty list. What
-/// it leaves there is what was observed. A callback may change itself: what becomes of it, what it leaves and what it
-/// answers are told by `observes`, which its own code is held to. An `Err` refuses the collection with that fault, and
-/// the callbacks after it don't run. A callback has no way to reach the provider.
+/// A collection runs each callback once, on an empty list, in the order in which their instruments were built. What the
+/// callback leaves in the list is what was observed. A callback may change itself: what becomes of it, what it leaves
+/// and what it answers are stated by `observes`, and its own code is held to that. An `Err` refuses the collection with
+/// that fault, and the callbacks after it don't run. A callback can't reach the provider.
 pub trait ObserveU64: Drop + Send {
-    /// The callback before and after, the list that it leaves, and its answer.
+    /// Relates the callback before and after a run, the list that it leaves, and its answer.
     ghost observes: { Self → Self → List (Observation ℕ) → Result (Unit {0}) Fault → Type 0 };
 
     /// Adds what is observed now to the list, which is handed in empty.
@@ -23,9 +23,9 @@ pub trait ObserveU64: Drop + Send {
         ensures { observes self.old self.new out.new.items result };
 }
 
-/// What observes values of `i64`; else as [`ObserveU64`].
+/// A callback that observes values of type `i64`; otherwise like [`ObserveU64`].
 pub trait ObserveI64: Drop + Send {
-    /// The callback before and after, the list that it leaves, and its answer.
+    /// Relates the callback before and after a run, the list that it leaves, and its answer.
     ghost observes: { Self → Self → List (Observation ℤ) → Result (Unit {0}) Fault → Type 0 };
 
     /// Adds what is observed now to the list, which is handed in empty.

@@ -1,5 +1,5 @@
-//! A law: copies of what was observed equal their source. The function does nothing; one whose contract needs the law
-//! calls it first.
+//! A law: a copy of what was observed equals its source. The function does nothing; a function whose contract needs the
+//! law calls it first.
 
 ghost use Rattle.std.specs.Prelude.{◌≡◌};
 ghost use Rattle.otel_callback.specs.declared.observation.Observed.{Observed};

@@ -1,4 +1,4 @@
-//! Callbacks of observable instruments: they are run at a collection, and what they leave in a list is observed.
+//! Callbacks of observable instruments. A collection runs them, and what they leave in a list is what was observed.
 #![tactic(auto)]
 
 pub mod boxed;

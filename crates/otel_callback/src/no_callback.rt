@@ -6,7 +6,7 @@ use crate::callback::{ObserveI64, ObserveU64};
 use crate::observation::Observation;
 use otel_common::faults::Fault;
 
-/// Observes nothing, of either number type: for a provider whose callbacks of a number type are none.
+/// A callback of either number type that observes nothing, for a provider without callbacks of that type.
 #[derive(Clone, Copy, Debug, Drop)]
 pub struct NoCallback;
 

@@ -4,12 +4,12 @@ use otel_common::attributes::KeyValue;
 use otel_common::lists::Items;
 use otel_data::numbers::NumberValue;
 
-/// A value that a callback observed, and the attributes that it has (Metrics API, "Measurement").
+/// A value that a callback observed, with its attributes (Metrics API, "Measurement").
 #[derive(Clone, Debug, Drop)]
 pub struct Observation<T> {
     /// The value.
     pub value: T,
-    /// The attributes, in any order; of a key that stands twice the first value counts.
+    /// The attributes, in any order. Where a key occurs more than once, the first value counts.
     pub attributes: Items<KeyValue>,
 }
 
@@ -20,6 +20,6 @@ pub struct Observed {
     pub instrument: usize,
     /// The value.
     pub value: NumberValue,
-    /// The attributes, in any order; of a key that stands twice the first value counts.
+    /// The attributes, in any order. Where a key occurs more than once, the first value counts.
     pub attributes: Items<KeyValue>,
 }

@@ -13,13 +13,13 @@ use std::alloc::Global;
 /// A callback of either number type.
 #[derive(Drop)]
 pub enum Callback<U, I> {
-    /// One that observes unsigned values.
+    /// A callback that observes unsigned values.
     U64(U),
-    /// One that observes signed values.
+    /// A callback that observes signed values.
     I64(I),
 }
 
-/// A callback, and the instrument that it observes.
+/// A callback and the instrument that it observes.
 #[derive(Drop)]
 pub struct Registered<U, I> {
     /// The number of the instrument.
@@ -28,7 +28,7 @@ pub struct Registered<U, I> {
     pub callback: Callback<U, I>,
 }
 
-/// What a callback left, as observed of an instrument.
+/// Turns what a callback left into what was observed of an instrument.
 fn observed_of<T: NumberType>(
     alloc: Global,
     instrument: usize,
@@ -50,10 +50,10 @@ fn observed_of<T: NumberType>(
 }
 
 impl<U: ObserveU64, I: ObserveI64> Registered<U, I> {
-    /// Runs the callback once, on an empty list, and gives what it left there.
+    /// Runs the callback once, on an empty list, and returns what it left there.
     ///
-    /// Answers the callback's fault, or `OutOfMemory`; then too the callback has run. Takes memory once, beside what
-    /// the callback takes.
+    /// Fails with the callback's fault, or with `OutOfMemory`; even then the callback has run. Takes memory once,
+    /// besides what the callback takes.
     pub fn run(&mut self, alloc: Global) -> Result<Vec<Observed>, Fault>
         ensures { MatchResult result (λ v. Ran U.observes I.observes self.old self.new (Ok v.items)) (λ f. Ran U.observes I.observes self.old self.new (Err f)) }
     {
@@ -73,10 +73,11 @@ impl<U: ObserveU64, I: ObserveI64> Registered<U, I> {
     }
 }
 
-/// Runs each callback once, in order, up to the first that answers a fault or whose observations there is no memory
-/// for, and gives all that was observed.
+/// Runs each callback once, in order, and returns all that was observed. It stops after the first callback that answers
+/// a fault, or for whose observations there is no memory, and fails with that fault or with `OutOfMemory`. The
+/// callbacks up to that one have run.
 ///
-/// Takes memory once for each callback, beside what the callbacks take, and for the list of all.
+/// Takes memory once for each callback, besides what the callbacks take, and for the list of all observations.
 pub fn run_callbacks<U: ObserveU64, I: ObserveI64>(
     alloc: Global,
     callbacks: &mut [Registered<U, I>],

@@ -1,4 +1,4 @@
-//! Callbacks in boxes, run in order up to the first fault.
+//! Tests callbacks in boxes, run in order up to the first fault.
 
 ghost use Rattle.std.specs.Prelude.{◌≡◌, ◌+◌, ℕ, IfOk};
 
@@ -31,7 +31,7 @@ impl ObserveU64 for Counting {
     }
 }
 
-/// Observes -1 twice, and then answers a fault if it is to.
+/// Observes -1 twice, and then answers a fault if `fails` is set.
 #[derive(Drop)]
 struct Below {
     alloc: Global,
@@ -55,7 +55,7 @@ impl ObserveI64 for Below {
     }
 }
 
-/// The callbacks of the tests: between two that count their runs one that observes -1 twice.
+/// The callbacks of the tests: one that observes -1 twice, between two that count their runs.
 fn three(
     alloc: Global,
     first: Box<dyn ObserveU64>,
@@ -80,7 +80,7 @@ fn three(
     Ok(callbacks)
 }
 
-/// These instruments were observed, with these values.
+/// Asserts that these instruments were observed, with these values.
 fn assert_observed(rt: &impl Abort, observed: &[Observed], wanted: &[(usize, NumberValue)]) {
     assert_eq!(rt; observed.len(), wanted.len());
     for (one, (instrument, value)) in observed.iter().zip(wanted.iter()) {
@@ -89,7 +89,7 @@ fn assert_observed(rt: &impl Abort, observed: &[Observed], wanted: &[(usize, Num
     }
 }
 
-/// Each callback runs once in a run, in order, and keeps what it did to itself.
+/// Each callback runs once in each run, in order, and keeps the changes that it made to itself.
 #[test]
 fn callbacks_run_in_order(rt: HostRuntime) -> Result<(), Fail> {
     let alloc = rt.alloc();
@@ -122,7 +122,7 @@ fn callbacks_run_in_order(rt: HostRuntime) -> Result<(), Fail> {
     Ok(())
 }
 
-/// After a fault no callback runs.
+/// No callback runs after a fault.
 #[test]
 fn callbacks_after_a_fault(rt: HostRuntime) -> Result<(), Fail> {
     let alloc = rt.alloc();

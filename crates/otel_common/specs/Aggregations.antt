@@ -1,16 +1,16 @@
--- Bounds of buckets, and which settings of an aggregation are good (Metrics SDK, "Aggregation" and "Explicit Bucket
--- Histogram Aggregation").
+-- Bucket bounds, and which aggregations are valid (Metrics SDK, "Aggregation" and "Explicit Bucket Histogram
+-- Aggregation").
 use Rattle.std.specs.Prelude.{ℕ, ℤ, int_lt, Bool, true, ◌&&◌, List, [], ◌∷◌, codes}
 use Rattle.otel_common.specs.declared.metrics.Aggregation.{Aggregation}
 use Rattle.otel_common.specs.declared.metrics.Aggregation.TheVariants.{Drop, Default, Sum, LastValue, ExplicitBucketHistogram}
 
--- each bound is greater than the one before it; an empty list rises
+-- whether each bound is greater than the one before it; an empty list rises
 abbrev pub rises : List ℤ → Bool
 rises [] = true
 rises (a ∷ []) = true
 rises (a ∷ b ∷ bounds) = int_lt a b && rises (b ∷ bounds)
 
--- bounds that rise, if there are some
+-- whether the bounds rise, if the aggregation has any
 abbrev pub is_valid : Aggregation → Bool
 is_valid Drop = true
 is_valid Default = true
@@ -18,6 +18,6 @@ is_valid Sum = true
 is_valid LastValue = true
 is_valid (ExplicitBucketHistogram bounds m) = rises bounds
 
--- what is answered where they don't rise
+-- the text of the error for bounds that don't rise
 abbrev pub aggregation_bounds_fault_text : List ℕ
 aggregation_bounds_fault_text = codes "aggregation: explicit bucket histogram: non-monotonic boundaries"

@@ -1,4 +1,4 @@
--- When attributes are equal: exactly if their contents are.
+-- Tests of whether attributes are equal, each true exactly if the two values are the same.
 use Rattle.std.specs.Prelude.{◌≡◌, ◌≢◌, ℕ, Bool, true, false, ◌&&◌, ◌==◌, List, refl}
 use Rattle.std.proofs.Common.{sym, ap, true≢false}
 use Rattle.std.specs.Bool.{Decides, beq}
@@ -30,7 +30,7 @@ value_eq _ _ = false
 abbrev pub key_value_eq : KeyValue → KeyValue → Bool
 key_value_eq x y = bytes_eq x.key y.key && value_eq x.value y.value
 
--- a test that decides equality of what a constructor holds decides it of what is made
+-- if f is injective, a test that decides whether x and y are equal decides whether f x and f y are
 decides_under : {A B : Type 0} (f : A → B) (inj : (x y : A) → f x ≡ f y → x ≡ y) (b : Bool) (x y : A) → Decides b (x ≡ y) → Decides b (f x ≡ f y)
 decides_under f inj b x y d = (λ h. ap f (d.0 h), λ e. d.1 (inj x y e))
 
@@ -77,7 +77,7 @@ key_value_eq-Decides x y =
     (λ k v i. record { key = k i; value = v i })
     (λ e. (ap (λ p. p.key) e, ap (λ p. p.value) e))
 
--- sets of attributes, pair for pair
+-- whether two lists of attributes are equal, pair by pair
 abbrev pub set_eq : List KeyValue → List KeyValue → Bool
 set_eq = pointwise key_value_eq
 

@@ -1,4 +1,4 @@
--- Resources, their merge (Resource SDK, "Merge"), and what their builders make of them.
+-- Resources, how they merge (Resource SDK, "Merge"), and what their builders do.
 use Rattle.std.specs.Prelude.{◌≡◌, ◌≢◌, ℕ, List, [], ◌∷◌, ◌++◌, reverse, cond, Option, Some, None, codes}
 use Rattle.std.specs.Option.{option_or}
 use Rattle.otel_common.specs.Canonical.{canon, HasRisingKeys}
@@ -12,25 +12,25 @@ use denote.Ref.{Bor}
 abbrev pub empty_resource : Resource
 empty_resource = record { attributes = []; schema_url = None }
 
--- the common URL if both are equal, none if they differ, the only one if one is there
+-- of two URLs the common one if they are equal, and none if they differ; of one URL and none, the one
 abbrev pub merged_url : Option (List ℕ) → Option (List ℕ) → Option (List ℕ)
 merged_url None other = other
 merged_url (Some url) None = Some url
 merged_url (Some url) (Some other) = cond (bytes_eq url other) (Some url) None
 
--- a key has the other's value if the other has the key
+-- the attributes of both, the other's value winning where both have a key, and the merged URL
 abbrev pub merged_resource : Resource → Resource → Resource
 merged_resource resource other = record {
   attributes = canon (other.attributes ++ resource.attributes);
   schema_url = merged_url resource.schema_url other.schema_url;
 }
 
--- the value of the first pair with this key
+-- the value of the first pair with this key, if there is one
 abbrev pub value_at : List ℕ → List KeyValue → Option Value
 value_at key [] = None
 value_at key (p ∷ attributes) = cond (bytes_eq p.key key) (Some p.value) (value_at key attributes)
 
--- each key has the other's value, and the resource's if the other lacks the key
+-- at each key r has the other's value, or the resource's if the other lacks the key
 abbrev pub HasValuesOfBoth : Resource → Resource → Resource → Type 0
 HasValuesOfBoth resource other r = (key : List ℕ) → value_at key r.attributes ≡ option_or (value_at key other.attributes) (value_at key resource.attributes)
 
@@ -38,62 +38,62 @@ HasValuesOfBoth resource other r = (key : List ℕ) → value_at key r.attribute
 abbrev pub attribute_at : Bor (List ℕ) × Bor Value → KeyValue
 attribute_at pair = record { key = pair.0.now; value = pair.1.now }
 
--- the other's values win a merge
+-- in a merge the other's values win
 abbrev pub OthersValuesWin : Type 0
 OthersValuesWin = (resource other : Resource) → HasValuesOfBoth resource other (merged_resource resource other)
 
--- and the keys of a merge rise
+-- the keys of a merge are in strictly ascending byte order
 abbrev pub MergesAreCanonical : Type 0
 MergesAreCanonical = (resource other : Resource) → HasRisingKeys (merged_resource resource other).attributes
 
--- of three resources of which the last two have the same URL and the first another, merged from the left,
--- the last one's URL stays; merged from the right, none
+-- of three resources, the last two have the same URL and the first has another: merging them from the left ends with
+-- the URL of the last two
 abbrev pub UrlsMergeFromTheLeft : Type 0
 UrlsMergeFromTheLeft = (a b c : Resource) (one two : List ℕ) → one ≢ two → a.schema_url ≡ Some one → b.schema_url ≡ Some two → c.schema_url ≡ Some two
     → (merged_resource (merged_resource a b) c).schema_url ≡ Some two
 
--- so merged from the right, no URL is left
+-- merging them from the right ends with no URL
 abbrev pub UrlsMergeFromTheRight : Type 0
 UrlsMergeFromTheRight = (a b c : Resource) (one two : List ℕ) → one ≢ two → a.schema_url ≡ Some one → b.schema_url ≡ Some two → c.schema_url ≡ Some two
     → (merged_resource a (merged_resource b c)).schema_url ≡ None
 
 -- ======== builders ========
--- the resource of a list and a URL: of doubled keys the last wins
+-- the resource with these attributes and this URL; of attributes with the same key the last wins
 abbrev pub resource_of : List KeyValue → Option (List ℕ) → Resource
 resource_of attributes url = record { attributes = canon (reverse attributes); schema_url = url }
 
--- an empty URL is none
+-- an empty URL counts as none
 abbrev pub url_of : List ℕ → Option (List ℕ)
 url_of [] = None
 url_of (b ∷ url) = Some (b ∷ url)
 
--- a builder that is given attributes: these win
+-- a builder that is given attributes, which win over its own
 abbrev pub with_attributes : Resource → List KeyValue → Resource
 with_attributes builder attributes = merged_resource builder (resource_of attributes None)
 
--- one attribute
+-- a builder that is given one attribute
 abbrev pub with_attribute : Resource → KeyValue → Resource
 with_attribute builder attribute = with_attributes builder (attribute ∷ [])
 
--- the name of the service
+-- a builder that is given the service's name
 abbrev pub with_service_name : Resource → Value → Resource
 with_service_name builder name = with_attribute builder (record { key = codes "service.name"; value = name })
 
--- attributes and the URL of their schema: what stood in the builder wins
+-- a builder that is given attributes and their schema's URL: its own attributes win, and the URLs merge
 abbrev pub with_schema_url : Resource → List KeyValue → List ℕ → Resource
 with_schema_url builder attributes url = merged_resource (resource_of attributes (url_of url)) builder
 
--- the values of a list that is given win, the last of each key
+-- given attributes win over the builder's, and of those with the same key the last wins
 abbrev pub GivenValuesWin : Type 0
 GivenValuesWin = (builder : Resource) (attributes : List KeyValue) (key : List ℕ)
     → value_at key (with_attributes builder attributes).attributes ≡ option_or (value_at key (reverse attributes)) (value_at key builder.attributes)
 
--- those of a list that is given with a URL give way
+-- the builder's attributes win over those given with a URL, and of these the last with a key wins
 abbrev pub OwnValuesWin : Type 0
 OwnValuesWin = (builder : Resource) (attributes : List KeyValue) (url key : List ℕ)
     → value_at key (with_schema_url builder attributes url).attributes ≡ option_or (value_at key builder.attributes) (value_at key (reverse attributes))
 
--- to give a list is to give its attributes one after another
+-- giving a list with one more attribute at its end is giving the list and then the attribute
 abbrev pub GivenOneByOne : Type 0
 GivenOneByOne = (builder : Resource) (attributes : List KeyValue) (attribute : KeyValue)
     → with_attributes builder (attributes ++ attribute ∷ []) ≡ with_attribute (with_attributes builder attributes) attribute

@@ -1,4 +1,4 @@
--- When scopes are equal: exactly if their four parts are.
+-- When scopes are equal: exactly if their names, versions, schema URLs and attributes are.
 use Rattle.std.specs.Prelude.{◌≡◌, ℕ, Bool, ◌&&◌, List, Option, Some, None, refl}
 use Rattle.std.proofs.Common.{sym, ap, true≢false}
 use Rattle.std.specs.Bool.{Decides}

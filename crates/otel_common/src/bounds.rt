@@ -1,10 +1,10 @@
-//! Bounds of a histogram's buckets.
+//! The bounds of a histogram's buckets.
 
 ghost use Rattle.std.specs.Prelude.{◌≡◌, int_lt};
 ghost use Rattle.otel_common.specs.Aggregations.{rises};
 
-/// Whether each bound is greater than the one before it (Metrics SDK, "Explicit Bucket Histogram
-/// Aggregation"). An empty list rises. Goes over them once, and takes no memory.
+/// Returns whether each bound is greater than the one before it (Metrics SDK, "Explicit Bucket Histogram Aggregation").
+/// An empty list rises too. Goes over the bounds once, and takes no memory.
 pub fn is_rising(bounds: &[i64]) -> bool
     ensures { result ≡ rises bounds.now }
 {

@@ -1,4 +1,4 @@
-//! Attributes, sets of them, scopes, their laws, and the faults of all calls.
+//! Attributes, sets of attributes, scopes, the laws of these, and the faults of all calls.
 
 pub use crate::attributes::{Array, KeyValue, Value};
 pub use crate::canonical::{canonical, canonical_laws};

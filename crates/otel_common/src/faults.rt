@@ -7,58 +7,62 @@ ghost use Rattle.otel_common.specs.declared.faults.Fault.TheVariants.{OutOfMemor
 use std::alloc::{AllocError, AllocFailed};
 use thiserror::Error;
 
-/// What a flush or a shutdown is answered: done, or why it was refused.
+/// The answer to a flush or a shutdown: done, or why it was refused.
 pub type OTelSdkResult = Result<(), Fault>;
 
-/// Why a call was refused. A refused call changes nothing, but for a flush or a shutdown in which readers failed: there
-/// every reader was asked, and the shutdown has shut the provider down.
+/// Why a call was refused.
+///
+/// A refused call changes nothing, with two exceptions. In a flush or a shutdown in which readers failed, every reader
+/// was asked, and the shutdown has shut the provider down. In a refused collection, the callbacks that ran keep the
+/// changes that they made to themselves.
 #[derive(Clone, Debug, Drop, Error)]
 pub enum Fault {
-    /// A growth was refused in this call.
+    /// There was no memory for the call.
     #[error("out of memory")]
     OutOfMemory,
-    /// No meter has this number.
+    /// No meter of the provider has this number, or the meter belongs to a provider with another identity.
     #[error("unknown meter")]
     UnknownMeter,
-    /// No instrument has this number.
+    /// No instrument of the provider has this number, or the instrument belongs to a provider with another identity.
     #[error("unknown instrument")]
     UnknownInstrument,
-    /// No live handle has this number.
+    /// No live handle of the provider has this number, or the handle belongs to a provider with another identity.
     #[error("unknown handle")]
     UnknownHandle,
-    /// No reader has this number.
+    /// No reader of the provider has this number.
     #[error("unknown reader")]
     UnknownReader,
     /// A `u64` for an `i64` instrument, or the other way round.
     #[error("wrong number type")]
     WrongNumber,
-    /// The instrument is of another kind: a record or a bind at an observable one, or an observation of one that isn't.
+    /// The instrument is of the wrong kind: a record or a bind on an observable one, or an observation of one that
+    /// isn't observable.
     #[error("wrong instrument kind")]
     WrongKind,
-    /// A flush or a shutdown of a provider that was shut down before (Metrics SDK, "Shutdown").
+    /// A flush or a shutdown of a provider that was already shut down (Metrics SDK, "Shutdown").
     #[error("already shut down")]
     AlreadyShutdown,
-    /// No number is left for another handle: 2^64 - 1 were given.
+    /// No number is left for another handle: 2^64 - 1 handles were bound.
     #[error("exhausted")]
     Exhausted,
-    /// A reader could not do what it was asked to.
+    /// A reader could not do what it was asked.
     #[error("{0}")]
     InternalFailure(InternalFault),
 }
 
-/// What a reader could not do.
+/// What readers failed to do.
 #[derive(Clone, Debug, Drop, Error)]
 pub enum InternalFault {
-    /// A collection of a provider that was shut down before.
+    /// A collection from a provider that was already shut down.
     #[error("reader is shut down or not registered")]
     ReaderShutDown,
-    /// So many readers failed in a flush or a shutdown, and this is the number of the first of them.
+    /// Readers failed in a flush or a shutdown: how many did, and the number of the first of them.
     #[error("{failed} readers failed, the first is {first}")]
     Readers { failed: usize, first: usize },
 }
 
 impl Fault {
-    /// The number of the fault, which stays the same from version to version.
+    /// Returns the number of the fault, which stays the same from version to version.
     pub fn number(&self) -> u8
         ensures { result ≡ number_of self.now }
     {

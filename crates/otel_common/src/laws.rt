@@ -1,7 +1,7 @@
 //! Laws: a copy equals its source, and values are equal exactly if their contents are.
 //!
-//! These functions do nothing. A function whose contract needs the law of a copy or a comparison
-//! calls the one of its type first.
+//! These functions do nothing. A function whose contract needs the law of copying or comparing a type calls that type's
+//! function first.
 
 ghost use Rattle.std.specs.Prelude.{◌≡◌, ℕ, List};
 ghost use Rattle.std.specs.Bool.{Decides};
@@ -20,7 +20,7 @@ use crate::metrics::{Aggregation, Temporality};
 use crate::resource::Resource;
 use crate::scopes::InstrumentationScope;
 
-/// What a copy of a key, a value or an attribute gives equals its source.
+/// A copy of a key, an array, a value or an attribute equals its source.
 pub fn copied_attributes()
     ensures key { (x y : List ℕ) → ⟦<Key as Clone>⟧.is_clone x y → y ≡ x }
     ensures array { (x y : Array) → ⟦<Array as Clone>⟧.is_clone x y → y ≡ x }
@@ -28,12 +28,12 @@ pub fn copied_attributes()
     ensures attribute { (x y : KeyValue) → ⟦<KeyValue as Clone>⟧.is_clone x y → y ≡ x }
 {}
 
-/// What a copy of a scope gives equals its source.
+/// A copy of a scope equals its source.
 pub fn copied_scope()
     ensures scope { (x y : InstrumentationScope) → ⟦<InstrumentationScope as Clone>⟧.is_clone x y → y ≡ x }
 {}
 
-/// Keys, values or attributes are equal exactly if their contents are.
+/// Two keys, arrays, values or attributes are equal exactly if their contents are.
 pub fn equal_attributes()
     ensures key { (x y : List ℕ) → Decides (⟦<Key as PartialEq>⟧.eq x y) (x ≡ y) }
     ensures array { (x y : Array) → Decides (⟦<Array as PartialEq>⟧.eq x y) (x ≡ y) }
@@ -46,8 +46,7 @@ pub fn equal_scopes()
     ensures scope { (x y : InstrumentationScope) → Decides (⟦<InstrumentationScope as PartialEq>⟧.eq x y) (x ≡ y) }
 {}
 
-/// What a copy of a resource gives equals its source, and two resources are equal exactly if their
-/// attributes and URLs are.
+/// A copy of a resource equals its source, and two resources are equal exactly if their attributes and schema URLs are.
 pub fn resource_laws()
     ensures copy { (x y : Resource) → ⟦<Resource as Clone>⟧.is_clone x y → y ≡ x }
     ensures equal { (x y : Resource) → Decides (⟦<Resource as PartialEq>⟧.eq x y) (x ≡ y) }
@@ -56,19 +55,19 @@ pub fn resource_laws()
     equal_attributes();
 }
 
-/// Two temporalities are equal exactly if they are the same; one that nobody chose is cumulative.
+/// Two temporalities are equal exactly if they are the same, and the default is cumulative.
 pub fn temporality_laws()
     ensures equal { (x y : Temporality) → Decides (⟦<Temporality as PartialEq>⟧.eq x y) (x ≡ y) }
     ensures default { (x : Temporality) → ⟦<Temporality as Default>⟧.is_default x → x ≡ Cumulative }
 {}
 
-/// What a copy of an aggregation gives equals its source.
+/// A copy of an aggregation equals its source.
 pub fn copied_aggregation()
     ensures { (x y : Aggregation) → ⟦<Aggregation as Clone>⟧.is_clone x y → y ≡ x }
 {}
 
-/// Two aggregations are equal exactly if they are the same, with the same bounds and the same choice of minimum
-/// and maximum.
+/// Two aggregations are equal exactly if they are the same, with the same bounds and the same choice about minimum and
+/// maximum.
 pub fn equal_aggregations()
     ensures { (x y : Aggregation) → Decides (⟦<Aggregation as PartialEq>⟧.eq x y) (x ≡ y) }
 {}

@@ -1,7 +1,7 @@
-//! Attributes and sets of them, instrumentation scopes, faults, and what all metrics share.
+//! Attributes and sets of them, resources, instrumentation scopes, faults, and what all metrics share.
 //!
-//! Contracts see each type as plain data: a text as its bytes, a list as its items. So `≡` between
-//! two values of these types says that their contents are equal.
+//! Contracts see each type as plain data: a string as its bytes, a list as its items. So `≡` between two values of
+//! these types says that their contents are equal.
 #![tactic(auto)]
 
 pub mod attributes;

@@ -1,4 +1,4 @@
-//! What all metrics share: temporality, and errors of configuration.
+//! What all metrics share: temporality, aggregation, and errors of configuration.
 
 ghost use Rattle.std.specs.Prelude.{◌≡◌, IfErr, is_ok};
 ghost use Rattle.otel_common.specs.Aggregations.{is_valid, rises, aggregation_bounds_fault_text};
@@ -14,10 +14,10 @@ use thiserror::Error;
 /// How the points of one collection relate to those of the next (Metrics data model, "Temporality").
 #[derive(Clone, Copy, Debug, PartialEq, Eq, Hash, Default)]
 pub enum Temporality {
-    /// Each collection gives all that was recorded since the start.
+    /// Each collection gives everything recorded since the start.
     #[default]
     Cumulative,
-    /// Each collection gives what was recorded since the one before.
+    /// Each collection gives what was recorded since the previous one.
     Delta,
     /// Delta for `Counter` and `Histogram`, cumulative for the other kinds.
     LowMemory,
@@ -28,7 +28,7 @@ impl FromStr for Temporality {
 
     ghost from_str_gives = { λ s r. r ≡ temporality_named s };
 
-    /// Reads `cumulative`, `delta` or `lowmemory`, ASCII case ignored. Takes no memory.
+    /// Parses `cumulative`, `delta` or `lowmemory`, ignoring ASCII case; anything else is an error. Takes no memory.
     fn from_str(s: &str) -> Result<Temporality, ()> {
         if s.eq_ignore_ascii_case("cumulative") {
             return Ok(Temporality::Cumulative);
@@ -48,15 +48,15 @@ impl FromStr for Temporality {
 pub enum Aggregation {
     /// Nothing: there is no stream.
     Drop,
-    /// What the reader wants for the kind of instrument, or else the kind's own.
+    /// What the reader wants for the kind of instrument, or else the kind's own default.
     Default,
-    /// Their sum.
+    /// The sum of their values.
     Sum,
-    /// The last of them.
+    /// The last of their values.
     LastValue,
-    /// How they spread: their number, their sum, and how many fell into each bucket.
+    /// The distribution of their values: how many there are, their sum, and how many fell into each bucket.
     ExplicitBucketHistogram {
-        /// The bounds of the buckets, which rise.
+        /// The bounds of the buckets, each of which must be greater than the one before it.
         boundaries: Items<i64>,
         /// Whether the least and the greatest value are kept.
         record_min_max: bool,
@@ -66,8 +66,8 @@ pub enum Aggregation {
 const BOUNDS: &str = "aggregation: explicit bucket histogram: non-monotonic boundaries";
 
 impl Aggregation {
-    /// Tells whether the settings are good: the bounds of a histogram rise, each greater than the one before it.
-    /// No bounds at all are good (Metrics SDK, "Explicit Bucket Histogram Aggregation").
+    /// Checks the settings: each bound of a histogram must be greater than the one before it. A histogram without
+    /// bounds is valid (Metrics SDK, "Explicit Bucket Histogram Aggregation").
     ///
     /// The error is `MetricError::Config`. Goes over the bounds once, and takes no memory.
     pub fn validate(&self) -> Result<(), MetricError>
@@ -86,7 +86,7 @@ impl Aggregation {
     }
 }
 
-/// Tells whether bounds rise.
+/// Checks that bounds rise.
 fn rising_or_fault(bounds: &[i64]) -> Result<(), MetricError>
     ensures rising { is_ok result ≡ rises bounds.now }
     ensures fault { IfErr result (λ e. IsConfig e aggregation_bounds_fault_text) }
@@ -113,13 +113,13 @@ impl Display for Aggregation {
 /// Why a configuration is refused.
 #[derive(Debug, Drop, Error)]
 pub enum MetricError {
-    /// For a reason that has no variant of its own.
+    /// A reason that has no variant of its own.
     #[error("Metrics error: {0}")]
     Other(&'static str),
     /// Settings that are not allowed.
     #[error("Config error {0}")]
     Config(&'static str),
-    /// A name, a unit or a setting of an instrument that is not allowed.
+    /// A name, a unit or another setting of an instrument that is not allowed.
     #[error("Invalid instrument configuration: {0}")]
     InvalidInstrumentConfiguration(&'static str),
 }

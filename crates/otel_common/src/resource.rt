@@ -1,4 +1,4 @@
-//! What all the metrics of a provider come from.
+//! Resources: what all the metrics of a provider come from.
 
 ghost use Rattle.std.specs.Prelude.{◌≡◌, ◌↔◌, [], length, IsTrue, IfOk, IsOkUnless};
 ghost use Rattle.std.specs.Option.{option_map};
@@ -15,15 +15,16 @@ use crate::sets::AttributeSet;
 use crate::strings::StringValue;
 use std::alloc::Global;
 
-/// What produces telemetry, such as a service: attributes, each key once and in byte order, and perhaps
-/// the URL of their schema (Resource SDK).
+/// A source of telemetry, such as a service: its attributes, each key once and in byte order, and optionally the URL of
+/// their schema (Resource SDK).
 #[derive(Clone, Debug, Drop, PartialEq)]
 pub struct Resource {
     pub(crate) attributes: AttributeSet,
     pub(crate) schema_url: Option<StringValue>,
 }
 
-/// The URL of a merge: the common one if both are equal, none if they differ, the only one if one is there.
+/// Returns the schema URL of a merge: the common one if both are equal, none if they differ, and if only one is set,
+/// that one.
 fn merged_url(url: Option<StringValue>, other: Option<StringValue>) -> Option<StringValue>
     ensures { result ≡ rules.merged_url url other }
 {
@@ -35,7 +36,7 @@ fn merged_url(url: Option<StringValue>, other: Option<StringValue>) -> Option<St
 }
 
 impl Resource {
-    /// The resource without attributes and without a schema URL. Takes no memory.
+    /// Makes the resource that has no attributes and no schema URL. Takes no memory.
     pub(crate) fn empty(alloc: Global) -> Resource
         ensures { result ≡ empty_resource }
     {
@@ -45,15 +46,16 @@ impl Resource {
         }
     }
 
-    /// A builder of a resource without attributes and without a schema URL. Takes no memory.
+    /// Returns a builder that starts with no attributes and no schema URL. Takes no memory.
     pub fn builder_empty(alloc: Global) -> ResourceBuilder
         ensures { result ≡ empty_resource }
     {
         ResourceBuilder::new(alloc)
     }
 
-    /// This resource merged with another (Resource SDK, "Merge"): the attributes of both, the other's value where both
-    /// have a key, also an empty one. Equal schema URLs stay, two different ones give none, and one alone stays.
+    /// Merges this resource with another (Resource SDK, "Merge"). The result has the attributes of both; where both
+    /// have a key, it has the other's value, even an empty one. Equal schema URLs stay, two different ones give none,
+    /// and if only one is set, it stays.
     ///
     /// Copies both resources, and sorts the attributes by key with a buffer. Refused only for want of memory.
     pub fn merge(&self, other: &Resource) -> Result<Resource, Fault>
@@ -65,8 +67,8 @@ impl Resource {
         self.clone()?.merged_with(other.clone()?)
     }
 
-    /// What `merge` gives, of resources that are given up: copies no attribute. Refused only for want of memory: the list
-    /// grows, and is sorted by key with a buffer.
+    /// Does the same as `merge`, but consumes both resources and copies no attribute. Refused only for want of memory:
+    /// the list of attributes grows, and is sorted by key with a buffer.
     pub fn merged_with(self, other: Resource) -> Result<Resource, Fault>
         ensures merged { IfOk result (λ r. r ≡ rules.merged_resource self other) }
         ensures values { IfOk result (HasValuesOfBoth self other) }
@@ -89,14 +91,14 @@ impl Resource {
         })
     }
 
-    /// How many attributes there are.
+    /// Returns the number of attributes.
     pub fn len(&self) -> usize
         ensures { result ≡ length self.now.attributes }
     {
         self.attributes.as_slice().len()
     }
 
-    /// Whether there are none.
+    /// Returns whether there are no attributes.
     pub fn is_empty(&self) -> bool
         ensures { IsTrue result ↔ (self.now.attributes ≡ []) }
     {
@@ -113,7 +115,7 @@ impl Resource {
         }
     }
 
-    /// The value of a key, if the resource has the key. Compares the keys one after another.
+    /// Returns the value of a key, if the resource has the key. Compares the keys one by one.
     pub fn get_ref(&self, key: &Key) -> Option<&Value>
         ensures { option_map (λ v. v.now) result ≡ value_at key.now self.now.attributes }
     {
@@ -125,7 +127,7 @@ impl Resource {
         None
     }
 
-    /// A copy of the value of a key, if the resource has the key. Refused only for want of memory.
+    /// Returns a copy of the value of a key, if the resource has the key. Refused only for want of memory.
     pub fn get(&self, key: &Key) -> Result<Option<Value>, Fault>
         ensures value { IfOk result (λ value. value ≡ value_at key.now self.now.attributes) }
         ensures only_memory { IsOkUnless result Fault.OutOfMemory }
@@ -136,7 +138,7 @@ impl Resource {
         }
     }
 
-    /// The attributes, keys in byte order.
+    /// Iterates over the attributes, in byte order of their keys.
     pub fn iter(&self) -> Iter<'_>
         ensures pairs { result ≡ self.now.attributes }
         ensures in_key_order { HasRisingKeys self.now.attributes }

@@ -15,9 +15,10 @@ use crate::strings::StringValue;
 use std::alloc::{AllocError, Global};
 use std::marker::Model;
 
-/// Makes a resource, from the one that `Resource::builder_empty` starts with (Resource SDK, "Resource Creation").
+/// A builder of resources, which starts from the empty one of `Resource::builder_empty` (Resource SDK, "Resource
+/// Creation").
 ///
-/// Contracts see it as the resource that it would build. A call that is refused gives the builder up.
+/// Contracts see it as the resource that it would build. A refused call consumes the builder.
 #[derive(Debug, Drop)]
 pub struct ResourceBuilder {
     resource: Resource,
@@ -31,7 +32,7 @@ impl Model for ResourceBuilder {
     ghost view = { λ b. b.resource };
 }
 
-/// The resource of a list of attributes and a schema URL: of doubled keys the last wins.
+/// Makes the resource of a list of attributes and a schema URL. Where a key occurs more than once, the last value wins.
 fn resource_of(
     attributes: Vec<KeyValue>,
     schema_url: Option<StringValue>,
@@ -47,7 +48,7 @@ fn resource_of(
     })
 }
 
-/// A schema URL: an empty one is none.
+/// Returns a schema URL, or `None` for an empty one.
 fn url_of(url: String) -> Option<StringValue>
     ensures { result ≡ rules.url_of (string_bytes url) }
 {
@@ -58,7 +59,7 @@ fn url_of(url: String) -> Option<StringValue>
 }
 
 impl ResourceBuilder {
-    /// A builder of the resource without attributes and without a schema URL. Takes no memory.
+    /// Makes a builder of the resource that has no attributes and no schema URL. Takes no memory.
     pub(crate) fn new(alloc: Global) -> ResourceBuilder
         ensures { result ≡ empty_resource }
     {
@@ -67,7 +68,7 @@ impl ResourceBuilder {
         }
     }
 
-    /// Adds an attribute, in the stead of one with its key. Refused only for want of memory.
+    /// Adds an attribute, in place of one with the same key. Refused only for want of memory.
     pub fn with_attribute(self, attribute: KeyValue) -> Result<ResourceBuilder, Fault>
         ensures merged { IfOk result (λ b. b ≡ rules.with_attribute self attribute) }
         ensures only_memory { IsOkUnless result Fault.OutOfMemory }
@@ -76,10 +77,10 @@ impl ResourceBuilder {
         self.with_attributes(attributes)
     }
 
-    /// Adds attributes, in the stead of those with their keys: merges the builder with them. Of a key that stands twice
-    /// the last value stays. Refused only for want of memory.
+    /// Adds attributes, in place of those with the same keys: merges the builder with them. Where a key occurs more
+    /// than once in the list, the last value stays. Refused only for want of memory.
     ///
-    /// Copies no attribute. The lists are put together and sorted by key, with a buffer.
+    /// Copies no attribute. The lists are joined and sorted by key, with a buffer.
     pub fn with_attributes(self, attributes: Vec<KeyValue>) -> Result<ResourceBuilder, Fault>
         ensures merged { IfOk result (λ b. b ≡ rules.with_attributes self attributes.items) }
         ensures only_memory { IsOkUnless result Fault.OutOfMemory }
@@ -90,8 +91,8 @@ impl ResourceBuilder {
         })
     }
 
-    /// The name of the service: the attribute `service.name` (Resource semantic conventions, "Service"). Refused only
-    /// for want of memory.
+    /// Sets the name of the service, the attribute `service.name` (Resource semantic conventions, "Service"). Refused
+    /// only for want of memory.
     pub fn with_service_name(self, name: Value) -> Result<ResourceBuilder, Fault>
         ensures merged { IfOk result (λ b. b ≡ rules.with_service_name self name) }
         ensures only_memory { IsOkUnless result Fault.OutOfMemory }
@@ -100,9 +101,9 @@ impl ResourceBuilder {
         self.with_attribute(KeyValue::new(key, name))
     }
 
-    /// Adds attributes and the URL of their schema; an empty URL is none. Merges them with the builder, so what stood in
-    /// the builder wins: its values stay, and a URL of its own that differs leaves none. Of a key that stands twice in
-    /// the list the last value is taken. Refused only for want of memory.
+    /// Adds attributes and the URL of their schema; an empty URL counts as none. Merges them with the builder, and what
+    /// the builder already has wins: its values stay, and if it has a different URL, none is left. Where a key occurs
+    /// more than once in the list, the last value is taken. Refused only for want of memory.
     pub fn with_schema_url(
         self,
         attributes: Vec<KeyValue>,
@@ -118,7 +119,7 @@ impl ResourceBuilder {
         })
     }
 
-    /// The resource. Takes no memory.
+    /// Builds the resource. Takes no memory.
     pub fn build(self) -> Resource
         ensures { result ≡ self }
     {

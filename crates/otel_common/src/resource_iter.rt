@@ -8,9 +8,9 @@ use crate::attributes::{KeyValue, Value};
 use crate::keys::Key;
 use std::marker::Model;
 
-/// The attributes of a resource as pairs of key and value, keys in byte order.
+/// An iterator over the attributes of a resource, as pairs of key and value, in byte order of the keys.
 ///
-/// Contracts see the list of the attributes that are left.
+/// Contracts see it as the list of the attributes that are left.
 #[derive(Debug, Drop)]
 pub struct Iter<'a> {
     rest: &'a [KeyValue],
@@ -26,7 +26,7 @@ impl<'a> Model for Iter<'a> {
 }
 
 impl<'a> Iter<'a> {
-    /// Those of a list.
+    /// Iterates over the attributes of a list.
     pub(crate) fn of(attributes: &'a [KeyValue]) -> Iter<'a>
         ensures { result ≡ attributes.now }
     {

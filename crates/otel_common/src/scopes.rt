@@ -13,10 +13,10 @@ use crate::strings::StringValue;
 use std::alloc::Global;
 use std::slice::Iter;
 
-/// What the instruments of a meter belong to: a library, or a part of a program (Common
-/// specification, "Instrumentation scope").
+/// What the instruments of a meter belong to: a library, or a part of a program (Common specification, "Instrumentation
+/// scope").
 ///
-/// Two scopes are equal exactly if their four parts are.
+/// Two scopes are equal exactly if their four parts are: name, version, schema URL and attributes.
 #[derive(Clone, Debug, Drop, PartialEq, Eq, Hash)]
 pub struct InstrumentationScope {
     name: StringValue,
@@ -26,8 +26,7 @@ pub struct InstrumentationScope {
 }
 
 impl InstrumentationScope {
-    /// A builder of a scope of this name, with no version, no schema URL and no attributes.
-    /// Takes no memory.
+    /// Returns a builder of a scope of this name, with no version, no schema URL and no attributes. Takes no memory.
     pub fn builder(alloc: Global, name: String) -> InstrumentationScopeBuilder
         ensures { result.scope ≡ record { name = string_bytes name; version = None; schema_url = None; attributes = [] } }
     {
@@ -41,7 +40,7 @@ impl InstrumentationScope {
         }
     }
 
-    /// The scope of the empty name, with nothing else. Takes no memory.
+    /// Returns the scope with an empty name and nothing else. Takes no memory.
     pub fn default(alloc: Global) -> InstrumentationScope
         ensures { result ≡ record { name = []; version = None; schema_url = None; attributes = [] } }
     {
@@ -80,7 +79,7 @@ impl InstrumentationScope {
         }
     }
 
-    /// The attributes, in byte order of their keys. A key may stand twice.
+    /// The attributes, in byte order of their keys. A key may occur more than once.
     pub fn attributes(&self) -> Iter<'_, KeyValue>
         ensures { iter_rest result ≡ self.now.attributes }
     {
@@ -88,14 +87,14 @@ impl InstrumentationScope {
     }
 }
 
-/// Makes a scope.
+/// A builder of scopes.
 #[derive(Debug, Drop)]
 pub struct InstrumentationScopeBuilder {
     scope: InstrumentationScope,
 }
 
 impl InstrumentationScopeBuilder {
-    /// The scope's version.
+    /// Sets the scope's version, in place of one given before.
     pub fn with_version(self, version: String) -> Self
         ensures { result.scope ≡ record self.scope { version = Some (string_bytes version) } }
     {
@@ -104,7 +103,7 @@ impl InstrumentationScopeBuilder {
         builder
     }
 
-    /// The scope's schema URL.
+    /// Sets the scope's schema URL, in place of one given before.
     pub fn with_schema_url(self, schema_url: String) -> Self
         ensures { result.scope ≡ record self.scope { schema_url = Some (string_bytes schema_url) } }
     {
@@ -113,7 +112,7 @@ impl InstrumentationScopeBuilder {
         builder
     }
 
-    /// The scope's attributes, in place of those given before.
+    /// Sets the scope's attributes, in place of those given before.
     pub fn with_attributes(self, attributes: Vec<KeyValue>) -> Self
         ensures { result.scope ≡ record self.scope { attributes = attributes.items } }
     {
@@ -122,7 +121,7 @@ impl InstrumentationScopeBuilder {
         builder
     }
 
-    /// The scope. Its attributes are sorted stably by key, and doubled keys stay.
+    /// Builds the scope. Its attributes are sorted stably by key, and keys that occur more than once stay.
     ///
     /// Copies no attribute. Refused only for want of memory: the sort takes a buffer.
     pub fn build(self) -> Result<InstrumentationScope, Fault>

@@ -11,7 +11,7 @@ use crate::lists::Items;
 use std::alloc::{AllocError, Global};
 use std::marker::Model;
 
-/// A list of attributes in which each key stands once, the keys in byte order (Common specification, "Attribute
+/// A list of attributes in which each key occurs once, with keys in byte order (Common specification, "Attribute
 /// Collections").
 #[derive(Debug, Drop)]
 pub struct AttributeSet {
@@ -31,7 +31,7 @@ impl Model for AttributeSet {
 }
 
 impl AttributeSet {
-    /// No attributes. Takes no memory.
+    /// Makes the set without attributes. Takes no memory.
     pub(crate) fn empty(alloc: Global) -> AttributeSet
         ensures { result ≡ [] }
     {
@@ -40,7 +40,7 @@ impl AttributeSet {
         }
     }
 
-    /// The canonical form of a list: for each key the value of its first occurrence, keys in byte order.
+    /// Makes the canonical form of a list: for each key the value of its first occurrence, with keys in byte order.
     ///
     /// Sorts the list stably by key, with a buffer, and copies no attribute. Refused only for want of memory.
     pub(crate) fn canonical_of(attributes: Vec<KeyValue>) -> Result<AttributeSet, Fault>
@@ -53,7 +53,7 @@ impl AttributeSet {
         })
     }
 
-    /// The canonical form of this set and then another: of a key that both have, the value of this set stays.
+    /// Joins this set with another, in canonical form. Where both have a key, the value of this set stays.
     ///
     /// Copies no attribute. Refused only for want of memory: the list grows, and the sort takes a buffer.
     pub(crate) fn joined(self, other: AttributeSet) -> Result<AttributeSet, Fault>
@@ -74,7 +74,7 @@ impl AttributeSet {
         self.items.as_slice()
     }
 
-    /// The attributes, to own.
+    /// Consumes the set and returns its attributes.
     pub(crate) fn into_vec(self) -> Vec<KeyValue>
         ensures { result.items ≡ self }
     {
@@ -82,7 +82,7 @@ impl AttributeSet {
         items.into_vec()
     }
 
-    /// Where the memory of the set comes from.
+    /// Returns the allocator that the memory of the set comes from.
     pub(crate) fn allocator(&self) -> Global {
         self.items.allocator()
     }

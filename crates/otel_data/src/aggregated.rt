@@ -9,11 +9,11 @@ use crate::sums::Sum;
 /// The points of one metric, by the aggregation of its stream (Metrics data model, "Metric points").
 #[derive(Clone, Debug, Drop)]
 pub enum MetricData<T> {
-    /// Of a stream that keeps the last value.
+    /// Points of a stream that keeps the last value.
     Gauge(Gauge<T>),
-    /// Of one that adds up.
+    /// Points of a stream that adds values up.
     Sum(Sum<T>),
-    /// Of one that tells how values spread.
+    /// Points of a stream that keeps the distribution of values.
     Histogram(Histogram<T>),
 }
 
@@ -50,9 +50,9 @@ impl<T> From<Histogram<T>> for MetricData<T> {
 /// The points of one metric, of either number type (Metrics data model, "Metric points").
 #[derive(Clone, Debug, Drop)]
 pub enum AggregatedMetrics {
-    /// Of unsigned numbers of 64 bits.
+    /// Points of unsigned 64-bit integers.
     U64(MetricData<u64>),
-    /// Of signed numbers of 64 bits.
+    /// Points of signed 64-bit integers.
     I64(MetricData<i64>),
 }
 

@@ -21,7 +21,7 @@ pub struct Metric {
 }
 
 impl Metric {
-    /// A metric of these parts: the description and the unit are empty where nothing was said.
+    /// Makes a metric of its parts. The description and the unit are empty if none was given.
     pub fn new(
         name: StringValue,
         description: StringValue,
@@ -45,21 +45,21 @@ impl Metric {
         self.name.as_str()
     }
 
-    /// What the stream is for; empty where nothing was said.
+    /// What the stream is for; empty if no description was given.
     pub fn description(&self) -> &str
         ensures { result.now ≡ self.now.description }
     {
         self.description.as_str()
     }
 
-    /// The unit of the values; empty where nothing was said.
+    /// The unit of the values; empty if none was given.
     pub fn unit(&self) -> &str
         ensures { result.now ≡ self.now.unit }
     {
         self.unit.as_str()
     }
 
-    /// The points, of the number type and the aggregation of the stream.
+    /// The points, by the number type and the aggregation of the stream.
     pub fn data(&self) -> &AggregatedMetrics
         ensures { result.now ≡ self.now.content }
     {
@@ -75,14 +75,14 @@ pub struct ScopeMetrics {
 }
 
 impl ScopeMetrics {
-    /// These metrics, of a scope.
+    /// Makes the metrics of a scope.
     pub fn new(scope: InstrumentationScope, metrics: Items<Metric>) -> ScopeMetrics
         ensures { result ≡ record { scope = scope; metrics = metrics } }
     {
         ScopeMetrics { scope, metrics }
     }
 
-    /// No metrics, of the scope of the empty name. Takes no memory.
+    /// Returns an empty list of metrics, of the scope with an empty name and nothing else. Takes no memory.
     pub fn default(alloc: Global) -> ScopeMetrics
         ensures { result ≡ record { scope = record { name = []; version = None; schema_url = None; attributes = [] }; metrics = [] } }
     {
@@ -92,14 +92,14 @@ impl ScopeMetrics {
         }
     }
 
-    /// What the metrics belong to.
+    /// The scope that the metrics belong to.
     pub fn scope(&self) -> &InstrumentationScope
         ensures { result.now ≡ self.now.scope }
     {
         &self.scope
     }
 
-    /// The metrics, one for each stream that has some.
+    /// The metrics, one for each stream that has points.
     pub fn metrics(&self) -> Iter<'_, Metric>
         ensures { iter_rest result ≡ self.now.metrics }
     {
@@ -115,7 +115,7 @@ pub struct ResourceMetrics {
 }
 
 impl ResourceMetrics {
-    /// The metrics of these scopes, which come from the resource.
+    /// Makes a collection of the metrics of these scopes, which come from the resource.
     pub fn new(resource: Resource, scope_metrics: Items<ScopeMetrics>) -> ResourceMetrics
         ensures { result ≡ record { resource = resource; scope_metrics = scope_metrics } }
     {
@@ -125,7 +125,7 @@ impl ResourceMetrics {
         }
     }
 
-    /// No metrics, of the empty resource. Takes no memory.
+    /// Returns an empty collection, from the empty resource. Takes no memory.
     pub fn default(alloc: Global) -> ResourceMetrics
         ensures { result ≡ record { resource = record { attributes = []; schema_url = None }; scope_metrics = [] } }
     {
@@ -135,7 +135,7 @@ impl ResourceMetrics {
         }
     }
 
-    /// What the metrics come from.
+    /// The resource that the metrics come from.
     pub fn resource(&self) -> &Resource
         ensures { result.now ≡ self.now.resource }
     {

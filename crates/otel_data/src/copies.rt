@@ -1,7 +1,7 @@
 //! Laws: a copy equals its source, and points are equal exactly if their parts are.
 //!
-//! These functions do nothing. A function whose contract needs the law of a copy or a comparison
-//! calls the one of its type first.
+//! These functions do nothing. A function whose contract needs the law of copying or comparing a type calls that type's
+//! function first.
 
 ghost use Rattle.std.specs.Prelude.{◌≡◌, ℕ, ℤ};
 ghost use Rattle.std.specs.Bool.{Decides};
@@ -35,7 +35,7 @@ pub fn equal_points()
     ensures histogram { (x y : HistogramDataPoint ℕ) → Decides (⟦<HistogramDataPoint<u64> as PartialEq>⟧.eq x y) (x ≡ y) }
 {}
 
-/// So of signed numbers.
+/// The same for signed numbers.
 pub fn equal_signed_points()
     ensures exemplar { (x y : Exemplar ℤ) → Decides (⟦<Exemplar<i64> as PartialEq>⟧.eq x y) (x ≡ y) }
     ensures gauge { (x y : GaugeDataPoint ℤ) → Decides (⟦<GaugeDataPoint<i64> as PartialEq>⟧.eq x y) (x ≡ y) }
@@ -43,7 +43,7 @@ pub fn equal_signed_points()
     ensures histogram { (x y : HistogramDataPoint ℤ) → Decides (⟦<HistogramDataPoint<i64> as PartialEq>⟧.eq x y) (x ≡ y) }
 {}
 
-/// What a copy of a point or of an exemplar gives equals its source.
+/// A copy of a point, or of an exemplar, of unsigned numbers equals its source.
 pub fn copied_points()
     ensures exemplar { (x y : Exemplar ℕ) → ⟦<Exemplar<u64> as Clone>⟧.is_clone x y → y ≡ x }
     ensures gauge { (x y : GaugeDataPoint ℕ) → ⟦<GaugeDataPoint<u64> as Clone>⟧.is_clone x y → y ≡ x }
@@ -51,7 +51,7 @@ pub fn copied_points()
     ensures histogram { (x y : HistogramDataPoint ℕ) → ⟦<HistogramDataPoint<u64> as Clone>⟧.is_clone x y → y ≡ x }
 {}
 
-/// So of signed numbers.
+/// The same for signed numbers.
 pub fn copied_signed_points()
     ensures exemplar { (x y : Exemplar ℤ) → ⟦<Exemplar<i64> as Clone>⟧.is_clone x y → y ≡ x }
     ensures gauge { (x y : GaugeDataPoint ℤ) → ⟦<GaugeDataPoint<i64> as Clone>⟧.is_clone x y → y ≡ x }
@@ -59,7 +59,7 @@ pub fn copied_signed_points()
     ensures histogram { (x y : HistogramDataPoint ℤ) → ⟦<HistogramDataPoint<i64> as Clone>⟧.is_clone x y → y ≡ x }
 {}
 
-/// What a copy of the points of a gauge, a sum or a histogram gives equals its source.
+/// A copy of the points of a gauge, a sum or a histogram of unsigned numbers equals its source.
 pub fn copied_lists()
     ensures gauge { (x y : Gauge ℕ) → ⟦<Gauge<u64> as Clone>⟧.is_clone x y → y ≡ x }
     ensures sum { (x y : Sum ℕ) → ⟦<Sum<u64> as Clone>⟧.is_clone x y → y ≡ x }
@@ -68,7 +68,7 @@ pub fn copied_lists()
     copied_points();
 }
 
-/// So of signed numbers.
+/// The same for signed numbers.
 pub fn copied_signed_lists()
     ensures gauge { (x y : Gauge ℤ) → ⟦<Gauge<i64> as Clone>⟧.is_clone x y → y ≡ x }
     ensures sum { (x y : Sum ℤ) → ⟦<Sum<i64> as Clone>⟧.is_clone x y → y ≡ x }
@@ -77,7 +77,7 @@ pub fn copied_signed_lists()
     copied_signed_points();
 }
 
-/// What a copy of the points of a metric gives equals its source.
+/// A copy of the points of a metric equals its source.
 pub fn copied_data()
     ensures unsigned { (x y : MetricData ℕ) → ⟦<MetricData<u64> as Clone>⟧.is_clone x y → y ≡ x }
     ensures signed { (x y : MetricData ℤ) → ⟦<MetricData<i64> as Clone>⟧.is_clone x y → y ≡ x }
@@ -86,28 +86,28 @@ pub fn copied_data()
     copied_signed_lists();
 }
 
-/// What a copy of the points of a metric of either number type gives equals its source.
+/// A copy of the points of a metric, whatever their number type, equals its source.
 pub fn copied_aggregated()
     ensures { (x y : AggregatedMetrics) → ⟦<AggregatedMetrics as Clone>⟧.is_clone x y → y ≡ x }
 {
     copied_data();
 }
 
-/// What a copy of a metric gives equals its source.
+/// A copy of a metric equals its source.
 pub fn copied_metric()
     ensures { (x y : Metric) → ⟦<Metric as Clone>⟧.is_clone x y → y ≡ x }
 {
     copied_aggregated();
 }
 
-/// What a copy of a scope's metrics gives equals its source.
+/// A copy of a scope's metrics equals its source.
 pub fn copied_scope()
     ensures { (x y : ScopeMetrics) → ⟦<ScopeMetrics as Clone>⟧.is_clone x y → y ≡ x }
 {
     copied_metric();
 }
 
-/// What a copy of a collection gives equals its source.
+/// A copy of a collection equals its source.
 pub fn copied_collection()
     ensures { (x y : ResourceMetrics) → ⟦<ResourceMetrics as Clone>⟧.is_clone x y → y ≡ x }
 {

@@ -1,4 +1,4 @@
-//! What a collection gives: metrics with their points, by scope; and laws of these.
+//! What a collection gives: metrics with their points, by scope; and the laws of these types.
 
 pub use crate::aggregated::{AggregatedMetrics, MetricData};
 pub use crate::collections::{Metric, ResourceMetrics, ScopeMetrics};

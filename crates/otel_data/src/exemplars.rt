@@ -12,7 +12,7 @@ use std::alloc::AllocError;
 use std::marker::Model;
 use std::slice::Iter;
 
-/// The number of a span or of a trace, as its bytes.
+/// The ID of a span or a trace, as its bytes.
 #[derive(Debug, Drop)]
 pub struct Id<const N: usize> {
     bytes: [u8; N],
@@ -44,7 +44,7 @@ impl<const N: usize> PartialEq for Id<N> {
     }
 }
 
-/// A value that was recorded, kept as an example, and what it was recorded in (Metrics SDK, "Exemplar").
+/// A recorded value that is kept as an example, and what it was recorded in (Metrics SDK, "Exemplar").
 #[derive(Clone, Debug, Drop, PartialEq)]
 pub struct Exemplar<T> {
     filtered_attributes: Items<KeyValue>,
@@ -56,7 +56,8 @@ pub struct Exemplar<T> {
 }
 
 impl<T> Exemplar<T> {
-    /// An exemplar of these parts, its moment in nanoseconds since 1970. Both numbers are zeros where nothing was traced.
+    /// Makes an exemplar of its parts, with its moment in nanoseconds since 1970. Both IDs are all zeros if nothing was
+    /// traced.
     pub fn new(
         filtered_attributes: Items<KeyValue>,
         time: u64,
@@ -75,7 +76,7 @@ impl<T> Exemplar<T> {
         }
     }
 
-    /// The attributes that were recorded with the value and that the stream left out.
+    /// The attributes that were recorded with the value but left out by the stream.
     pub fn filtered_attributes(&self) -> Iter<'_, KeyValue>
         ensures { iter_rest result ≡ self.now.filtered_attributes }
     {
@@ -89,14 +90,14 @@ impl<T> Exemplar<T> {
         self.time
     }
 
-    /// The number of the span that the value was recorded in.
+    /// The ID of the span that the value was recorded in.
     pub fn span_id(&self) -> &[u8; 8]
         ensures { result.now ≡ self.now.span_id }
     {
         &self.span_id.bytes
     }
 
-    /// The number of the trace that the value was recorded in.
+    /// The ID of the trace that the value was recorded in.
     pub fn trace_id(&self) -> &[u8; 16]
         ensures { result.now ≡ self.now.trace_id }
     {

@@ -7,7 +7,8 @@ use crate::points::GaugeDataPoint;
 use otel_common::lists::Items;
 use std::slice::Iter;
 
-/// The points of a gauge at one collection, with its moments (Metrics data model, "Gauge").
+/// The points of a gauge at one collection, with their start and the moment of the collection (Metrics data model,
+/// "Gauge").
 #[derive(Clone, Debug, Drop)]
 pub struct Gauge<T> {
     data_points: Items<GaugeDataPoint<T>>,
@@ -16,7 +17,7 @@ pub struct Gauge<T> {
 }
 
 impl<T> Gauge<T> {
-    /// A gauge of these parts, its moments in nanoseconds since 1970.
+    /// Makes a gauge of its parts, with its moments in nanoseconds since 1970.
     pub fn new(data_points: Items<GaugeDataPoint<T>>, start_time: u64, time: u64) -> Self
         ensures { result ≡ record { data_points = data_points; start_time = start_time; time = time } }
     {
@@ -34,8 +35,8 @@ impl<T> Gauge<T> {
         self.data_points.as_slice().iter()
     }
 
-    /// The moment from which on records are in the points, in nanoseconds since 1970. There always is one, though the
-    /// data model leaves it open.
+    /// The moment from which records are included in the points, in nanoseconds since 1970. It is always there,
+    /// although the data model makes it optional.
     pub fn start_time(&self) -> Option<u64>
         ensures { result ≡ Some self.now.start_time }
     {

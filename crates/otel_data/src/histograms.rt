@@ -8,7 +8,8 @@ use otel_common::lists::Items;
 use otel_common::metrics::Temporality;
 use std::slice::Iter;
 
-/// The points of a histogram at one collection, with its moments (Metrics data model, "Histogram").
+/// The points of a histogram at one collection, with their start and the moment of the collection (Metrics data model,
+/// "Histogram").
 #[derive(Clone, Debug, Drop)]
 pub struct Histogram<T> {
     data_points: Items<HistogramDataPoint<T>>,
@@ -18,7 +19,7 @@ pub struct Histogram<T> {
 }
 
 impl<T> Histogram<T> {
-    /// A histogram of these parts, its moments in nanoseconds since 1970.
+    /// Makes a histogram of its parts, with its moments in nanoseconds since 1970.
     pub fn new(
         data_points: Items<HistogramDataPoint<T>>,
         start_time: u64,
@@ -42,7 +43,7 @@ impl<T> Histogram<T> {
         self.data_points.as_slice().iter()
     }
 
-    /// The moment from which on records are in the points, in nanoseconds since 1970.
+    /// The moment from which records are included in the points, in nanoseconds since 1970.
     pub fn start_time(&self) -> u64
         ensures { result ≡ self.now.start_time }
     {
@@ -56,8 +57,8 @@ impl<T> Histogram<T> {
         self.time
     }
 
-    /// Whether the points are of the records since the collection before (`Delta`), or of all since the stream was made
-    /// (Metrics data model, "Temporality").
+    /// Whether the points cover the records since the previous collection (`Delta`), or all records since the stream
+    /// was made (Metrics data model, "Temporality").
     pub fn temporality(&self) -> Temporality
         ensures { result ≡ self.now.temporality }
     {

@@ -1,7 +1,7 @@
 //! What a collection gives: metrics with their points, by scope.
 //!
-//! Contracts see each type as the record of what its getters answer. To make a value of its parts, and to ask it for
-//! one of them, takes no memory; a copy takes memory for all its parts. Moments are in nanoseconds since 1970.
+//! Contracts see each type as the record of what its getters return. Making a value of its parts and reading one of
+//! them take no memory; a copy takes memory for all parts. Moments are in nanoseconds since 1970.
 #![tactic(auto)]
 
 pub mod aggregated;

@@ -1,4 +1,4 @@
-//! The number types of instruments' values, and a value of either.
+//! The number types of instruments' values, and a value of either type.
 
 ghost use Rattle.std.specs.Prelude.{◌≡◌};
 ghost use Rattle.otel_data.specs.declared.numbers.NumberValue.{NumberValue};
@@ -7,18 +7,18 @@ ghost use Rattle.otel_data.specs.declared.numbers.NumberValue.TheVariants.{U64, 
 /// A value of either number type (Metrics API, "Instrument").
 #[derive(Clone, Copy, Debug, PartialEq, Eq)]
 pub enum NumberValue {
-    /// An unsigned number of 64 bits.
+    /// An unsigned 64-bit integer.
     U64(u64),
-    /// A signed number of 64 bits.
+    /// A signed 64-bit integer.
     I64(i64),
 }
 
-/// A type of instruments' values: `u64` or `i64` (Metrics API, "Instrument").
+/// A number type of instruments' values: `u64` or `i64` (Metrics API, "Instrument").
 pub trait NumberType: Copy {
     /// The value with its type.
     ghost value: { Self → NumberValue };
 
-    /// The value with its type.
+    /// Returns the value with its type.
     fn into_value(self) -> NumberValue
         ensures { result ≡ value self };
 }

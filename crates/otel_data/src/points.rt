@@ -18,7 +18,7 @@ pub struct SumDataPoint<T> {
 }
 
 impl<T> SumDataPoint<T> {
-    /// A point of these parts.
+    /// Makes a point of its parts.
     pub fn new(attributes: Items<KeyValue>, exemplars: Items<Exemplar<T>>, value: T) -> Self
         ensures { result ≡ record { attributes = attributes; exemplars = exemplars; value = value } }
     {
@@ -36,14 +36,14 @@ impl<T> SumDataPoint<T> {
         self.attributes.as_slice().iter()
     }
 
-    /// The exemplars. No exemplars are kept: there are none in a collection.
+    /// The exemplars. A collection has none, since no exemplars are kept.
     pub fn exemplars(&self) -> Iter<'_, Exemplar<T>>
         ensures { iter_rest result ≡ self.now.exemplars }
     {
         self.exemplars.as_slice().iter()
     }
 
-    /// What the values add up to, modulo 2^64; a signed sum wraps around into the range of `i64`.
+    /// The sum of the values, modulo 2^64; a signed sum wraps around into the range of `i64`.
     pub fn value(&self) -> T
     where
         T: Copy,
@@ -62,7 +62,7 @@ pub struct GaugeDataPoint<T> {
 }
 
 impl<T> GaugeDataPoint<T> {
-    /// A point of these parts.
+    /// Makes a point of its parts.
     pub fn new(attributes: Items<KeyValue>, exemplars: Items<Exemplar<T>>, value: T) -> Self
         ensures { result ≡ record { attributes = attributes; exemplars = exemplars; value = value } }
     {
@@ -80,7 +80,7 @@ impl<T> GaugeDataPoint<T> {
         self.attributes.as_slice().iter()
     }
 
-    /// The exemplars. No exemplars are kept: there are none in a collection.
+    /// The exemplars. A collection has none, since no exemplars are kept.
     pub fn exemplars(&self) -> Iter<'_, Exemplar<T>>
         ensures { iter_rest result ≡ self.now.exemplars }
     {
@@ -112,7 +112,7 @@ pub struct HistogramDataPoint<T> {
 }
 
 impl<T> HistogramDataPoint<T> {
-    /// A point of these parts.
+    /// Makes a point of its parts.
     pub fn new(
         attributes: Items<KeyValue>,
         exemplars: Items<Exemplar<T>>,
@@ -144,22 +144,23 @@ impl<T> HistogramDataPoint<T> {
         self.attributes.as_slice().iter()
     }
 
-    /// The exemplars. No exemplars are kept: there are none in a collection.
+    /// The exemplars. A collection has none, since no exemplars are kept.
     pub fn exemplars(&self) -> Iter<'_, Exemplar<T>>
         ensures { iter_rest result ≡ self.now.exemplars }
     {
         self.exemplars.as_slice().iter()
     }
 
-    /// The bounds of the buckets, rising. A value falls into the bucket whose number is how many bounds
-    /// are less than it.
+    /// The bounds of the buckets, in rising order. A value falls into the bucket whose number, from 0, is how many
+    /// bounds are less than the value.
     pub fn bounds(&self) -> Iter<'_, i64>
         ensures { iter_rest result ≡ self.now.bounds }
     {
         self.bounds.as_slice().iter()
     }
 
-    /// How many values fell into each bucket, modulo 2^64: one more number than there are bounds, or none without bounds.
+    /// How many values fell into each bucket, modulo 2^64: one count more than there are bounds, or no counts if there
+    /// are no bounds.
     pub fn bucket_counts(&self) -> Iter<'_, u64>
         ensures { iter_rest result ≡ self.now.bucket_counts }
     {
@@ -173,7 +174,7 @@ impl<T> HistogramDataPoint<T> {
         self.count
     }
 
-    /// The least value. There is none without values, and where the aggregation keeps none.
+    /// The least value; none if there are no values, or if the aggregation keeps no least value.
     pub fn min(&self) -> Option<T>
     where
         T: Copy,
@@ -182,7 +183,7 @@ impl<T> HistogramDataPoint<T> {
         self.min
     }
 
-    /// The greatest value. There is none without values, and where the aggregation keeps none.
+    /// The greatest value; none if there are no values, or if the aggregation keeps no greatest value.
     pub fn max(&self) -> Option<T>
     where
         T: Copy,
@@ -191,8 +192,8 @@ impl<T> HistogramDataPoint<T> {
         self.max
     }
 
-    /// What the values add up to, modulo 2^64; a signed sum wraps around into the range of `i64`. It is 0 for up-down
-    /// counters and observable gauges.
+    /// The sum of the values, modulo 2^64; a signed sum wraps around into the range of `i64`. It is 0 for up-down
+    /// counters, observable or not, and for observable gauges.
     pub fn sum(&self) -> T
     where
         T: Copy,

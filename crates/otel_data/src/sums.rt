@@ -8,7 +8,8 @@ use otel_common::lists::Items;
 use otel_common::metrics::Temporality;
 use std::slice::Iter;
 
-/// The points of a sum at one collection, with its moments (Metrics data model, "Sums").
+/// The points of a sum at one collection, with their start and the moment of the collection (Metrics data model,
+/// "Sums").
 #[derive(Clone, Debug, Drop)]
 pub struct Sum<T> {
     data_points: Items<SumDataPoint<T>>,
@@ -19,7 +20,7 @@ pub struct Sum<T> {
 }
 
 impl<T> Sum<T> {
-    /// A sum of these parts, its moments in nanoseconds since 1970.
+    /// Makes a sum of its parts, with its moments in nanoseconds since 1970.
     pub fn new(
         data_points: Items<SumDataPoint<T>>,
         start_time: u64,
@@ -45,7 +46,7 @@ impl<T> Sum<T> {
         self.data_points.as_slice().iter()
     }
 
-    /// The moment from which on records are in the points, in nanoseconds since 1970.
+    /// The moment from which records are included in the points, in nanoseconds since 1970.
     pub fn start_time(&self) -> u64
         ensures { result ≡ self.now.start_time }
     {
@@ -59,15 +60,16 @@ impl<T> Sum<T> {
         self.time
     }
 
-    /// Whether the points are of the records since the collection before (`Delta`), or of all since the stream was made
-    /// (Metrics data model, "Temporality").
+    /// Whether the points cover the records since the previous collection (`Delta`), or all records since the stream
+    /// was made (Metrics data model, "Temporality").
     pub fn temporality(&self) -> Temporality
         ensures { result ≡ self.now.temporality }
     {
         self.temporality
     }
 
-    /// Whether values are never negative, so that what all of them add up to never falls.
+    /// Whether the instrument's kind has values that are never negative, so that their sum doesn't fall before it
+    /// wraps. For observed sums that is up to the callback.
     pub fn is_monotonic(&self) -> bool
         ensures { result ≡ self.now.is_monotonic }
     {

@@ -1,4 +1,4 @@
-//! Each getter, copy and comparison once.
+//! Tests each getter, copy and comparison once.
 
 use crate::aggregated::{AggregatedMetrics, MetricData};
 use crate::collections::{Metric, ResourceMetrics, ScopeMetrics};
@@ -39,7 +39,7 @@ fn gauge_point(alloc: Global, value: i64) -> Result<GaugeDataPoint<i64>, Fault> 
     Ok(GaugeDataPoint::new(attributes(alloc)?, exemplars, value))
 }
 
-/// A point of three values, with this greatest one.
+/// A point of three values, of which this is the greatest.
 fn histogram_point(alloc: Global, greatest: u64) -> Result<HistogramDataPoint<u64>, Fault> {
     let exemplars = Items::from(vec![in alloc; exemplar(alloc, greatest)]?);
     let bounds = Items::from(vec![in alloc; -5, 10]?);
@@ -79,7 +79,7 @@ fn is_histogram_point(point: &HistogramDataPoint<u64>, greatest: u64) -> bool {
         && point.sum() == 44
 }
 
-/// Whether a point has its parts and equals this one.
+/// Whether a point has the expected parts and equals another.
 fn is_this_sum_point(point: &SumDataPoint<u64>, other: &SumDataPoint<u64>) -> bool {
     equal_points();
     is_sum_point(point, 7) && point == other
@@ -134,7 +134,7 @@ fn histogram_points(rt: HostRuntime) -> Result<(), Fail> {
     Ok(())
 }
 
-/// Whether an exemplar has the parts that those of these tests have.
+/// Whether an exemplar has the parts that these tests give it.
 fn is_exemplar(exemplar: &Exemplar<u64>) -> bool {
     exemplar.value == 7
         && exemplar.time() == 50
@@ -272,7 +272,7 @@ fn is_collection(all: &ResourceMetrics, name: &str) -> bool {
     }
 }
 
-/// Whether the copy of a collection of one metric is that collection.
+/// Whether a collection of one metric and its copy both have the expected parts.
 fn is_copied(alloc: Global, name: &str) -> Result<bool, Fault> {
     copied_collection();
     let all = collection(alloc, name)?;
@@ -290,7 +290,7 @@ fn collections(rt: HostRuntime) -> Result<(), Fail> {
     Ok(())
 }
 
-/// Whether a collection has no scopes, and an empty resource.
+/// Whether a collection has no scopes and an empty resource.
 fn is_empty(all: &ResourceMetrics) -> bool {
     all.scope_metrics().count() == 0
         && all.resource().is_empty()

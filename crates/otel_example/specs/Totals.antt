@@ -1,12 +1,12 @@
--- What the records of an instrument come to, read off a provider's state.
+-- What an instrument's records add up to, read off a provider's state.
 use Rattle.std.specs.Prelude.{ℕ, Option, None, Some, slice_get}
 use Rattle.otel_model.specs.State.{InstrumentState, State}
 
--- the sum that an instrument keeps; 0 where there is none
+-- the sum that the instrument keeps; 0 if there is none
 abbrev pub sum_of : Option InstrumentState → ℕ
 sum_of None = 0
 sum_of (Some i) = i.sum
 
--- what the instrument of this number accepted so far, modulo 2^64
+-- the sum of what the instrument with this number has accepted so far, modulo 2^64
 abbrev pub total_of : ℕ → State → ℕ
 total_of n st = sum_of (slice_get st.shared.instruments n)

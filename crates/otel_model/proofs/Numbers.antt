@@ -1,4 +1,4 @@
--- Streams that a list of numbers names, changed one after another: the same as all streams, each changed if its identity is named.
+-- Changing the streams that a list of numbers names, one after another, changes each stream whose identity is named.
 use Rattle.std.proofs.Common.{◌≡◌, ⊎_elim, ℕ, zero, suc, Bool, true, false, List, [], ◌∷◌, ◌++◌, map, refl, sym, ◌∙◌, ap, Some, cond, subst, ◌||◌}
 use Rattle.std.specs.Prelude.{slice_get, fold, filter, not}
 use Rattle.std.proofs.lemmas.Bool.{cases_Bool, true≢false, or_parts}

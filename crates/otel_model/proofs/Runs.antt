@@ -35,7 +35,7 @@ use Rattle.otel_model.proofs.Follow.{stream_in, part_of, part_sends, part_rests,
 has_append : (s : InstrumentationScope) (xs ys : List InstrumentationScope) → has_scope s (xs ++ ys) ≡ (has_scope s xs || has_scope s ys)
 has_append s xs ys = list_any-append (λ m. scope_eq m s) xs ys
 
--- each once, and the same scopes
+-- keeping each scope once keeps the same scopes
 once_has : (before ss : List InstrumentationScope) (x : InstrumentationScope) → has_scope x before ≡ false → has_scope x (gather new_scope before ss) ≡ has_scope x ss
 once_has before [] x e = refl
 once_has before (s ∷ ss) x e = ⊎_elim
@@ -317,7 +317,7 @@ given_now views resource readers past st r answers (Collect q now os) reply a h 
 given_now views resource readers past st r answers Flush reply a h w = refl
 given_now views resource readers past st r answers Shutdown reply a h w = refl
 
--- one that doesn't gives it nothing
+-- a call that doesn't count gives the reader nothing
 shown_none : (c : Call) (reply : Reply) → counts c reply ≡ false → shown_in reply ≡ []
 shown_none c (Reply.Meter n) e = refl
 shown_none c (Reply.Instrument n) e = refl

@@ -1,4 +1,4 @@
--- The calls of a provider and their replies, as plain data. What a collection gives is the data of `otel_data` itself.
+-- The calls to a provider and the replies, as plain data. The result of a collection is data of `otel_data` itself.
 use Rattle.std.specs.Prelude.{ℕ, ◌+◌, ℤ, Bool, true, false, cond, List, map, Option, Some, None}
 use Rattle.otel_common.specs.declared.attributes.KeyValue.{KeyValue}
 use Rattle.otel_common.specs.declared.scopes.InstrumentationScope.{InstrumentationScope}
@@ -13,11 +13,11 @@ use Rattle.otel_model.specs.Checks.{is_within}
 abbrev pub Text : Type 0
 Text = List ℕ
 
--- a text with its ASCII letters lowered
+-- a text with its ASCII letters in lower case
 abbrev pub ascii_lowercase : Text → Text
 ascii_lowercase t = map (λ b. cond (is_within 65 90 b) (b + 32) b) t
 
--- what an option holds, or else the value given
+-- the value that an option holds, or the given default
 abbrev pub or_else : {X : Type 0} → Option X → X → X
 or_else None d = d
 or_else (Some x) d = x
@@ -33,12 +33,12 @@ is_observable ObservableUpDownCounter = true
 is_observable Gauge = false
 is_observable ObservableGauge = true
 
--- a value with its type: signed is `i64`, else `u64`
+-- a value with its number type: `i64` if signed, otherwise `u64`
 pub record Number : Type 0 where
   pub signed : Bool
   pub amount : Amount
 
--- what a build says of its instrument
+-- what a build says about its instrument; the bounds are those of histogram buckets
 pub record About : Type 0 where
   pub kind : InstrumentKind
   pub signed : Bool
@@ -47,14 +47,14 @@ pub record About : Type 0 where
   pub unit : Option Text
   pub bounds : Option (List ℤ)
 
--- an observation of an observable instrument
+-- an observation: the number of an instrument, a value and attributes
 pub record Observed : Type 0 where
   pub instrument : ℕ
   pub value : Number
   pub attributes : List KeyValue
 
 -- ======== calls ========
--- meters, instruments and readers are named by number, handles by the number that their bind gave
+-- a call. Meters, instruments and readers are named by their numbers, handles by the number that their bind gave
 pub data Call : Type 0 where
   Meter : (scope : InstrumentationScope) → Call
   Build : (meter : Option ℕ) (about : About) (now : ℕ) → Call
@@ -67,7 +67,7 @@ pub data Call : Type 0 where
   Shutdown : Call
 
 -- ======== replies ========
--- why a call is refused
+-- why a call is refused or fails
 pub data Fault : Type 0 where
   OutOfMemory : Fault
   UnknownMeter : Fault
@@ -84,7 +84,7 @@ pub data Fault : Type 0 where
   UseWorker : Fault
   WorkersMissing : Fault
 
--- what a call answers
+-- the reply to a call
 pub data Reply : Type 0 where
   Meter : (number : Option ℕ) → Reply
   Instrument : (number : ℕ) → Reply

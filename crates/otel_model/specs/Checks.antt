@@ -1,4 +1,4 @@
--- Which names, units and bounds of an instrument are good, and which settings of a stream (Metrics API, "Instrument
+-- Which names, units and bounds of an instrument are valid, and which settings of a stream (Metrics API, "Instrument
 -- name syntax" and "Instrument unit"; Metrics SDK, "Explicit Bucket Histogram Aggregation").
 use Rattle.std.specs.Prelude.{ℕ, nat_lt, nat_le, nat_eq, Bool, false, cond, ◌&&◌, ◌||◌, not, List, [], ◌∷◌, length, Option, Some, None, codes, is_none}
 use Rattle.std.specs.List.{list_any}
@@ -10,14 +10,14 @@ pub use Rattle.otel_stream.specs.declared.stream_fault.StreamFault.{StreamFault}
 pub use Rattle.otel_stream.specs.declared.stream_fault.StreamFault.TheVariants.{UnitLength, UnitInvalidChar, LimitZero, LimitMax, Boundaries}
 
 -- ======== names ========
--- why a name is bad, in the order in which it is looked at
+-- why a name is invalid, in the order of the checks
 pub data NameFault : Type 0 where
   Empty : NameFault
   Long : NameFault
   BadStart : NameFault
   BadCharacter : NameFault
 
--- a byte from one to another
+-- a byte from `least` to `greatest`, both included
 abbrev pub is_within : ℕ → ℕ → ℕ → Bool
 is_within least greatest b = nat_le least b && nat_le b greatest
 
@@ -33,13 +33,13 @@ is_digit b = is_within 48 57 b
 abbrev pub is_name_byte : ℕ → Bool
 is_name_byte b = is_letter b || (is_digit b || (nat_eq b 95 || (nat_eq b 46 || (nat_eq b 45 || nat_eq b 47))))
 
--- the first character is there and is no ASCII letter
+-- there is a first byte, and it is no ASCII letter
 abbrev pub starts_badly : List ℕ → Bool
 starts_badly [] = false
 starts_badly (b ∷ bytes) = not (is_letter b)
 
--- the first of these that stands: it is empty, it has more than 255 bytes, its first character is no
--- ASCII letter, it has another character than those of names
+-- the first fault of a name, if it has one: it is empty, it has more than 255 bytes, it does not start with an ASCII
+-- letter, or it has a character that names may not have
 abbrev pub name_fault : List ℕ → Option NameFault
 name_fault name =
     cond (nat_eq (length name) 0) (Some Empty)
@@ -47,34 +47,34 @@ name_fault name =
     (cond (starts_badly name) (Some BadStart)
     (cond (list_any (λ b. not (is_name_byte b)) name) (Some BadCharacter) None)))
 
--- the text of each
+-- the message for each fault
 abbrev pub name_fault_text : NameFault → List ℕ
 name_fault_text Empty = codes "name must be non-empty"
 name_fault_text Long = codes "name must be less than 256 characters"
 name_fault_text BadStart = codes "name must start with an alphabetic character"
 name_fault_text BadCharacter = codes "characters in name must be ASCII and belong to the alphanumeric characters, '_', '.', '-' and '/'"
 
--- a name without fault
+-- whether a name is valid
 abbrev pub is_good_name : List ℕ → Bool
 is_good_name name = is_none (name_fault name)
 
 -- ======== units ========
--- the text of each
+-- the message for each fault
 abbrev pub unit_fault_text : UnitFault → List ℕ
 unit_fault_text UnitFault.Long = codes "unit must be less than 64 characters"
 unit_fault_text NotAscii = codes "characters in unit must be ASCII"
 
 -- ======== bounds ========
--- what is answered where bounds do not rise: those of an instrument
+-- the message for bounds of an instrument that do not rise
 abbrev pub bounds_fault_text : List ℕ
 bounds_fault_text = codes "Bucket boundaries must be sorted and non-duplicate"
 
--- those of a stream
+-- the message for bounds of a stream that do not rise
 abbrev pub stream_bounds_fault_text : List ℕ
 stream_bounds_fault_text = codes "Bucket boundaries must be sorted and not contain any duplicates"
 
 -- ======== streams ========
--- the text of each
+-- the message for each fault
 abbrev pub stream_fault_text : StreamFault → List ℕ
 stream_fault_text UnitLength = unit_fault_text UnitFault.Long
 stream_fault_text UnitInvalidChar = unit_fault_text NotAscii

@@ -1,5 +1,5 @@
--- The machine of a provider (Metrics SDK, "MeterProvider", "MetricReader"): what each call leaves of what is shared,
--- and of each reader's part.
+-- The machine of a provider (Metrics SDK, "MeterProvider", "MetricReader"): how each call changes what all readers
+-- share and each reader's part.
 use Rattle.std.specs.Prelude.{ℕ, ◌+◌, ◌==◌, true, false, cond, List, [], ◌∷◌, ◌++◌, map, fold, Option, Some, None}
 use Rattle.otel_common.specs.declared.scopes.InstrumentationScope.{InstrumentationScope}
 use Rattle.otel_model_stream.specs.Sets.{AttributeSet}
@@ -18,29 +18,29 @@ use Rattle.otel_model.specs.Refusals.{instrument_held}
 use Rattle.otel_model.specs.Sent.{has_scope, scope_of, observed_events, sent_events}
 
 -- ======== what is shared ========
--- the same scope gives the same meter
+-- the meters, with one more for the scope unless it has one already: the same scope gives the same meter
 abbrev pub with_meter : InstrumentationScope → List InstrumentationScope → List InstrumentationScope
 with_meter scope ms = cond (has_scope scope ms) ms (ms ++ scope ∷ [])
 
--- an instrument that accepted nothing
+-- a new instrument, which has accepted nothing
 abbrev pub new_instrument : About → InstrumentState
 new_instrument about = record { kind = about.kind; signed = about.signed; count = 0; sum = 0 }
 
--- one record more; also an instrument that ignores its records accepts them
+-- the instrument after one more measurement. An instrument that ignores its measurements accepts them, too
 abbrev pub instrument_after_record : Amount → InstrumentState → InstrumentState
 instrument_after_record v i = record i { count = wrap (i.count + 1); sum = wrap (i.sum + v.bits) }
 
--- one record more at the instrument of a handle
+-- the instruments after one more measurement at the instrument of a handle; unchanged if there is none
 abbrev pub accepted_by : Option ℕ → Amount → List InstrumentState → List InstrumentState
 accepted_by None v is = is
 accepted_by (Some n) v is = changed_at n (instrument_after_record v) is
 
--- the live handles without this one
+-- the live handles without the first one with this number
 abbrev pub without_handle : ℕ → List LiveHandle → List LiveHandle
 without_handle h [] = []
 without_handle h (p ∷ ps) = cond (p.0 == h) ps (p ∷ without_handle h ps)
 
--- after a shutdown there are no new meters
+-- what is shared, after a call that isn't refused. After a shutdown no meters are added
 abbrev pub shared_after : Shared → Call → Shared
 shared_after s (Meter scope) = record s { meters = cond s.shut s.meters (with_meter scope s.meters) }
 shared_after s (Build meter about now) = record s { instruments = s.instruments ++ new_instrument about ∷ [] }
@@ -53,14 +53,15 @@ shared_after s Flush = s
 shared_after s Shutdown = record s { shut = true }
 
 -- ======== a stream ========
+-- the machine of the stream of a demand, after these events
 abbrev pub machine_after : ReaderAnswers → Demand → List Event → Machine → Machine
 machine_after answers d es m = run (aggregate_of d) (kind_of answers d) d.limit m es
 
--- what a stream shows at a collection, once the observations are in
+-- the points of a stream at a collection, once its observations are recorded
 abbrev pub points_at : ReaderAnswers → List (List Identity) → List Observed → Stream → List Point
 points_at answers feeds os s = points (kind_of answers s.demand) (machine_after answers s.demand (observed_events feeds s.demand os) s.machine)
 
--- a collection of a delta stream makes its moment the new start
+-- the start time of a stream after a call: a collection of a delta stream makes its own time the new start
 abbrev pub start_after : ReaderAnswers → Demand → Call → ℕ → ℕ
 start_after answers d (Meter scope) start = start
 start_after answers d (Build meter about now) start = start
@@ -72,7 +73,8 @@ start_after answers d (Collect r now os) start = cond (is_delta answers d) now s
 start_after answers d Flush start = start
 start_after answers d Shutdown start = start
 
--- what the last collection showed of a stream whose differences are shown
+-- the points that a stream keeps to take differences from, after a call: a collection replaces them if the stream shows
+-- differences
 abbrev pub reported_after : ReaderAnswers → List (List Identity) → Call → Stream → List Point
 reported_after answers feeds (Meter scope) s = s.reported
 reported_after answers feeds (Build meter about now) s = s.reported
@@ -84,12 +86,12 @@ reported_after answers feeds (Collect r now os) s = cond (shows_differences answ
 reported_after answers feeds Flush s = s.reported
 reported_after answers feeds Shutdown s = s.reported
 
--- one or the other, as the handle is there
+-- the total `more` if the handle is live, otherwise the total as it was
 abbrev pub if_held : Option AttributeSet → ℕ → ℕ → ℕ
 if_held None more total = total
 if_held (Some g) more total = more
 
--- the total of what was recorded, one event more
+-- the total of what was recorded, after one more event
 abbrev pub recorded_with : Aggregate → Machine → ℕ → Event → ℕ
 recorded_with σ m total (Event.Record s v) = wrap (total + size σ v)
 recorded_with σ m total (Event.Bind h s) = total
@@ -97,16 +99,16 @@ recorded_with σ m total (Event.RecordBound h v) = if_held (held_by h m.live) (w
 recorded_with σ m total (Event.Unbind h) = total
 recorded_with σ m total Event.Collect = total
 
--- after a list of events
+-- the total of what was recorded, after a list of events
 abbrev pub recorded_over : Aggregate → Kind → ℕ → Machine → ℕ → List Event → ℕ
 recorded_over σ kind limit m total [] = total
 recorded_over σ kind limit m total (e ∷ es) = recorded_over σ kind limit (step σ kind limit m e) (recorded_with σ m total e) es
 
--- after what a call sends
+-- the total of what a stream recorded, after the events that a call sends
 abbrev pub recorded_after : ReaderAnswers → List Event → Stream → ℕ
 recorded_after answers es s = recorded_over (aggregate_of s.demand) (kind_of answers s.demand) s.demand.limit s.machine s.recorded es
 
--- the total of all points that the collections of a delta stream showed
+-- the total of what a stream exported, after a call: a collection of a delta stream adds the total of its points
 abbrev pub exported_after : ReaderAnswers → List (List Identity) → Call → Stream → ℕ
 exported_after answers feeds (Meter scope) s = s.exported
 exported_after answers feeds (Build meter about now) s = s.exported
@@ -130,14 +132,15 @@ stream_after answers feeds next call s = record {
 }
 
 -- ======== a build ========
+-- the new stream of a demand
 abbrev pub new_stream : ℕ → Demand → Stream
 new_stream now d = record { demand = d; machine = begin (aggregate_of d); start = now; reported = []; recorded = 0; exported = 0 }
 
--- the table of fates keeps the first demand of each identity
+-- the table of fates after a demand: it keeps the first demand of each identity
 abbrev pub enter : List Demand → Demand → List Demand
 enter fates d = cond (is_known fates d.identity) fates (fates ++ d ∷ [])
 
--- a first demand makes a stream, unless it drops
+-- the streams after a demand: the first demand of an identity makes a stream, unless its aggregation is `Drop`
 abbrev pub make : ℕ → List Demand → List Stream → Demand → List Stream
 make now fates ss d = cond (is_known fates d.identity) ss (ss ++ cond (is_drop d.aggregation) [] (new_stream now d ∷ []))
 
@@ -145,11 +148,11 @@ make now fates ss d = cond (is_known fates d.identity) ss (ss ++ cond (is_drop d
 abbrev pub part_after_demand : ℕ → ReaderPart → Demand → ReaderPart
 part_after_demand now p d = record p { fates = enter p.fates d; streams = make now p.fates p.streams d }
 
--- the demands of a build, of which the table of fates tells what was dropped
+-- the demands of a build; the table of fates tells which identities are dropped
 abbrev pub build_demands : Views → ReaderPart → Option InstrumentationScope → About → List Demand
 build_demands views p scope about = demands_on (λ ds. is_dropped (fold enter p.fates ds)) views p.answers scope about
 
--- and the streams that the new instrument feeds
+-- the reader's part with the streams that the new instrument feeds
 abbrev pub with_feeds : List Demand → ReaderPart → ReaderPart
 with_feeds ds p = record p { feeds = p.feeds ++ fed_identities (is_dropped p.fates) ds ∷ [] }
 
@@ -157,7 +160,8 @@ with_feeds ds p = record p { feeds = p.feeds ++ fed_identities (is_dropped p.fat
 abbrev pub part_after_build : Views → Option InstrumentationScope → About → ℕ → ReaderPart → ReaderPart
 part_after_build views scope about now p = with_feeds (build_demands views p scope about) (fold (part_after_demand now) p (build_demands views p scope about))
 
--- ======== all readers: each by itself, and a collection its reader alone ========
+-- ======== all readers: a call changes each by itself, and a collection changes its own reader alone ========
+-- a reader's part after a call that is no build
 abbrev pub part_after_call : ℕ → Call → ReaderPart → ReaderPart
 part_after_call next call p = record p { streams = map (stream_after p.answers p.feeds next call) p.streams }
 
@@ -177,7 +181,8 @@ readers_after views s Shutdown ps = ps
 abbrev pub accepted_after : Views → State → Call → State
 accepted_after views st call = record { shared = shared_after st.shared call; readers = readers_after views st.shared call st.readers }
 
--- ======== a provider as it is built ========
+-- ======== a new provider ========
+-- a reader's part before the first call
 abbrev pub new_part : ReaderAnswers → ReaderPart
 new_part answers = record { answers = answers; fates = []; streams = []; feeds = [] }
 

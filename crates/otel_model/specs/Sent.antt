@@ -1,5 +1,5 @@
--- What the machine and the histories both say: scopes, which streams an instrument feeds, and what a call sends to a
--- stream (Metrics SDK, "View", "MetricReader").
+-- What the machine and the histories have in common: scopes, which streams an instrument feeds, and what a call sends
+-- to a stream (Metrics SDK, "View", "MetricReader").
 use Rattle.std.specs.Prelude.{ℕ, Bool, cond, List, [], ◌∷◌, ◌++◌, Option, Some, None, slice_get}
 use Rattle.std.specs.List.{list_any}
 use Rattle.otel_common.specs.Scopes.{scope_eq}
@@ -11,6 +11,7 @@ use Rattle.otel_model.specs.Calls.{Observed, Call, Meter, Build, Record, Bind, R
 use Rattle.otel_model.specs.Demands.{Identity, Demand, has_identity}
 
 -- ======== scopes ========
+-- whether the scope is among these
 abbrev pub has_scope : InstrumentationScope → List InstrumentationScope → Bool
 has_scope scope ms = list_any (λ m. scope_eq m scope) ms
 
@@ -20,20 +21,20 @@ scope_of ms None = None
 scope_of ms (Some m) = slice_get ms m
 
 -- ======== what a stream is sent ========
--- whether an instrument feeds the stream of an identity
+-- whether instrument n feeds the stream of the identity x
 abbrev pub is_fed : List (List Identity) → ℕ → Identity → Bool
 is_fed feeds n x = has_identity (or_else (slice_get feeds n) []) x
 
--- the set that a stream keeps of a list of attributes
+-- the attribute set that the stream of a demand assigns to these attributes
 abbrev pub set_for : Demand → List KeyValue → AttributeSet
 set_for d l = set_of d.allow l
 
--- observations of the instruments that feed the stream, as records
+-- the observations of instruments that feed the stream, as measurements
 abbrev pub observed_events : List (List Identity) → Demand → List Observed → List Event
 observed_events feeds d [] = []
 observed_events feeds d (o ∷ os) = cond (is_fed feeds o.instrument d.identity) (Event.Record (set_for d o.attributes) o.value.amount ∷ observed_events feeds d os) (observed_events feeds d os)
 
--- what a call sends to a stream of the reader; `next` is the number that a bind gives
+-- the events that a call sends to a stream; `next` is the number that a bind gives
 abbrev pub sent_events : List (List Identity) → ℕ → Demand → Call → List Event
 sent_events feeds next d (Meter scope) = []
 sent_events feeds next d (Build meter about now) = []

@@ -1,4 +1,4 @@
--- What a demand makes of its stream (Metrics SDK, "Aggregation" and "MetricReader").
+-- What kind of stream a demand makes (Metrics SDK, "Aggregation" and "MetricReader").
 use Rattle.std.specs.Prelude.{Bool, true, false, cond, ◌&&◌, ◌||◌}
 use Rattle.otel_model_stream.specs.Folds.{Aggregate}
 use Rattle.otel_model_stream.specs.Events.{Kind}
@@ -21,7 +21,7 @@ is_last_value Sum = false
 is_last_value LastValue = true
 is_last_value (ExplicitBucketHistogram bounds m) = false
 
--- asynchronous counters observe values that were summed before
+-- whether observations are sums already: those of asynchronous counters and up-down counters are
 abbrev pub observes_sums : InstrumentKind → Bool
 observes_sums Counter = false
 observes_sums UpDownCounter = false
@@ -31,7 +31,7 @@ observes_sums ObservableUpDownCounter = true
 observes_sums Gauge = false
 observes_sums ObservableGauge = false
 
--- asynchronous gauges observe values that stand
+-- whether observations are current values: those of asynchronous gauges are
 abbrev pub observes_last_values : InstrumentKind → Bool
 observes_last_values Counter = false
 observes_last_values UpDownCounter = false
@@ -41,23 +41,24 @@ observes_last_values ObservableUpDownCounter = false
 observes_last_values Gauge = false
 observes_last_values ObservableGauge = true
 
--- a sum of values that were summed before is emptied by each collection
+-- whether each collection empties the stream: it is a sum of observations that are sums already
 abbrev pub is_drained : Demand → Bool
 is_drained d = is_sum d.aggregation && observes_sums d.identity.kind
 
--- a last value of an asynchronous gauge resets whatever its reader answers
+-- whether the stream resets whatever its reader answers: it is a last value of an asynchronous gauge
 abbrev pub always_resets : Demand → Bool
 always_resets d = is_last_value d.aggregation && observes_last_values d.identity.kind
 
--- a delta stream: its reader's answer resets, or it always does
+-- whether it is a delta stream: the temporality that its reader answers for the kind resets, or it always resets
 abbrev pub is_delta : ReaderAnswers → Demand → Bool
 is_delta answers d = resets (answer_for answers d.identity.kind).temporality || always_resets d
 
--- how a stream's history is cut into windows
+-- what a collection does to the stream
 abbrev pub kind_of : ReaderAnswers → Demand → Kind
 kind_of answers d = cond (is_drained d) Kind.Drained (cond (is_delta answers d) Kind.Delta Kind.Cumulative)
 
--- a histogram of values that may fall has no sum
+-- whether a histogram of this kind's measurements has a sum: not for up-down counters, synchronous or asynchronous, nor
+-- for asynchronous gauges (Metrics SDK, "Histogram Aggregations")
 abbrev pub has_sum : InstrumentKind → Bool
 has_sum Counter = true
 has_sum UpDownCounter = false
@@ -67,7 +68,7 @@ has_sum ObservableUpDownCounter = false
 has_sum Gauge = true
 has_sum ObservableGauge = false
 
--- what it keeps of its values: a drained sum keeps the last one
+-- how a stream aggregates: a drained sum keeps the last value. `Drop` and `Default` make no stream; they count as sums
 abbrev pub aggregate_from : Bool → InstrumentKind → Aggregation → Aggregate
 aggregate_from drained kind Sum = cond drained Aggregate.LastValue Aggregate.Sum
 aggregate_from drained kind LastValue = Aggregate.LastValue
@@ -75,11 +76,11 @@ aggregate_from drained kind (ExplicitBucketHistogram bounds m) = Aggregate.Histo
 aggregate_from drained kind Drop = Aggregate.Sum
 aggregate_from drained kind Default = Aggregate.Sum
 
--- of a demand
+-- how the stream of a demand aggregates
 abbrev pub aggregate_of : Demand → Aggregate
 aggregate_of d = aggregate_from (is_drained d) d.identity.kind d.aggregation
 
--- sums that never fall
+-- whether a sum of this kind is monotonic
 abbrev pub is_monotonic_kind : InstrumentKind → Bool
 is_monotonic_kind Counter = true
 is_monotonic_kind UpDownCounter = false

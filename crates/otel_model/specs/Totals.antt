@@ -6,10 +6,10 @@ use Rattle.otel_model.specs.Demands.{Demand, Views, ReaderAnswers}
 use Rattle.otel_model.specs.Streams.{is_delta, aggregate_of}
 use Rattle.otel_model.specs.History.{history, shown_points}
 
--- the total of all points of the collections of a delta stream
+-- the total of the points in all collections of a delta stream, before differences are taken; 0 for any other stream
 abbrev pub exported_in : Views → ReaderAnswers → ℕ → Demand → List Call → ℕ
 exported_in views answers r d calls = cond (is_delta answers d) (sum_by points_total (shown_points views answers r d calls)) 0
 
--- the total of the records in its history, whatever their goals
+-- the total of the measurements in its history, whatever their goals
 abbrev pub recorded_in : Views → ReaderAnswers → ℕ → Demand → List Call → ℕ
 recorded_in views answers r d calls = recorded_total (aggregate_of d) (history views answers r d calls)

@@ -1,4 +1,4 @@
--- Worked rows on whole collections: resource, scopes, headings, moments and points, by the machine and read off the calls.
+-- Worked rows on whole collections: resource, scopes, headings, times, points, by the machine and read off the calls.
 use Rattle.std.specs.Prelude.{ℕ, ℤ, pos, negsuc, true, false, List, [], ◌∷◌, ◌++◌, Some, None, codes}
 use Rattle.std.proofs.Common.{refl}
 use Rattle.otel_common.specs.Canonical.{canon}

@@ -1,4 +1,4 @@
--- Worked rows on kinds of instruments: what readers prefer, which aggregations they have, sums that may fall, differences.
+-- Worked rows on kinds of instruments: readers' preferences, their aggregations, sums that may fall, and differences.
 use Rattle.std.specs.Prelude.{◌≡◌, ℕ, ℤ, pos, negsuc, Bool, true, false, List, [], ◌∷◌, ◌++◌, map, drop, Some, None}
 use Rattle.std.proofs.Common.{refl}
 use Rattle.otel_common.specs.Canonical.{canon}

@@ -6,8 +6,8 @@ use Rattle.otel_model.specs.Demands.{View, Views, instrument_of, description_of,
 use Rattle.otel_model.specs.History.{Built, builds_in, made_calls}
 use Rattle.otel_model.specs.Laws.{OfEachReader}
 
--- two good builds on the meters of one scope, so before a shutdown, that agree in kind, number type,
--- description, unit, and in name but for ASCII case, and to which each view answers alike
+-- two valid builds on meters of one scope that agree in kind, number type, description, unit and, apart from ASCII
+-- case, name, and to which each view gives the same answer
 pub record AreAlike (views : Views) (i j : Built) : Type 0 where
   pub scope : InstrumentationScope
   pub first_scope : i.scope ≡ Some scope
@@ -21,7 +21,7 @@ pub record AreAlike (views : Views) (i j : Built) : Type 0 where
   pub name : ascii_lowercase i.about.name ≡ ascii_lowercase j.about.name
   pub answers : map (λ (view : View). view (instrument_of scope i.about)) views ≡ map (λ (view : View). view (instrument_of scope j.about)) views
 
--- they feed the same streams
+-- the instruments of two such builds feed the same streams
 abbrev pub AlikeFeedTheSame : Type 0
 AlikeFeedTheSame = OfEachReader (λ views resource calls replies new r answers part.
     (m n : ℕ) (i j : Built) → slice_get (builds_in (made_calls calls replies)) m ≡ Some i → slice_get (builds_in (made_calls calls replies)) n ≡ Some j → AreAlike views i j

@@ -1,4 +1,4 @@
--- The order of attributes, and what a sum of observed sums shows.
+-- The order of attributes, which changes nothing; and what a delta stream of observed sums shows.
 use Rattle.std.specs.Prelude.{◌≡◌, ℕ, ◌+◌, true, List, ◌∷◌, ◌++◌, Some, slice_get}
 use Rattle.std.specs.List.Sorted.{IsPermutation}
 use Rattle.otel_common.specs.Canonical.{HasDistinctKeys}
@@ -14,32 +14,32 @@ use Rattle.otel_model.specs.State.{State}
 use Rattle.otel_model.specs.Steps.{Run}
 use Rattle.otel_model.specs.History.{history, window_of, window_points, reported_of}
 
--- the same attributes in another order, no key twice
+-- m has the attributes of l in any order, and no key occurs twice
 abbrev pub IsReordered : List KeyValue → List KeyValue → Type 0
 IsReordered l m = HasDistinctKeys l × IsPermutation l m
 
--- permuting the attributes of any record changes no reply and no state
+-- permuting the attributes of a measurement, whose keys are distinct, changes neither the replies nor the final state
 abbrev pub RecordsInAnyOrder : Type 0
 RecordsInAnyOrder = (views : Views) (old new : State) (before later : List Call) (n : ℕ) (v : Number) (l m : List KeyValue) (replies : List Reply) → IsReordered l m
     → Run views old (before ++ Record n v l ∷ later) replies new → Run views old (before ++ Record n v m ∷ later) replies new
 
--- of any bind
+-- nor does permuting those of a bind
 abbrev pub BindsInAnyOrder : Type 0
 BindsInAnyOrder = (views : Views) (old new : State) (before later : List Call) (n : ℕ) (l m : List KeyValue) (replies : List Reply) → IsReordered l m
     → Run views old (before ++ Bind n l ∷ later) replies new → Run views old (before ++ Bind n m ∷ later) replies new
 
--- and of any observation
+-- nor does permuting those of an observation
 abbrev pub ObservationsInAnyOrder : Type 0
 ObservationsInAnyOrder = (views : Views) (old new : State) (before later : List Call) (r now : ℕ) (os ps : List Observed) (o : Observed) (m : List KeyValue) (replies : List Reply) → IsReordered o.attributes m
     → Run views old (before ++ Collect r now (os ++ o ∷ ps) ∷ later) replies new
     → Run views old (before ++ Collect r now (os ++ record o { attributes = m } ∷ ps) ∷ later) replies new
 
--- the last value of the records of a window that count for a set
+-- the last value of the measurements in the window of a history whose goal is the set; 0 if there is none
 abbrev pub last_observed : ReaderAnswers → Demand → List Event → AttributeSet → ℕ
 last_observed answers d events set = value_of (fold_of LastValue (values_of (records_of d.limit (window_of answers d events)) set))
 
--- in a delta stream of observed sums a point plus its set's value in the collection before is the last
--- value observed for the set, modulo 2^64
+-- in a delta stream of observed sums a point's value plus its set's value in the previous collection is the last value
+-- observed for the set, modulo 2^64
 abbrev pub AreDifferences : Type 0
 AreDifferences = (views : Views) (answers : ReaderAnswers) (r : ℕ) (d : Demand) (calls : List Call) (events : List Event) → shows_differences answers d ≡ true
     → (k : ℕ) (p : Point) → slice_get (differences answers d (reported_of views answers r d calls) (window_points answers d (history views answers r d calls ++ events))) k ≡ Some p

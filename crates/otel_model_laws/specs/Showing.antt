@@ -1,4 +1,4 @@
--- What a program that names streams by number owes to be the machine.
+-- What a program that names streams by number must do to agree with the machine.
 use Rattle.std.specs.Prelude.{◌≡◌, ℕ, ◌+◌, false, cond, List, [], ◌∷◌, map, fold, None, slice_get}
 use Rattle.otel_common.specs.declared.attributes.KeyValue.{KeyValue}
 use Rattle.otel_model_stream.specs.Events.{Event, held_by}
@@ -15,45 +15,46 @@ use Rattle.otel_model.specs.Machine.{machine_after, recorded_after, changed_at, 
 use Rattle.otel_model.specs.Laws.{AreApart, AreNumbered, names}
 use Rattle.otel_model_laws.specs.Lawful.{EachOf}
 
--- a stream after events among which there is no collection
+-- a stream after events, none of which is a collection
 abbrev pub stream_with : ReaderAnswers → List Event → Stream → Stream
 stream_with answers es s = record s { machine = machine_after answers s.demand es s.machine; recorded = recorded_after answers es s }
 
--- after a record
+-- a stream after a measurement with these attributes
 abbrev pub stream_recorded : ReaderAnswers → Number → List KeyValue → Stream → Stream
 stream_recorded answers v l s = stream_with answers (Event.Record (set_for s.demand l) v.amount ∷ []) s
 
--- after a bind that gives this number
+-- a stream after a bind with these attributes that gives this number
 abbrev pub stream_bound : ReaderAnswers → ℕ → List KeyValue → Stream → Stream
 stream_bound answers next l s = stream_with answers (Event.Bind next (set_for s.demand l) ∷ []) s
 
--- the identities that an instrument feeds
+-- the identities of the streams that instrument n feeds
 abbrev pub fed_by : List (List Identity) → ℕ → List Identity
 fed_by feeds n = or_else (slice_get feeds n) []
 
--- to record into the streams that an instrument feeds, one after another by their numbers, is what the
+-- recording a measurement in the streams that an instrument feeds, one after another by their numbers, does what the
 -- call does to all streams
 abbrev pub RecordsByNumber : Type 0
 RecordsByNumber = (answers : ReaderAnswers) (feeds : List (List Identity)) (next n : ℕ) (v : Number) (l : List KeyValue) (ss : List Stream) (ks : List ℕ)
     → AreNumbered (names ss) ks (fed_by feeds n) → AreApart (fed_by feeds n) → AreApart (names ss)
     → fold (λ (ss : List Stream) k. changed_at k (stream_recorded answers v l) ss) ss ks ≡ map (stream_after answers feeds next (Record n v l)) ss
 
--- so to bind
+-- and so does binding in these streams
 abbrev pub BindsByNumber : Type 0
 BindsByNumber = (answers : ReaderAnswers) (feeds : List (List Identity)) (next n : ℕ) (l : List KeyValue) (ss : List Stream) (ks : List ℕ)
     → AreNumbered (names ss) ks (fed_by feeds n) → AreApart (fed_by feeds n) → AreApart (names ss)
     → fold (λ (ss : List Stream) k. changed_at k (stream_bound answers next l) ss) ss ks ≡ map (stream_after answers feeds next (Bind n l)) ss
 
--- a stream without the handle need not be touched by a record through it, or by its end
+-- a measurement through a handle that the stream doesn't have leaves the stream as it is, and so does the handle's end
 abbrev pub UnheldRests : Type 0
 UnheldRests = (answers : ReaderAnswers) (feeds : List (List Identity)) (next h : ℕ) (v : Number) (s : Stream) → held_by h s.machine.live ≡ None
     → (stream_after answers feeds next (RecordBound h v) s ≡ s) × (stream_after answers feeds next (Unbind h) s ≡ s)
 
--- a stream that isn't one of these does not have the handle
+-- a stream whose identity is not one of these does not have the handle
 abbrev pub IsHeldOnlyBy : ℕ → List Identity → Stream → Type 0
 IsHeldOnlyBy h xs s = has_identity xs s.demand.identity ≡ false → held_by h s.machine.live ≡ None
 
--- so to record through a handle, or to end it, in some streams, where no other stream has it
+-- recording through a handle, or ending it, in some streams, one after another by their numbers, does what the call
+-- does to all streams, if no other stream has the handle
 abbrev pub HandlesByNumber : Type 0
 HandlesByNumber = (answers : ReaderAnswers) (feeds : List (List Identity)) (next h : ℕ) (v : Number) (ss : List Stream) (ks : List ℕ) (xs : List Identity)
     → AreNumbered (names ss) ks xs → AreApart xs → AreApart (names ss) → EachOf (IsHeldOnlyBy h xs) ss
@@ -61,7 +62,7 @@ HandlesByNumber = (answers : ReaderAnswers) (feeds : List (List Identity)) (next
     × (fold (λ (ss : List Stream) k. changed_at k (stream_with answers (Event.Unbind h ∷ [])) ss) ss ks ≡ map (stream_after answers feeds next (Unbind h)) ss)
 
 -- ======== collections ========
--- a stream after a collection, its observations having been recorded
+-- a stream after a collection whose observations were recorded before
 abbrev pub stream_collected : ReaderAnswers → ℕ → Stream → Stream
 stream_collected answers now s = record s {
   machine = machine_after_collection (kind_of answers s.demand) s.machine;
@@ -70,13 +71,13 @@ stream_collected answers now s = record s {
   exported = cond (is_delta answers s.demand) (wrap (s.exported + points_total (points (kind_of answers s.demand) s.machine))) s.exported;
 }
 
--- a collection is its observations, and then the collection itself
+-- a collection records its observations first, and then collects
 abbrev pub CollectsAfterObservations : Type 0
 CollectsAfterObservations = (answers : ReaderAnswers) (feeds : List (List Identity)) (next r now : ℕ) (os : List Observed) (s : Stream)
     → stream_after answers feeds next (Collect r now os) s ≡ stream_collected answers now (stream_with answers (observed_events feeds s.demand os) s)
 
--- to record the observations one after another, each into the streams that its instrument feeds, is to
--- record them in each stream. `numbers_of` gives the numbers of the streams that an instrument feeds
+-- recording the observations one after another, each in the streams that its instrument feeds, records in each stream
+-- all those that it is sent. `numbers_of` gives the numbers of the streams that an instrument feeds
 abbrev pub ObservationsByNumber : Type 0
 ObservationsByNumber = (answers : ReaderAnswers) (feeds : List (List Identity)) (numbers_of : ℕ → List ℕ) (os : List Observed) (ss : List Stream)
     → ((n : ℕ) → AreNumbered (names ss) (numbers_of n) (fed_by feeds n)) → ((n : ℕ) → AreApart (fed_by feeds n)) → AreApart (names ss)

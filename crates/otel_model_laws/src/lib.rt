@@ -10,7 +10,7 @@ ghost use Rattle.otel_model_laws.specs.Shares.{BookFollowsCalls, BookedOneByOne,
 ghost use Rattle.otel_model_laws.specs.Showing.{BindsByNumber, CollectsAfterObservations, HandlesByNumber, ObservationsByNumber, RecordsByNumber, UnheldRests};
 ghost use Rattle.otel_model_laws.specs.Orders.{AreDifferences, BindsInAnyOrder, ObservationsInAnyOrder, RecordsInAnyOrder};
 
-/// In what order attributes are given changes nothing.
+/// The order in which attributes are given changes nothing.
 pub fn orders()
     ensures records { RecordsInAnyOrder }
     ensures binds { BindsInAnyOrder }
@@ -35,8 +35,8 @@ pub fn merges()
     ensures right { UrlsMergeFromTheRight }
 {}
 
-/// What a builder of a resource is given wins, but for attributes that are given with a URL, and of
-/// doubled keys the last.
+/// Attributes that a resource builder is given win over its own, except those that are given with a URL. Of several
+/// values given for a key the last counts.
 pub fn gives()
     ensures given { GivenValuesWin }
     ensures own { OwnValuesWin }
@@ -77,15 +77,15 @@ pub fn books()
     ensures run { EachRunIsBooked }
 {}
 
-/// A book in whole numbers follows what all instruments together accept, and is the sum of its shares as
-/// long as each record is added to one of them.
+/// A book in numbers that do not wrap follows what all instruments together accept, and it is the sum of its shares as
+/// long as each measurement is added to one of them.
 pub fn adds_up()
     ensures book { BookFollowsCalls }
     ensures shares { SharesAddUp }
     ensures one_by_one { BookedOneByOne }
 {}
 
-/// What a program that names streams by number owes to be the machine.
+/// What a program that names streams by number must do to agree with the machine.
 pub fn numbers()
     ensures records { RecordsByNumber }
     ensures binds { BindsByNumber }

@@ -1,4 +1,4 @@
--- The machine's state, made from places, records and live handles; and what each step of the machine does to such a state.
+-- The machine's state, made from places, measurements and live handles; and what each step of the machine does to it.
 use Rattle.std.proofs.Common.{◌≡◌, Some, ℕ, suc, ◌+◌, ◌-◌, List, [], ◌∷◌, ◌++◌, map, length, Bool, true, false, cond, not, ◌||◌, ◌&&◌, refl, sym, ap, ◌∙◌, arith}
 use Rattle.std.specs.Prelude.{filter, ◌==◌, nat_lt, count_by}
 use Rattle.std.proofs.lemmas.Bool.{or_parts, true≢false}
@@ -21,7 +21,7 @@ use Rattle.otel_model_stream.proofs.Places.{Grown, grown_by, grown}
 abbrev pub Pairs : Type 0
 Pairs = List (AttributeSet × Amount)
 
--- an entry of x
+-- the entry of x
 abbrev pub item : Aggregate → Bool → Pairs → Handles → AttributeSet → Entry
 item σ c rs hs x = record {
   set = x;
@@ -84,7 +84,7 @@ map_both : {A B C : Type 0} (f : B → C) (g : A → B) (h : A → C) (xs : List
 map_both f g h [] e = refl
 map_both f g h (x ∷ xs) e = λ i. e x i ∷ map_both f g h xs e i
 
--- a record for g, at an item of x
+-- a measurement that goes to g, at the entry of x
 written : (σ : Aggregate) (c : Bool) (rs : Pairs) (hs : Handles) (g : AttributeSet) (v : Amount) (x : AttributeSet) → on g (write (sample_of σ v)) (item σ c rs hs x) ≡ item σ c (rs ++ (g, v) ∷ []) hs x
 written σ c rs hs g v x =
     go (set_eq x g) (hit_push rs g v x ∙ ap (λ b. is_hit rs x || b) (same_sym g x)) (values_push rs g v x ∙ ap (λ b. values_of rs x ++ cond b (v ∷ []) []) (same_sym g x))

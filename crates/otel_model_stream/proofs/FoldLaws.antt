@@ -1,4 +1,4 @@
--- One more record, at a list of records; and records one by one against their whole list.
+-- The fold of a list with one more measurement; and folding one by one against folding the whole list.
 use Rattle.std.proofs.Common.{ℕ, zero, suc, ◌+◌, ◌<◌, ◌≡◌, ℤ, List, [], ◌∷◌, ◌++◌, length, map, nat_eq, Bool, true, false, cond, Option, Some, None, refl, ap, arith, sym, ◌∙◌, count_by, sum_by, fold, replicate, length-append, append_assoc}
 use Rattle.std.specs.Int.{int_min, int_max}
 use Rattle.std.proofs.lemmas.Bool.Decides.{nat_tests}
@@ -35,7 +35,7 @@ greatest-push [] x = refl
 greatest-push (y ∷ []) x = greater_twice None x y
 greatest-push (y ∷ z ∷ xs) x = ap (λ o. greater o y) (greatest-push (z ∷ xs) x) ∙ greater_twice (greatest_of (z ∷ xs)) x y
 
--- a record of an earlier bucket
+-- a measurement in an earlier bucket
 counts-before : (a n : ℕ) (vs : List Sample) (v : Sample) → v.bucket < a → counts_from a n (vs ++ v ∷ []) ≡ counts_from a n vs
 counts-before a zero vs v h = refl
 counts-before a (suc n) vs v h =
@@ -61,7 +61,7 @@ counts-push a (suc n) vs v (suc k) e =
 sum-push : (vs : List Sample) (v : Sample) → wrap (sum_by (λ (w : Sample). w.bits) (vs ++ v ∷ [])) ≡ wrap (wrap (sum_by (λ (w : Sample). w.bits) vs) + v.bits)
 sum-push vs v = ap wrap (sum_by_push (λ (w : Sample). w.bits) vs v) ∙ sym (wrapped-add (sum_by (λ (w : Sample). w.bits) vs) v.bits)
 
--- what is kept or never kept, with one more
+-- a value that is kept or never kept, after one more change
 kept_or : {A : Type 0} (b : Bool) (f : A → A) (x y z : A) → y ≡ f x → cond b y z ≡ cond b (f (cond b x z)) (cond b x z)
 kept_or true f x y z e = e
 kept_or false f x y z e = refl

@@ -258,7 +258,7 @@ keys_few k listed = omega (arith, few, length-map k.given canon, length-map es (
     few = length-le_from_is_member (lists_equiv key_value_eq_equiv) (map canon k.given) (map (λ (e : Entry). e.set) es) listed.apart (λ q h. members q es ∙ listed-has q es k.given listed.placed h)
 
 -- ======== the lists are of entries, and apart ========
--- of another kind, one by one
+-- what holds of each list, turned one by one into something else
 all-turn : (P Q : List KeyValue → Type 0) → ((l : List KeyValue) → P l → Q l) → (ls : List (List KeyValue)) → AllByRecursion P ls → AllByRecursion Q ls
 all-turn P Q f [] all = tt
 all-turn P Q f (l ∷ ls) all = (f l all.0, all-turn P Q f ls all.1)
@@ -275,7 +275,7 @@ all-filter test (l ∷ ls) = go (test l) refl (all-filter test ls)
     go true e ih = (e, ih)
     go false e ih = ih
 
--- the sets of the lists that pass
+-- what holds of the sets of all lists holds of the sets of those that pass a test
 all-sets : (P : AttributeSet → Type 0) (test : List KeyValue → Bool) (ls : List (List KeyValue)) → AllByRecursion P (map canon ls) → AllByRecursion P (map canon (filter test ls))
 all-sets P test [] all = tt
 all-sets P test (l ∷ ls) all = go (test l) (all-sets P test ls all.1)

@@ -77,7 +77,7 @@ moves_let_go σ None h p u rs hs e = ap (λ l. built σ p u rs l) (sym (without_
 moves_let_go σ (Some g) h p u rs hs e = lets_go σ p u rs hs h g e
 
 -- ======== the window ========
--- a mention's event
+-- the places after an event
 abbrev pub now : ℕ → Window → Event → List AttributeSet × Bool
 now limit w e = (places_of limit (more w e), uncounted_of limit (more w e))
 

@@ -15,7 +15,7 @@ use Rattle.otel_model_stream.specs.Maps.{MapState, new_map, bound_map, bound_to,
 use Rattle.otel_model_stream.specs.Machine.{begin, answers}
 use Rattle.otel_model_stream.specs.Windows.{opening, collections}
 
--- ======== the words of the rows ========
+-- ======== sets, events and points used by the rows ========
 abbrev pair : List ℕ → ℕ → KeyValue
 pair key n = record { key = key; value = value.I64 (pos n) }
 
@@ -34,7 +34,7 @@ k_v = record { key = codes "k"; value = value.String (codes "v") } ∷ []
 abbrev amount : ℕ → Amount
 amount n = record { bits = n; wide = pos n }
 
--- a record of this many, and those of these values without attributes
+-- a measurement of this value, and measurements of these values without attributes
 abbrev add : AttributeSet → ℕ → Event
 add s n = Record s (amount n)
 
@@ -124,12 +124,12 @@ pub row_35 : AreShown Sum Delta 1 (add x1 1 ∷ add y1 2 ∷ add over_set 4 ∷ 
     ((sum x1 1 ∷ sum over_set 6 ∷ []) ∷ [] ∷ (sum over_set 8 ∷ sum z1 16 ∷ []) ∷ [])
 row_35 = (refl, refl)
 
--- a quiet set that a handle holds keeps its place; once it is let go, another set gets it
+-- a set without measurements keeps its place while a handle holds it; once the handle ends, another set gets the place
 pub held_place : AreShown Sum Delta 1 (Bind 0 x1 ∷ Collect ∷ add y1 1 ∷ Collect ∷ Unbind 0 ∷ Collect ∷ add y1 2 ∷ Collect ∷ [])
     ([] ∷ (sum over_set 1 ∷ []) ∷ [] ∷ (sum y1 2 ∷ []) ∷ [])
 held_place = (refl, refl)
 
--- the overflow key with another value
+-- the key of the overflow attribute with another value
 abbrev no_overflow : AttributeSet
 no_overflow = record { key = codes "otel.metric.overflow"; value = value.Bool false } ∷ []
 
@@ -220,11 +220,12 @@ pub two_handles : (held_twice.table.entries ≡ record { set = x1; counted = tru
     × ((evicted_map (unbound_map x1 (unbound_map x1 held_twice))).table.entries ≡ [])
 two_handles = (refl, refl, refl)
 
--- the handle of a set past the limit is of the overflow entry, and of one with an entry its own
+-- a handle of a set past the limit is of the overflow entry, and one of a set with an entry is of that entry
 pub handles_go : (bound_to x1 sums ≡ x1) × (bound_to x1 held_twice ≡ x1) × (bound_to y1 held_twice ≡ over_set)
 handles_go = (refl, refl, refl)
 
--- records through a handle of an entry; a quiet entry that a handle holds is shown by a read-only collection alone
+-- measurements through a handle of an entry; an entry that was not updated but is held by a handle is shown by a
+-- read-only collection alone
 pub through_a_handle : (resetting_points (updated_bound x1 (sample_of Sum (amount 4)) held_twice) ≡ sum x1 4 ∷ [])
     × (resetting_points held_twice ≡ [])
     × (readonly_points held_twice ≡ sum x1 0 ∷ [])
@@ -260,12 +261,12 @@ AreKeys k all entries sorted as_given = (keys k ≡ all) × (length k.map_state.
 abbrev as_given_first : KnownMap
 as_given_first = measured_list b1_a2 (last_value 1) last_values
 
--- a list that isn't its own set is a key beside it
+-- a list that isn't its own set is a key beside its set
 pub row_31 : AreKeys as_given_first 2 1 true true
 unfolding canon
 row_31 = (refl, refl, refl, refl)
 
--- a collection after a record keeps both, and one without leaves none
+-- a collection after a measurement keeps both keys, and one without leaves none
 pub row_31_collected : (resetting_points as_given_first.map_state ≡ (a2_b1, Last 1) ∷ []) × AreKeys (evicted_known as_given_first) 2 1 true true
 unfolding canon
 row_31_collected = (refl, (refl, refl, refl, refl))
@@ -278,7 +279,7 @@ pub row_31_drained : AreKeys (drained_known as_given_first) 0 0 false false
 unfolding canon
 row_31_drained = (refl, refl, refl, refl)
 
--- so it is where a bind admitted it
+-- the same if a bind admitted the set
 pub row_31_bound : AreKeys (bound_list b1_a2 last_values) 2 1 true true
 unfolding canon
 row_31_bound = (refl, refl, refl, refl)
@@ -286,7 +287,7 @@ row_31_bound = (refl, refl, refl, refl)
 abbrev sorted_first : KnownMap
 sorted_first = measured_list b1_a2 (last_value 2) (measured_list a2_b1 (last_value 1) last_values)
 
--- another order of a set that has an entry is no key
+-- the attributes of a set that has an entry, in another order, are no key
 pub row_32 : (resetting_points sorted_first.map_state ≡ (a2_b1, Last 2) ∷ []) × AreKeys sorted_first 1 1 true false
 unfolding canon
 row_32 = (refl, (refl, refl, refl, refl))

@@ -1,4 +1,4 @@
--- What is kept from event to event.
+-- What each event preserves.
 use Rattle.std.proofs.Common.{◌≡◌, inl, inr, ⊎_elim, Option, Some, None, ℕ, ◌≤◌, List, [], ◌∷◌, ◌++◌, Bool, true, false, cond, ◌||◌, refl, sym, ap, ◌∙◌, subst, arith}
 use Rattle.std.specs.Prelude.{◌==◌}
 use Rattle.std.proofs.lemmas.Bool.{or_parts, true≢false, cases_Bool, false_from_ne_true}
@@ -27,7 +27,7 @@ fits_of limit w s = record { over = s.over; hits = s.hits; helds = s.helds }
 pub sound_of : (limit : ℕ) (w : Window) → IsLawful w.start → Fits (facts limit w) → IsSound limit w
 sound_of limit w l f = record { lawful = l; over = f.over; hits = f.hits; helds = f.helds }
 
--- a set with no place was not there before, and is not where a record lands
+-- a set without a place had none before, and no measurement goes to it
 not_before : (p p' : List AttributeSet) (x : AttributeSet) → ((x : AttributeSet) → is_in x p ≡ true → is_in x p' ≡ true) → is_in x p' ≡ false → is_in x p ≡ false
 not_before p p' x keeps m = false_from_ne_true (is_in x p) (λ e. true≢false (sym (keeps x e) ∙ m))
 

@@ -16,24 +16,24 @@ pub use Rattle.otel_model_stream.specs.Totals.{value_of}
 pub use Rattle.otel_common.specs.Aggregations.{rises}
 
 -- ======== folds ========
--- the totals of a histogram
+-- the totals of a histogram; empty totals for any other fold
 abbrev pub spread_of : Fold → Spread
 spread_of (Total n) = no_spread false false 0
 spread_of (Last n) = no_spread false false 0
 spread_of (Spreads s) = s
 
 -- ======== numbers ========
--- the number of type `u64` that a whole number is
+-- a whole number as a natural number; 0 if it is negative
 abbrev pub natural_of : ℤ → ℕ
 natural_of (pos n) = n
 natural_of (negsuc n) = 0
 
--- the number of type `i64` with these 64 bits
+-- the value of type `i64` with these 64 bits
 abbrev pub signed_of : ℕ → ℤ
 signed_of n = cast_signed w64 n
 
 -- ======== points ========
--- the points of a metric, each a set with the fold of its records. No exemplars are kept
+-- data points, each made from an attribute set and the fold of its measurements. No exemplars are kept
 module _ {T : Type 0} (of_bits : ℕ → T) (of_whole : ℤ → T) where
   abbrev pub gauge_point : Point → GaugeDataPoint T
   gauge_point p = record { attributes = p.0; exemplars = []; value = of_bits (value_of p.1) }
@@ -53,7 +53,7 @@ module _ {T : Type 0} (of_bits : ℕ → T) (of_whole : ℤ → T) where
     sum = of_bits (spread_of p.1).sum;
   }
 
-  -- since the moment `start`, collected at the moment `now`
+  -- the data of a metric, with start time `start` and collected at the time `now`
   abbrev pub gauge : ℕ → ℕ → List Point → Gauge T
   gauge start now ps = record { data_points = map gauge_point ps; start_time = start; time = now }
 
@@ -63,7 +63,7 @@ module _ {T : Type 0} (of_bits : ℕ → T) (of_whole : ℤ → T) where
   abbrev pub histogram : Temporality → List ℤ → ℕ → ℕ → List Point → Histogram T
   histogram temporality bounds start now ps = record { data_points = map (histogram_point bounds) ps; start_time = start; time = now; temporality = temporality }
 
-  -- as the points of one metric
+  -- the same as `MetricData`
   abbrev pub gauge_of : ℕ → ℕ → List Point → MetricData T
   gauge_of start now ps = MetricData.Gauge (gauge start now ps)
 

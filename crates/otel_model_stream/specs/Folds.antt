@@ -1,4 +1,4 @@
--- What records come to (Metrics SDK, "Aggregation"). All numbers that wrap do so modulo 2^64.
+-- What measurements are aggregated to (Metrics SDK, "Aggregation"). All numbers that wrap do so modulo 2^64.
 use Rattle.std.specs.Prelude.{ℕ, zero, suc, ◌+◌, ◌%◌, ◌^◌, nat_eq, ℤ, Bool, cond, List, [], ◌∷◌, replicate, length, map, count_by, sum_by, int_lt, Option, Some, None, ◌≡◌, refl}
 use Rattle.std.proofs.Common.{ap}
 use Rattle.std.proofs.lemmas.List.{length-replicate}
@@ -9,20 +9,20 @@ pub record Amount : Type 0 where
   pub bits : ℕ
   pub wide : ℤ
 
--- a recorded value with its bucket: how many bounds are less than it
+-- a recorded value with the number of its bucket, which is how many bounds are less than the value
 pub record Sample : Type 0 where
   pub bits : ℕ
   pub wide : ℤ
   pub bucket : ℕ
 
--- what a stream makes of its records
+-- how a stream aggregates its measurements
 pub data Aggregate : Type 0 where
   Sum : Aggregate
   LastValue : Aggregate
   Histogram : (bounds : List ℤ) (has_min_max : Bool) (has_sum : Bool) → Aggregate
 
--- the totals of a histogram. Without min and max the least and greatest value are never kept;
--- without a sum it stays 0
+-- the totals of a histogram. If it has no min and max, the least and the greatest value are never kept; if it has no
+-- sum, that stays 0
 pub record Spread : Type 0 where
   pub has_min_max : Bool
   pub has_sum : Bool
@@ -32,7 +32,7 @@ pub record Spread : Type 0 where
   pub greatest : Option ℤ
   pub counts : List ℕ
 
--- what the records so far come to: their sum, the last of them, or how they spread
+-- what the measurements so far are aggregated to: their sum, the last of them, or the totals of a histogram
 pub data Fold : Type 0 where
   Total : ℕ → Fold
   Last : ℕ → Fold
@@ -42,24 +42,24 @@ pub data Fold : Type 0 where
 abbrev pub wrap : ℕ → ℕ
 wrap n = n % 2 ^ 64
 
--- ======== one record more ========
--- the lesser of what was least so far and x
+-- ======== one more measurement ========
+-- the lesser of the least value so far, if there is one, and x
 abbrev pub lesser : Option ℤ → ℤ → Option ℤ
 lesser None x = Some x
 lesser (Some y) x = Some (int_min y x)
 
--- the greater of what was greatest so far and x
+-- the greater of the greatest value so far, if there is one, and x
 abbrev pub greater : Option ℤ → ℤ → Option ℤ
 greater None x = Some x
 greater (Some y) x = Some (int_max y x)
 
--- one more in the bucket; a bucket that isn't there counts nothing
+-- the bucket counts with one more in bucket i; unchanged if there is no such bucket
 abbrev pub counted_in : List ℕ → ℕ → List ℕ
 counted_in [] i = []
 counted_in (n ∷ ns) zero = wrap (n + 1) ∷ ns
 counted_in (n ∷ ns) (suc i) = n ∷ counted_in ns i
 
--- a histogram with one record more
+-- a histogram after one more measurement
 abbrev pub record_spread : Spread → Sample → Spread
 record_spread s v = record {
   has_min_max = s.has_min_max;
@@ -71,29 +71,29 @@ record_spread s v = record {
   counts = counted_in s.counts v.bucket;
 }
 
--- a fold with one record more
+-- a fold after one more measurement
 abbrev pub record_fold : Fold → Sample → Fold
 record_fold (Total n) v = Total (wrap (n + v.bits))
 record_fold (Last n) v = Last v.bits
 record_fold (Spreads s) v = Spreads (record_spread s v)
 
--- ======== no records ========
--- a histogram without records, of a number of buckets
+-- ======== no measurements ========
+-- a histogram of n buckets without measurements
 abbrev pub no_spread : Bool → Bool → ℕ → Spread
 no_spread has_min_max has_sum n = record { has_min_max = has_min_max; has_sum = has_sum; count = 0; sum = 0; least = None; greatest = None; counts = replicate n 0 }
 
--- a fold of the same kind without records
+-- the fold of the same kind, with the same settings, but without measurements
 abbrev pub clear_fold : Fold → Fold
 clear_fold (Total _) = Total 0
 clear_fold (Last _) = Last 0
 clear_fold (Spreads s) = Spreads (no_spread s.has_min_max s.has_sum (length s.counts))
 
--- how many buckets: none without bounds
+-- the number of buckets: one more than there are bounds, but none if there are no bounds
 abbrev pub buckets_of : List ℤ → ℕ
 buckets_of [] = 0
 buckets_of (b ∷ bounds) = length (b ∷ bounds) + 1
 
--- what no records of this aggregate come to
+-- the fold of no measurements
 abbrev pub empty_of : Aggregate → Fold
 empty_of Sum = Total 0
 empty_of LastValue = Last 0
@@ -103,7 +103,7 @@ empty_of (Histogram bounds has_min_max has_sum) = Spreads (no_spread has_min_max
 abbrev pub bounds_below : List ℤ → ℤ → ℕ
 bounds_below bounds x = count_by (λ bound. int_lt bound x) bounds
 
--- the bounds of an aggregate, none but a histogram's
+-- the bucket bounds of an aggregate; none if it isn't a histogram
 abbrev pub bounds_of : Aggregate → List ℤ
 bounds_of Sum = []
 bounds_of LastValue = []
@@ -113,7 +113,7 @@ bounds_of (Histogram bounds has_min_max has_sum) = bounds
 abbrev pub sample_of : Aggregate → Amount → Sample
 sample_of σ v = record { bits = v.bits; wide = v.wide; bucket = bounds_below (bounds_of σ) v.wide }
 
--- clearing what has no records changes nothing
+-- clearing a fold without measurements changes nothing
 pub clear_fold_no_spread : (m s : Bool) (n : ℕ) → clear_fold (Spreads (no_spread m s n)) ≡ Spreads (no_spread m s n)
 clear_fold_no_spread m s n = ap (λ k. Spreads (no_spread m s k)) (length-replicate n 0)
 
@@ -122,13 +122,13 @@ clear_fold_empty Sum = refl
 clear_fold_empty LastValue = refl
 clear_fold_empty (Histogram bounds m s) = clear_fold_no_spread m s (buckets_of bounds)
 
--- ======== said of the whole list of records ========
--- how many have this bucket, for each of n buckets from a on
+-- ======== a whole list of measurements ========
+-- for each of the n buckets from number a on, how many measurements are in it, modulo 2^64
 abbrev pub counts_from : ℕ → ℕ → List Sample → List ℕ
 counts_from a zero vs = []
 counts_from a (suc n) vs = wrap (count_by (λ v. nat_eq v.bucket a) vs) ∷ counts_from (a + 1) n vs
 
--- the bits of the last record, 0 if there is none
+-- the bits of the last measurement; 0 if there is none
 abbrev pub last_bits : List Sample → ℕ
 last_bits [] = 0
 last_bits (v ∷ []) = v.bits
@@ -146,7 +146,8 @@ greatest_of [] = None
 greatest_of (x ∷ []) = Some x
 greatest_of (x ∷ y ∷ xs) = greater (greatest_of (y ∷ xs)) x
 
--- what these records come to, the first argument telling of which aggregate
+-- the fold of a list of measurements. The first argument tells the kind of the fold and, for a histogram, its settings
+-- and number of buckets; the values that it holds are not used
 abbrev pub fold_samples : Fold → List Sample → Fold
 fold_samples (Total _) vs = Total (wrap (sum_by (λ v. v.bits) vs))
 fold_samples (Last _) vs = Last (last_bits vs)
@@ -160,6 +161,6 @@ fold_samples (Spreads s) vs = Spreads (record {
   counts = counts_from 0 (length s.counts) vs;
 })
 
--- the fold of a list of values
+-- the fold of a list of values, as the aggregate says
 abbrev pub fold_of : Aggregate → List Amount → Fold
 fold_of σ vs = fold_samples (empty_of σ) (map (sample_of σ) vs)

@@ -22,21 +22,21 @@ pub fn conserves()
     ensures few { ArePointsFew }
 {}
 
-/// What records come to one by one is what their whole list comes to.
+/// Folding measurements one by one gives the fold of their whole list, and bucket counts add up to the count.
 pub fn folds()
     ensures list { IsFoldOfList }
     ensures one_more { IsFoldedByOneMore }
     ensures buckets { AreBucketsCounted }
 {}
 
-/// Clearing forgets all records.
+/// Clearing a fold forgets all its measurements.
 pub fn clears()
     ensures nothing { (σ : Aggregate) → clear_fold (empty_of σ) ≡ empty_of σ }
     ensures list { IsForgotten }
     ensures steps { IsClearedAlike }
 {}
 
-/// Each event is what it is for the bounded map.
+/// Each event changes the table as the bounded map changes, and a collection shows the points that the map shows.
 pub fn maps()
     ensures record { IsMeasured }
     ensures bind { IsHeld }
@@ -64,7 +64,7 @@ pub fn knowing()
     ensures few { AreKeysFew }
 {}
 
-/// The lists that a map knows are of its entries, and no two of one set.
+/// The set of each given list that a map knows has an entry, and no two given lists have the same set.
 pub fn listing()
     ensures first { IsListedAtFirst }
     ensures measured { IsListedOnceMeasured }

@@ -17,7 +17,7 @@ use Rattle.otel_pipeline.specs.Streams.{Held, shown_metric}
 abbrev pub scoped_metric : ℕ → Held → ScopedMetric
 scoped_metric now h = (h.stream.demand.identity.scope, shown_metric now h)
 
--- of all streams, without what drops
+-- the metrics of all streams, without those that drop
 abbrev pub all_scoped : ℕ → List Held → List ScopedMetric
 all_scoped now streams = map (scoped_metric now) (filter is_streamed streams)
 
@@ -29,23 +29,23 @@ abbrev pub if_shown : Bool → Metric → List Metric
 if_shown true m = m ∷ []
 if_shown false m = []
 
--- the metric of one stream, if it doesn't drop, is of the scope and has points
+-- the metric of one stream, if it doesn't drop, has this scope and has points
 abbrev pub shown_one : InstrumentationScope → ℕ → Held → List Metric
 shown_one scope now h = if_shown (is_streamed h && (scope_eq h.stream.demand.identity.scope scope && has_points (shown_metric now h))) (shown_metric now h)
 
 abbrev pub scope_shown : ℕ → List Held → InstrumentationScope → ScopeMetrics
 scope_shown now streams scope = in_scope (all_scoped now streams) scope
 
--- the scopes that have metrics
+-- the scopes of these meters that have metrics, with them
 abbrev pub scopes_shown : ℕ → List Held → List InstrumentationScope → List ScopeMetrics
 scopes_shown now streams meters = filter has_metrics (map (scope_shown now streams) meters)
 
--- lists, each followed by the one at its place among the others
+-- each list followed by the one at the same position among the others, if there is one
 abbrev pub append_each : {A : Type 0} → List (List A) → List (List A) → List (List A)
 append_each [] ys = []
 append_each (x ∷ xs) [] = x ∷ xs
 append_each (x ∷ xs) (y ∷ ys) = (x ++ y) ∷ append_each xs ys
 
--- what a collection of this reader with these observations gives, from the resource, by the scopes of these meters
+-- c is what a collection of this reader gives, with this resource, the scopes of these meters and these observations
 abbrev pub IsCollectedFrom : Resource → List InstrumentationScope → ℕ → List Observed → ReaderPart → ResourceMetrics → Type 0
 IsCollectedFrom resource meters now os part c = (s : Shared) → s.resource ≡ resource → s.meters ≡ meters → c ≡ collect_from s now os part

@@ -1,4 +1,4 @@
--- What handles are in one reader's streams (Metrics API, "Synchronous Instrument API").
+-- Handles in one reader's streams (Metrics API, "Synchronous Instrument API").
 use Rattle.std.specs.Prelude.{◌≡◌, ℕ, true, false, not, List, fold, All, Option, None, Some, slice_get}
 use Rattle.std.specs.List.{AllByRecursion as EachOf}
 use Rattle.otel_callback.specs.declared.observation.Observed.{Observed}
@@ -16,76 +16,80 @@ use Rattle.otel_pipeline.specs.Pipelines.{Piped, IsLawful, fed_by, part_by}
 use Rattle.otel_pipeline.specs.Streams.{Held, held_after_bind, held_after_unbind}
 
 -- ======== what the streams of a reader have ========
--- the instrument feeds streams of synchronous instruments alone
+-- the instrument feeds only streams of synchronous instruments
 abbrev pub FeedsSynchronous : ℕ → ReaderPart → Type 0
 FeedsSynchronous instrument p = (x : Identity) → is_fed p.feeds instrument x ≡ true → is_observable x.kind ≡ false
 
--- the instrument feeds streams of observable instruments alone
+-- the instrument feeds only streams of observable instruments
 abbrev pub FeedsObservable : ℕ → ReaderPart → Type 0
 FeedsObservable instrument p = (x : Identity) → is_fed p.feeds instrument x ≡ true → is_observable x.kind ≡ true
 
--- so do the instruments of these observations
+-- the same of the instruments of all these observations
 abbrev pub AreObservableFor : List Observed → ReaderPart → Type 0
 AreObservableFor os p = All (λ (o : Observed). FeedsObservable o.instrument p) os
 
--- no stream has a handle of this number
+-- no stream has a live handle with this number
 abbrev pub IsNewAt : ℕ → ReaderPart → Type 0
 IsNewAt h p = EachOf (λ (q : Stream). held_by h q.machine.live ≡ None) p.streams
 
--- none but those that the instrument feeds has a handle of this number
+-- only streams that the instrument feeds have a live handle with this number
 abbrev pub IsHeldByFed : ℕ → ℕ → ReaderPart → Type 0
 IsHeldByFed instrument h p = EachOf (λ (q : Stream). is_fed p.feeds instrument q.demand.identity ≡ false → held_by h q.machine.live ≡ None) p.streams
 
 -- ======== binds ========
--- the stream, if there is one, is ready for a bind of these attributes
+-- the stream is ready for a bind of these attributes: their set is prepared, and unless the stream is drained, room is
+-- made
 pub record IsReadyToBind (l : List KeyValue) (k : Held) : Type 0 where
   pub set : k.pending ≡ Some (set_for k.stream.demand l)
   pub room : k.room ≡ not (is_drained k.stream.demand)
 
+-- the same of a stream, if there is one
 abbrev pub IsReadyIfThere : List KeyValue → Option Held → Type 0
 IsReadyIfThere l None = Unit {0}
 IsReadyIfThere l (Some k) = IsReadyToBind l k
 
--- so are the streams of these numbers
+-- the same of the streams with these numbers
 abbrev pub AreReadyToBind : List KeyValue → List Held → List ℕ → Type 0
 AreReadyToBind l streams ns = All (λ n. IsReadyIfThere l (slice_get streams n)) ns
 
--- ready for a bind of these attributes at the instrument
+-- the reader is ready for a bind of these attributes at the instrument
 pub record IsReadyToBindAt (instrument : ℕ) (attributes : List KeyValue) (p : Piped) : Type 0 where
   pub lawful : IsLawful p
   pub ready : AreReadyToBind attributes p.streams (fed_by instrument p)
 
--- the bind is made in each of these streams
+-- the streams, once the bind is made in each with one of these numbers
 abbrev pub bound_each : ℕ → List ℕ → List Held → List Held
 bound_each h ns streams = fold (λ ss n. changed_at n (held_after_bind h) ss) streams ns
 
--- and so in the streams that the instrument feeds
+-- the reader's part, once the bind is made in each stream that the instrument feeds
 abbrev pub part_after_bind : ℕ → ℕ → Piped → ReaderPart
 part_after_bind instrument h p = part_by p.answers (bound_each h (fed_by instrument p) p.streams) p.feeds
 
 -- ======== records through handles, and their end ========
--- the stream is ready for a record through this handle, or for its end, if it has it
+-- the stream is ready for a record through this handle, or for the handle's end: unless it is drained, the handle's set
+-- is prepared if the handle is live, and has an entry
 pub record IsPreparedHeld (h : ℕ) (k : Held) : Type 0 where
   pub set : is_drained k.stream.demand ≡ false → k.pending ≡ held_by h k.stream.machine.live
   pub placed : is_drained k.stream.demand ≡ false → (g : AttributeSet) → k.pending ≡ Some g → is_placed g k.stream.machine.table.entries ≡ true
 
+-- the same of a stream, if there is one
 abbrev pub IsHeldIfThere : ℕ → Option Held → Type 0
 IsHeldIfThere h None = Unit {0}
 IsHeldIfThere h (Some k) = IsPreparedHeld h k
 
--- so are the streams of these numbers
+-- the same of the streams with these numbers
 abbrev pub ArePreparedHeld : ℕ → List Held → List ℕ → Type 0
 ArePreparedHeld h streams ns = All (λ n. IsHeldIfThere h (slice_get streams n)) ns
 
--- ready for a record through this handle of the instrument, or for its end
+-- the reader is ready for a record through this handle of the instrument, or for the handle's end
 pub record IsPreparedHeldAt (instrument : ℕ) (h : ℕ) (p : Piped) : Type 0 where
   pub lawful : IsLawful p
   pub prepared : ArePreparedHeld h p.streams (fed_by instrument p)
 
--- the handle is ended in each of these streams
+-- the streams, once the handle is ended in each with one of these numbers
 abbrev pub unbound_each : ℕ → List ℕ → List Held → List Held
 unbound_each h ns streams = fold (λ ss n. changed_at n (held_after_unbind h) ss) streams ns
 
--- and so in the streams that the instrument feeds
+-- the reader's part, once the handle is ended in each stream that the instrument feeds
 abbrev pub part_after_unbind : ℕ → ℕ → Piped → ReaderPart
 part_after_unbind instrument h p = part_by p.answers (unbound_each h (fed_by instrument p) p.streams) p.feeds

@@ -1,9 +1,10 @@
--- What makes the stream of an instrument the same as another (Metrics SDK, "Duplicate instrument registration").
+-- What tells the streams of instruments apart (Metrics SDK, "Duplicate instrument registration").
 use Rattle.otel_common.specs.declared.scopes.InstrumentationScope.{InstrumentationScope}
 use Rattle.otel_model.specs.Calls.{About, ascii_lowercase, or_else}
 use Rattle.otel_model.specs.Demands.{Identity, StreamSpec, description_of, unit_of}
 
--- what a view's settings lack is the instrument's
+-- the identity of an instrument's stream with a view's settings: what these leave out is the instrument's, and the name
+-- is in lower case
 abbrev pub identity_with : InstrumentationScope → About → StreamSpec → Identity
 identity_with scope about s = record {
   scope = scope;

@@ -1,4 +1,4 @@
--- Attributes whose record takes no memory.
+-- Attributes that take no memory to record.
 use Rattle.std.specs.Prelude.{◌≡◌, ℕ, Bool, true, ◌&&◌, ◌||◌, List, [], Option, None, Some, slice_get}
 use Rattle.std.specs.List.{list_any, list_all}
 use Rattle.otel_common.specs.Equality.{set_eq}
@@ -10,15 +10,15 @@ use Rattle.otel_model.specs.Demands.{Identity, identity_eq}
 use Rattle.otel_model.specs.State.{Stream, ReaderPart}
 use Rattle.otel_pipeline.specs.Streams.{Held}
 
--- what the stream keeps of these attributes is nothing or, in this order, the set of an entry
+-- whether the stream knows the attributes: the part that it allows is empty or, in the order given, the set of an entry
 abbrev pub is_known_to : List KeyValue → Stream → Bool
 is_known_to l q = set_eq (allowed_part q.demand.allow l) none_set || has (allowed_part q.demand.allow l) q.machine.table.entries
 
--- the stream of this identity is there, and knows them
+-- whether there is a stream with this identity that knows them
 abbrev pub is_known_by : List KeyValue → List Stream → Identity → Bool
 is_known_by l streams x = list_any (λ (q : Stream). identity_eq q.demand.identity x && is_known_to l q) streams
 
--- so does each that the instrument feeds
+-- whether each stream that the instrument feeds knows them
 abbrev pub is_known_at : ℕ → List KeyValue → ReaderPart → Bool
 is_known_at n l p = list_all (is_known_by l p.streams) (or_else (slice_get p.feeds n) [])
 

@@ -1,4 +1,4 @@
--- What a collection takes in of what was observed, and what is kept to undo that (Metrics SDK, "Observations inside
+-- How a collection takes observations in, and what is saved to undo that (Metrics SDK, "Observations inside
 -- asynchronous callbacks").
 use Rattle.std.specs.Prelude.{◌≡◌, ◌≤◌, ℕ, suc, Bool, true, cond, List, [], ◌∷◌, fold, length, All, Option, None, Some, slice_get}
 use Rattle.std.specs.Bool.{beq}
@@ -14,20 +14,20 @@ use Rattle.otel_model.specs.Streams.{aggregate_of}
 use Rattle.otel_pipeline.specs.Pipelines.{FeedsType, all_without_pending}
 use Rattle.otel_pipeline.specs.Streams.{Held, with_record, without_pending}
 
--- an observation, as the model's
+-- an observation in the words of the model
 abbrev pub observed_of : Observed → model.Observed
 observed_of o = record { instrument = o.instrument; value = record { signed = is_signed_value o.value; amount = amount_of o.value }; attributes = o.attributes }
 
--- each observation is of the number type of the streams that its instrument feeds
+-- each observation has the number type of the streams that its instrument feeds
 abbrev pub AreTypedFor : List Observed → ReaderPart → Type 0
 AreTypedFor os p = All (λ o. FeedsType o.instrument (is_signed_value o.value) p) os
 
 -- ======== taken in ========
--- a stream of the observation's number type takes it in
+-- the stream, once it takes the observation in; only one with its number type does
 abbrev pub observed_one : Observed → Held → Held
 observed_one o h = cond (beq (is_signed_value o.value) h.stream.demand.identity.signed) (with_record (set_for h.stream.demand o.attributes) (amount_of o.value) h) h
 
--- f at the elements with these numbers, the first one having number i
+-- the elements, with f applied to those with these numbers; the first has number i
 abbrev pub changed_in : {X : Type 0} → List ℕ → (X → X) → ℕ → List X → List X
 changed_in ns f i [] = []
 changed_in ns f i (x ∷ xs) = cond (has_number i ns) (f x) x ∷ changed_in ns f (suc i) xs
@@ -36,38 +36,38 @@ changed_in ns f i (x ∷ xs) = cond (has_number i ns) (f x) x ∷ changed_in ns 
 abbrev pub observing_numbers : List (List ℕ) → Observed → List ℕ
 observing_numbers feeds o = or_else (slice_get feeds o.instrument) []
 
--- the streams that its instrument feeds take it in
+-- the streams, once those that its instrument feeds take an observation in
 abbrev pub observed_in : List (List ℕ) → List Held → Observed → List Held
 observed_in feeds streams o = changed_in (observing_numbers feeds o) (observed_one o) 0 streams
 
--- one observation after another
+-- the streams, once these observations are taken in, one after another
 abbrev pub observed_all : List (List ℕ) → List Observed → List Held → List Held
 observed_all feeds os streams = fold (observed_in feeds) streams os
 
 -- ======== undone ========
--- what is kept of a stream: its entries, and the total of its records
+-- what is saved of a stream: its number type, the form of its entries, its entries, and the total of its records
 pub record SavedHeld : Type 0 where
   pub is_signed : Bool
   pub form : Form
   pub table : Table
   pub recorded : ℕ
 
--- what is kept of this one
+-- what is saved of this stream
 abbrev pub saved_by : Held → SavedHeld
 saved_by h = record { is_signed = h.stream.demand.identity.signed; form = form_of (aggregate_of h.stream.demand); table = h.stream.machine.table; recorded = h.stream.recorded }
 
--- what was kept before stands
+-- what was saved before, or else this
 abbrev pub kept_or : Option SavedHeld → SavedHeld → Option SavedHeld
 kept_or None new = Some new
 kept_or (Some old) new = Some old
 
--- it was kept of an observable stream, of the same number type and aggregate
+-- what was saved can be put back into the stream: number type and form are the same, and the instrument is observable
 pub record IsSavedOf (saved : SavedHeld) (h : Held) : Type 0 where
   pub number : saved.is_signed ≡ h.stream.demand.identity.signed
   pub form : saved.form ≡ form_of (aggregate_of h.stream.demand)
   pub observable : is_observable h.stream.demand.identity.kind ≡ true
 
--- the stream with what was kept
+-- the stream with what was saved put back; what was prepared is given up
 abbrev pub held_after_restore : SavedHeld → Held → Held
 held_after_restore saved h = record {
   stream = record {
@@ -83,48 +83,49 @@ held_after_restore saved h = record {
   room = h.room;
 }
 
--- if something was kept
+-- the stream with what was saved put back, if anything was; in any case nothing is prepared, and no room is made
 abbrev pub restored_if : Option SavedHeld → Held → Held
 restored_if None h = without_pending h
 restored_if (Some saved) h = without_pending (held_after_restore saved h)
 
--- the same of a list of streams
+-- the same for each stream of a list
 abbrev pub restored_all : List (Option SavedHeld) → List Held → List Held
 restored_all [] hs = all_without_pending hs
 restored_all (s ∷ ss) [] = []
 restored_all (s ∷ ss) (h ∷ hs) = restored_if s h ∷ restored_all ss hs
 
--- and what was kept was kept of these
+-- what was saved can be put back into these streams
 abbrev pub AreSavedOf : List (Option SavedHeld) → List Held → Type 0
 AreSavedOf [] hs = Unit {0}
 AreSavedOf (s ∷ ss) [] = Unit {0}
 AreSavedOf (None ∷ ss) (h ∷ hs) = AreSavedOf ss hs
 AreSavedOf (Some s ∷ ss) (h ∷ hs) = IsSavedOf s h × AreSavedOf ss hs
 
--- something was kept of the stream of this number
+-- something was saved of the stream with this number
 abbrev pub IsSaved : List (Option SavedHeld) → ℕ → Type 0
 IsSaved ss n = (s : SavedHeld) × (slice_get ss n ≡ Some (Some s))
 
--- the stream of this number, if there is one, is observable
+-- the stream with this number, if there is one, is of an observable instrument
 abbrev pub IsObservable : List Held → ℕ → Type 0
 IsObservable streams n = (h : Held) → slice_get streams n ≡ Some h → is_observable h.stream.demand.identity.kind ≡ true
 
--- so are those of these numbers
+-- the same of the streams with these numbers
 abbrev pub AreObservable : List Held → List ℕ → Type 0
 AreObservable streams ns = All (IsObservable streams) ns
 
--- and those that take these observations in
+-- the same of the streams that take these observations in
 abbrev pub AreObservableIn : List (List ℕ) → List Observed → List Held → Type 0
 AreObservableIn feeds os streams = All (λ o. AreObservable streams (observing_numbers feeds o)) os
 
--- what was kept of these streams is as they are, and enough to undo these observations
+-- putting back what was saved changes nothing in these streams but what was prepared, and something was saved of each
+-- that takes these observations in
 pub record CanUndo (feeds : List (List ℕ)) (os : List Observed) (streams : List Held) (ss : List (Option SavedHeld)) : Type 0 where
   pub many : length ss ≤ length streams
   pub same : restored_all ss streams ≡ all_without_pending streams
   pub kept : AreSavedOf ss streams
   pub all : All (λ o. All (IsSaved ss) (observing_numbers feeds o)) os
 
--- with what was kept the new streams are as the old ones
+-- the new streams, with what was saved put back, are the same as the old ones with it put back
 pub record IsUndone (ss : List (Option SavedHeld)) (old new : List Held) : Type 0 where
   pub many : length new ≡ length old
   pub same : restored_all ss new ≡ restored_all ss old

@@ -1,4 +1,4 @@
--- One reader's streams, as the model's part of a reader, and what is no part of it.
+-- One reader's streams: as the model's part of a reader, and with what the model leaves out.
 use Rattle.std.specs.Prelude.{◌≡◌, ◌<◌, ◌+◌, ℕ, Bool, not, cond, ◌||◌, true, false, List, [], ◌∷◌, ◌++◌, map, filter, fold, length, All, IsTrue, Option, None, Some, slice_get, position}
 use Rattle.std.specs.Option.{option_map}
 use Rattle.std.specs.List.{IsDistinct, AllByRecursion}
@@ -19,8 +19,9 @@ pub record Planned : Type 0 where
   pub feeds : List ℕ
   pub added : List Held
 
--- a reader's answers, its streams in order of making, for each instrument the numbers of those that it feeds, what is
--- planned, and whether there is room for that. A demand that drops has a place among the streams, so that it is known
+-- a reader's answers; its streams, in order of making; for each instrument the numbers of those that it feeds; what is
+-- planned, if anything; and whether there is room for that. A demand that drops is kept among the streams, so that it
+-- is known
 pub record Piped : Type 0 where
   pub answers : ReaderAnswers
   pub streams : List Held
@@ -28,7 +29,7 @@ pub record Piped : Type 0 where
   pub plan : Option Planned
   pub room : Bool
 
--- how many streams are planned
+-- how many streams the plan adds, if there is one
 abbrev pub many_added : Option Planned → ℕ
 many_added None = 0
 many_added (Some plan) = length plan.added
@@ -40,7 +41,7 @@ identity_of h = h.stream.demand.identity
 abbrev pub stream_identities : List Held → List Identity
 stream_identities streams = map identity_of streams
 
--- the identity of the stream of a number, if there is one
+-- the identity of the stream with this number, if there is one
 abbrev pub identity_at : List Held → ℕ → List Identity
 identity_at streams n = found (slice_get streams n)
   where
@@ -48,24 +49,24 @@ identity_at streams n = found (slice_get streams n)
     found None = []
     found (Some h) = identity_of h ∷ []
 
--- the identities of the streams of these numbers
+-- the identities of the streams with these numbers
 abbrev pub named_identities : List Held → List ℕ → List Identity
 named_identities streams [] = []
 named_identities streams (n ∷ ns) = identity_at streams n ++ named_identities streams ns
 
--- whether the demand makes a stream
+-- whether the demand makes a stream, that is, doesn't drop
 abbrev pub is_streamed : Held → Bool
 is_streamed h = not (is_drop h.stream.demand.aggregation)
 
--- the streams, without what drops
+-- the streams, without those that drop
 abbrev pub model_streams : List Held → List Stream
 model_streams streams = map (λ (h : Held). h.stream) (filter is_streamed streams)
 
--- what the streams demand
+-- the demands of the streams
 abbrev pub fates_of : List Held → List Demand
 fates_of streams = map (λ (h : Held). h.stream.demand) streams
 
--- the part of a reader with these answers and streams, which the instruments feed by these numbers
+-- the part of a reader with these answers and streams, where each instrument feeds the streams with its numbers
 abbrev pub part_by : ReaderAnswers → List Held → List (List ℕ) → ReaderPart
 part_by answers streams feeds = record {
   answers = answers;
@@ -77,17 +78,17 @@ part_by answers streams feeds = record {
 abbrev pub part_of : Piped → ReaderPart
 part_of p = part_by p.answers p.streams p.feeds
 
--- whether these are any
+-- whether the list has an element
 abbrev pub some_stream : {X : Type 0} → List X → Bool
 some_stream [] = false
 some_stream (x ∷ xs) = true
 
--- whether an instrument feeds a stream of a reader
+-- whether the instrument feeds a stream of the reader
 abbrev pub has_stream_at : ℕ → ReaderPart → Bool
 has_stream_at n part = some_stream (or_else (slice_get part.feeds n) [])
 
 -- ======== what holds of the streams ========
--- each of these numbers is that of a stream
+-- each of these is the number of a stream
 abbrev pub AreNumbers : List Held → List ℕ → Type 0
 AreNumbers streams ns = All (λ n. n < length streams) ns
 
@@ -95,36 +96,36 @@ AreNumbers streams ns = All (λ n. n < length streams) ns
 abbrev pub AreAnswered : ReaderAnswers → List Held → Type 0
 AreAnswered answers streams = AllByRecursion (λ h. h.resets ≡ is_delta answers h.stream.demand) streams
 
--- the streams have identities of their own, the instruments feed streams that are there, and so on
+-- no two streams have the same identity, and the instruments feed only streams that are there
 pub record IsLawful (p : Piped) : Type 0 where
   pub apart : IsDistinct identity_eq (stream_identities p.streams)
   pub numbers : All (AreNumbers p.streams) p.feeds
 
 -- ======== builds ========
--- what a build can be made of: an instrument with bounds that rise
+-- the instrument can be built: if it is a histogram with bounds of its own, these rise
 pub record IsBuildable (about : About) : Type 0 where
   pub bounds : are_good_bounds about.kind about.bounds ≡ true
 
--- a build without a scope demands nothing
+-- the same of an instrument with a scope; one without demands nothing
 abbrev pub IsBuildableIn : Option InstrumentationScope → About → Type 0
 IsBuildableIn None about = Unit {0}
 IsBuildableIn (Some scope) about = IsBuildable about
 
--- what an instrument demands whose name and unit are good too: nothing without a scope. `dropped` tells which
--- identities drop once the demands given are made
+-- the demands of an instrument whose name, unit and bounds are valid; without a scope there are none. `dropped` tells
+-- which identities drop once the demands given are made
 abbrev pub demands_in : (List Demand → Identity → Bool) → Views → ReaderAnswers → Option InstrumentationScope → About → List Demand
 demands_in dropped views answers None about = []
 demands_in dropped views answers (Some scope) about = demands_with dropped views answers scope about
 
--- which identities of a reader with these streams drop, once these demands are made
+-- which identities drop at a reader with these streams, once these demands are made
 abbrev pub dropped_with : List Held → List Demand → Identity → Bool
 dropped_with made demands = is_dropped (fold enter (fates_of made) demands)
 
--- the number of the stream of an identity
+-- the number of the stream with this identity, if there is one
 abbrev pub stream_number : Identity → List Identity → Option ℕ
 stream_number x keys = position (identity_eq x) keys
 
--- whether the stream of a number drops
+-- whether the stream with this number, if there is one, drops
 abbrev pub drops_at : List Held → ℕ → Bool
 drops_at streams n = by (slice_get streams n)
   where
@@ -136,19 +137,19 @@ drops_at streams n = by (slice_get streams n)
 abbrev pub with_drop : List Held → ℕ → ℕ × Bool
 with_drop streams n = (n, drops_at streams n)
 
--- the number of the stream of an identity, and whether it drops
+-- the number of the stream with this identity, and whether it drops, if there is one
 abbrev pub found_at : Identity → List Held → Option (ℕ × Bool)
 found_at x streams = option_map (with_drop streams) (stream_number x (stream_identities streams))
 
--- the same where the first stream has this number
+-- the same, with the numbers counted from `first` on
 abbrev pub counted_from : ℕ → ℕ × Bool → ℕ × Bool
 counted_from first p = (first + p.0, p.1)
 
--- these numbers with one more, if it isn't there. Nothing feeds what drops
+-- these numbers and n, unless it is there already or its stream drops: nothing feeds a stream that drops
 abbrev pub fed_once : Bool → ℕ → List ℕ → List ℕ
 fed_once drops n ns = cond (drops || has_number n ns) ns (ns ++ n ∷ [])
 
--- the plan has these demands made, of a reader with these answers and streams
+-- the plan makes these demands, at a reader with these answers and streams
 pub record IsPlanOf (answers : ReaderAnswers) (made : List Held) (now : ℕ) (demands : List Demand) (plan : Planned) : Type 0 where
   pub apart : IsDistinct identity_eq (stream_identities (made ++ plan.added))
   pub numbers : AreNumbers (made ++ plan.added) plan.feeds
@@ -156,7 +157,7 @@ pub record IsPlanOf (answers : ReaderAnswers) (made : List Held) (now : ℕ) (de
   pub streams : part_by answers (made ++ plan.added) [] ≡ fold (part_after_demand now) (part_by answers made []) demands
   pub feeds : named_identities (made ++ plan.added) plan.feeds ≡ fed_identities (is_dropped (fates_of (made ++ plan.added))) demands
 
--- there is a plan, and room to carry it out
+-- there is a plan for some demands, and room to carry it out
 pub record IsPlanned (p : Piped) : Type 0 where
   pub planned : Planned
   pub demands : List Demand
@@ -165,7 +166,8 @@ pub record IsPlanned (p : Piped) : Type 0 where
   pub meets : IsPlanOf p.answers p.streams now demands planned
   pub room : IsTrue p.room
 
--- ready for a build of this instrument
+-- the reader is ready for a build of this instrument: there is a plan for the instrument's demands, and room to carry
+-- it out
 pub record IsReadyFor (views : Views) (scope : Option InstrumentationScope) (about : About) (now : ℕ) (p : Piped) : Type 0 where
   pub lawful : IsLawful p
   pub planned : Planned
@@ -177,12 +179,12 @@ abbrev pub built_by : Option Planned → Piped → Piped
 built_by None p = p
 built_by (Some plan) p = record { answers = p.answers; streams = p.streams ++ plan.added; feeds = p.feeds ++ plan.feeds ∷ []; plan = None; room = p.room }
 
--- what was planned, carried out
+-- after the plan, if there is one, is carried out
 abbrev pub piped_after_build : Piped → Piped
 piped_after_build p = built_by p.plan p
 
 -- ======== records ========
--- the numbers of the streams that an instrument feeds
+-- the numbers of the streams that the instrument feeds
 abbrev pub fed_by : ℕ → Piped → List ℕ
 fed_by instrument p = or_else (slice_get p.feeds instrument) []
 
@@ -191,28 +193,28 @@ abbrev pub IsPrepared : List KeyValue → Option Held → Type 0
 IsPrepared l None = Unit {0}
 IsPrepared l (Some h) = h.pending ≡ Some (set_for h.stream.demand l)
 
--- so are the streams of these numbers
+-- the same of the streams with these numbers
 abbrev pub ArePrepared : List KeyValue → List Held → List ℕ → Type 0
 ArePrepared l streams ns = All (λ n. IsPrepared l (slice_get streams n)) ns
 
--- the instrument feeds streams of one number type alone: signed or not
+-- the instrument feeds only streams with this number type
 abbrev pub FeedsType : ℕ → Bool → ReaderPart → Type 0
 FeedsType instrument signed p = (x : Identity) → is_fed p.feeds instrument x ≡ true → x.signed ≡ signed
 
--- ready for a record of these attributes at the instrument
+-- the reader is ready for a record of these attributes at the instrument
 pub record IsPreparedFor (instrument : ℕ) (attributes : List KeyValue) (p : Piped) : Type 0 where
   pub lawful : IsLawful p
   pub prepared : ArePrepared attributes p.streams (fed_by instrument p)
 
--- but for the sets of the record that is prepared
+-- the streams, with nothing prepared and no room made
 abbrev pub all_without_pending : List Held → List Held
 all_without_pending streams = map without_pending streams
 
--- the record is made in each of these streams
+-- the streams, once the record is made in each with one of these numbers
 abbrev pub committed_each : NumberValue → List ℕ → List Held → List Held
 committed_each value ns streams = fold (λ ss n. changed_at n (held_after_commit value) ss) streams ns
 
--- and so in the streams that the instrument feeds
+-- the reader's part, once the record is made in each stream that the instrument feeds
 abbrev pub part_after_record : ℕ → NumberValue → Piped → ReaderPart
 part_after_record instrument value p = part_by p.answers (committed_each value (fed_by instrument p) p.streams) p.feeds
 

@@ -1,4 +1,4 @@
--- One stream of a reader: the model's stream, and what is no part of it.
+-- One stream of a reader: the model's stream, with what the model leaves out.
 use Rattle.std.specs.Prelude.{ℕ, ◌+◌, Bool, true, false, cond, ◌&&◌, not, List, [], map, Option, None, Some, is_none, is_some, ◌≡◌}
 use Rattle.std.specs.Bool.{beq}
 use Rattle.otel_common.specs.declared.metrics.Temporality.TheVariants.{Cumulative, Delta}
@@ -20,8 +20,8 @@ use Rattle.otel_model.specs.Machine.{new_stream}
 use Rattle.otel_model.specs.State.{Stream}
 use Rattle.otel_model.specs.Streams.{aggregate_of, is_drained, is_monotonic_kind}
 
--- a stream, whether each collection resets it, the set of the record or bind that is prepared, and whether room is made for a
--- handle
+-- a stream, whether each collection resets it, the set of the prepared record or bind, if any, and whether room is made
+-- for a handle
 pub record Held : Type 0 where
   pub stream : Stream
   pub resets : Bool
@@ -29,7 +29,7 @@ pub record Held : Type 0 where
   pub room : Bool
 
 -- ======== what a demand asks ========
--- a sum is monotonic by its kind; the other aggregates are not
+-- whether the aggregate is monotonic: a sum is if its kind says so, a last value or a histogram never
 abbrev pub asks_monotonic : Demand → Bool
 asks_monotonic d = by d.aggregation
   where
@@ -40,7 +40,7 @@ asks_monotonic d = by d.aggregation
     by LastValue = false
     by (ExplicitBucketHistogram bounds m) = false
 
--- the aggregate that a demand asks for, with these entries and this start
+-- the aggregate that a demand asks for, with these entries and this start, which collections reset or not
 abbrev pub asked_aggregate : Demand → Bool → Table → ℕ → StreamState
 asked_aggregate d resets table start = record {
   map_state = record { limit = d.limit; empty = empty_of (aggregate_of d); table = table };
@@ -51,18 +51,18 @@ asked_aggregate d resets table start = record {
   start = start;
 }
 
--- a demand that a stream can be made of
+-- a stream can be made for the demand: the aggregation is valid
 pub record IsMakeable (d : Demand) : Type 0 where
   pub valid : is_valid d.aggregation ≡ true
 
--- the aggregate is the one that the demand asks for; of an observable instrument it has no handles
+-- the aggregate is the one that the demand asks for; if the instrument is observable, it has no live handles
 pub record IsAsked (d : Demand) (a : HeldAny) : Type 0 where
   pub state : a.state ≡ asked_aggregate d a.state.resets a.state.map_state.table a.state.start
   pub signed : a.is_signed ≡ d.identity.signed
   pub drains : a.drains ≡ is_drained d
   pub unheld : is_observable d.identity.kind ≡ true → a.live ≡ []
 
--- a stream with this aggregate and these totals
+-- the stream of this demand with this aggregate, and these totals of what it recorded and exported
 abbrev pub held_of : Demand → HeldAny → ℕ → ℕ → Held
 held_of d a recorded exported = record {
   stream = record {
@@ -83,7 +83,7 @@ abbrev pub new_held : Bool → Demand → ℕ → Held
 new_held resets d now = record { stream = new_stream now d; resets = resets; pending = None; room = false }
 
 -- ======== records ========
--- a record of the set
+-- after a record of the set; nothing is prepared any more
 abbrev pub with_record : AttributeSet → Amount → Held → Held
 with_record s v h = record {
   stream = record {
@@ -102,20 +102,21 @@ with_record s v h = record {
   room = h.room;
 }
 
+-- the same, if there is a set
 abbrev pub committed_by : Option AttributeSet → Amount → Held → Held
 committed_by None v h = h
 committed_by (Some s) v h = with_record s v h
 
--- the record that is prepared, if there is one, of a value of the stream's number type
+-- after the prepared record, if there is one, of a value; a stream of the other number type doesn't change
 abbrev pub held_after_commit : NumberValue → Held → Held
 held_after_commit value h = cond (beq (is_signed_value value) h.stream.demand.identity.signed) (committed_by h.pending (amount_of value) h) h
 
--- but for the set of the record or bind that is prepared, and the room that is made
+-- the stream, with nothing prepared and no room made
 abbrev pub without_pending : Held → Held
 without_pending h = record { stream = h.stream; resets = h.resets; pending = None; room = false }
 
 -- ======== handles ========
--- a bind of the set as this handle: it uses the room
+-- after a bind of the set as this handle; it uses the room
 abbrev pub with_bind : ℕ → AttributeSet → Held → Held
 with_bind h s k = record {
   stream = record {
@@ -131,16 +132,17 @@ with_bind h s k = record {
   room = false;
 }
 
--- of the set that is prepared, if there is one
+-- the same, if there is a set
 abbrev pub bound_by : Option AttributeSet → ℕ → Held → Held
 bound_by None h k = k
 bound_by (Some s) h k = with_bind h s k
 
--- where room is made for a handle of this number, which isn't live. A stream of an observable instrument has no handles
+-- after the prepared bind as this handle, if room is made and no such handle is live. A stream of an observable
+-- instrument has no handles
 abbrev pub held_after_bind : ℕ → Held → Held
 held_after_bind h k = cond (not (is_observable k.stream.demand.identity.kind) && (k.room && is_none (held_by h k.stream.machine.live))) (bound_by k.pending h k) k
 
--- the end of the handle of this number, if it is live; what was prepared is given up
+-- after the end of the handle with this number, if it is live; what was prepared is given up
 abbrev pub without_handle : ℕ → Held → Held
 without_handle h k = record {
   stream = record {
@@ -156,28 +158,28 @@ without_handle h k = record {
   room = k.room;
 }
 
--- where something is prepared. A drained stream has no handles
+-- the same, if something is prepared. A drained stream has no handles
 abbrev pub held_after_unbind : ℕ → Held → Held
 held_after_unbind h k = cond (not (is_drained k.stream.demand) && is_some k.pending) (without_handle h k) k
 
 -- ======== collections ========
--- how its history is cut into windows
+-- how collections cut the stream's history into windows
 abbrev pub window_of : Held → Kind
 window_of h = cond (is_drained h.stream.demand) Kind.Drained (cond h.resets Kind.Delta Kind.Cumulative)
 
--- the points that a collection shows
+-- the points of a collection, before differences are taken
 abbrev pub shown_points : Held → List Point
 shown_points h = points (window_of h) h.stream.machine
 
--- whether it shows what was added since the collection before
+-- whether a collection shows what was added since the collection before it
 abbrev pub shows_added : Held → Bool
 shows_added h = is_drained h.stream.demand && h.resets
 
--- the points, or what was added to them
+-- the points that a collection shows: what was added to each, or the points as they are
 abbrev pub shown_values : Held → List Point
 shown_values h = cond (shows_added h) (map (difference h.stream.reported) (shown_points h)) (shown_points h)
 
--- a stream after a collection at a moment
+-- the stream after a collection at a moment
 abbrev pub held_after_collection : ℕ → Held → Held
 held_after_collection now h = record {
   stream = record {
@@ -193,7 +195,7 @@ held_after_collection now h = record {
   room = h.room;
 }
 
--- what a collection at a moment gives of the stream, with points or without
+-- the metric that a collection at a moment gives of the stream, with or without points
 abbrev pub shown_metric : ℕ → Held → Metric
 shown_metric now h = record {
   name = h.stream.demand.spelling;
@@ -202,6 +204,6 @@ shown_metric now h = record {
   content = aggregated_metrics h.stream.demand.identity.signed (cond h.resets Delta Cumulative) (is_monotonic_kind h.stream.demand.identity.kind) h.stream.demand.aggregation h.stream.start now (shown_values h);
 }
 
--- if it has points
+-- the metric, if it has points
 abbrev pub if_points : Metric → Option Metric
 if_points m = cond (has_points m) (Some m) None

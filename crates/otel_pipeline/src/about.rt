@@ -1,4 +1,4 @@
-//! Instruments, as the builds of them say.
+//! Instruments, as their builds describe them.
 
 ghost use Rattle.std.specs.Prelude.{◌≡◌};
 
@@ -8,16 +8,16 @@ use otel_stream::instrument::InstrumentKind;
 use std::alloc::AllocError;
 use std::marker::Model;
 
-/// What a build says of its instrument, without its meter.
+/// What a build says about its instrument, apart from the meter.
 #[derive(Drop)]
 pub struct About<'a> {
     pub kind: InstrumentKind,
-    /// Whether its values are of type `i64`; else they are of type `u64`.
+    /// Whether its values have type `i64`; otherwise they have type `u64`.
     pub signed: bool,
     pub name: &'a StringValue,
     pub description: &'a Option<StringValue>,
     pub unit: &'a Option<StringValue>,
-    /// The bounds of the buckets that a histogram is to have, if it says some.
+    /// The bounds of the buckets that a histogram is to have, if any are given.
     pub bounds: &'a Option<Items<i64>>,
 }
 

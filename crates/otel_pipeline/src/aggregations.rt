@@ -1,4 +1,4 @@
-//! What a stream makes of its records, by its demand.
+//! What a stream makes of its records, given its demand.
 
 ghost use Rattle.std.specs.Prelude.{◌≡◌, false, IfOk, IsOkUnless};
 ghost use Rattle.otel_aggregate.specs.Any as any;
@@ -18,7 +18,7 @@ use otel_stream::demand::Demand;
 use otel_stream::instrument::InstrumentKind;
 use otel_value_map::bounds::Bounds;
 
-/// Whether a demand makes no stream.
+/// Whether a demand with this aggregation drops its stream.
 pub(crate) fn is_drop(aggregation: &Aggregation) -> bool
     ensures { result ≡ demands.is_drop aggregation.now }
 {
@@ -31,7 +31,7 @@ pub(crate) fn is_drop(aggregation: &Aggregation) -> bool
     }
 }
 
-/// Whether the sums of a kind never fall.
+/// Whether the sums of a kind of instrument never fall.
 fn is_monotonic(kind: InstrumentKind) -> bool
     ensures { result ≡ is_monotonic_kind kind }
 {
@@ -46,7 +46,8 @@ fn is_monotonic(kind: InstrumentKind) -> bool
     }
 }
 
-/// Whether the values of a kind never fall, or stand alone: then a histogram of them has a sum.
+/// Whether a histogram of a kind's values has a sum. It has none for up-down counters, synchronous or not, and for
+/// asynchronous gauges.
 fn has_sum(kind: InstrumentKind) -> bool
     ensures { result ≡ has_sum kind }
 {
@@ -61,7 +62,7 @@ fn has_sum(kind: InstrumentKind) -> bool
     }
 }
 
-/// Whether a kind observes values that were summed before.
+/// Whether a kind observes values that are already summed.
 fn observes_sums(kind: InstrumentKind) -> bool
     ensures { result ≡ observes_sums kind }
 {
@@ -76,7 +77,7 @@ fn observes_sums(kind: InstrumentKind) -> bool
     }
 }
 
-/// Whether each collection empties the stream of this demand: a sum of values that were summed before.
+/// Whether each collection empties the stream of this demand, as it does for a sum of values that are already summed.
 fn is_drained(demand: &Demand) -> bool
     ensures { result ≡ is_drained demand.now }
 {
@@ -89,8 +90,8 @@ fn is_drained(demand: &Demand) -> bool
     }
 }
 
-/// Whether the stream of this demand starts again at each collection, whatever its reader answers: the last values of
-/// an asynchronous gauge.
+/// Whether the stream of this demand starts again at each collection, whatever its reader answers, as the last values
+/// of an asynchronous gauge do.
 fn always_resets(demand: &Demand) -> bool
     ensures { result ≡ always_resets demand.now }
 {
@@ -100,7 +101,7 @@ fn always_resets(demand: &Demand) -> bool
     }
 }
 
-/// The temporality of the stream of this demand, at a reader that answered this.
+/// The temporality of the stream of this demand at a reader with these answers.
 pub(crate) fn temporality_of(answers: &Answers, demand: &Demand) -> Temporality
     ensures { resets result ≡ is_delta answers.now demand.now }
 {
@@ -142,7 +143,8 @@ pub(crate) fn settings_of(demand: &Demand) -> Result<AnySettings, Fault>
     }
 }
 
-/// What a record of a value adds to the total of a stream.
+/// What a record of a value adds to the total of a stream: the value's bits, 1 for a histogram, or 0 for last values
+/// and observed sums.
 pub(crate) fn size_of(demand: &Demand, value: NumberValue) -> u64
     ensures { result ≡ size (aggregate_of demand.now) (any.amount_of value) }
 {

@@ -1,4 +1,4 @@
-//! What a collection gives of one reader's streams.
+//! What a collection gives for one reader's streams.
 
 ghost use Rattle.std.specs.Prelude.{◌≡◌, ◌++◌, [], ◌∷◌, map, filter, length, replicate, OnOk, IfOk, IsOkUnless};
 ghost use Rattle.std.specs.List.{IsDistinct};
@@ -16,7 +16,7 @@ use otel_common::scopes::InstrumentationScope;
 use otel_data::collections::{Metric, ScopeMetrics};
 use std::alloc::Global;
 
-/// This many lists of metrics, all empty.
+/// Makes this many lists of metrics, all empty.
 fn empty_lists(alloc: Global, many: usize) -> Result<Vec<Vec<Metric>>, Fault>
     ensures lists { IfOk result (λ lists. map (λ v. v.items) lists.items ≡ replicate many []) }
     ensures only_memory { IsOkUnless result Fault.OutOfMemory }
@@ -28,8 +28,8 @@ fn empty_lists(alloc: Global, many: usize) -> Result<Vec<Vec<Metric>>, Fault>
     Ok(lists)
 }
 
-/// Adds the metric of a stream to the list of its scope's meter. A stream that drops, one without points, and one whose
-/// scope has no meter give nothing.
+/// Adds the metric of a stream to the list of its scope's meter. A stream that drops, that has no points, or whose
+/// scope has no meter adds nothing.
 ///
 /// Looks the scope up once.
 fn push_metric(
@@ -58,7 +58,7 @@ fn push_metric(
     Ok(())
 }
 
-/// The metrics that have points, in a list for each meter.
+/// The metrics that have points, in one list for each meter.
 ///
 /// Goes once over the streams.
 fn metrics_by_meter(
@@ -77,7 +77,7 @@ fn metrics_by_meter(
     Ok(lists)
 }
 
-/// Adds the metrics of a scope, if it has some.
+/// Adds the metrics of a scope, if it has any.
 fn push_scope(
     scopes: &mut Vec<ScopeMetrics>,
     scope: &InstrumentationScope,

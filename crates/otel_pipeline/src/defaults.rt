@@ -1,4 +1,4 @@
-//! What a stream keeps where its instrument leaves it to the reader (Metrics SDK, "MetricReader").
+//! The aggregation of a stream if no view gives one (Metrics SDK, "MetricReader").
 
 ghost use Rattle.std.specs.Prelude.{◌≡◌, true, Some, None, IfOk, IsOkUnless};
 ghost use Rattle.otel_model.specs.Demands.{is_valid, fits, default_bounds, kind_default, default_from, reader_default, with_bounds, resolved_aggregation};
@@ -15,7 +15,7 @@ use otel_stream::compatible::is_aggregator_compatible;
 use otel_stream::instrument::InstrumentKind;
 use std::alloc::Global;
 
-/// Whether the bounds rise, if there are some.
+/// Whether the aggregation's bounds rise, if it has any.
 pub fn is_valid(aggregation: &Aggregation) -> bool
     ensures { result ≡ is_valid aggregation.now }
 {
@@ -35,7 +35,7 @@ pub(crate) fn fits(kind: InstrumentKind, aggregation: &Aggregation) -> bool
     is_aggregator_compatible(kind, aggregation).is_ok()
 }
 
-/// The aggregation of a kind, where nobody says another. Takes memory for a histogram.
+/// The aggregation of a kind if nothing else is asked for. Takes memory for a histogram.
 pub fn kind_default(alloc: Global, kind: InstrumentKind) -> Result<Aggregation, Fault>
     ensures aggregation { IfOk result (λ made. made ≡ kind_default kind) }
     ensures only_memory { IsOkUnless result Fault.OutOfMemory }
@@ -51,7 +51,7 @@ pub fn kind_default(alloc: Global, kind: InstrumentKind) -> Result<Aggregation, 
     }
 }
 
-/// The histogram that nobody said more of.
+/// The histogram with the default bounds, which keeps the least and the greatest value.
 fn default_histogram(alloc: Global) -> Result<Aggregation, Fault>
     ensures aggregation { IfOk result (λ made. made ≡ Aggregation.ExplicitBucketHistogram default_bounds true) }
     ensures only_memory { IsOkUnless result Fault.OutOfMemory }
@@ -65,7 +65,7 @@ fn default_histogram(alloc: Global) -> Result<Aggregation, Fault>
     })
 }
 
-/// The aggregation of a kind at a reader: what the reader wants, where that can be used, else the kind's own.
+/// The aggregation of a kind at a reader: what the reader wants, if that can be used, or else the kind's own.
 pub fn reader_default(
     alloc: Global,
     answers: &Answers,
@@ -80,7 +80,7 @@ pub fn reader_default(
     }
 }
 
-/// What the reader wants, where that can be used, else the kind's own.
+/// What the reader wants, if that can be used, or else the kind's own.
 fn default_from(
     alloc: Global,
     kind: InstrumentKind,
@@ -96,7 +96,7 @@ fn default_from(
     Ok(wanted.clone()?)
 }
 
-/// Whether it is the reader that says what is kept.
+/// Whether this is `Default`, which leaves the aggregation to the reader or the kind.
 fn is_default(aggregation: &Aggregation) -> bool
     ensures { result ≡ is_default aggregation.now }
 {
@@ -109,8 +109,8 @@ fn is_default(aggregation: &Aggregation) -> bool
     }
 }
 
-/// What the stream of an instrument keeps, where no view says it: the reader's default, and of a histogram
-/// the bounds that it says itself.
+/// The aggregation of an instrument's stream if no view gives one: the reader's default, with the instrument's own
+/// bounds if it is a histogram that gives some.
 pub fn resolved_own(
     alloc: Global,
     answers: &Answers,
@@ -126,7 +126,7 @@ pub fn resolved_own(
     }
 }
 
-/// A histogram with these bounds; what is no histogram stays.
+/// The aggregation with these bounds if it is a histogram, and unchanged if it isn't.
 fn with_bounds(aggregation: Aggregation, own: &Items<i64>) -> Result<Aggregation, Fault>
     ensures aggregation { IfOk result (λ made. made ≡ with_bounds (Some own.now) aggregation) }
     ensures only_memory { IsOkUnless result Fault.OutOfMemory }

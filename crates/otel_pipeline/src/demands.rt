@@ -1,4 +1,4 @@
-//! What an instrument demands of a reader, by what a view answers and by itself (Metrics SDK, "View" and
+//! What an instrument demands of a reader, through a view's answer or by itself (Metrics SDK, "View" and
 //! "MetricReader").
 
 ghost use Rattle.std.specs.Prelude.{◌≡◌, [], IfOk, IsOkUnless, true};
@@ -20,7 +20,7 @@ use otel_stream::stream::Stream;
 use otel_stream::stream_spec::StreamSpec;
 use std::alloc::Global;
 
-/// How many sets of attributes have points of their own, where nobody says it.
+/// The cardinality limit if neither a view nor the reader gives one.
 const DEFAULT_LIMIT: usize = 2000;
 
 /// The text with its ASCII letters lowered.
@@ -33,7 +33,7 @@ fn lowered_text(alloc: Global, text: &StringValue) -> Result<StringValue, Fault>
     Ok(lowered.into())
 }
 
-/// The text, or the empty one where there is none.
+/// The text, or an empty one if there is none.
 fn text_or_empty(alloc: Global, text: &Option<StringValue>) -> Result<StringValue, Fault>
     ensures text { IfOk result (λ t. t ≡ or_else text.now []) }
     ensures only_memory { IsOkUnless result Fault.OutOfMemory }
@@ -44,7 +44,7 @@ fn text_or_empty(alloc: Global, text: &Option<StringValue>) -> Result<StringValu
     }
 }
 
-/// How many sets of attributes have points of their own, where no view says it.
+/// The cardinality limit if no view gives one: what the reader wants for the kind, or else the default.
 fn own_limit(answers: &Answers, kind: InstrumentKind) -> usize
     ensures { result ≡ or_else (answer_for answers.now kind).limit default_limit }
 {
@@ -54,7 +54,7 @@ fn own_limit(answers: &Answers, kind: InstrumentKind) -> usize
     }
 }
 
-/// The first text, or else the second, or else the empty one.
+/// The first text, or else the second, or else an empty one.
 fn text_or(
     alloc: Global,
     first: &Option<StringValue>,
@@ -69,7 +69,7 @@ fn text_or(
     }
 }
 
-/// The name that a stream is to have: the one that is set, or else the instrument's.
+/// The name of a stream: the one that is set, or else the instrument's.
 fn spelling_of<'a>(set: &'a Option<StringValue>, own: &'a StringValue) -> &'a StringValue
     ensures { result.now ≡ or_else set.entry.now own.entry.now }
 {
@@ -79,7 +79,8 @@ fn spelling_of<'a>(set: &'a Option<StringValue>, own: &'a StringValue) -> &'a St
     }
 }
 
-/// What makes the stream that an instrument demands with these settings the same as another.
+/// The identity of the stream that an instrument demands with these settings, which makes it the same as another or
+/// not.
 fn identity_of(
     alloc: Global,
     scope: &InstrumentationScope,
@@ -101,7 +102,8 @@ fn identity_of(
     })
 }
 
-/// How many sets of attributes have points of their own: as many as are set, or else as the reader wants for the kind.
+/// The cardinality limit, which is how many sets of attributes may have points of their own: the one that is set, or
+/// else the one that the reader wants for the kind, or else the default.
 fn limit_of(answers: &Answers, kind: InstrumentKind, settings: &StreamSpec) -> usize
     ensures { result ≡ or_else settings.now.limit (or_else (answer_for answers.now kind).limit default_limit) }
 {
@@ -111,8 +113,8 @@ fn limit_of(answers: &Answers, kind: InstrumentKind, settings: &StreamSpec) -> u
     }
 }
 
-/// What a stream keeps with these settings: what is set, or else what the reader wants for the kind; where nothing is
-/// set, a histogram keeps the bounds that its instrument has.
+/// The aggregation of a stream: what is set, or else what the reader wants for the kind. If nothing is set, a
+/// histogram has its instrument's bounds.
 fn aggregation_of(
     alloc: Global,
     answers: &Answers,
@@ -130,8 +132,8 @@ fn aggregation_of(
     }
 }
 
-/// What an instrument demands of a reader where a view answers these settings: a stream with what the settings say, and
-/// for the rest with the instrument's texts, all attributes, and the aggregation and the limit that the reader wants for
+/// What an instrument demands of a reader if a view answers with these settings: a stream with what the settings give,
+/// and otherwise with the instrument's texts, all attributes, and the aggregation and limit that the reader wants for
 /// its kind.
 ///
 /// Copies texts, keys and bounds.
@@ -158,8 +160,8 @@ pub fn demand_of(
     })
 }
 
-/// What an instrument demands of a reader by itself: a stream of its name, its description and its unit, with all
-/// attributes, and with the aggregation and the limit that the reader wants for its kind.
+/// What an instrument demands of a reader by itself: a stream with its name, description and unit, all attributes, and
+/// the aggregation and limit that the reader wants for its kind.
 ///
 /// Copies texts and bounds.
 pub fn own_demand(

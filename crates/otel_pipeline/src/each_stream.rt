@@ -1,4 +1,4 @@
-//! What is done to the streams of one reader, one after another.
+//! Calls that change streams of one reader, one after another.
 
 ghost use Rattle.std.specs.Prelude.{◌≡◌, ◌<◌, [], All, slice_get, OnOk, IsOk, IsOkUnless};
 ghost use Rattle.otel_model.specs.Calls.{or_else};
@@ -12,7 +12,7 @@ use otel_common::faults::Fault;
 use otel_common::lists::Items;
 use otel_data::numbers::NumberValue;
 
-/// The numbers of the streams that an instrument feeds.
+/// The numbers of the streams that an instrument feeds; none if there is no such instrument.
 #[inline(always)]
 pub(crate) fn streams_fed(feeds: &[Items<usize>], instrument: usize) -> &[usize]
     ensures { result.now ≡ or_else (slice_get feeds.now instrument) [] }
@@ -60,7 +60,7 @@ pub(crate) fn prepare_bind_each(
     Ok(())
 }
 
-/// Makes the bind in each of these streams, as this handle.
+/// Carries out the prepared bind in each of these streams, for this handle.
 pub(crate) fn bind_each(streams: &mut Vec<Stream>, feeds: &[usize], handle: u64)
     requires { AreNumbers streams.old.items feeds.now }
     ensures { streams.new.items ≡ bound_each handle feeds.now streams.old.items }
@@ -70,7 +70,7 @@ pub(crate) fn bind_each(streams: &mut Vec<Stream>, feeds: &[usize], handle: u64)
     }
 }
 
-/// Prepares a record through this handle, or its end, in each of these streams.
+/// Prepares a record through this handle, or the handle's end, in each of these streams.
 #[inline(always)]
 pub(crate) fn prepare_held_each(streams: &mut Vec<Stream>, feeds: &[usize], handle: u64)
     requires { AreNumbers (all_without_pending streams.old.items) feeds.now }
@@ -82,7 +82,7 @@ pub(crate) fn prepare_held_each(streams: &mut Vec<Stream>, feeds: &[usize], hand
     }
 }
 
-/// Ends this handle, where that is prepared, in each of these streams.
+/// Ends this handle in each of these streams in which its end is prepared.
 pub(crate) fn unbind_each(streams: &mut Vec<Stream>, feeds: &[usize], handle: u64)
     requires { AreNumbers streams.old.items feeds.now }
     ensures { streams.new.items ≡ unbound_each handle feeds.now streams.old.items }
@@ -92,7 +92,7 @@ pub(crate) fn unbind_each(streams: &mut Vec<Stream>, feeds: &[usize], handle: u6
     }
 }
 
-/// Ends a collection at a moment that gave the points of all streams.
+/// Ends a collection, which gave the points of all streams, at the moment `now`, in nanoseconds since 1970.
 pub(crate) fn finish_each(streams: &mut Vec<Stream>, now: u64)
     ensures { all_without_pending streams.new.items ≡ all_without_pending (all_after_collection now streams.old.items) }
 {
@@ -101,7 +101,7 @@ pub(crate) fn finish_each(streams: &mut Vec<Stream>, now: u64)
     }
 }
 
-/// Makes the record in each of these streams.
+/// Takes in the prepared record in each of these streams.
 #[inline(always)]
 pub(crate) fn commit_each(streams: &mut Vec<Stream>, feeds: &[usize], value: NumberValue)
     requires { AreNumbers streams.old.items feeds.now }

@@ -1,4 +1,4 @@
-//! The streams of one reader: what builds demand of it, and what records and collections do.
+//! The streams of one reader: what builds demand of it, and what records, handles and collections do to them.
 #![tactic(auto)]
 
 pub mod about;

@@ -1,4 +1,4 @@
-//! What a collection takes in of what was observed, and how that is undone.
+//! How a collection takes in what was observed, and how that is undone.
 
 ghost use Rattle.std.specs.Prelude.{◌≡◌, ◌≤◌, ℕ, true, All, List, Option, None, length, map, replicate, IfOk, OnOk, OnErr, IsOkUnless};
 ghost use Rattle.otel_model.specs.Calls.{is_observable};
@@ -20,7 +20,7 @@ use otel_common::scopes::InstrumentationScope;
 use otel_data::collections::ResourceMetrics;
 use std::alloc::Global;
 
-/// Room for what is kept of this many streams.
+/// Makes room to save this many streams, of which none is saved yet.
 fn nothing_saved(alloc: Global, many: usize) -> Result<Vec<Option<SavedStream>>, Fault>
     ensures saved { IfOk result (λ saved. saved.items ≡ replicate many None) }
     ensures only_memory { IsOkUnless result Fault.OutOfMemory }
@@ -32,7 +32,7 @@ fn nothing_saved(alloc: Global, many: usize) -> Result<Vec<Option<SavedStream>>,
     Ok(saved)
 }
 
-/// Keeps what there is of a stream, if nothing was kept of it yet.
+/// Saves a stream, if it isn't saved yet.
 fn save_once(alloc: Global, saved: &mut Option<SavedStream>, stream: &Stream) -> Result<(), Fault>
     requires { is_observable stream.now.stream.demand.identity.kind ≡ true }
     ensures kept { OnOk result (saved.new ≡ kept_or saved.old (saved_by stream.now)) }
@@ -44,7 +44,7 @@ fn save_once(alloc: Global, saved: &mut Option<SavedStream>, stream: &Stream) ->
     Ok(())
 }
 
-/// Keeps what there is of the streams of these numbers, each once.
+/// Saves the streams with these numbers, each once.
 fn save_each(
     alloc: Global,
     saved: &mut Vec<Option<SavedStream>>,
@@ -69,7 +69,7 @@ fn save_each(
     Ok(())
 }
 
-/// Keeps what there is of all streams that are going to take in one of these observations, each once.
+/// Saves all streams that are going to take in any of these observations, each once.
 fn save_observing(
     alloc: Global,
     streams: &[Stream],
@@ -92,7 +92,7 @@ fn save_observing(
     Ok(saved)
 }
 
-/// Takes an observation in at the streams of these numbers.
+/// Takes an observation in at the streams with these numbers.
 fn observe_in(
     streams: &mut Vec<Stream>,
     numbers: &[usize],
@@ -127,7 +127,7 @@ fn observe_each(
     Ok(())
 }
 
-/// Puts back what was kept.
+/// Restores the streams that were saved.
 fn restore_each(streams: &mut Vec<Stream>, saved: Vec<Option<SavedStream>>)
     requires many { length saved.items ≤ length streams.old.items }
     requires kept { AreSavedOf saved.items streams.old.items }
@@ -167,7 +167,7 @@ fn observe_and_collect(
     Ok(ResourceMetrics::new(resource, scopes))
 }
 
-/// Takes observations in and makes a collection. Where that is refused, the streams are as they were.
+/// Takes observations in and makes a collection. If that fails, the streams are as they were before.
 pub(crate) fn collect_observed(
     alloc: Global,
     streams: &mut Vec<Stream>,

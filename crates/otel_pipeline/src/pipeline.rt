@@ -1,4 +1,4 @@
-//! What one reader has: its answers, its streams, and what feeds them.
+//! One reader's part of a provider: its answers, its streams, and what feeds them.
 
 ghost use Rattle.std.specs.Prelude.{◌≡◌, [], true, ℕ, IfOk, OnOk, OnErr, IsOk, IsOkUnless, map};
 ghost use Rattle.otel_model.specs.Calls as model;
@@ -36,15 +36,15 @@ use otel_value_map::hashing::SetHashBuilder;
 use std::alloc::Global;
 use std::marker::Model;
 
-/// What one reader answered, its streams in order of making, and for each instrument those that it feeds.
+/// What one reader answered, its streams in order of making, and, for each instrument, the streams that it feeds.
 #[derive(Drop)]
 pub struct Pipeline {
     pub(crate) alloc: Global,
     pub(crate) hasher: SetHashBuilder,
     pub(crate) answers: Answers,
     pub(crate) identities: IndexSet<Identity>,
-    /// A demand that drops has a place here too, so that it is known; nothing feeds it, and no collection
-    /// looks at it.
+    /// A demand that drops has a place here too, so that its identity is known; nothing feeds it, and no collection
+    /// shows it.
     pub(crate) streams: Vec<Stream>,
     feeds: Vec<Items<usize>>,
     plan: Option<Plan>,
@@ -69,7 +69,7 @@ impl Model for Pipeline {
 }
 
 impl Pipeline {
-    /// What a reader with these answers has at first: no streams. Takes no memory.
+    /// Makes the pipeline of a reader with these answers, without streams. Takes no memory.
     pub fn new(alloc: Global, hasher: SetHashBuilder, answers: Answers) -> Pipeline
         ensures answers { result.answers ≡ answers }
         ensures streams { result.streams ≡ [] }
@@ -86,18 +86,18 @@ impl Pipeline {
         }
     }
 
-    /// From now on new streams hash sets with this. Nothing shows it. Takes no memory.
+    /// Sets the hasher of sets for streams made from now on. It has no visible effect. Takes no memory.
     pub fn set_hasher(&mut self, hasher: SetHashBuilder)
         ensures { self.new ≡ self.old }
     {
         self.hasher = hasher;
     }
 
-    /// Plans a build of this instrument, of which each view answered this. Without a scope it demands nothing. What the
-    /// reader has stays as it was.
+    /// Plans a build of this instrument at the moment `now`, in nanoseconds since 1970. `answered` has the answer of
+    /// each view; without a scope the instrument demands nothing. What the reader has stays unchanged.
     ///
-    /// For each answer, and for the instrument's own stream if it is demanded: copies texts, keys and bounds, looks the
-    /// identity up, and takes memory for a new stream.
+    /// For each answer, and for the instrument's own stream if that is demanded, copies texts, keys and bounds, looks
+    /// up the identity, and takes memory for a new stream.
     pub fn plan(
         &mut self,
         scope: Option<&InstrumentationScope>,
@@ -120,7 +120,7 @@ impl Pipeline {
         Ok(())
     }
 
-    /// Carries out what was planned. Takes no memory.
+    /// Carries out the planned build. Takes no memory.
     pub fn build(&mut self)
         requires { IsPlanned self.old }
         ensures { part_of self.new ≡ part_of (piped_after_build self.old) }
@@ -147,10 +147,10 @@ impl Pipeline {
         !streams_fed(&self.feeds, instrument).is_empty()
     }
 
-    /// Prepares a record of these attributes in the streams that the instrument feeds. What the reader has
-    /// stays as it was.
+    /// Prepares a record with these attributes in the streams that the instrument feeds. What the reader has stays
+    /// unchanged.
     ///
-    /// Looks the attributes up once in each of these streams; see `AnyAggregate::prepare` for when it takes no memory.
+    /// Looks the attributes up in each of these streams; `AnyAggregate::prepare` tells when that takes no memory.
     #[inline(always)]
     pub fn prepare(&mut self, instrument: usize, attributes: &[KeyValue]) -> Result<(), Fault>
         ensures same { part_of self.new ≡ part_of self.old }
@@ -159,7 +159,7 @@ impl Pipeline {
         ensures known { is_known_at instrument attributes.now (part_of self.old) ≡ true → IsOk result }
         ensures only_memory { IsOkUnless result Fault.OutOfMemory }
     {
-        // These two tell the prover that no identity stands twice.
+        // These two tell the prover that no identity occurs twice.
         kind_laws();
         let _ = self.identities.len();
         prepare_each(
@@ -169,8 +169,8 @@ impl Pipeline {
         )
     }
 
-    /// Makes the record that was prepared in the streams that the instrument feeds. Takes no memory, and looks
-    /// nothing up.
+    /// Takes in the prepared record in the streams that the instrument feeds. Takes no memory, and looks nothing up
+    /// for a set that has an entry.
     #[inline(always)]
     pub fn commit(&mut self, instrument: usize, value: NumberValue)
         ensures { part_of self.new ≡ part_after_record instrument value self.old }
@@ -182,16 +182,16 @@ impl Pipeline {
         );
     }
 
-    /// Prepares a bind of these attributes in the streams that the instrument feeds, and makes room for its handle
-    /// there. What the reader has stays as it was.
+    /// Prepares a bind to these attributes in the streams that the instrument feeds, and makes room for its handle
+    /// there. What the reader has stays unchanged.
     ///
-    /// Looks the attributes up once in each of these streams.
+    /// Looks the attributes up in each of these streams.
     pub fn prepare_bind(&mut self, instrument: usize, attributes: &[KeyValue]) -> Result<(), Fault>
         ensures same { part_of self.new ≡ part_of self.old }
         ensures ready { OnOk result (IsReadyToBindAt instrument attributes.now self.new) }
         ensures only_memory { IsOkUnless result Fault.OutOfMemory }
     {
-        // These two tell the prover that no identity stands twice.
+        // These two tell the prover that no identity occurs twice.
         kind_laws();
         let _ = self.identities.len();
         prepare_bind_each(
@@ -201,7 +201,7 @@ impl Pipeline {
         )
     }
 
-    /// Makes the bind that was prepared in the streams that the instrument feeds, as this handle. Takes no memory.
+    /// Carries out the prepared bind in the streams that the instrument feeds, for this handle. Takes no memory.
     pub fn bind(&mut self, instrument: usize, handle: u64)
         ensures { part_of self.new ≡ part_after_bind instrument handle self.old }
     {
@@ -212,14 +212,15 @@ impl Pipeline {
         );
     }
 
-    /// Prepares a record through a handle, or its end, in the streams that its instrument feeds. What the reader has
-    /// stays as it was. Looks up nothing but the handle, once in each of these streams, and takes no memory.
+    /// Prepares a record through a handle, or the handle's end, in the streams that its instrument feeds. What the
+    /// reader has stays unchanged. Looks up nothing but the handle, once in each of these streams, and takes no
+    /// memory.
     #[inline(always)]
     pub fn prepare_held(&mut self, instrument: usize, handle: u64)
         ensures same { part_of self.new ≡ part_of self.old }
         ensures prepared { IsPreparedHeldAt instrument handle self.new }
     {
-        // These two tell the prover that no identity stands twice.
+        // These two tell the prover that no identity occurs twice.
         kind_laws();
         let _ = self.identities.len();
         prepare_held_each(
@@ -229,7 +230,7 @@ impl Pipeline {
         );
     }
 
-    /// Ends the handle whose end was prepared, in the streams that its instrument feeds. Takes no memory.
+    /// Ends the handle, whose end was prepared, in the streams that its instrument feeds. Takes no memory.
     pub fn unbind(&mut self, instrument: usize, handle: u64)
         ensures { part_of self.new ≡ part_after_unbind instrument handle self.old }
     {
@@ -240,12 +241,12 @@ impl Pipeline {
         );
     }
 
-    /// Takes in what was observed, and makes a collection at a moment, from the resource, by the scopes of these
-    /// meters. Then the streams whose reader wants `Delta` start again, and those of observed sums are empty. Where
-    /// it is refused, the observations are undone.
+    /// Takes in what was observed, and makes a collection at the moment `now`, in nanoseconds since 1970, for the
+    /// resource and by the scopes of these meters. After that, the streams that reset start again, and those of
+    /// observed sums are empty. If it fails, the observations are undone.
     ///
-    /// Goes once over streams, points and meters; copies the resource, the scopes and each set that is shown, and the
-    /// entries of each stream that takes an observation in, to undo that.
+    /// Goes once over streams, points and meters. Copies the resource, the scopes and each set that is shown, and also
+    /// the entries of each stream that takes an observation in, to undo that if need be.
     pub fn collect(
         &mut self,
         resource: &Resource,
@@ -260,7 +261,7 @@ impl Pipeline {
         ensures err { OnErr result (part_of self.new ≡ part_of self.old) }
         ensures only_memory { IsOkUnless result Fault.OutOfMemory }
     {
-        // These two tell the prover that no identity stands twice.
+        // These two tell the prover that no identity occurs twice.
         kind_laws();
         let _ = self.identities.len();
         collect_observed(

@@ -1,4 +1,4 @@
-//! What a build is going to do to the streams of one reader.
+//! What a build will do to the streams of one reader.
 
 ghost use Rattle.std.specs.Prelude.{◌≡◌, ◌<◌, ◌^◌, [], ◌∷◌, ◌++◌, List, false, IfOk, OnOk, IsOkUnless};
 ghost use Rattle.std.specs.Option.{option_map};
@@ -21,7 +21,7 @@ use otel_value_map::hashing::SetHashBuilder;
 use std::alloc::Global;
 use std::marker::Model;
 
-/// The numbers of the streams that the new instrument will feed, and the streams that are new, with their identities.
+/// The numbers of the streams that the new instrument will feed, and the new streams with their identities.
 #[derive(Drop)]
 pub(crate) struct Plan {
     pub(crate) hasher: SetHashBuilder,
@@ -41,7 +41,7 @@ impl Model for Plan {
     ghost invariant = { λ p. p.identities.keys ≡ stream_identities p.added.items };
 }
 
-/// Adds a key that isn't there yet, for which there is room.
+/// Adds an identity that isn't there yet, for which there is room.
 fn add_key(identities: &mut IndexSet<Identity>, identity: Identity)
     requires room { 0 < spare identities.old }
     requires absent { list_any (⟦<Identity as PartialEq>⟧.eq identity) identities.old.keys ≡ false }
@@ -50,7 +50,7 @@ fn add_key(identities: &mut IndexSet<Identity>, identity: Identity)
     let _ = identities.insert(identity).unwrap();
 }
 
-/// A new stream of this demand, with its identity.
+/// Makes a stream for this demand, and copies its identity.
 fn new_stream(
     alloc: Global,
     hasher: SetHashBuilder,
@@ -71,7 +71,7 @@ fn new_stream(
 }
 
 impl Plan {
-    /// Nothing.
+    /// Makes an empty plan, whose new streams will hash sets with this hasher.
     pub(crate) fn new(alloc: Global, hasher: SetHashBuilder) -> Plan
         ensures { result ≡ record { feeds = []; added = [] } }
     {
@@ -83,8 +83,8 @@ impl Plan {
         }
     }
 
-    /// The number that the stream of an identity will have, and whether it drops, if it is new. The new streams
-    /// have the numbers from the first one on.
+    /// The number that the stream of an identity will have, and whether it drops, if it is among the new streams.
+    /// These have the numbers from `first` on.
     fn find_added(&self, first: usize, identity: &Identity) -> Option<(usize, bool)>
         requires { first < 2 ^ 63 }
         ensures { result ≡ option_map (counted_from first) (found_at identity.now self.now.added) }
@@ -101,7 +101,7 @@ impl Plan {
         }
     }
 
-    /// The number that the stream of an identity has or will have, and whether it drops.
+    /// The number that the stream of an identity has or will have, and whether it drops, if there is such a stream.
     fn find(
         &self,
         identities: &IndexSet<Identity>,
@@ -118,7 +118,7 @@ impl Plan {
         }
     }
 
-    /// Feeds the stream of a number, once, unless it drops.
+    /// Lets the instrument feed the stream with this number, once, unless the stream drops.
     fn feed(&mut self, number: usize, drops: bool) -> Result<(), Fault>
         ensures fed { OnOk result (self.new ≡ record { feeds = fed_once drops number self.old.feeds; added = self.old.added }) }
         ensures only_memory { IsOkUnless result Fault.OutOfMemory }
@@ -130,7 +130,7 @@ impl Plan {
         Ok(())
     }
 
-    /// Adds a new stream of this demand, whose identity has none.
+    /// Adds a stream for this demand, whose identity has none yet.
     fn add(
         &mut self,
         alloc: Global,
@@ -152,7 +152,7 @@ impl Plan {
         Ok(())
     }
 
-    /// Makes one demand more, at a reader that has these streams.
+    /// Takes in one more demand, at a reader that has these streams.
     ///
     /// Looks the identity up once among the reader's streams, and once among the new ones.
     pub(crate) fn demand(

@@ -1,4 +1,4 @@
-//! What a build demands of one reader, planned.
+//! Plans what a build demands of one reader.
 
 ghost use Rattle.std.specs.Prelude.{◌≡◌, ◌∷◌, ◌++◌, [], ℕ, List, Some, is_some, IfOk, OnOk, IsOkUnless};
 ghost use Rattle.std.specs.List.{list_any};
@@ -21,7 +21,7 @@ use otel_stream::instrument::InstrumentKind;
 use otel_stream::laws::kind_laws;
 use otel_stream::stream::Stream;
 
-/// Whether what a view answered can be used with the kind.
+/// Whether the aggregation that a view answered, if any, can be used with the kind.
 fn can_keep(kind: InstrumentKind, stream: &Stream) -> bool
     ensures { result ≡ views.can_keep kind stream.now.aggregation }
 {
@@ -31,7 +31,7 @@ fn can_keep(kind: InstrumentKind, stream: &Stream) -> bool
     }
 }
 
-/// Whether a view answered what can't.
+/// Whether a view answered with an aggregation that can't be used with the kind.
 fn is_unfit(kind: InstrumentKind, answer: &Option<Stream>) -> bool
     ensures { result ≡ views.is_unfit kind answer.now }
 {
@@ -54,8 +54,8 @@ fn any_unfit(kind: InstrumentKind, answered: &[Option<Stream>]) -> bool
 }
 
 impl Plan {
-    /// Whether the instrument demands its own stream, once what its views answered is planned: if no view answered, or
-    /// one answered what can't be used and nothing is fed.
+    /// Whether the instrument demands its own stream, once what its views answered is planned. It does if no view
+    /// answered, or if one answered what can't be used and the instrument feeds nothing.
     fn demands_own(&self, kind: InstrumentKind, answered: &[Option<Stream>]) -> bool
         ensures { result ≡ views.demands_own kind answered.now self.now.feeds }
     {
@@ -64,17 +64,17 @@ impl Plan {
 }
 
 impl Pipeline {
-    /// A plan without demands.
+    /// Makes a plan without demands.
     fn plan_nothing(&self) -> Plan
         ensures { (now : ℕ) → IsPlanOf self.now.answers self.now.streams now [] result }
     {
-        // These two tell the prover that no identity stands twice.
+        // These two tell the prover that no identity occurs twice.
         kind_laws();
         let _ = self.identities.len();
         Plan::new(self.alloc, self.hasher)
     }
 
-    /// Plans one demand more.
+    /// Plans one more demand.
     fn plan_demand(&self, plan: &mut Plan, demand: Demand, now: u64) -> Result<(), Fault>
         requires { IsMakeable demand }
         ensures meets { OnOk result ((ds : List demands.Demand) → IsPlanOf self.now.answers self.now.streams now ds plan.old → IsPlanOf self.now.answers self.now.streams now (ds ++ demand ∷ []) plan.new) }
@@ -110,7 +110,7 @@ impl Pipeline {
         self.plan_demand(plan, demand, now)
     }
 
-    /// Plans what a view answered, if it answered and that can be used.
+    /// Plans what a view answered, if it did and the answer can be used.
     fn plan_answer(
         &self,
         plan: &mut Plan,
@@ -148,7 +148,7 @@ impl Pipeline {
         Ok(plan)
     }
 
-    /// What a build of this instrument plans, of which each view answered this: nothing without a scope.
+    /// The plan of a build of this instrument, given the answer of each view. Without a scope it is empty.
     pub(crate) fn plan_in(
         &self,
         scope: Option<&InstrumentationScope>,

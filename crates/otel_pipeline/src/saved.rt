@@ -1,9 +1,9 @@
-//! What is kept of a stream while a collection takes observations in.
+//! What is saved of a stream while a collection takes observations in.
 
 use otel_aggregate::saved::SavedAggregate;
 use std::marker::Model;
 
-/// The entries of a stream and the total of its records, as they were.
+/// A stream's entries and the total of its records, as they were when they were saved.
 #[derive(Drop)]
 pub(crate) struct SavedStream {
     pub(crate) aggregate: SavedAggregate,

@@ -26,14 +26,14 @@ use otel_value_map::hashing::SetHashBuilder;
 use std::alloc::Global;
 use std::marker::Model;
 
-/// A stream: what was demanded, and its records so far.
+/// A stream: what was demanded, and the records so far.
 #[derive(Drop)]
 pub(crate) struct Stream {
     demand: Demand,
     aggregate: AnyAggregate,
     /// The total of all records, modulo 2^64.
     recorded: u64,
-    /// The total of all points that collections gave which then reset the stream, modulo 2^64.
+    /// The total of all points given by collections that then reset the stream, modulo 2^64.
     exported: u64,
 }
 
@@ -78,7 +78,8 @@ fn has_points(metrics: &AggregatedMetrics) -> bool
 }
 
 impl Stream {
-    /// A stream without records, made at a moment, of a reader that answered this.
+    /// Makes a stream without records at the moment `now`, in nanoseconds since 1970, for a reader that answered this
+    /// temporality.
     pub(crate) fn new(
         alloc: Global,
         hasher: SetHashBuilder,
@@ -118,7 +119,7 @@ impl Stream {
         &self.demand
     }
 
-    /// Prepares a record of these attributes. What the stream shows stays as it was.
+    /// Prepares a record with these attributes. What the stream shows stays unchanged.
     #[inline(always)]
     pub(crate) fn prepare(&mut self, attributes: &[KeyValue]) -> Result<(), Fault>
         ensures same { without_pending self.new ≡ without_pending self.old }
@@ -130,7 +131,7 @@ impl Stream {
         self.aggregate.prepare(attributes)
     }
 
-    /// Takes in the record that is prepared, if there is one, of a value of the stream's number type.
+    /// Takes in the prepared record, if there is one and the value has the stream's number type.
     #[inline(always)]
     pub(crate) fn commit(&mut self, value: NumberValue)
         ensures { self.new ≡ held_after_commit value self.old }
@@ -140,7 +141,7 @@ impl Stream {
         }
     }
 
-    /// Prepares a bind of these attributes, and makes room for its handle. What the stream shows stays as it was.
+    /// Prepares a bind to these attributes, and makes room for its handle. What the stream shows stays unchanged.
     pub(crate) fn prepare_bind(&mut self, attributes: &[KeyValue]) -> Result<(), Fault>
         ensures same { without_pending self.new ≡ without_pending self.old }
         ensures ready { OnOk result (IsReadyToBind attributes.now self.new) }
@@ -150,7 +151,8 @@ impl Stream {
         self.aggregate.make_room()
     }
 
-    /// Carries out the bind that is prepared, if there is one, as a handle of this number, unless that is live.
+    /// Carries out the prepared bind, if there is one, for a handle with this number, unless the handle is live
+    /// already.
     pub(crate) fn bind(&mut self, handle: u64)
         ensures { self.new ≡ held_after_bind handle self.old }
     {
@@ -159,8 +161,8 @@ impl Stream {
         }
     }
 
-    /// Prepares a record through a handle, or its end, if the stream has it. What it shows stays as it was. It takes no
-    /// memory.
+    /// Prepares a record through a handle, or the handle's end, if the stream has the handle. What the stream shows
+    /// stays unchanged. Takes no memory.
     #[inline(always)]
     pub(crate) fn prepare_held(&mut self, handle: u64)
         ensures same { without_pending self.new ≡ without_pending self.old }
@@ -169,7 +171,7 @@ impl Stream {
         self.aggregate.prepare_held(handle);
     }
 
-    /// Ends the handle whose end is prepared. It takes no memory.
+    /// Ends the handle, if its end is prepared. Takes no memory.
     pub(crate) fn unbind(&mut self, handle: u64)
         ensures { self.new ≡ held_after_unbind handle self.old }
     {
@@ -178,7 +180,7 @@ impl Stream {
         }
     }
 
-    /// Ends a collection at a moment that gave the stream's points.
+    /// Ends a collection, which gave the stream's points, at the moment `now`, in nanoseconds since 1970.
     pub(crate) fn finish(&mut self, now: u64)
         ensures { without_pending self.new ≡ without_pending (held_after_collection now self.old) }
     {
@@ -190,7 +192,7 @@ impl Stream {
         self.aggregate.finish(now);
     }
 
-    /// Keeps the entries and the total of the records of an observable stream.
+    /// Saves the entries and the total of the records of an observable instrument's stream.
     ///
     /// Copies each set that has an entry.
     pub(crate) fn save(&self, alloc: Global) -> Result<SavedStream, Fault>
@@ -207,7 +209,7 @@ impl Stream {
         })
     }
 
-    /// Puts back what was kept of it. Takes no memory.
+    /// Puts back what was saved of it. Takes no memory.
     pub(crate) fn restore(&mut self, saved: SavedStream)
         requires { IsSavedOf saved self.old }
         ensures { self.new ≡ held_after_restore saved self.old }
@@ -220,7 +222,8 @@ impl Stream {
         self.recorded = recorded;
     }
 
-    /// What a collection at a moment gives of the stream, if it has points.
+    /// What a collection at the moment `now`, in nanoseconds since 1970, gives for the stream, or `None` if it has no
+    /// points.
     pub(crate) fn metric(&self, alloc: Global, now: u64) -> Result<Option<Metric>, Fault>
         ensures metric { IfOk result (λ m. m ≡ if_points (shown_metric now self.now)) }
         ensures only_memory { IsOkUnless result Fault.OutOfMemory }

@@ -1,6 +1,6 @@
--- What the code's own values are in the words of the model, by cases. These words are believed: no contract says
--- that they are right. Tests of `opentelemetry_sdk` and `metrics_run` send each kind of call, and look at each kind
--- of reply, each fault and each message.
+-- What the code's own values are in the words of the model, by cases. These definitions are trusted: no contract says
+-- that they are right. Tests of `opentelemetry_sdk` and `metrics_script` send each kind of call, and look at each
+-- kind of reply, each fault and each message.
 use Rattle.std.specs.Prelude.{◌≡◌, ℕ, ℤ, pos, Bool, false, true, List, map, Option, None, Some, Result, Ok, Err}
 use Rattle.std.specs.Int.{cast_unsigned, w64}
 pub use Rattle.otel_pipeline.specs.Observations.{observed_of}
@@ -84,13 +84,13 @@ reply_of reply.Done = model.Reply.Done
 reply_of (reply.Collected collection) = model.Reply.Collected collection
 reply_of (reply.Refused f) = model.Reply.Refused (fault_of f)
 
--- of a flush or a shutdown with this outcome
+-- the reply to a flush or a shutdown with this outcome
 abbrev pub reply_to : Outcome → model.Reply
 reply_to (Ok _) = model.Reply.Done
 reply_to (Err f) = model.Reply.Refused (fault_of f)
 
 -- ======== checks ========
--- nothing is wrong, or an invalid instrument configuration with this text is the answer
+-- the answer of a check: done if there is no text, and otherwise an invalid instrument configuration with this text
 abbrev pub IsAnswer : Option (List ℕ) → Result (Unit {0}) MetricError → Type 0
 IsAnswer None (Ok _) = Unit {0}
 IsAnswer None (Err e) = ⊥

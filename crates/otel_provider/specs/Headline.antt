@@ -1,5 +1,5 @@
--- The laws of the model, said of views, a list of calls and its replies: for a provider as `build` gave it, but for the
--- one on the order of attributes.
+-- The laws of the model, stated of views, a list of calls and their replies: for a provider as `build` gave it, but for
+-- the law on the order of attributes, which is for any provider.
 use Rattle.std.specs.Prelude.{◌≡◌, ℕ, List, ◌∷◌, ◌++◌, map, Some, slice_get}
 use Rattle.otel_common.specs.declared.attributes.KeyValue.{KeyValue}
 use Rattle.otel_model.specs.Calls as model
@@ -15,27 +15,28 @@ use Rattle.otel_provider.specs.Correspondence.{call_of, reply_of}
 use Rattle.otel_provider.specs.declared.calls.Call.{Call}
 use Rattle.otel_provider.specs.declared.calls.Reply.{Reply}
 
--- of a provider that began with these readers
+-- if the provider began as built with this resource, identity and readers, P holds of them
 abbrev pub FromBuilt : State → (Resource → ℕ → List ReaderAnswers → Type 0) → Type 0
 FromBuilt old P = (resource : Resource) (identity : ℕ) (readers : List ReaderAnswers) → old ≡ new_state resource identity readers → P resource identity readers
 
--- it holds of each of its readers
+-- P holds of each reader of a provider that began as built
 abbrev pub OfReaders : OfReader → Views → State → List Call → List Reply → State → Type 0
 OfReaders P views old calls replies new = FromBuilt old (λ resource identity readers.
     (r : ℕ) (answers : ReaderAnswers) (part : ReaderPart) → slice_get readers r ≡ Some answers → slice_get new.readers r ≡ Some part
     → P views resource (map call_of calls) (map reply_of replies) new r answers part)
 
--- and of each of their streams
+-- P holds of each stream of each reader
 abbrev pub OfStreams : OfStream → Views → State → List Call → List Reply → State → Type 0
 OfStreams P = OfReaders (λ views resource calls replies new r answers part.
     (j : ℕ) (s : Stream) → slice_get part.streams j ≡ Some s → P views calls replies new r answers part s)
 
--- it holds of what each of its readers is answered
+-- P holds of what each reader is answered
 abbrev pub OfAnswers : (Views → Resource → ℕ → List model.Call → List model.Reply → ℕ → ReaderAnswers → Type 0) → Views → State → List Call → List Reply → Type 0
 OfAnswers P views old calls replies = FromBuilt old (λ resource identity readers.
     (r : ℕ) (answers : ReaderAnswers) → slice_get readers r ≡ Some answers → P views resource identity (map call_of calls) (map reply_of replies) r answers)
 
--- the attributes of any of its records in another order, where no key stands twice: the same replies and state
+-- the same replies and state also belong to the calls with the attributes of one record in another order, where no key
+-- occurs twice
 abbrev pub InAnyOrder : Views → State → List Call → List Reply → State → Type 0
 InAnyOrder views old calls replies new = (before later : List model.Call) (n : ℕ) (v : Number) (l m : List KeyValue) → IsReordered l m
     → map call_of calls ≡ before ++ model.Record n v l ∷ later → Run views old (before ++ model.Record n v m ∷ later) (map reply_of replies) new

@@ -1,4 +1,4 @@
--- Calls that take no memory though others of their kind may.
+-- Calls that take no memory, though others of their kind may.
 use Rattle.std.specs.Prelude.{◌≡◌, ℕ, Bool, true, List}
 use Rattle.std.specs.List.{list_all}
 use Rattle.otel_common.specs.declared.attributes.KeyValue.{KeyValue}
@@ -9,8 +9,8 @@ use Rattle.otel_provider.specs.States.{IsNamed}
 use Rattle.otel_provider.specs.declared.calls.Reply.{Reply}
 use Rattle.otel_provider.specs.declared.calls.Reply.TheVariants as reply
 
--- at each reader, each stream that the instrument feeds keeps of these attributes nothing or, in this order, the set of
--- an entry
+-- whether at each reader each stream that the instrument feeds knows the attributes: the part that it allows is empty
+-- or, in the order given, the set of an entry
 abbrev pub is_known : ℕ → List KeyValue → State → Bool
 is_known n l st = list_all (is_known_at n l) st.readers
 
@@ -26,7 +26,7 @@ IsKnown st (model.Call.Collect r now os) = ⊥
 IsKnown st model.Call.Flush = ⊥
 IsKnown st model.Call.Shutdown = ⊥
 
--- the call was not refused for want of memory
+-- the call was not refused for lack of memory
 abbrev pub HasMemory : Reply → Type 0
 HasMemory (reply.Meter number) = Unit {0}
 HasMemory (reply.Instrument number) = Unit {0}

@@ -1,5 +1,5 @@
 -- What a provider and its builder are in the words of the model. `P` is the bundle of their parts, `V` the type of
--- their views, `R` that of their readers, `U` and `I` those of their callbacks of unsigned and of signed values.
+-- their views, `R` that of their readers, `U` and `I` those of their callbacks for unsigned and for signed values.
 use Rattle.std.specs.Prelude.{ℕ, List, Option, map}
 use Rattle.otel_callback.specs.declared.registered.Registered.{Registered}
 use Rattle.otel_common.specs.declared.metrics.Aggregation.{Aggregation}
@@ -16,19 +16,19 @@ use Rattle.otel_provider.specs.declared.provider.ProviderBuilder.{ProviderBuilde
 abbrev pub resource_of : {P V R U I : Type 0} → ProviderBuilder P V R U I → Resource
 resource_of b = b.core.resource
 
--- and the identity of its provider
+-- the identity of its provider
 abbrev pub identity_of_builder : {P V R U I : Type 0} → ProviderBuilder P V R U I → ℕ
 identity_of_builder b = b.core.identity
 
--- what a builder's readers answered for each kind
+-- what each of a builder's readers answered for each kind of instrument
 abbrev pub answers_of_readers : {P V R U I : Type 0} → ProviderBuilder P V R U I → List ReaderAnswers
 answers_of_readers b = b.core.readers
 
--- a provider's state: all of it but the readers themselves
+-- a provider's state: all of it but the views, the readers and the callbacks
 abbrev pub state_of : {P V R U I : Type 0} → Provider P V R U I → State
 state_of p = p.core
 
--- and its identity
+-- a provider's identity
 abbrev pub identity_of : {P V R U I : Type 0} → Provider P V R U I → ℕ
 identity_of p = p.core.shared.identity
 
@@ -40,15 +40,15 @@ builder_readers b = b.readers.items
 abbrev pub provider_readers : {P V R U I : Type 0} → Provider P V R U I → List R
 provider_readers p = p.readers.items
 
--- what they want for each kind, by what a reader wants
+-- what each of a provider's readers wants, as these functions of a reader say
 abbrev pub wants_of : {P V R U I : Type 0} → (R → InstrumentKind → Temporality) → (R → InstrumentKind → Option ℕ) → (R → InstrumentKind → Option Aggregation) → Provider P V R U I → List Wanted
 wants_of preference limit aggregation p = map (wanted_by preference limit aggregation) p.readers.items
 
--- the views of a builder, by what a view answers
+-- the views of a builder, as what they answer
 abbrev pub views_of_builder : {P V R U I : Type 0} → (V → Instrument → Option StreamSpec) → ProviderBuilder P V R U I → Views
 views_of_builder answer b = map answer b.views.items
 
--- the views of a provider
+-- the views of a provider, as what they answer
 abbrev pub views_of : {P V R U I : Type 0} → (V → Instrument → Option StreamSpec) → Provider P V R U I → Views
 views_of answer p = map answer p.views.items
 
@@ -59,6 +59,6 @@ builder_views b = b.views.items
 abbrev pub provider_views : {P V R U I : Type 0} → Provider P V R U I → List V
 provider_views p = p.views.items
 
--- the callbacks of a provider, in the order of being registered
+-- the callbacks of a provider, in order of registration
 abbrev pub callbacks_of : {P V R U I : Type 0} → Provider P V R U I → List (Registered U I)
 callbacks_of p = p.callbacks.items

@@ -22,12 +22,13 @@ shared_of shut resource identity meters instruments live next = record { resourc
 abbrev pub state_of : Bool → Resource → ℕ → List InstrumentationScope → List InstrumentState → List LiveHandle → ℕ → List Piped → State
 state_of shut resource identity meters instruments live next pipelines = record { shared = shared_of shut resource identity meters instruments live next; readers = map part_of pipelines }
 
--- the call is answered and carried out as the model's machine does, with these views
+-- the call is answered and carried out as by the model's machine with these views
 pub record IsMade (views : Views) (old : State) (call : model.Call) (reply : model.Reply) (new : State) : Type 0 where
   pub answer : reply ≡ reply_of old call
   pub state : new ≡ after views old call
 
--- the fault that a call is refused by before readers are asked: out of memory only where no other stands
+-- the call may be refused with this fault before readers are asked: with the one that the model gives, or with out of
+-- memory if it gives none
 abbrev pub IsFault : Option model.Fault → Fault → Type 0
 IsFault o fault.OutOfMemory = o ≡ None
 IsFault o fault.UnknownMeter = o ≡ Some model.Fault.UnknownMeter
@@ -44,7 +45,7 @@ IsFault o (fault.InternalFailure (inner.Readers failed first)) = ⊥
 abbrev pub IsFaultOf : State → model.Call → Fault → Type 0
 IsFaultOf st call f = IsFault (refusal st.shared (length st.readers) call) f
 
--- a fault other than want of memory
+-- a fault other than out of memory
 abbrev pub IsNamed : Fault → Type 0
 IsNamed fault.OutOfMemory = ⊥
 IsNamed fault.UnknownMeter = Unit {0}
@@ -58,53 +59,53 @@ IsNamed fault.Exhausted = Unit {0}
 IsNamed (fault.InternalFailure f) = Unit {0}
 
 -- ======== builds ========
--- the scope that a build's meter has among these
+-- a build's meter is known, and this is its scope, if it has one
 pub record IsScopeOf (meters : List InstrumentationScope) (meter : Option ℕ) (scope : Option InstrumentationScope) : Type 0 where
   pub is : scope ≡ scope_of meters meter
   pub known : (shut : Bool) (resource : Resource) (identity : ℕ) (instruments : List InstrumentState) (live : List LiveHandle) (next : ℕ) → meter_refusal (shared_of shut resource identity meters instruments live next) meter ≡ None
 
--- there is no such meter
+-- there is no such meter, and the fault says so
 pub record IsNoMeter (meters : List InstrumentationScope) (meter : Option ℕ) (f : Fault) : Type 0 where
   pub is : f ≡ fault.UnknownMeter
   pub unknown : (shut : Bool) (resource : Resource) (identity : ℕ) (instruments : List InstrumentState) (live : List LiveHandle) (next : ℕ) → meter_refusal (shared_of shut resource identity meters instruments live next) meter ≡ Some model.Fault.UnknownMeter
 
--- an instrument without a scope ignores its records; with one its name, unit and bounds are good
+-- with a scope, the instrument's name, unit and bounds are valid; without one it ignores its records, and anything goes
 abbrev pub IsGoodIn : Option InstrumentationScope → model.About → Type 0
 IsGoodIn None about = Unit {0}
 IsGoodIn (Some scope) about = is_good about ≡ true
 
--- what the views answer of an instrument with this scope; without one they are not asked
+-- this is what the views answer for an instrument with this scope; without one they are not asked
 abbrev pub AreAsked : Views → Option InstrumentationScope → model.About → List (Option StreamSpec) → Type 0
 AreAsked views None about answered = Unit {0}
 AreAsked views (Some scope) about answered = answered ≡ map (λ (view : View). view (instrument_of scope about)) views
 
 -- ======== number types ========
--- what an instrument feeds has its number type and kind, at a reader that knows all instruments
+-- a reader that knows all instruments: the streams that an instrument feeds have its number type and kind
 pub record IsTyped (is : List InstrumentState) (p : ReaderPart) : Type 0 where
   pub as_many : length p.feeds ≡ length is
   pub types : (n : ℕ) (x : Identity) (i : InstrumentState) → is_fed p.feeds n x ≡ true → slice_get is n ≡ Some i → x.signed ≡ i.signed
   pub kinds : (n : ℕ) (x : Identity) (i : InstrumentState) → is_fed p.feeds n x ≡ true → slice_get is n ≡ Some i → x.kind ≡ i.kind
 
--- at each reader
+-- the same at each reader
 abbrev pub AreTyped : List InstrumentState → List ReaderPart → Type 0
 AreTyped is ps = EachOf (IsTyped is) ps
 
--- the instrument of this number feeds streams of one number type, at each reader
+-- at each reader, the instrument with this number feeds only streams with the value's number type
 abbrev pub FeedType : ℕ → model.Number → List ReaderPart → Type 0
 FeedType n v ps = EachOf (FeedsType n v.signed) ps
 
--- a value that the instrument of this number takes
+-- the instrument with this number is there and takes values of this number type
 pub record IsTakenBy (instruments : List InstrumentState) (n : ℕ) (v : model.Number) : Type 0 where
   pub instrument : InstrumentState
   pub there : slice_get instruments n ≡ Some instrument
   pub typed : v.signed ≡ instrument.signed
 
--- an instrument at which handles can be bound
+-- the instrument with this number is there and handles can be bound at it: it is synchronous
 pub record IsBindable (instruments : List InstrumentState) (n : ℕ) : Type 0 where
   pub instrument : InstrumentState
   pub there : slice_get instruments n ≡ Some instrument
   pub synchronous : model.is_observable instrument.kind ≡ false
 
--- what was observed is of an instrument that takes its value
+-- the observation is of an instrument that takes its value
 abbrev pub IsTaken : List InstrumentState → Observed → Type 0
 IsTaken instruments o = IsTakenBy instruments o.instrument (observed_of o).value

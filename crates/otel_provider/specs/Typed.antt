@@ -18,33 +18,35 @@ use Rattle.otel_provider.specs.declared.provider.Provider.{Provider}
 use Rattle.otel_provider.specs.declared.synchronous.Synchronous.{Synchronous}
 
 -- ======== meters ========
--- the number of a meter: none where the provider was shut down
+-- the number of a meter; none if the provider was shut down before it gave the meter
 abbrev pub meter_number : Meter → Option ℕ
 meter_number m = m.number
 
--- it has the provider's identity
+-- the meter has the provider's identity
 abbrev pub IsMeterOf : {P V R U I : Type 0} → Meter → Provider P V R U I → Type 0
 IsMeterOf m p = m.identity ≡ identity_of p
 
--- the scope of a name, with nothing else
+-- the scope with this name and nothing else
 abbrev pub named_scope : List ℕ → InstrumentationScope
 named_scope name = record { name = name; version = None; schema_url = None; attributes = [] }
 
 -- ======== builders ========
--- the meter of a builder, and what it says of its instrument
+-- the meter of a builder
 abbrev pub meter_of : {K T : Type 0} → InstrumentBuilder K T → Meter
 meter_of b = b.meter
 
+-- what a builder says of its instrument
 abbrev pub about_of : {K T : Type 0} → InstrumentBuilder K T → model.About
 about_of b = about b.sort b.name b.description b.unit b.boundaries
 
--- the same of a builder of an observable instrument, and the callbacks that it was given
+-- the same for a builder of an observable instrument
 abbrev pub meter_observed : {K T P V R U I : Type 0} → AsyncInstrumentBuilder K T P V R U I → Meter
 meter_observed b = meter_of b.builder
 
 abbrev pub about_observed : {K T P V R U I : Type 0} → AsyncInstrumentBuilder K T P V R U I → model.About
 about_observed b = about_of b.builder
 
+-- the callbacks that it was given
 abbrev pub builder_callbacks : {K T P V R U I : Type 0} → AsyncInstrumentBuilder K T P V R U I → List (Callback U I)
 builder_callbacks b = b.callbacks.items
 
@@ -52,11 +54,11 @@ builder_callbacks b = b.callbacks.items
 abbrev pub instrument_number : {K T : Type 0} → Synchronous K T → ℕ
 instrument_number i = i.number
 
--- it has the provider's identity
+-- the instrument has the provider's identity
 abbrev pub IsInstrumentOf : {K T P V R U I : Type 0} → Synchronous K T → Provider P V R U I → Type 0
 IsInstrumentOf i p = i.identity ≡ identity_of p
 
--- of an observable instrument
+-- the same for an observable instrument
 abbrev pub observable_number : {K T : Type 0} → Asynchronous K T → ℕ
 observable_number i = i.number
 
@@ -67,17 +69,17 @@ IsObservableOf i p = i.identity ≡ identity_of p
 abbrev pub handle_number : {T : Type 0} → Bound T → ℕ
 handle_number b = b.handle
 
--- it has the provider's identity
+-- the handle has the provider's identity
 abbrev pub IsBoundOf : {T P V R U I : Type 0} → Bound T → Provider P V R U I → Type 0
 IsBoundOf b p = b.identity ≡ identity_of p
 
 -- ======== replies ========
--- the reply that says what was given, or by which fault the call was refused
+-- the reply that says what a call gave, or with which fault it was refused
 abbrev pub reply_from : {X : Type 0} → (X → model.Reply) → Result X Fault → model.Reply
 reply_from f (Ok x) = f x
 reply_from f (Err e) = model.Reply.Refused (fault_of e)
 
--- of a call for a meter, a build, a record
+-- the replies to a call for a meter, to builds and to a record
 abbrev pub meter_reply : Result Meter Fault → model.Reply
 meter_reply r = reply_from (λ m. model.Reply.Meter m.number) r
 
@@ -90,15 +92,15 @@ observed_reply r = reply_from (λ i. model.Reply.Instrument i.number) r
 abbrev pub record_reply : Result (Unit {0}) Fault → model.Reply
 record_reply r = reply_from (λ _. model.Reply.Done) r
 
--- of a bind
+-- the reply to a bind
 abbrev pub bind_reply : {T : Type 0} → Result (Bound T) Fault → model.Reply
 bind_reply r = reply_from (λ b. model.Reply.Handle b.handle) r
 
--- of the end of a handle, which is handed back where it is refused
+-- the reply to the end of a handle, which is handed back if it is refused
 abbrev pub unbind_reply : {T : Type 0} → Result (Unit {0}) (Bound T × Fault) → model.Reply
 unbind_reply (Ok _) = model.Reply.Done
 unbind_reply (Err e) = model.Reply.Refused (fault_of e.1)
 
--- of a collection that is handed back in this value
+-- the reply to a collection, which is handed back in this value
 abbrev pub collect_reply : Result (Unit {0}) Fault → ResourceMetrics → model.Reply
 collect_reply r c = reply_from (λ _. model.Reply.Collected c) r

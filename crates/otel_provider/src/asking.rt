@@ -1,4 +1,4 @@
-//! What views answer of an instrument.
+//! What views answer about an instrument.
 
 ghost use Rattle.std.specs.Prelude.{◌≡◌, [], map, IfOk, IsOkUnless};
 ghost use Rattle.std.specs.Option.{option_map};
@@ -16,7 +16,7 @@ use otel_stream::stream::Stream;
 use otel_stream::view::View;
 use std::alloc::Global;
 
-/// The text, or the empty one where there is none.
+/// Returns a copy of the text, or the empty text if there is none.
 fn text_of(alloc: Global, text: &Option<StringValue>) -> Result<StringValue, Fault>
     ensures text { IfOk result (λ t. t ≡ or_else text.now []) }
     ensures only_memory { IsOkUnless result Fault.OutOfMemory }
@@ -27,7 +27,7 @@ fn text_of(alloc: Global, text: &Option<StringValue>) -> Result<StringValue, Fau
     }
 }
 
-/// The instrument of a build, as views see it.
+/// Makes the instrument of a build, as views see it.
 fn seen_by_views(
     alloc: Global,
     scope: &InstrumentationScope,
@@ -46,7 +46,7 @@ fn seen_by_views(
     })
 }
 
-/// What each view answers of an instrument, in their order.
+/// Asks each view about an instrument, in order.
 fn ask_each<V: View>(
     alloc: Global,
     views: &[V],
@@ -63,8 +63,8 @@ fn ask_each<V: View>(
     Ok(answers)
 }
 
-/// Asks each view once for the instrument of a build; without a scope none is asked. Where no view is there it takes no
-/// memory.
+/// Asks each view once about the instrument of a build; without a scope, asks none. Takes no memory if there are no
+/// views.
 pub(crate) fn ask_in<V: View>(
     alloc: Global,
     views: &[V],

@@ -22,15 +22,15 @@ use otel_callback::registered::{Callback, Registered};
 use otel_common::faults::Fault;
 use std::marker::PhantomData;
 
-/// Builds an observable instrument of a kind that `K` marks, with values of type `T`, at a provider with the parts `P`
-/// (Metrics API, "Asynchronous Instrument API").
+/// Builds an observable instrument of the kind that `K` marks, with values of type `T`, at a provider with the parts
+/// `P` (Metrics API, "Asynchronous Instrument API").
 #[derive(Drop)]
 pub struct AsyncInstrumentBuilder<K, T, P: Parts> {
     builder: InstrumentBuilder<K, T>,
     callbacks: Vec<Callback<P::ObserveU64, P::ObserveI64>>,
 }
 
-/// Registers callbacks of an instrument, for which there is room.
+/// Registers the callbacks of an instrument. There must be room for them.
 fn register<U: Drop, I: Drop>(
     into: &mut Vec<Registered<U, I>>,
     instrument: usize,
@@ -48,7 +48,7 @@ fn register<U: Drop, I: Drop>(
 }
 
 impl<K, T, P: Parts> AsyncInstrumentBuilder<K, T, P> {
-    /// A builder that says a name alone.
+    /// Makes a builder in which only the name is set.
     pub(crate) fn new(
         meter: Meter,
         sort: InstrumentSort,
@@ -65,7 +65,7 @@ impl<K, T, P: Parts> AsyncInstrumentBuilder<K, T, P> {
         }
     }
 
-    /// The instrument's description, in place of one given before. Takes no memory.
+    /// Sets the instrument's description, in place of an earlier one. Takes no memory.
     pub fn with_description(self, description: String) -> Self
         ensures meter { meter_observed result ≡ meter_observed self }
         ensures about { about_observed result ≡ record (about_observed self) { description = Some (string_bytes description) } }
@@ -78,8 +78,8 @@ impl<K, T, P: Parts> AsyncInstrumentBuilder<K, T, P> {
         }
     }
 
-    /// The instrument's unit, in place of one given before: at most 63 ASCII characters, else the instrument ignores
-    /// what is observed. Takes no memory.
+    /// Sets the instrument's unit, in place of an earlier one: at most 63 ASCII characters, otherwise the instrument
+    /// ignores what is observed. Takes no memory.
     pub fn with_unit(self, unit: String) -> Self
         ensures meter { meter_observed result ≡ meter_observed self }
         ensures about { about_observed result ≡ record (about_observed self) { unit = Some (string_bytes unit) } }
@@ -92,12 +92,15 @@ impl<K, T, P: Parts> AsyncInstrumentBuilder<K, T, P> {
         }
     }
 
-    /// The instrument, made at the moment `now`, in nanoseconds since 1970. It is what `step` does with `Call::Build`,
-    /// and costs the same, and a look at what the instrument feeds at each reader. Its callbacks are registered after
-    /// those of instruments built before, if at least one reader has a stream of the instrument; else they are dropped.
+    /// Makes the instrument at the moment `now`, in nanoseconds since 1970, as `step` does with `Call::Build`.
     ///
-    /// Refused with `UnknownMeter` where the meter is of a provider of another identity, before anything else is looked
-    /// at, or where the provider has no such meter; else only for want of memory. Then nothing changed.
+    /// If at least one reader has a stream of the instrument, its callbacks are registered after those of instruments
+    /// built before; otherwise they are dropped. Costs the same as that step, plus room for the callbacks and a look at
+    /// what the instrument feeds at each reader.
+    ///
+    /// Refused with `UnknownMeter` if the meter belongs to a provider of another identity, before anything else is
+    /// checked, or if the provider has no such meter; otherwise only for want of memory. A refused call changes
+    /// nothing.
     pub fn build(self, provider: &mut Provider<P>, now: u64) -> Result<Asynchronous<K, T>, Fault>
         ensures step { IsMeterOf (meter_observed self) provider.old → Step (views_of P.View.answer provider.old) (state_of provider.old) (model.Call.Build (meter_number (meter_observed self)) (about_observed self) now) (observed_reply result) (state_of provider.new) }
         ensures foreign { ¬ IsMeterOf (meter_observed self) provider.old → (result ≡ Err Fault.UnknownMeter) × (state_of provider.new ≡ state_of provider.old) }
@@ -126,7 +129,7 @@ impl<K, T, P: Parts> AsyncInstrumentBuilder<K, T, P> {
 
 impl<K, P: Parts> AsyncInstrumentBuilder<K, u64, P> {
     /// Adds a callback, which a collection runs after those added before. Refused only for want of memory; then the
-    /// builder is given up.
+    /// builder is dropped.
     pub fn with_callback(self, callback: P::ObserveU64) -> Result<Self, Fault>
         ensures meter { IfOk result (λ b. meter_observed b ≡ meter_observed self) }
         ensures about { IfOk result (λ b. about_observed b ≡ about_observed self) }
@@ -144,7 +147,7 @@ impl<K, P: Parts> AsyncInstrumentBuilder<K, u64, P> {
 
 impl<K, P: Parts> AsyncInstrumentBuilder<K, i64, P> {
     /// Adds a callback, which a collection runs after those added before. Refused only for want of memory; then the
-    /// builder is given up.
+    /// builder is dropped.
     pub fn with_callback(self, callback: P::ObserveI64) -> Result<Self, Fault>
         ensures meter { IfOk result (λ b. meter_observed b ≡ meter_observed self) }
         ensures about { IfOk result (λ b. about_observed b ≡ about_observed self) }

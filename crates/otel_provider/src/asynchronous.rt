@@ -11,9 +11,11 @@ pub struct ObservableUpDownCounterKind;
 /// Marks observable gauges.
 pub struct ObservableGaugeKind;
 
-/// An observable instrument of a kind that `K` marks, with values of type `T` (Metrics API, "Asynchronous Instrument
-/// API"). It is the number of an instrument and the identity of its provider, and so small plain data: a copy is the same
-/// instrument. It takes in no records: its callbacks observe its values.
+/// An observable instrument of the kind that `K` marks, with values of type `T` (Metrics API, "Asynchronous Instrument
+/// API").
+///
+/// It is the number of an instrument and the identity of its provider: small plain data, of which a copy is the same
+/// instrument. It takes in no records; its callbacks observe its values.
 #[derive_where(Clone, Copy, Debug)]
 pub struct Asynchronous<K, T> {
     pub(crate) identity: u64,
@@ -21,11 +23,11 @@ pub struct Asynchronous<K, T> {
     pub(crate) of: PhantomData<(K, T)>,
 }
 
-/// An instrument of which totals are observed that never fall (Metrics API, "Asynchronous Counter").
+/// An instrument whose callbacks observe totals that never fall (Metrics API, "Asynchronous Counter").
 pub type ObservableCounter<T> = Asynchronous<ObservableCounterKind, T>;
 
-/// An instrument of which totals are observed (Metrics API, "Asynchronous UpDownCounter").
+/// An instrument whose callbacks observe totals (Metrics API, "Asynchronous UpDownCounter").
 pub type ObservableUpDownCounter<T> = Asynchronous<ObservableUpDownCounterKind, T>;
 
-/// An instrument of which values are observed that don't add up (Metrics API, "Asynchronous Gauge").
+/// An instrument whose callbacks observe values that don't add up (Metrics API, "Asynchronous Gauge").
 pub type ObservableGauge<T> = Asynchronous<ObservableGaugeKind, T>;

@@ -1,4 +1,4 @@
-//! The state of a provider with what no call can break.
+//! The state of a provider, with the balances that no call can break.
 
 ghost use Rattle.std.specs.Prelude.{◌≡◌, [], map, true, None, Some, Err, IfOk, IfErr, OnOk, OnErr, IsOk, IsOkUnless};
 ghost use Rattle.otel_model.specs.Calls as model;
@@ -34,9 +34,12 @@ use otel_stream::view::View;
 use std::alloc::Global;
 use std::marker::Model;
 
-/// A core whose streams balance: what a stream recorded is what it exported and what is pending, and
-/// what the instruments that feed it accepted, modulo 2^64. A sum counts values there, a histogram records, a
-/// last value nothing. That follows from what a call does, so it is proved here once for all calls.
+/// A core whose streams balance, modulo 2^64.
+///
+/// What a stream has recorded is what it has exported plus what is pending, except for observed sums; and it is what
+/// the instruments that feed it have accepted, unless they are observed. Here a sum counts values, a histogram counts
+/// records, and a last value counts nothing. This follows from what a call does, so it is proved here once for all
+/// calls.
 #[derive(Drop)]
 pub struct BalancedCore {
     core: Core,
@@ -54,7 +57,7 @@ impl Model for BalancedCore {
 }
 
 impl BalancedCore {
-    /// The core before its first call.
+    /// Makes the core of a provider before its first call.
     pub(crate) fn new(fresh: FreshCore) -> BalancedCore
         ensures { result ≡ new_state fresh.resource fresh.identity fresh.readers }
     {
@@ -63,7 +66,7 @@ impl BalancedCore {
         }
     }
 
-    /// One call.
+    /// Makes one call and returns its reply.
     pub(crate) fn step<V: View, R: MetricReader>(
         &mut self,
         views: &[V],
@@ -101,7 +104,7 @@ impl BalancedCore {
         self.core.shutdown(readers)
     }
 
-    /// A list of calls, one after another, with the reply to each.
+    /// Makes the calls of a list, one after another, and returns the reply to each.
     pub(crate) fn run<V: View, R: MetricReader>(
         &mut self,
         views: &[V],
@@ -121,24 +124,24 @@ impl BalancedCore {
     }
 }
 
-/// Calls that answer a result. Where a meter or an instrument is of another identity they are refused before anything
-/// else is looked at.
+/// Calls that return a result. If a meter, an instrument or a handle has another identity, they are refused before
+/// anything else is checked.
 impl BalancedCore {
-    /// The allocator. Also before a call the streams balance.
+    /// Returns the allocator. `balances` says that the streams balance before a call too.
     pub(crate) fn allocator(&self) -> Global
         ensures balances { Balances self.now }
     {
         self.core.allocator()
     }
 
-    /// The identity.
+    /// Returns the identity.
     pub(crate) fn identity(&self) -> u64
         ensures { result ≡ self.now.shared.identity }
     {
         self.core.identity()
     }
 
-    /// The number of the meter of a scope, which is new if there was none; none after a shutdown.
+    /// Returns the number of the meter of a scope, adding one if there is none; after a shutdown there is no meter.
     pub(crate) fn meter(&mut self, scope: &InstrumentationScope) -> Result<Option<usize>, Fault>
         ensures step { (views : Views) → Step views self.old (model.Call.Meter scope.now) (reply_from (λ n. model.Reply.Meter n) result) self.new }
         ensures known { has_scope scope.now self.old.shared.meters ≡ true → IsOk result }
@@ -148,7 +151,8 @@ impl BalancedCore {
         self.core.meter_unless_shut(scope)
     }
 
-    /// Tells whether a build of this meter is refused before memory is asked for. Also before a call the streams balance.
+    /// Checks that a build of this meter is not refused before memory is asked for. `balances` says that the streams
+    /// balance before a call too.
     pub(crate) fn check_meter(&self, meter: Meter) -> Result<(), Fault>
         ensures own { OnOk result (meter.identity ≡ self.now.shared.identity) }
         ensures known { OnOk result (meter_refusal self.now.shared meter.number ≡ None) }
@@ -170,8 +174,8 @@ impl BalancedCore {
         self.core.has_stream(instrument)
     }
 
-    /// Tells whether a collection of this reader is refused before its callbacks run. Also before a call the streams
-    /// balance.
+    /// Checks that a collection of this reader is not refused before its callbacks run. `balances` says that the
+    /// streams balance before a call too.
     pub(crate) fn check_collection(&self, reader: usize) -> Result<(), Fault>
         ensures ok { OnOk result (collect_refusal self.now reader ≡ None) }
         ensures fault { IfErr result (λ f. collect_refusal self.now reader ≡ Some (fault_of f)) }
@@ -203,7 +207,7 @@ impl BalancedCore {
         self.core.build(views, meter.number, sort, about, now)
     }
 
-    /// A collection of a reader at a moment, with what was observed.
+    /// Makes a collection of a reader at a moment, in nanoseconds since 1970, with what was observed.
     pub(crate) fn collect(
         &mut self,
         reader: usize,

@@ -1,4 +1,4 @@
-//! Handles: attributes that a program binds once, to record with them at less cost.
+//! Handles: attributes that a program binds once, so that records with them cost less.
 
 ghost use Rattle.std.specs.Prelude.{◌≡◌, Err, IfErr, IfOk};
 ghost use Rattle.otel_model.specs.Calls as model;
@@ -17,12 +17,11 @@ use otel_common::faults::Fault;
 use otel_data::numbers::NumberType;
 use std::marker::PhantomData;
 
-/// A live handle of an instrument with values of type `T` (Metrics API, "Synchronous Instrument API"). It is the number
-/// of a handle and the identity of its provider.
+/// A live handle of an instrument with values of type `T` (Metrics API, "Synchronous Instrument API").
 ///
-/// It holds a place in each stream that the instrument feeds, for as long as it is live, so it must be spent: by
-/// `unbind`, which ends it, or by `into_number`, which leaves that to `Call::Unbind`. A program that lets one go is not
-/// accepted.
+/// It is the number of a handle and the identity of its provider. As long as it is live it holds a place in each stream
+/// that the instrument feeds, so it must be spent: by `unbind`, which ends it, or by `into_number`, which leaves that
+/// to `Call::Unbind`. The toolchain rejects a program that lets one go.
 pub struct Bound<T> {
     pub(crate) identity: u64,
     pub(crate) handle: u64,
@@ -30,14 +29,18 @@ pub struct Bound<T> {
 }
 
 impl<K, T: NumberType> Synchronous<K, T> {
-    /// Binds a handle with attributes, in any order. From then on its records go where a record with these attributes
-    /// would go now: to the point of what a stream keeps of them, which it holds, or past the limit to the overflow
-    /// point. It is what `step` does with `Call::Bind`: made in all streams or in none.
+    /// Binds a handle with attributes, in any order, as `step` does with `Call::Bind`: in all streams or in none.
     ///
-    /// Looks the attributes up in each stream that the instrument feeds, as a record does, and the handle's number
-    /// once. Refused with `UnknownInstrument` where the instrument is of a provider of another identity, before
-    /// anything else is looked at; with `Exhausted` once 2^64 - 1 handles were bound; else only for want of memory.
-    /// Then nothing changed.
+    /// From then on its records go where a record with these attributes would go at the time of the bind: to the point
+    /// of what a stream keeps of them, whose place the handle holds, or, past the limit, to the overflow point.
+    ///
+    /// Looks up the attributes in each stream that the instrument feeds, as a record does, and the handle's number
+    /// once.
+    ///
+    /// Refused with `UnknownInstrument` if the instrument belongs to a provider of another identity, before anything
+    /// else is checked. If two providers of one identity mix up their instruments, the call is refused with
+    /// `UnknownInstrument` or `WrongKind`, or goes to the instrument of the same number. Otherwise it is refused with
+    /// `Exhausted` once 2^64 - 1 handles have been bound, or for want of memory. A refused call changes nothing.
     pub fn bind<P: Parts>(
         &self,
         provider: &mut Provider<P>,
@@ -64,14 +67,15 @@ impl<K, T: NumberType> Synchronous<K, T> {
 }
 
 impl<T: NumberType> Bound<T> {
-    /// Adds a value, in the instrument's unit, with the attributes of the handle. It is what `step` does with
-    /// `Call::RecordBound`: it takes no memory, and looks nothing up but the handle, once in the provider and once in
-    /// each stream.
+    /// Adds a value, in the instrument's unit, with the attributes of the handle, as `step` does with
+    /// `Call::RecordBound`.
     ///
-    /// Refused with `UnknownHandle` where the handle is of a provider of another identity, before anything else is
-    /// looked at, and where `Call::Unbind` ended it by its number. Where two providers of one identity mix up their
-    /// handles, it is refused with `UnknownHandle` or `WrongNumber`, or goes to the handle of the same number. Else it
-    /// is not refused. A refused call changes nothing.
+    /// Takes no memory, and looks up only the handle, once in the provider and once in each stream.
+    ///
+    /// Refused with `UnknownHandle` if the handle belongs to a provider of another identity, before anything else is
+    /// checked, or if `Call::Unbind` has ended it by its number. If two providers of one identity mix up their handles,
+    /// the call is refused with `UnknownHandle` or `WrongNumber`, or goes to the handle of the same number. Otherwise
+    /// it is never refused. A refused call changes nothing.
     pub fn add<P: Parts>(&self, provider: &mut Provider<P>, value: T) -> Result<(), Fault>
         ensures step { IsBoundOf self.now provider.old → Step (views_of P.View.answer provider.old) (state_of provider.old) (model.Call.RecordBound (handle_number self.now) (number_of (T.value value))) (record_reply result) (state_of provider.new) }
         ensures foreign { ¬ IsBoundOf self.now provider.old → (result ≡ Err Fault.UnknownHandle) × (state_of provider.new ≡ state_of provider.old) }
@@ -86,7 +90,7 @@ impl<T: NumberType> Bound<T> {
             .record_bound(self.identity, self.handle, value.into_value())
     }
 
-    /// Records a value. It is the same call as `add`.
+    /// Records a value. The same as `add`.
     pub fn record<P: Parts>(&self, provider: &mut Provider<P>, value: T) -> Result<(), Fault>
         ensures step { IsBoundOf self.now provider.old → Step (views_of P.View.answer provider.old) (state_of provider.old) (model.Call.RecordBound (handle_number self.now) (number_of (T.value value))) (record_reply result) (state_of provider.new) }
         ensures foreign { ¬ IsBoundOf self.now provider.old → (result ≡ Err Fault.UnknownHandle) × (state_of provider.new ≡ state_of provider.old) }
@@ -101,7 +105,7 @@ impl<T: NumberType> Bound<T> {
 }
 
 impl<T> Bound<T> {
-    /// The handle's number, with which `Call::RecordBound` and `Call::Unbind` go on.
+    /// Returns the handle's number, which `Call::RecordBound` and `Call::Unbind` take. The handle stays live.
     pub fn into_number(self) -> u64
         ensures { result ≡ handle_number self }
     {
@@ -113,10 +117,10 @@ impl<T> Bound<T> {
         handle
     }
 
-    /// Ends the handle. It is what `step` does with `Call::Unbind`, and takes no memory.
+    /// Ends the handle, as `step` does with `Call::Unbind`. Takes no memory.
     ///
-    /// Refused with `UnknownHandle` where the handle is of a provider of another identity, before anything else is looked
-    /// at, or where the provider has no such handle. Then nothing changed, and the handle is given back.
+    /// Refused with `UnknownHandle` if the handle belongs to a provider of another identity, before anything else is
+    /// checked, or if the provider has no such handle. A refused call changes nothing and gives the handle back.
     pub fn unbind<P: Parts>(self, provider: &mut Provider<P>) -> Result<(), (Bound<T>, Fault)>
         ensures step { IsBoundOf self provider.old → Step (views_of P.View.answer provider.old) (state_of provider.old) (model.Call.Unbind (handle_number self)) (unbind_reply result) (state_of provider.new) }
         ensures foreign { ¬ IsBoundOf self provider.old → (result ≡ Err (self, Fault.UnknownHandle)) × (state_of provider.new ≡ state_of provider.old) }

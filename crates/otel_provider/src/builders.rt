@@ -23,7 +23,7 @@ use otel_pipeline::about::About;
 use otel_stream::view::View;
 use std::marker::PhantomData;
 
-/// Builds an instrument of a kind that `K` marks, with values of type `T` (Metrics API, "Instrument").
+/// Builds an instrument of the kind that `K` marks, with values of type `T` (Metrics API, "Instrument").
 #[derive(Drop)]
 #[derive_where(Debug)]
 pub struct InstrumentBuilder<K, T> {
@@ -40,7 +40,7 @@ pub struct InstrumentBuilder<K, T> {
 pub type HistogramBuilder<T> = InstrumentBuilder<HistogramKind, T>;
 
 impl<K, T> InstrumentBuilder<K, T> {
-    /// A builder that says a name alone.
+    /// Makes a builder in which only the name is set.
     pub(crate) fn new(meter: Meter, sort: InstrumentSort, name: String) -> InstrumentBuilder<K, T>
         ensures meter { meter_of result ≡ meter }
         ensures about { about_of result ≡ about sort (string_bytes name) None None None }
@@ -56,14 +56,14 @@ impl<K, T> InstrumentBuilder<K, T> {
         }
     }
 
-    /// The meter.
+    /// Returns the meter.
     pub(crate) fn meter(&self) -> Meter
         ensures { result ≡ meter_of self.now }
     {
         self.meter
     }
 
-    /// The instrument's description, in place of one given before. Takes no memory.
+    /// Sets the instrument's description, in place of an earlier one. Takes no memory.
     pub fn with_description(self, description: String) -> Self
         ensures meter { meter_of result ≡ meter_of self }
         ensures about { about_of result ≡ record (about_of self) { description = Some (string_bytes description) } }
@@ -73,8 +73,8 @@ impl<K, T> InstrumentBuilder<K, T> {
         builder
     }
 
-    /// The instrument's unit, in place of one given before: at most 63 ASCII characters, else the instrument ignores its
-    /// records. Takes no memory.
+    /// Sets the instrument's unit, in place of an earlier one: at most 63 ASCII characters, otherwise the instrument
+    /// ignores its records. Takes no memory.
     pub fn with_unit(self, unit: String) -> Self
         ensures meter { meter_of result ≡ meter_of self }
         ensures about { about_of result ≡ record (about_of self) { unit = Some (string_bytes unit) } }
@@ -84,11 +84,12 @@ impl<K, T> InstrumentBuilder<K, T> {
         builder
     }
 
-    /// The instrument, made at the moment `now`, in nanoseconds since 1970. It is what `step` does with `Call::Build`,
-    /// and costs the same.
+    /// Makes the instrument at the moment `now`, in nanoseconds since 1970, as `step` does with `Call::Build` and at
+    /// the same cost.
     ///
-    /// Refused with `UnknownMeter` where the meter is of a provider of another identity, before anything else is looked
-    /// at, or where the provider has no such meter; else only for want of memory. Then nothing changed.
+    /// Refused with `UnknownMeter` if the meter belongs to a provider of another identity, before anything else is
+    /// checked, or if the provider has no such meter; otherwise only for want of memory. A refused call changes
+    /// nothing.
     pub fn build<P: Parts>(
         self,
         provider: &mut Provider<P>,
@@ -113,7 +114,7 @@ impl<K, T> InstrumentBuilder<K, T> {
         }
     }
 
-    /// Makes the instrument, and gives its number.
+    /// Makes the instrument and returns its number.
     pub(crate) fn make<V: View>(
         &self,
         core: &mut BalancedCore,
@@ -139,8 +140,8 @@ impl<K, T> InstrumentBuilder<K, T> {
 }
 
 impl<T> InstrumentBuilder<HistogramKind, T> {
-    /// The bounds of the histogram's buckets, in place of those given before and of the default ones: each greater than
-    /// the one before it, else the histogram ignores its records. Takes no memory.
+    /// Sets the bounds of the histogram's buckets, in its unit, in place of earlier ones and of the default ones. Each
+    /// must be greater than the one before it, otherwise the histogram ignores its records. Takes no memory.
     pub fn with_boundaries(self, boundaries: Vec<i64>) -> Self
         ensures meter { meter_of result ≡ meter_of self }
         ensures about { about_of result ≡ record (about_of self) { bounds = Some boundaries.items } }

@@ -1,4 +1,4 @@
-//! What a provider is asked and what it answers, as values.
+//! Calls of a provider and its replies, as values.
 
 use crate::sorts::InstrumentSort;
 use otel_callback::observation::Observed;
@@ -17,14 +17,17 @@ pub enum Call {
     Meter {
         scope: InstrumentationScope,
     },
-    /// Builds an instrument of a meter. Without a meter, and with a name, a unit or bounds that
-    /// `validate_instrument_name`, `validate_instrument_unit` or `validate_bucket_boundaries` refuses, it
-    /// ignores its records. An absent description or unit is the empty text. `boundaries` are those of the
-    /// buckets of a histogram, in its unit, and are looked at for a histogram alone; without them it has 0, 5,
-    /// 10, 25, 50, 75, 100, 250, 500, 750, 1000, 2500, 5000, 7500 and 10000. Instruments of one meter that agree
-    /// in sort, description, unit and, but for the case of ASCII letters, name share a stream at each
-    /// reader; the first of them decides the bounds and how the name is spelt. `now` is the moment of the
-    /// build, in nanoseconds since 1970.
+    /// Builds an instrument of a meter at the moment `now`, in nanoseconds since 1970.
+    ///
+    /// The instrument ignores its records if there is no meter, or if `validate_instrument_name`,
+    /// `validate_instrument_unit` or `validate_bucket_boundaries` refuses its name, unit or bounds. An absent
+    /// description or unit is the empty text. `boundaries` are the bounds of a histogram's buckets, in its unit, and
+    /// are checked only for a histogram; without them it has 0, 5, 10, 25, 50, 75, 100, 250, 500, 750, 1000, 2500,
+    /// 5000, 7500 and 10000.
+    ///
+    /// Instruments of one meter that agree in sort, description, unit and (apart from the case of ASCII letters) name,
+    /// and for which each view answers alike, share a stream at each reader. The first of them decides the bounds and
+    /// the spelling of the name.
     Build {
         meter: Option<usize>,
         sort: InstrumentSort,
@@ -34,21 +37,21 @@ pub enum Call {
         boundaries: Option<Items<i64>>,
         now: u64,
     },
-    /// Records a value with attributes, in any order, at an instrument, in the instrument's unit. A record at an
-    /// observable instrument is refused, and so is a `U64` at an instrument of `i64`, or the other way round.
+    /// Records a value with attributes, in any order, at an instrument, in the instrument's unit. Refused if the
+    /// instrument is observable, and for a `U64` at an instrument of `i64` or the other way round.
     Record {
         instrument: usize,
         value: NumberValue,
         attributes: Items<KeyValue>,
     },
-    /// Binds a handle at an instrument, with attributes in any order (Metrics API, "Synchronous Instrument API"). Its
-    /// records go where a record with the attributes would go now, for good. A bind at an observable instrument is
-    /// refused. It is made in all streams that the instrument feeds or in none.
+    /// Binds a handle at an instrument, with attributes in any order (Metrics API, "Synchronous Instrument API"), in
+    /// all streams that the instrument feeds or in none. Its records always go where a record with these attributes
+    /// would go at the time of the bind. Refused if the instrument is observable.
     Bind {
         instrument: usize,
         attributes: Items<KeyValue>,
     },
-    /// Records a value through a handle, in the unit of its instrument. A value of the other number type is refused.
+    /// Records a value through a handle, in the unit of its instrument. Refused for a value of the other number type.
     RecordBound {
         handle: u64,
         value: NumberValue,
@@ -57,39 +60,41 @@ pub enum Call {
     Unbind {
         handle: u64,
     },
-    /// Collects what a reader's streams have: sums, last values and histograms. `now` is the moment of the
-    /// collection, in nanoseconds since 1970. What was observed goes first, in order, to the streams of this reader
-    /// alone that the instruments feed. The first observation that is bad refuses the collection: of an instrument that
-    /// isn't there or isn't observable, or whose value is of the other number type.
+    /// Collects what a reader's streams have: sums, last values and histograms. `now` is the moment of the collection,
+    /// in nanoseconds since 1970.
+    ///
+    /// First, what was observed goes, in order, to those streams of this reader alone that the instruments feed. The
+    /// first bad observation refuses the collection: one of an instrument that isn't there or isn't observable, or
+    /// whose value has the other number type.
     Collect {
         reader: usize,
         now: u64,
         observations: Items<Observed>,
     },
-    /// Asks each reader to flush, in order, also after one that failed (Metrics SDK, "ForceFlush").
+    /// Asks each reader to flush, in order, including those after one that failed (Metrics SDK, "ForceFlush").
     Flush,
-    /// Shuts the provider down and asks each reader to shut down, in order, also after one that failed (Metrics SDK,
-    /// "Shutdown"). From then on there are no new meters and no collections; the meters and instruments that are there
-    /// stay, and go on.
+    /// Shuts the provider down and asks each reader to shut down, in order, including those after one that failed
+    /// (Metrics SDK, "Shutdown"). From then on there are no new meters and no collections; existing meters and
+    /// instruments still work.
     Shutdown,
 }
 
-/// What a call is answered.
+/// The reply to a call.
 #[derive(Clone, Debug, Drop)]
 pub enum Reply {
-    /// The number of the meter; meters are numbered from 0, each as it is first asked for. There is none after a
-    /// shutdown; what is built without a meter ignores its records.
+    /// The number of the meter. Meters are numbered from 0, in the order in which they are first asked for. After a
+    /// shutdown there is none; what is built without a meter ignores its records.
     Meter(Option<usize>),
     /// The number of the new instrument: how many were built before it.
     Instrument(usize),
     /// The number of the new handle: how many were bound before it.
     Handle(u64),
-    /// The handle was ended; or the record was made, or ignored where the instrument ignores its records; or each
-    /// reader did what it was asked to.
+    /// The handle was ended; or the record was made, or ignored by an instrument that ignores its records; or each
+    /// reader did what it was asked to do.
     Done,
     /// What was collected.
     Collected(ResourceMetrics),
-    /// The call was refused. It changed nothing, but for a flush or a shutdown in which readers failed: each of them was
-    /// asked, and after the shutdown the provider is shut down.
+    /// The call was refused. It changed nothing, except for a flush or a shutdown in which readers failed: then each of
+    /// them was asked, and the shutdown has shut the provider down.
     Refused(Fault),
 }

@@ -22,7 +22,7 @@ use otel_pipeline::pipeline::Pipeline;
 use otel_stream::stream::Stream;
 use otel_value_map::hashing::SetHashBuilder;
 
-/// Plans a build, of which each view answered this, at all readers. What they have stays as it was.
+/// Plans a build at all readers, given each view's answer. What the readers have doesn't change.
 fn plan_all(
     pipelines: &mut [Pipeline],
     scope: Option<&InstrumentationScope>,
@@ -41,7 +41,7 @@ fn plan_all(
     Ok(())
 }
 
-/// Carries out what was planned, at all readers.
+/// Carries out the planned build at all readers.
 fn build_all(pipelines: &mut [Pipeline])
     requires { All IsPlanned pipelines.old }
     ensures { map part_of pipelines.new ≡ map (λ p. part_of (piped_after_build p)) pipelines.old }
@@ -70,7 +70,7 @@ fn prepare_all(
     Ok(())
 }
 
-/// Makes the record in the streams that an instrument feeds, at all readers.
+/// Makes the prepared record in the streams that an instrument feeds, at all readers.
 #[inline(always)]
 fn commit_all(pipelines: &mut [Pipeline], instrument: usize, value: NumberValue)
     ensures { map part_of pipelines.new ≡ map (part_after_record instrument value) pipelines.old }
@@ -96,7 +96,7 @@ fn prepare_bind_all(
     Ok(())
 }
 
-/// Makes the bind in the streams that an instrument feeds, at all readers.
+/// Makes the prepared bind in the streams that an instrument feeds, at all readers.
 fn bind_all(pipelines: &mut [Pipeline], instrument: usize, handle: u64)
     ensures { map part_of pipelines.new ≡ map (part_after_bind instrument handle) pipelines.old }
 {
@@ -105,7 +105,7 @@ fn bind_all(pipelines: &mut [Pipeline], instrument: usize, handle: u64)
     }
 }
 
-/// Prepares a record through a handle, or its end, in the streams that its instrument feeds, at all readers.
+/// Prepares a record through a handle, or the end of one, in the streams that its instrument feeds, at all readers.
 #[inline(always)]
 fn prepare_held_all(pipelines: &mut [Pipeline], instrument: usize, handle: u64)
     ensures same { map part_of pipelines.new ≡ map part_of pipelines.old }
@@ -125,7 +125,7 @@ fn unbind_all(pipelines: &mut [Pipeline], instrument: usize, handle: u64)
     }
 }
 
-/// From now on new streams of all readers hash sets with this.
+/// Makes new streams of all readers hash sets with this builder from now on.
 pub(crate) fn set_hashers(pipelines: &mut [Pipeline], hasher: SetHashBuilder)
     ensures { pipelines.new ≡ pipelines.old }
 {
@@ -143,7 +143,7 @@ pub(crate) fn any_stream(pipelines: &[Pipeline], instrument: usize) -> bool
         .any(|pipeline| pipeline.has_stream(instrument))
 }
 
-/// Builds an instrument, of which each view answered this, at all readers or at none. Without a scope it demands nothing.
+/// Builds an instrument at all readers or at none, given each view's answer. Without a scope it demands no stream.
 pub(crate) fn build_or_none(
     pipelines: &mut [Pipeline],
     scope: Option<&InstrumentationScope>,

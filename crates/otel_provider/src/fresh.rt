@@ -14,7 +14,7 @@ use otel_stream::reader::MetricReader;
 use std::alloc::Global;
 use std::marker::Model;
 
-/// A core to which no call was made: readers are added to it, and then it is a provider's.
+/// A core on which no call has been made yet. Readers are added to it, and then it becomes a provider's core.
 #[derive(Drop)]
 pub struct FreshCore {
     core: Core,
@@ -33,7 +33,7 @@ impl Model for FreshCore {
 }
 
 impl FreshCore {
-    /// With the empty resource and the identity 0, and without readers. Takes no memory.
+    /// Makes a core with the empty resource and the identity 0, and without readers. Takes no memory.
     pub(crate) fn new(alloc: Global) -> FreshCore
         ensures { result ≡ record { resource = empty_resource; identity = 0; readers = [] } }
     {
@@ -42,7 +42,7 @@ impl FreshCore {
         }
     }
 
-    /// With the resource merged with another one, whose values win.
+    /// Merges the resource with another one, whose values win.
     pub(crate) fn with_resource(self, resource: Resource) -> Result<FreshCore, Fault>
         ensures resource { IfOk result (λ f. f ≡ record { resource = merged_resource self.resource resource; identity = self.identity; readers = self.readers }) }
         ensures only_memory { IsOkUnless result Fault.OutOfMemory }
@@ -52,7 +52,7 @@ impl FreshCore {
         Ok(FreshCore { core })
     }
 
-    /// With a reader more, which is asked what it wants. Its answers are kept.
+    /// Adds a reader, which is asked what it wants. Its answers are kept.
     pub(crate) fn with_reader<R: MetricReader>(self, reader: &R) -> Result<FreshCore, Fault>
         ensures reader { IfOk result (λ f. (answers : ReaderAnswers) × IsAnsweredBy (R.preference reader.now) (R.limit reader.now) (R.aggregation reader.now) answers × (f ≡ record { resource = self.resource; identity = self.identity; readers = self.readers ++ answers ∷ [] })) }
         ensures only_memory { IsOkUnless result Fault.OutOfMemory }
@@ -63,7 +63,7 @@ impl FreshCore {
         Ok(FreshCore { core })
     }
 
-    /// With this identity.
+    /// Sets the identity.
     pub(crate) fn with_identity(self, identity: u64) -> FreshCore
         ensures { result ≡ record self { identity = identity } }
     {
@@ -73,7 +73,7 @@ impl FreshCore {
         }
     }
 
-    /// With this seed of the hashes of sets, which nothing shows.
+    /// Sets the seed of the hashes of sets, on which no result depends.
     pub(crate) fn with_hash_seed(self, seed: u64) -> FreshCore
         ensures { result ≡ self }
     {
@@ -83,7 +83,7 @@ impl FreshCore {
         }
     }
 
-    /// The core of a provider with these readers.
+    /// Returns the core of a provider with these readers.
     pub(crate) fn into_core(self) -> Core
         ensures { result ≡ new_state self.resource self.identity self.readers }
     {

@@ -15,7 +15,7 @@ use otel_data::numbers::NumberValue;
 use otel_pipeline::numbers::{bits_of, is_signed};
 use std::marker::Model;
 
-/// An instrument, and the number and the sum of the records that it accepted, both modulo 2^64.
+/// An instrument, with the number and the sum of the records that it has accepted, both modulo 2^64.
 #[derive(Drop)]
 pub(crate) struct Instrument {
     sort: InstrumentSort,
@@ -33,7 +33,7 @@ impl Model for Instrument {
 }
 
 impl Instrument {
-    /// An instrument that accepted nothing yet.
+    /// Makes an instrument that has accepted nothing yet.
     pub(crate) fn new(sort: InstrumentSort) -> Instrument
         ensures { result ≡ new_state sort }
     {
@@ -44,7 +44,7 @@ impl Instrument {
         }
     }
 
-    /// Whether a value has the instrument's number type.
+    /// Checks that a value has the instrument's number type.
     pub(crate) fn check_number(&self, value: NumberValue) -> Result<(), Fault>
         ensures typed { OnOk result (is_signed_value value ≡ self.now.signed) }
         ensures fits { OnOk result (number_refusal self.now.signed (is_signed_value value) ≡ None) }
@@ -57,7 +57,7 @@ impl Instrument {
         Ok(())
     }
 
-    /// Whether the instrument takes in records, so that a handle can be bound at it.
+    /// Checks that the instrument takes in records, so that a handle can be bound at it.
     pub(crate) fn check_kind(&self) -> Result<(), Fault>
         ensures synchronous { OnOk result (is_observable self.now.kind ≡ false) }
         ensures fault { IfErr result (λ f. (f ≡ Fault.WrongKind) × (is_observable self.now.kind ≡ true)) }
@@ -68,7 +68,7 @@ impl Instrument {
         Ok(())
     }
 
-    /// Whether the instrument takes in records, and a value has its number type.
+    /// Checks that the instrument takes in records, and that a value has its number type.
     pub(crate) fn check(&self, value: NumberValue) -> Result<(), Fault>
         ensures typed { OnOk result ((number_of value).signed ≡ self.now.signed) }
         ensures fits { OnOk result (record_refusal (Some self.now) (number_of value).signed ≡ None) }
@@ -81,7 +81,7 @@ impl Instrument {
         self.check_number(value)
     }
 
-    /// Whether the instrument is observable, and a value that was observed has its number type.
+    /// Checks that the instrument is observable, and that an observed value has its number type.
     pub(crate) fn check_observed(&self, value: NumberValue) -> Result<(), Fault>
         ensures typed { OnOk result (is_signed_value value ≡ self.now.signed) }
         ensures fits { OnOk result (observation_refusal (Some self.now) (is_signed_value value) ≡ None) }

@@ -1,4 +1,4 @@
-//! The checks of an instrument's name, unit and bounds.
+//! Checks of an instrument's name, unit and bounds.
 
 ghost use Rattle.std.specs.Prelude.{◌≡◌, cond, not, Some, None};
 ghost use Rattle.std.specs.List.{list_any};
@@ -35,7 +35,7 @@ fn is_name_character(byte: u8) -> bool
     byte.is_ascii_alphanumeric() || matches!(byte, b'_' | b'.' | b'-' | b'/')
 }
 
-/// Whether the first byte is there and no ASCII letter.
+/// Whether there is a first byte and it is not an ASCII letter.
 fn starts_with_no_letter(bytes: &[u8]) -> bool
     ensures { result ≡ starts_badly bytes.now }
 {
@@ -51,10 +51,11 @@ fn has_other_character(bytes: &[u8]) -> bool
     bytes.iter().any(|byte| !is_name_character(*byte))
 }
 
-/// Tells whether a name is good: 1 to 255 bytes, of which the first is an ASCII letter and the others
-/// ASCII letters, digits, `_`, `.`, `-` or `/` (Metrics API, "Instrument name syntax").
+/// Checks that a name is good: 1 to 255 bytes, of which the first is an ASCII letter and the others are ASCII letters,
+/// digits, `_`, `.`, `-` or `/` (Metrics API, "Instrument name syntax").
 ///
-/// The first check that fails gives the error. Goes over the name once, and takes no memory.
+/// The error is `MetricError::InvalidInstrumentConfiguration`, with the text of the first check that fails. Goes over
+/// the name once, and takes no memory.
 pub fn validate_instrument_name(name: &str) -> Result<(), MetricError>
     ensures { IsAnswer (option_map name_fault_text (name_fault name.now)) result }
 {
@@ -74,10 +75,10 @@ pub fn validate_instrument_name(name: &str) -> Result<(), MetricError>
     Ok(())
 }
 
-/// Tells whether a unit is good: at most 63 bytes, all ASCII. No unit is a good one
-/// (Metrics API, "Instrument unit").
+/// Checks that a unit is good: at most 63 bytes, all ASCII (Metrics API, "Instrument unit"). `None` is good too.
 ///
-/// The first check that fails gives the error. Goes over the unit once, and takes no memory.
+/// The error is `MetricError::InvalidInstrumentConfiguration`, with the text of the first check that fails. Goes over
+/// the unit once, and takes no memory.
 pub fn validate_instrument_unit(unit: Option<&str>) -> Result<(), MetricError>
     ensures { IsAnswer (option_map unit_fault_text (optional_unit_fault (option_map (λ u. u.now) unit.entry))) result }
 {
@@ -94,8 +95,10 @@ pub fn validate_instrument_unit(unit: Option<&str>) -> Result<(), MetricError>
     Ok(())
 }
 
-/// Tells whether the bounds of a histogram's buckets are good: each is greater than the one before it. No bounds
-/// at all are good (Metrics API, "ExplicitBucketBoundaries"). Goes over them once, and takes no memory.
+/// Checks that the bounds of a histogram's buckets are good: each is greater than the one before it (Metrics API,
+/// "ExplicitBucketBoundaries"). An empty list is good too.
+///
+/// The error is `MetricError::InvalidInstrumentConfiguration`. Goes over the bounds once, and takes no memory.
 pub fn validate_bucket_boundaries(boundaries: &[i64]) -> Result<(), MetricError>
     ensures { IsAnswer (cond (rises boundaries.now) None (Some bounds_fault_text)) result }
 {

@@ -1,8 +1,7 @@
-//! Laws: a copy of a call, of a reply, of a meter or of an instrument equals its source, and no call changes a provider's
+//! Laws: a copy of a call, a reply, a meter or an instrument equals its source, and no call changes a provider's
 //! identity.
 //!
-//! These functions do nothing. A function whose contract needs the law of a copy calls the one of its
-//! type first.
+//! These functions do nothing. A function whose contract needs the law of a copy first calls the one of its type.
 
 ghost use Rattle.std.specs.Prelude.{◌≡◌, List};
 ghost use Rattle.otel_data.specs.declared.numbers.NumberValue.{NumberValue};
@@ -27,13 +26,13 @@ use otel_common::laws::{copied_attributes, copied_scope};
 use otel_data::copies::copied_collection;
 use otel_data::numbers::NumberValue;
 
-/// What a copy of an instrument's sort or of a value gives equals its source.
+/// A copy of an instrument's sort or of a value equals its source.
 pub fn copied_numbers()
     ensures sort { (x y : InstrumentSort) → ⟦<InstrumentSort as Clone>⟧.is_clone x y → y ≡ x }
     ensures value { (x y : NumberValue) → ⟦<NumberValue as Clone>⟧.is_clone x y → y ≡ x }
 {}
 
-/// What a copy of a call gives equals its source.
+/// A copy of a call equals its source.
 pub fn copied_call()
     ensures { (x y : Call) → ⟦<Call as Clone>⟧.is_clone x y → y ≡ x }
 {
@@ -43,29 +42,29 @@ pub fn copied_call()
     copied_observed();
 }
 
-/// What a copy of a reply gives equals its source.
+/// A copy of a reply equals its source.
 pub fn copied_reply()
     ensures { (x y : Reply) → ⟦<Reply as Clone>⟧.is_clone x y → y ≡ x }
 {
     copied_collection();
 }
 
-/// What a copy of a meter gives equals its source.
+/// A copy of a meter equals its source.
 pub fn copied_meter()
     ensures { (x y : Meter) → ⟦<Meter as Clone>⟧.is_clone x y → y ≡ x }
 {}
 
-/// What a copy of an instrument gives equals its source.
+/// A copy of an instrument equals its source.
 pub fn copied_instruments<K, T>()
     ensures { (x y : Synchronous K T) → ⟦<Synchronous<K, T> as Clone>⟧.is_clone x y → y ≡ x }
 {}
 
-/// What a copy of an observable instrument gives equals its source.
+/// A copy of an observable instrument equals its source.
 pub fn copied_observables<K, T>()
     ensures { (x y : Asynchronous K T) → ⟦<Asynchronous<K, T> as Clone>⟧.is_clone x y → y ≡ x }
 {}
 
-/// No call changes a provider's identity. So meters and instruments stay its own.
+/// No call changes a provider's identity, so its meters and instruments stay its own.
 #[tactic(auto, using(crate::proofs::Stepped::step_identity, crate::proofs::Stepped::run_identity))]
 pub fn keeps_identity()
     ensures step { (views : Views) (old : State) (call : model.Call) (reply : model.Reply) (new : State) → Step views old call reply new → new.shared.identity ≡ old.shared.identity }

@@ -25,16 +25,17 @@ use otel_common::faults::Fault;
 use otel_common::scopes::InstrumentationScope;
 use std::alloc::Global;
 
-/// Makes the instruments of a scope (Metrics API, "Meter"). It is the number of a meter and the identity of its
-/// provider, and so small plain data: a copy is the same meter. A meter that a provider gives once it was shut down has
-/// no number, and its instruments ignore their records.
+/// A meter, which makes the instruments of a scope (Metrics API, "Meter").
+///
+/// It is the number of a meter and the identity of its provider: small plain data, of which a copy is the same meter. A
+/// meter that a provider gives after a shutdown has no number, and its instruments ignore their records.
 #[derive(Clone, Copy, Debug)]
 pub struct Meter {
     pub(crate) identity: u64,
     pub(crate) number: Option<usize>,
 }
 
-/// The scope of a name, with nothing else.
+/// Makes the scope of a name, with nothing else.
 fn scope_named(alloc: Global, name: String) -> Result<InstrumentationScope, Fault>
     ensures scope { IfOk result (λ s. s ≡ named_scope (string_bytes name)) }
     ensures only_memory { IsOkUnless result Fault.OutOfMemory }
@@ -43,7 +44,7 @@ fn scope_named(alloc: Global, name: String) -> Result<InstrumentationScope, Faul
 }
 
 impl Meter {
-    /// A builder of a counter of `u64`: it adds values that are never negative. Takes no memory.
+    /// Returns a builder of a counter of `u64`, which adds values that are never negative. Takes no memory.
     pub fn u64_counter(&self, name: String) -> InstrumentBuilder<CounterKind, u64>
         ensures meter { meter_of result ≡ self.now }
         ensures about { about_of result ≡ about InstrumentSort.U64Counter (string_bytes name) None None None }
@@ -51,7 +52,7 @@ impl Meter {
         InstrumentBuilder::new(*self, InstrumentSort::U64Counter, name)
     }
 
-    /// A builder of a counter of `i64`: it adds values of either sign. Takes no memory.
+    /// Returns a builder of a counter of `i64`, which adds values of either sign. Takes no memory.
     pub fn i64_up_down_counter(&self, name: String) -> InstrumentBuilder<UpDownCounterKind, i64>
         ensures meter { meter_of result ≡ self.now }
         ensures about { about_of result ≡ about InstrumentSort.I64UpDownCounter (string_bytes name) None None None }
@@ -59,7 +60,7 @@ impl Meter {
         InstrumentBuilder::new(*self, InstrumentSort::I64UpDownCounter, name)
     }
 
-    /// A builder of a gauge of `u64`: it keeps the last value. Takes no memory.
+    /// Returns a builder of a gauge of `u64`, which keeps the last value. Takes no memory.
     pub fn u64_gauge(&self, name: String) -> InstrumentBuilder<GaugeKind, u64>
         ensures meter { meter_of result ≡ self.now }
         ensures about { about_of result ≡ about InstrumentSort.U64Gauge (string_bytes name) None None None }
@@ -67,7 +68,7 @@ impl Meter {
         InstrumentBuilder::new(*self, InstrumentSort::U64Gauge, name)
     }
 
-    /// A builder of a gauge of `i64`: it keeps the last value. Takes no memory.
+    /// Returns a builder of a gauge of `i64`, which keeps the last value. Takes no memory.
     pub fn i64_gauge(&self, name: String) -> InstrumentBuilder<GaugeKind, i64>
         ensures meter { meter_of result ≡ self.now }
         ensures about { about_of result ≡ about InstrumentSort.I64Gauge (string_bytes name) None None None }
@@ -75,7 +76,7 @@ impl Meter {
         InstrumentBuilder::new(*self, InstrumentSort::I64Gauge, name)
     }
 
-    /// A builder of a histogram of `u64`: it tells how values spread. Takes no memory.
+    /// Returns a builder of a histogram of `u64`, which tells how values are distributed. Takes no memory.
     pub fn u64_histogram(&self, name: String) -> HistogramBuilder<u64>
         ensures meter { meter_of result ≡ self.now }
         ensures about { about_of result ≡ about InstrumentSort.U64Histogram (string_bytes name) None None None }
@@ -83,7 +84,8 @@ impl Meter {
         InstrumentBuilder::new(*self, InstrumentSort::U64Histogram, name)
     }
 
-    /// A builder of an observable counter of `u64`: callbacks observe totals that never fall. Takes no memory.
+    /// Returns a builder of an observable counter of `u64`, whose callbacks observe totals that never fall. Takes no
+    /// memory.
     pub fn u64_observable_counter<P: Parts>(
         &self,
         name: String,
@@ -95,7 +97,7 @@ impl Meter {
         AsyncInstrumentBuilder::new(*self, InstrumentSort::U64ObservableCounter, name)
     }
 
-    /// A builder of an observable counter of `i64`: callbacks observe totals. Takes no memory.
+    /// Returns a builder of an observable counter of `i64`, whose callbacks observe totals. Takes no memory.
     pub fn i64_observable_up_down_counter<P: Parts>(
         &self,
         name: String,
@@ -107,7 +109,8 @@ impl Meter {
         AsyncInstrumentBuilder::new(*self, InstrumentSort::I64ObservableUpDownCounter, name)
     }
 
-    /// A builder of an observable gauge of `u64`: callbacks observe values that don't add up. Takes no memory.
+    /// Returns a builder of an observable gauge of `u64`, whose callbacks observe values that don't add up. Takes no
+    /// memory.
     pub fn u64_observable_gauge<P: Parts>(
         &self,
         name: String,
@@ -119,7 +122,8 @@ impl Meter {
         AsyncInstrumentBuilder::new(*self, InstrumentSort::U64ObservableGauge, name)
     }
 
-    /// A builder of an observable gauge of `i64`: callbacks observe values that don't add up. Takes no memory.
+    /// Returns a builder of an observable gauge of `i64`, whose callbacks observe values that don't add up. Takes no
+    /// memory.
     pub fn i64_observable_gauge<P: Parts>(
         &self,
         name: String,
@@ -133,11 +137,11 @@ impl Meter {
 }
 
 impl<P: Parts> Provider<P> {
-    /// The meter of a scope (Metrics API, "Get a Meter"). Equal scopes have one meter. It is what `step` does with
-    /// `Call::Meter`.
+    /// Returns the meter of a scope (Metrics API, "Get a Meter"), as `step` does with `Call::Meter`. Equal scopes have
+    /// one meter.
     ///
-    /// Looks the scope up. A new one is copied and added; one that is known takes no memory. Refused only for want of
-    /// memory; then nothing changed.
+    /// Looks up the scope. A new one is copied and added; a known one takes no memory. Refused only for want of memory;
+    /// then nothing changes.
     pub fn meter_with_scope(&mut self, scope: InstrumentationScope) -> Result<Meter, Fault>
         ensures step { Step (views_of P.View.answer self.old) (state_of self.old) (model.Call.Meter scope) (meter_reply result) (state_of self.new) }
         ensures own { IfOk result (λ m. IsMeterOf m self.new) }
@@ -157,8 +161,10 @@ impl<P: Parts> Provider<P> {
         }
     }
 
-    /// The meter of the scope of a name, which has no version, no schema URL and no attributes. An empty name is one
-    /// as any other. As `meter_with_scope`, but that it takes memory for the scope.
+    /// Returns the meter of the scope that has this name and no version, schema URL or attributes. The empty name is a
+    /// name like any other.
+    ///
+    /// The same as `meter_with_scope`, except that it also takes memory for the scope.
     pub fn meter(&mut self, name: &str) -> Result<Meter, Fault>
         ensures step { Step (views_of P.View.answer self.old) (state_of self.old) (model.Call.Meter (named_scope name.now)) (meter_reply result) (state_of self.new) }
         ensures own { IfOk result (λ m. IsMeterOf m self.new) }

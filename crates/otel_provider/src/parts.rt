@@ -1,13 +1,13 @@
-//! What a provider is made of beside its own state: the types of its views, readers and callbacks.
+//! What a provider is made of besides its own state: the types of its views, readers and callbacks.
 //!
-//! A provider is generic over one bundle of such types, so that functions of other crates can take it, return it and
-//! keep it. With `Boxed` views, readers and callbacks are boxes, and may differ in type.
+//! A provider is generic over a single bundle of these types, so that functions of other crates can take it, return it
+//! and keep it. With `Boxed`, views, readers and callbacks are boxes, and may differ in type.
 
 use otel_callback::callback::{ObserveI64, ObserveU64};
 use otel_stream::reader::MetricReader;
 use otel_stream::view::View;
 
-/// The types of a provider's parts. Whatever has one of each of the four parts has it.
+/// The types of a provider's parts. A type that has each of the four parts below implements this trait.
 pub trait Parts {
     /// The views of the provider.
     type View: View;
@@ -56,7 +56,7 @@ impl<B: ViewPart + ReaderPart + ObserveU64Part + ObserveI64Part> Parts for B {
     type ObserveI64 = <B as ObserveI64Part>::ObserveI64;
 }
 
-/// Parts in boxes.
+/// Parts in boxes, so that views, readers and callbacks may be of any type.
 pub struct Boxed;
 
 impl ViewPart for Boxed {

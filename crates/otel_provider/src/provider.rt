@@ -34,7 +34,7 @@ use otel_stream::reader::MetricReader;
 use std::alloc::Global;
 use std::time::Duration;
 
-/// Makes a provider: it takes in the readers (Metrics SDK, "MeterProvider Creation").
+/// Makes a provider, from a resource, readers and views (Metrics SDK, "MeterProvider Creation").
 #[derive(Drop)]
 pub struct ProviderBuilder<P: Parts> {
     core: FreshCore,
@@ -42,8 +42,8 @@ pub struct ProviderBuilder<P: Parts> {
     readers: Vec<P::Reader>,
 }
 
-/// A provider of meters: it makes instruments, takes in their records and hands out collections
-/// (Metrics SDK, "MeterProvider").
+/// A provider of meters, which makes instruments, takes in their records and hands out collections (Metrics SDK,
+/// "MeterProvider").
 #[derive(Drop)]
 pub struct Provider<P: Parts> {
     pub(crate) core: BalancedCore,
@@ -52,14 +52,15 @@ pub struct Provider<P: Parts> {
     pub(crate) callbacks: Vec<Registered<P::ObserveU64, P::ObserveI64>>,
 }
 
-/// A provider whose readers are boxes.
+/// A provider whose views, readers and callbacks are boxes.
 pub type SdkMeterProvider = Provider<Boxed>;
 
-/// Makes a provider whose readers are boxes.
+/// Makes a provider whose views, readers and callbacks are boxes.
 pub type MeterProviderBuilder = ProviderBuilder<Boxed>;
 
 impl<P: Parts> ProviderBuilder<P> {
-    /// What `SdkMeterProvider::builder` gives: the empty resource, the identity 0, and no readers. Takes no memory.
+    /// Makes the builder that `Provider::builder` makes: with the empty resource and the identity 0, and without
+    /// readers. Takes no memory.
     pub fn default(alloc: Global) -> ProviderBuilder<P>
         ensures answers { answers_of_readers result ≡ [] }
         ensures resource { resource_of result ≡ empty_resource }
@@ -71,9 +72,9 @@ impl<P: Parts> ProviderBuilder<P> {
     }
 
     /// Merges the resource with another one, whose values win (Resource SDK, "Merge"; Metrics SDK, "MeterProvider
-    /// Creation"). Each collection has what came of it.
+    /// Creation"). Each collection has the result.
     ///
-    /// Copies no attribute. Refused only for want of memory; then the builder is given up.
+    /// Copies no attribute. Refused only for want of memory; then the builder is dropped.
     pub fn with_resource(self, resource: Resource) -> Result<Self, Fault>
         ensures answers { IfOk result (λ b. answers_of_readers b ≡ answers_of_readers self) }
         ensures resource { IfOk result (λ b. resource_of b ≡ merged_resource (resource_of self) resource) }
@@ -96,9 +97,9 @@ impl<P: Parts> ProviderBuilder<P> {
     }
 
     /// Adds the reader, and asks it once for the temporality, the limit and the aggregation that it wants for each kind
-    /// of instrument. What it answers is kept. Readers are numbered from 0, in order of adding.
+    /// of instrument. Its answers are kept. Readers are numbered from 0, in the order in which they were added.
     ///
-    /// Refused only for want of memory; then the builder is given up. Takes memory three times at most, and once for
+    /// Refused only for want of memory; then the builder is dropped. Takes memory at most three times, and once for
     /// each histogram that the reader wants.
     pub fn with_reader(self, reader: P::Reader) -> Result<Self, Fault>
         ensures answers { IfOk result (λ b. (answers : ReaderAnswers) × IsAnsweredBy (P.Reader.preference reader) (P.Reader.limit reader) (P.Reader.aggregation reader) answers × (answers_of_readers b ≡ answers_of_readers self ++ answers ∷ [])) }
@@ -122,7 +123,8 @@ impl<P: Parts> ProviderBuilder<P> {
         })
     }
 
-    /// Adds a view. Views are asked in order of adding. Refused only for want of memory; then the builder is given up.
+    /// Adds a view. Views are asked in the order in which they were added. Refused only for want of memory; then the
+    /// builder is dropped.
     pub fn with_view(self, view: P::View) -> Result<Self, Fault>
         ensures answers { IfOk result (λ b. answers_of_readers b ≡ answers_of_readers self) }
         ensures resource { IfOk result (λ b. resource_of b ≡ resource_of self) }
@@ -144,8 +146,8 @@ impl<P: Parts> ProviderBuilder<P> {
         })
     }
 
-    /// The identity of the provider, by which it knows the meters and instruments that it handed out as values; 0 if
-    /// none is given. Two providers of one identity aren't told apart. Takes no memory.
+    /// Sets the identity of the provider, by which it knows the meters, instruments and handles that it gave as values;
+    /// 0 if none is set. Providers of one identity aren't told apart. Takes no memory.
     pub fn with_identity(self, identity: u64) -> Self
         ensures answers { answers_of_readers result ≡ answers_of_readers self }
         ensures resource { resource_of result ≡ resource_of self }
@@ -165,9 +167,10 @@ impl<P: Parts> ProviderBuilder<P> {
         }
     }
 
-    /// The seed of the hashes by which the provider finds sets of attributes; without one it is fixed. Where clients
-    /// choose attributes, take it from a source that they can't know: then they can't make attributes that collide, which
-    /// slow records down. Nothing else depends on it. Takes no memory.
+    /// Sets the seed of the hashes by which the provider finds sets of attributes; without one it is fixed.
+    ///
+    /// If clients choose attributes, take it from a source that they can't know, so that they can't make attributes
+    /// that collide and slow records down. Nothing else depends on it. Takes no memory.
     pub fn with_hash_seed(self, seed: u64) -> Self
         ensures answers { answers_of_readers result ≡ answers_of_readers self }
         ensures resource { resource_of result ≡ resource_of self }
@@ -187,8 +190,8 @@ impl<P: Parts> ProviderBuilder<P> {
         }
     }
 
-    /// The provider, without meters and instruments, and with the resource, the identity and the readers of the
-    /// builder. It always succeeds, and takes no memory.
+    /// Makes the provider, with the resource, the identity and the readers of the builder, and without meters and
+    /// instruments. Always succeeds, and takes no memory.
     pub fn build(self) -> Result<Provider<P>, Fault>
         ensures state { IsOkAnd result (λ p. state_of p ≡ new_state (resource_of self) (identity_of_builder self) (answers_of_readers self)) }
         ensures kept { IfOk result (λ p. provider_readers p ≡ builder_readers self) }
@@ -212,7 +215,7 @@ impl<P: Parts> ProviderBuilder<P> {
 }
 
 impl<P: Parts> Provider<P> {
-    /// A builder of a provider with the empty resource and the identity 0, and without readers. Takes no memory.
+    /// Makes a builder of a provider with the empty resource and the identity 0, and without readers. Takes no memory.
     pub fn builder(alloc: Global) -> ProviderBuilder<P>
         ensures answers { answers_of_readers result ≡ [] }
         ensures resource { resource_of result ≡ empty_resource }
@@ -227,7 +230,7 @@ impl<P: Parts> Provider<P> {
         }
     }
 
-    /// A provider with the empty resource and the identity 0, and without readers. Takes no memory.
+    /// Makes a provider with the empty resource and the identity 0, and without readers. Takes no memory.
     pub fn default(alloc: Global) -> Provider<P>
         ensures state { state_of result ≡ new_state empty_resource 0 [] }
         ensures kept { provider_readers result ≡ [] }
@@ -248,34 +251,42 @@ impl<P: Parts> Provider<P> {
         }
     }
 
-    /// One call, and its reply. A call that is refused changes nothing, but for a flush and a shutdown in which readers
-    /// failed; `OutOfMemory` only comes where no other fault stands.
+    /// Makes one call and returns its reply.
     ///
-    /// - `Meter` looks the scope up. A new one is copied and added; one that is known takes no memory. After a shutdown
-    ///   there is no meter.
+    /// A refused call changes nothing, except for a flush or a shutdown in which readers failed. `OutOfMemory` only
+    /// comes if there is no other fault.
+    ///
+    /// - `Meter` looks up the scope. A new one is copied and added; a known one takes no memory. After a shutdown there
+    ///   is no meter.
     /// - `Build` goes over name, unit and bounds once to check them. It asks each view once, for which it copies scope
-    ///   and texts. At each reader it copies scope, texts and bounds for each stream that is demanded, and looks up its
-    ///   identity. It is made at all readers or at none.
-    /// - `Record` looks what a stream keeps of the attributes up in each stream that the instrument feeds, once
-    ///   and without memory where that is sorted by key, no key twice, and has a point there. Else it sorts a
-    ///   copy and looks that up, and a new set takes memory besides. Without attributes there is no look-up, and
-    ///   the call is never refused for memory. A histogram finds the value's bucket by halving its bounds. A
-    ///   record is made in all streams or in none.
-    /// - `Bind` looks the attributes up in each stream as a record does, holds a place there, and takes memory for the
+    ///   and texts. At each reader, for each stream that is demanded, it copies scope, texts, keys and bounds, and
+    ///   looks up the identity. It is made at all readers or at none.
+    /// - `Record` looks up, in each stream that the instrument feeds, what the stream keeps of the attributes, in the
+    ///   order given. One look-up is enough if that is sorted by key, has no key twice and has an entry; two are enough
+    ///   if it is in the order that first brought its set. Neither takes memory. Otherwise a copy is sorted and looked
+    ///   up, and a new set takes more memory. Without attributes there is no look-up, and the call is never refused for
+    ///   want of memory. A histogram finds the value's bucket by a binary search of its bounds. A record is made in all
+    ///   streams or in none.
+    /// - `Bind` looks up the attributes in each stream as a record does, holds a place there, and takes memory for the
     ///   number of the handle in each stream and in the provider. It is made in all streams or in none.
-    /// - `RecordBound` and `Unbind` look nothing up but the handle, once in the provider and once in each stream that its
-    ///   instrument feeds. They take no memory.
-    /// - `Collect` looks at each observation, in order, before it changes anything. Each goes to the streams of this
-    ///   reader that its instrument feeds, as a record does; for want of memory all are undone. Then it goes once over the
-    ///   reader's streams, their points and the meters. It copies the resource, and of what is shown scopes, texts and
-    ///   sets, and a histogram's bounds and counts. Then the streams whose reader wants `Delta` start again, which takes
-    ///   no memory; nothing else changes, and other readers' streams never. After a shutdown it is refused.
-    /// - `Flush` and `Shutdown` ask each reader once, in order, also after one that failed. Where readers failed they are
-    ///   refused with how many did and the first of them; such a shutdown has shut the provider down too. After a
-    ///   shutdown they are refused, and ask none. They take no memory beside what readers take.
+    /// - `RecordBound` looks up only the handle, once in the provider and once in each stream that its instrument
+    ///   feeds. It takes no memory.
+    /// - `Unbind` looks up only the handle, in the provider and in each stream that its instrument feeds, and goes over
+    ///   the handles bound after it there. It takes no memory.
+    /// - `Collect` checks each observation, in order, before it changes anything. Each goes to the streams of this
+    ///   reader that its instrument feeds, as a record does; the entries of these streams are copied first, so that all
+    ///   is undone if memory runs out. Then it goes once over the reader's streams, their points and the meters. It
+    ///   copies the resource, the scopes, texts and sets of what is shown, and the bounds and counts of histograms.
+    ///   Then the streams whose reader wants `Delta` and the last values of observable gauges start again, and observed
+    ///   sums are emptied, which takes no memory. Nothing else changes; other readers' streams never do. After a
+    ///   shutdown it is refused.
+    /// - `Flush` and `Shutdown` ask each reader once, in order, including those after one that failed. If readers
+    ///   failed, they are refused with how many did and the number of the first; such a shutdown has shut the provider
+    ///   down all the same. After a shutdown they are refused, and ask no reader. They take no memory beyond what
+    ///   readers take.
     ///
-    /// `known` says when a record with attributes takes no memory. `reached` says what became of the readers: a flush
-    /// and a shutdown ask them, any other call leaves them.
+    /// `known` says when a record with attributes takes no memory. `reached` says what becomes of the readers: a flush
+    /// and a shutdown ask them, any other call leaves them as they were.
     pub fn step(&mut self, call: &Call) -> Reply
         ensures step { Step (views_of P.View.answer self.old) (state_of self.old) (call_of call.now) (reply_of result) (state_of self.new) }
         ensures known { IsKnown (state_of self.old) (call_of call.now) → HasMemory result }
@@ -289,16 +300,16 @@ impl<P: Parts> Provider<P> {
         self.core.step(&self.views, &mut self.readers, call)
     }
 
-    /// Makes a collection of a reader at a moment, in nanoseconds since 1970, and puts it in the place of whatever
-    /// `metrics` held (Metrics SDK, "Collect").
+    /// Makes a collection of a reader at a moment, in nanoseconds since 1970, and puts it into `metrics`, in place of
+    /// what that held (Metrics SDK, "Collect").
     ///
     /// Runs each callback once, on an empty list, in the order in which their instruments were built, up to the first
-    /// that answers a fault. Then it is the same as a step by `Call::Collect` with all that was observed: that goes to
-    /// the streams of this reader alone. Costs what the step and the callbacks do.
+    /// that answers a fault. The rest is what `step` does with `Call::Collect` and all that was observed, which goes to
+    /// the streams of this reader alone. Costs as much as that step and the callbacks.
     ///
-    /// Refused where no reader has this number and where the provider was shut down, and then no callback runs; with the
-    /// fault of a callback; where a callback observed another instrument's number type; and for want of memory. Then
-    /// nothing changed but what callbacks did to themselves, and `metrics` holds what it held.
+    /// Refused if no reader has this number or the provider was shut down, and then no callback runs; with the fault of
+    /// a callback; if a callback observed values of another number type than its instrument's; and for want of memory.
+    /// Then nothing has changed except what callbacks did to themselves, and `metrics` holds what it held before.
     pub fn collect(
         &mut self,
         reader: usize,
@@ -328,11 +339,11 @@ impl<P: Parts> Provider<P> {
         }
     }
 
-    /// Asks each reader to flush, in order, also after one that failed (Metrics SDK, "ForceFlush"). The same as a step
-    /// by `Call::Flush`.
+    /// Asks each reader to flush, in order, including those after one that failed (Metrics SDK, "ForceFlush"). The same
+    /// as `step` with `Call::Flush`.
     ///
-    /// Refused where the provider was shut down, and then no reader is asked; and where readers failed, with how many did
-    /// and the number of the first. Takes no memory beside what readers take.
+    /// Refused if the provider was shut down, and then no reader is asked; and if readers failed, with how many did and
+    /// the number of the first. Takes no memory beyond what readers take.
     pub fn force_flush(&mut self) -> OTelSdkResult
         ensures step { Step (views_of P.View.answer self.old) (state_of self.old) model.Call.Flush (reply_to result) (state_of self.new) }
         ensures asked { AreReached P.Reader.flushes (state_of self.old).shared.shut (provider_readers self.old) (provider_readers self.new) result }
@@ -346,12 +357,12 @@ impl<P: Parts> Provider<P> {
         self.core.force_flush(&mut self.readers)
     }
 
-    /// Shuts the provider down and asks each reader to shut down, in order, also after one that failed (Metrics SDK,
-    /// "Shutdown"). The same as a step by `Call::Shutdown`.
+    /// Shuts the provider down and asks each reader to shut down, in order, including those after one that failed
+    /// (Metrics SDK, "Shutdown"). The same as `step` with `Call::Shutdown`.
     ///
-    /// Refused where the provider was shut down before, and then no reader is asked; and where readers failed, with how
-    /// many did and the number of the first: then too the provider is shut down. Takes no memory beside what readers
-    /// take.
+    /// Refused if the provider was shut down before, and then no reader is asked; and if readers failed, with how many
+    /// did and the number of the first, and then the provider is shut down all the same. Takes no memory beyond what
+    /// readers take.
     pub fn shutdown(&mut self) -> OTelSdkResult
         ensures step { Step (views_of P.View.answer self.old) (state_of self.old) model.Call.Shutdown (reply_to result) (state_of self.new) }
         ensures asked { AreReached (ShutsDown P.Reader.shuts) (state_of self.old).shared.shut (provider_readers self.old) (provider_readers self.new) result }
@@ -365,7 +376,7 @@ impl<P: Parts> Provider<P> {
         self.core.shutdown(&mut self.readers)
     }
 
-    /// The same as `shutdown`: the timeout is ignored, and each reader is asked to shut down with its own.
+    /// Does the same as `shutdown`. The timeout is ignored: each reader is asked to shut down with its own.
     pub fn shutdown_with_timeout(&mut self, timeout: Duration) -> OTelSdkResult
         ensures step { Step (views_of P.View.answer self.old) (state_of self.old) model.Call.Shutdown (reply_to result) (state_of self.new) }
         ensures asked { AreReached (ShutsDown P.Reader.shuts) (state_of self.old).shared.shut (provider_readers self.old) (provider_readers self.new) result }
@@ -380,14 +391,14 @@ impl<P: Parts> Provider<P> {
         self.shutdown()
     }
 
-    /// A list of calls, one after another, with the reply to each. It costs what its calls do as steps.
+    /// Makes the calls of a list, one after another, and returns the reply to each. Costs what its calls cost as steps.
     ///
-    /// Room for the replies is made first, in one piece. So where this answers `OutOfMemory` no call was
-    /// made, and else each call has its reply, also where it was refused.
+    /// Room for the replies is made first, in one piece. So if this answers `OutOfMemory`, no call was made; otherwise
+    /// each call has its reply, even if it was refused.
     ///
-    /// `run` says what is done, call by call, and `reached` what becomes of the readers; where no call asks them they are
-    /// as before (`unasked`). `order` says, for any provider, that with another order of a
-    /// record's attributes the same replies and state are right. The clauses from `streams` on say, for a
+    /// `run` says what is done, call by call, and `reached` what becomes of the readers; if no call asks them, they
+    /// stay as they were (`unasked`). `order` says, for any provider, that with the attributes of a record in another
+    /// order, where no key stands twice, the same replies and state are right. The clauses from `streams` on say, for a
     /// provider as `build` gave it, what can be read off the calls and replies alone.
     pub fn run(&mut self, alloc: Global, calls: &[Call]) -> Result<Vec<Reply>, Fault>
         ensures run { IfOk result (λ replies. Run (views_of P.View.answer self.old) (state_of self.old) (map call_of calls.now) (map reply_of replies.items) (state_of self.new)) }

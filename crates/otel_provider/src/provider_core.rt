@@ -1,4 +1,4 @@
-//! The state of a provider: all of it that is no boxed object.
+//! The state of a provider: everything but its views, readers and callbacks.
 
 ghost use Rattle.std.specs.Prelude.{◌≡◌, ◌<◌, ◌-◌, ◌^◌, ◌∷◌, ◌++◌, [], Option, All, cond, length, map, slice_get, Some, None, true, false, OnOk, OnErr, IfOk, IfErr, IsOk, IsOkUnless, MatchResult};
 ghost use Rattle.std.specs.Option.{option_map};
@@ -55,8 +55,8 @@ use otel_value_map::hashing::SetHashBuilder;
 use std::alloc::Global;
 use std::marker::Model;
 
-/// Whether the provider was shut down, the resource, the identity, the meters, the instruments, and the streams of each
-/// reader.
+/// Whether the provider was shut down, its resource, identity, meters, instruments and live handles, and the streams of
+/// each reader.
 #[derive(Drop)]
 pub struct Core {
     alloc: Global,
@@ -86,7 +86,7 @@ impl Model for Core {
     ghost invariant = { λ c. AreTyped c.instruments.items (map part_of c.pipelines.items) };
 }
 
-/// Whether the bounds of an instrument are good: those of a histogram alone are looked at.
+/// Whether the bounds of an instrument are good. Only those of a histogram are checked.
 fn has_good_bounds(about: &About<'_>) -> bool
     ensures { result ≡ are_good_bounds about.now.kind about.now.bounds }
 {
@@ -111,7 +111,7 @@ fn is_good(about: &About<'_>) -> bool
         && has_good_bounds(about)
 }
 
-/// A copy of a scope.
+/// Copies a scope.
 fn copy_scope(scope: &InstrumentationScope) -> Result<InstrumentationScope, Fault>
     ensures copy { IfOk result (λ s. s ≡ scope.now) }
     ensures only_memory { IsOkUnless result Fault.OutOfMemory }
@@ -120,7 +120,7 @@ fn copy_scope(scope: &InstrumentationScope) -> Result<InstrumentationScope, Faul
     Ok(scope.clone()?)
 }
 
-/// The scope of the meter that a build names; without a meter there is none.
+/// Returns the scope of the meter that a build names, or none if it names no meter.
 fn scope_of(
     meters: &IndexSet<InstrumentationScope>,
     meter: Option<usize>,
@@ -136,7 +136,7 @@ fn scope_of(
     }
 }
 
-/// The scope, unless the name, the unit or the bounds of the instrument are bad.
+/// Returns the scope, or none if the name, the unit or the bounds of the instrument are bad.
 fn good_scope<'a>(
     scope: Option<&'a InstrumentationScope>,
     about: &About<'_>,
@@ -146,7 +146,7 @@ fn good_scope<'a>(
     if is_good(about) { scope } else { None }
 }
 
-/// Whether there is an instrument of this number that takes in records, and a value has its number type.
+/// Checks that there is an instrument of this number that takes in records, and that a value has its number type.
 fn check_value(
     instruments: &[Instrument],
     instrument: usize,
@@ -163,7 +163,7 @@ fn check_value(
     }
 }
 
-/// Whether there is an observable instrument of the number that is said, and the value has its number type.
+/// Checks that an observation is of an existing observable instrument and has its number type.
 fn check_observation(instruments: &[Instrument], observed: &Observed) -> Result<(), Fault>
     ensures taken { OnOk result (IsTaken instruments.now observed.now) }
     ensures fits { OnOk result (observation_refusal (slice_get instruments.now observed.now.instrument) (is_signed_value observed.now.value) ≡ None) }
@@ -176,7 +176,7 @@ fn check_observation(instruments: &[Instrument], observed: &Observed) -> Result<
     }
 }
 
-/// Whether there is an instrument of this number at which a handle can be bound, and a number for one after so many.
+/// Checks that a handle can be bound at the instrument of this number, and that a number is left after `next` handles.
 fn check_bind(instruments: &[Instrument], instrument: usize, next: u64) -> Result<(), Fault>
     ensures bindable { OnOk result (IsBindable instruments.now instrument) }
     ensures fits { OnOk result (bind_refusal next (slice_get instruments.now instrument) ≡ None) }
@@ -196,7 +196,7 @@ fn check_bind(instruments: &[Instrument], instrument: usize, next: u64) -> Resul
     Ok(())
 }
 
-/// Whether a value has the number type of a handle's instrument.
+/// Checks that a value has the number type of a handle's instrument.
 fn check_held(
     instruments: &[Instrument],
     instrument: usize,
@@ -213,7 +213,7 @@ fn check_held(
     }
 }
 
-/// Whether all observations are good; else the fault of the first bad one. Takes no memory.
+/// Checks that all observations are good, or returns the fault of the first bad one. Takes no memory.
 fn check_observations(instruments: &[Instrument], observations: &[Observed]) -> Result<(), Fault>
     ensures taken { OnOk result (All (IsTaken instruments.now) observations.now) }
     ensures fits { OnOk result (observations_refusal instruments.now (map observed_of observations.now) ≡ None) }
@@ -228,7 +228,7 @@ fn check_observations(instruments: &[Instrument], observations: &[Observed]) -> 
     Ok(())
 }
 
-/// Makes an instrument, of which each view answered this, at all readers or at none. Without a scope it demands nothing.
+/// Makes an instrument at all readers or at none, given each view's answer. Without a scope it demands no stream.
 fn make(
     instruments: &mut Vec<Instrument>,
     pipelines: &mut [Pipeline],
@@ -255,7 +255,7 @@ fn make(
     Ok(number)
 }
 
-/// The reply to a flush or a shutdown that is answered like this.
+/// Turns the answer to a flush or a shutdown into a reply.
 fn replied(answer: OTelSdkResult) -> Reply
     ensures { reply_of result ≡ reply_to answer }
 {
@@ -266,7 +266,7 @@ fn replied(answer: OTelSdkResult) -> Reply
 }
 
 impl Core {
-    /// The empty resource, the identity 0, no meters, no instruments and no readers. Takes no memory.
+    /// Makes a core with the empty resource, the identity 0, no meters, instruments or readers. Takes no memory.
     pub(crate) fn new(alloc: Global) -> Core
         ensures { result ≡ new_state empty_resource 0 [] }
     {
@@ -285,12 +285,12 @@ impl Core {
         }
     }
 
-    /// The allocator.
+    /// Returns the allocator.
     pub(crate) fn allocator(&self) -> Global {
         self.alloc
     }
 
-    /// The resource merged with another one, whose values win.
+    /// Merges the resource with another one, whose values win.
     pub(crate) fn with_resource(self, resource: Resource) -> Result<Core, Fault>
         ensures resource { IfOk result (λ core. core ≡ record { shared = record self.shared { resource = merged_resource self.shared.resource resource }; readers = self.readers }) }
         ensures only_memory { IsOkUnless result Fault.OutOfMemory }
@@ -322,14 +322,14 @@ impl Core {
         })
     }
 
-    /// The identity.
+    /// Returns the identity.
     pub(crate) fn identity(&self) -> u64
         ensures { result ≡ self.now.shared.identity }
     {
         self.identity
     }
 
-    /// With this identity.
+    /// Sets the identity.
     pub(crate) fn with_identity(self, identity: u64) -> Core
         ensures { result ≡ record { shared = record self.shared { identity = identity }; readers = self.readers } }
     {
@@ -338,8 +338,8 @@ impl Core {
         core
     }
 
-    /// With this seed of all hashes of sets, which nothing shows. The map of handles, whose keys are the provider's own,
-    /// keeps its seed.
+    /// Sets the seed of all hashes of sets, on which no result depends. The map of handles keeps its own seed, since
+    /// its keys are the provider's own.
     pub(crate) fn with_hash_seed(self, seed: u64) -> Core
         ensures { result ≡ self }
     {
@@ -350,7 +350,7 @@ impl Core {
         core
     }
 
-    /// A reader more, without streams, which answered this.
+    /// Adds a reader that gave these answers, without streams.
     pub(crate) fn with_reader(self, answers: Answers) -> Result<Core, Fault>
         requires { self.shared.instruments ≡ [] }
         ensures reader { IfOk result (λ core. core ≡ record { shared = self.shared; readers = self.readers ++ new_part answers ∷ [] }) }
@@ -362,7 +362,7 @@ impl Core {
         Ok(core)
     }
 
-    /// The number of the meter of a scope, which is new if there was none, while the provider is not shut down.
+    /// Returns the number of the meter of a scope, adding one if there is none. The provider must not be shut down.
     fn meter(&mut self, scope: &InstrumentationScope) -> Result<usize, Fault>
         requires { self.old.shared.shut ≡ false }
         ensures ok { IfOk result (λ n. (views : Views) → IsMade views self.old (model.Call.Meter scope.now) (model.Reply.Meter (Some n)) self.new) }
@@ -377,7 +377,7 @@ impl Core {
         Ok(number)
     }
 
-    /// Tells whether a build of a meter of this number is refused but for memory.
+    /// Checks that a build of the meter of this number is refused for nothing but want of memory.
     pub(crate) fn check_meter(&self, meter: Option<usize>) -> Result<(), Fault>
         ensures ok { OnOk result (meter_refusal self.now.shared meter ≡ None) }
         ensures fault { IfErr result (λ f. (f ≡ Fault.UnknownMeter) × (meter_refusal self.now.shared meter ≡ Some model.Fault.UnknownMeter)) }
@@ -395,7 +395,7 @@ impl Core {
         any_stream(&self.pipelines, instrument)
     }
 
-    /// Tells whether a collection of this reader is refused before anything observed is looked at.
+    /// Checks that a collection of this reader is not refused before what was observed is checked.
     pub(crate) fn check_collection(&self, reader: usize) -> Result<(), Fault>
         ensures ok { OnOk result (collect_refusal self.now reader ≡ None) }
         ensures fault { IfErr result (λ f. collect_refusal self.now reader ≡ Some (fault_of f)) }
@@ -462,7 +462,7 @@ impl Core {
         Ok(())
     }
 
-    /// Binds a handle at an instrument, in all the streams that it feeds or in none, and tells its number.
+    /// Binds a handle at an instrument, in all the streams that it feeds or in none, and returns its number.
     pub(crate) fn bind(&mut self, instrument: usize, attributes: &[KeyValue]) -> Result<u64, Fault>
         requires { IsLawful self.old }
         ensures ok { IfOk result (λ h. (views : Views) → IsMade views self.old (model.Call.Bind instrument attributes.now) (model.Reply.Handle h) self.new) }
@@ -480,7 +480,7 @@ impl Core {
         Ok(handle)
     }
 
-    /// Records a value through a handle, in all the streams that its instrument feeds. It takes no memory.
+    /// Records a value through a handle, in all the streams that its instrument feeds. Takes no memory.
     pub(crate) fn record_bound(&mut self, handle: u64, value: NumberValue) -> Result<(), Fault>
         requires { IsLawful self.old }
         ensures ok { OnOk result ((views : Views) → IsMade views self.old (model.Call.RecordBound handle (number_of value)) model.Reply.Done self.new) }
@@ -500,7 +500,7 @@ impl Core {
         Ok(())
     }
 
-    /// Ends a handle, in all the streams that its instrument feeds. It takes no memory.
+    /// Ends a handle, in all the streams that its instrument feeds. Takes no memory.
     pub(crate) fn unbind(&mut self, handle: u64) -> Result<(), Fault>
         requires { IsLawful self.old }
         ensures ok { OnOk result ((views : Views) → IsMade views self.old (model.Call.Unbind handle) model.Reply.Done self.new) }
@@ -517,7 +517,7 @@ impl Core {
         Ok(())
     }
 
-    /// Makes a collection of a reader at a moment, with what was observed, while the provider is not shut down.
+    /// Makes a collection of a reader at a moment, with what was observed. The provider must not be shut down.
     fn collect(
         &mut self,
         reader: usize,
@@ -565,7 +565,7 @@ impl Core {
         shut_all(readers)
     }
 
-    /// The number of the meter of a scope, which is new if there was none; none after a shutdown.
+    /// Returns the number of the meter of a scope, adding one if there is none; after a shutdown there is no meter.
     pub(crate) fn meter_unless_shut(
         &mut self,
         scope: &InstrumentationScope,
@@ -584,6 +584,7 @@ impl Core {
         }
     }
 
+    #[inline(never)]
     fn step_meter(&mut self, scope: &InstrumentationScope) -> Reply
         ensures { (views : Views) → Step views self.old (model.Call.Meter scope.now) (reply_of result) self.new }
     {
@@ -593,6 +594,7 @@ impl Core {
         }
     }
 
+    #[inline(never)]
     fn step_build<V: View>(
         &mut self,
         views: &[V],
@@ -626,6 +628,7 @@ impl Core {
         }
     }
 
+    #[inline(never)]
     fn step_bind(&mut self, instrument: usize, attributes: &[KeyValue]) -> Reply
         requires { IsLawful self.old }
         ensures { (views : Views) → Step views self.old (model.Call.Bind instrument attributes.now) (reply_of result) self.new }
@@ -646,6 +649,7 @@ impl Core {
         }
     }
 
+    #[inline(never)]
     fn step_unbind(&mut self, handle: u64) -> Reply
         requires { IsLawful self.old }
         ensures { (views : Views) → Step views self.old (model.Call.Unbind handle) (reply_of result) self.new }
@@ -676,6 +680,7 @@ impl Core {
         self.collect(reader, now, observations)
     }
 
+    #[inline(never)]
     fn step_collect(&mut self, reader: usize, now: u64, observations: &[Observed]) -> Reply
         ensures { (views : Views) → Step views self.old (model.Call.Collect reader now (map observed_of observations.now)) (reply_of result) self.new }
     {
@@ -685,6 +690,7 @@ impl Core {
         }
     }
 
+    #[inline(never)]
     fn step_flush<R: MetricReader>(&mut self, readers: &mut [R]) -> Reply
         ensures step { (views : Views) → Step views self.old model.Call.Flush (reply_of result) self.new }
         ensures reached { AreReachedBy R.flushes self.old.shared.shut readers.old (reply_of result) readers.new }
@@ -693,6 +699,7 @@ impl Core {
         replied(self.force_flush(readers))
     }
 
+    #[inline(never)]
     fn step_shutdown<R: MetricReader>(&mut self, readers: &mut [R]) -> Reply
         ensures step { (views : Views) → Step views self.old model.Call.Shutdown (reply_of result) self.new }
         ensures reached { AreReachedBy (ShutsDown R.shuts) self.old.shared.shut readers.old (reply_of result) readers.new }
@@ -701,7 +708,7 @@ impl Core {
         replied(self.shutdown(readers))
     }
 
-    /// One call.
+    /// Makes one call and returns its reply.
     pub(crate) fn step<V: View, R: MetricReader>(
         &mut self,
         views: &[V],
@@ -756,7 +763,7 @@ impl Core {
         }
     }
 
-    /// A list of calls, one after another, with the reply to each.
+    /// Makes the calls of a list, one after another, and returns the reply to each.
     pub(crate) fn run<V: View, R: MetricReader>(
         &mut self,
         views: &[V],

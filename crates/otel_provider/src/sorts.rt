@@ -1,4 +1,4 @@
-//! What builds make.
+//! The sorts of instruments that builds make.
 
 ghost use Rattle.std.specs.Prelude.{◌≡◌};
 ghost use Rattle.otel_model.specs.Calls.{is_observable};
@@ -6,31 +6,31 @@ ghost use Rattle.otel_provider.specs.Correspondence.{kind_of, is_signed};
 
 use otel_stream::instrument::InstrumentKind;
 
-/// What a build makes: a kind of instrument, and the type of its values (Metrics API, "Instrument").
+/// What a build makes: an instrument of some kind, with values of some type (Metrics API, "Instrument").
 #[derive(Clone, Copy, Debug, PartialEq, Eq, Hash)]
 pub enum InstrumentSort {
-    /// A counter of `u64`: it adds values that are never negative.
+    /// A counter of `u64`, which adds values that are never negative.
     U64Counter,
-    /// An observable counter of `u64`: it is observed what was summed, which never falls.
+    /// An observable counter of `u64`, whose observed sums never fall.
     U64ObservableCounter,
-    /// A counter of `i64`: it adds values of either sign.
+    /// A counter of `i64`, which adds values of either sign.
     I64UpDownCounter,
-    /// An observable counter of `i64`: it is observed what was summed, of either sign.
+    /// An observable counter of `i64`, whose observed sums may have either sign.
     I64ObservableUpDownCounter,
-    /// A gauge of `u64`: it keeps the last value.
+    /// A gauge of `u64`, which keeps the last value.
     U64Gauge,
-    /// A gauge of `i64`: it keeps the last value.
+    /// A gauge of `i64`, which keeps the last value.
     I64Gauge,
-    /// An observable gauge of `u64`: it keeps the last value that was observed.
+    /// An observable gauge of `u64`, which keeps the last value observed.
     U64ObservableGauge,
-    /// An observable gauge of `i64`: it keeps the last value that was observed.
+    /// An observable gauge of `i64`, which keeps the last value observed.
     I64ObservableGauge,
-    /// A histogram of `u64`: it tells how values spread.
+    /// A histogram of `u64`, which tells how values are distributed.
     U64Histogram,
 }
 
 impl InstrumentSort {
-    /// The kind of the instrument.
+    /// Returns the kind of the instrument.
     pub fn kind(self) -> InstrumentKind
         ensures { result ≡ kind_of self }
     {
@@ -47,7 +47,7 @@ impl InstrumentSort {
         }
     }
 
-    /// Whether its values are of type `i64`; else they are of type `u64`.
+    /// Returns whether its values are of type `i64`; otherwise they are of type `u64`.
     pub fn is_signed(self) -> bool
         ensures { result ≡ is_signed self }
     {
@@ -64,7 +64,7 @@ impl InstrumentSort {
         }
     }
 
-    /// Whether it is observed at collections; else it takes in records.
+    /// Returns whether it is observed at collections; otherwise it takes in records.
     pub fn is_observable(self) -> bool
         ensures { result ≡ is_observable (kind_of self) }
     {

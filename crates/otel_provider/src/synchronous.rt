@@ -44,8 +44,10 @@ impl Records for GaugeKind {}
 
 impl Records for HistogramKind {}
 
-/// An instrument of a kind that `K` marks, with values of type `T` (Metrics API, "Synchronous Instrument API"). It is the
-/// number of an instrument and the identity of its provider, and so small plain data: a copy is the same instrument.
+/// An instrument of the kind that `K` marks, with values of type `T` (Metrics API, "Synchronous Instrument API").
+///
+/// It is the number of an instrument and the identity of its provider: small plain data, of which a copy is the same
+/// instrument.
 #[derive_where(Clone, Copy, Debug)]
 pub struct Synchronous<K, T> {
     pub(crate) identity: u64,
@@ -53,7 +55,7 @@ pub struct Synchronous<K, T> {
     pub(crate) of: PhantomData<(K, T)>,
 }
 
-/// An instrument that adds values which are never negative (Metrics API, "Counter").
+/// An instrument that adds values that are never negative (Metrics API, "Counter").
 pub type Counter<T> = Synchronous<CounterKind, T>;
 
 /// An instrument that adds values of either sign (Metrics API, "UpDownCounter").
@@ -62,17 +64,19 @@ pub type UpDownCounter<T> = Synchronous<UpDownCounterKind, T>;
 /// An instrument that keeps the last value (Metrics API, "Gauge").
 pub type Gauge<T> = Synchronous<GaugeKind, T>;
 
-/// An instrument that tells how values spread (Metrics API, "Histogram").
+/// An instrument that tells how values are distributed (Metrics API, "Histogram").
 pub type Histogram<T> = Synchronous<HistogramKind, T>;
 
 impl<K: Adds, T: NumberType> Synchronous<K, T> {
-    /// Adds a value, in the instrument's unit, with attributes in any order. It is what `step` does with `Call::Record`,
-    /// and costs the same, but that the attributes are borrowed.
+    /// Adds a value, in the instrument's unit, with attributes in any order, as `step` does with `Call::Record`.
     ///
-    /// Refused with `UnknownInstrument` where the instrument is of a provider of another identity, before anything else
-    /// is looked at. Where two providers of one identity mix up their instruments, it is refused with
-    /// `UnknownInstrument` or `WrongNumber`, or goes to the instrument of the same number. Else it is refused only for
-    /// want of memory, and never so without attributes. A refused call changes nothing.
+    /// Costs the same as that step, except that the attributes are borrowed. `known` says when a record with attributes
+    /// takes no memory.
+    ///
+    /// Refused with `UnknownInstrument` if the instrument belongs to a provider of another identity, before anything
+    /// else is checked. If two providers of one identity mix up their instruments, the call is refused with
+    /// `UnknownInstrument`, `WrongKind` or `WrongNumber`, or goes to the instrument of the same number. Otherwise it is
+    /// refused only for want of memory, and without attributes not even for that. A refused call changes nothing.
     pub fn add<P: Parts>(
         &self,
         provider: &mut Provider<P>,
@@ -95,7 +99,8 @@ impl<K: Adds, T: NumberType> Synchronous<K, T> {
 }
 
 impl<K: Records, T: NumberType> Synchronous<K, T> {
-    /// Records a value, as `add` adds one.
+    /// Records a value, in the instrument's unit, with attributes in any order. Costs the same as `add`, and is refused
+    /// in the same cases.
     pub fn record<P: Parts>(
         &self,
         provider: &mut Provider<P>,

@@ -9,7 +9,7 @@ use Rattle.otel_stream.specs.declared.answers.Answer.{Answer}
 use Rattle.otel_stream.specs.declared.instrument.InstrumentKind.{InstrumentKind}
 use Rattle.otel_stream.specs.declared.instrument.InstrumentKind.TheVariants.{Counter, UpDownCounter, Histogram, ObservableCounter, ObservableUpDownCounter, Gauge, ObservableGauge}
 
--- the place of a kind in the list of kinds
+-- the position of a kind in `kinds`
 abbrev pub kind_number : InstrumentKind → ℕ
 kind_number Counter = 0
 kind_number UpDownCounter = 1
@@ -31,8 +31,8 @@ kinds = Counter ∷ UpDownCounter ∷ Histogram ∷ ObservableCounter ∷ Observ
 abbrev pub ReaderAnswers : Type 0
 ReaderAnswers = List Answer
 
--- an answer of a reader that wants these for the kind: that temporality; no limit, or that one; no aggregation, or
--- that one
+-- an answer, for one kind, of a reader that wants these: it has that temporality, and a limit or an aggregation only if
+-- it is that one
 abbrev pub IsAnswer : Temporality → Option ℕ → Option Aggregation → Answer → Type 0
 IsAnswer temporality limit aggregation answer =
     (answer.temporality ≡ temporality)
@@ -43,15 +43,15 @@ IsAnswer temporality limit aggregation answer =
 abbrev pub IsAnsweredBy : (InstrumentKind → Temporality) → (InstrumentKind → Option ℕ) → (InstrumentKind → Option Aggregation) → ReaderAnswers → Type 0
 IsAnsweredBy temporality limit aggregation answers = AllZip (λ kind. IsAnswer (temporality kind) (limit kind) (aggregation kind)) kinds answers
 
--- the answers of a reader that says for each kind this temporality, and no limit and no aggregation
+-- the answers of a reader that wants this temporality for each kind, and never a limit or an aggregation
 abbrev pub answers_by : (InstrumentKind → Temporality) → ReaderAnswers
 answers_by temporality = map (λ kind. record { temporality = temporality kind; limit = None; aggregation = None }) kinds
 
--- those of a reader that has one temporality
+-- the same for a reader with one temporality preference
 abbrev pub answers_preferring : Temporality → ReaderAnswers
 answers_preferring temporality = answers_by (λ kind. temporality_preference kind temporality)
 
--- of a kind for which there is none
+-- the answer for a kind that has none
 abbrev pub no_answer : Answer
 no_answer = record { temporality = Cumulative; limit = None; aggregation = None }
 

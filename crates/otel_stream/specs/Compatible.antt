@@ -17,6 +17,6 @@ fits Gauge LastValue = true
 fits ObservableGauge LastValue = true
 fits kind LastValue = false
 
--- what is answered where it can't
+-- the text of the error if it can't
 abbrev pub incompatible_text : List ℕ
 incompatible_text = codes "incompatible aggregation"

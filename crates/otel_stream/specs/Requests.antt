@@ -8,16 +8,16 @@ use Rattle.otel_common.specs.declared.metrics.Aggregation.{Aggregation}
 use Rattle.otel_common.specs.declared.metrics.Temporality.{Temporality}
 use Rattle.otel_stream.specs.declared.instrument.InstrumentKind.{InstrumentKind}
 
--- what a reader answers: done, or why not
+-- what a reader answers: that it is done, or why not
 abbrev pub Outcome : Type 0
 Outcome = Result (Unit {0}) Fault
 
--- the timeout of a shutdown for which none is given: five seconds, in nanoseconds
+-- the timeout of a shutdown that is given none: five seconds, in nanoseconds
 abbrev pub default_timeout : ℕ
 default_timeout = 5 * 1_000_000_000
 
 -- ======== many readers ========
--- each of them was asked once, in order, and this is what each answered
+-- each reader was asked once, in order, and these are their answers
 abbrev pub EachAsked : {R : Type 0} → (R → R → Outcome → Type 0) → List R → List R → List Outcome → Type 0
 EachAsked P [] [] [] = Unit {0}
 EachAsked P (a ∷ before) (b ∷ after) (answer ∷ answers) = P a b answer × EachAsked P before after answers
@@ -27,11 +27,11 @@ EachAsked P _ _ _ = ⊥
 abbrev pub failures : List Outcome → ℕ
 failures answers = count_by is_err answers
 
--- the number of the first that failed
+-- the number of the first that failed, if any did
 abbrev pub first_failure : List Outcome → Option ℕ
 first_failure answers = position_from is_err 0 answers
 
--- the answer for so many failures, of which this is the first
+-- the answer for all readers: done if there is no first failure, or else how many failed and which was the first
 abbrev pub outcome_by : ℕ → Option ℕ → Outcome
 outcome_by failed None = Ok tt
 outcome_by failed (Some first) = Err (InternalFailure (Readers failed first))
@@ -44,12 +44,13 @@ outcome_of answers = outcome_by (failures answers) (first_failure answers)
 abbrev pub AllAsked : {R : Type 0} → (R → R → Outcome → Type 0) → List R → List R → Outcome → Type 0
 AllAsked P before after outcome = (answers : List Outcome) × EachAsked P before after answers × (outcome ≡ outcome_of answers)
 
--- ======== what stays ========
--- what a reader wants of each kind of instrument: a temporality, perhaps a limit, perhaps an aggregation
+-- ======== what readers want ========
+-- what a reader wants for each kind of instrument: a temporality, and perhaps a limit and an aggregation
 pub record Wanted : Type 0 where
   pub temporality : InstrumentKind → Temporality
   pub limit : InstrumentKind → Option ℕ
   pub aggregation : InstrumentKind → Option Aggregation
 
+-- what a reader wants, as these three functions say
 abbrev pub wanted_by : {R : Type 0} → (R → InstrumentKind → Temporality) → (R → InstrumentKind → Option ℕ) → (R → InstrumentKind → Option Aggregation) → R → Wanted
 wanted_by preference limit aggregation reader = record { temporality = preference reader; limit = limit reader; aggregation = aggregation reader }

@@ -6,7 +6,7 @@ use Rattle.otel_stream.specs.ByKind.{at_kind, for_no_kind}
 use Rattle.otel_stream.specs.declared.instrument.InstrumentKind.{InstrumentKind}
 use Rattle.otel_stream.specs.declared.wants.Wants.{Wants}
 
--- a temporality, and for no kind a limit or an aggregation
+-- this temporality, and no limit or aggregation for any kind
 abbrev pub temporality_alone : Temporality → Wants
 temporality_alone temporality = record { temporality = temporality; limits = for_no_kind; aggregations = for_no_kind }
 

@@ -16,15 +16,15 @@ use std::marker::Model;
 /// What a reader answers for one kind of instrument (Metrics SDK, "MetricReader").
 #[derive(Clone, Debug, Drop)]
 pub struct Answer {
-    /// The temporality of its streams.
+    /// The temporality of the streams of this kind.
     pub temporality: Temporality,
-    /// How many sets of attributes of a stream have points of their own, if it wants a limit.
+    /// How many sets of attributes of a stream have points of their own, if the reader wants a limit.
     pub limit: Option<usize>,
-    /// What a stream keeps of its records, if it wants an aggregation.
+    /// What a stream keeps of its records, if the reader wants an aggregation.
     pub aggregation: Option<Aggregation>,
 }
 
-/// What a reader answered for each kind of instrument, when it was handed in. To ask for one answer takes no memory.
+/// What a reader answered for each kind of instrument when it was handed in. Looking up an answer takes no memory.
 #[derive(Debug, Drop)]
 pub struct Answers {
     items: Items<Answer>,
@@ -75,7 +75,7 @@ fn copy_of(aggregation: Option<&Aggregation>) -> Result<Option<Aggregation>, Fau
     }
 }
 
-/// A reader's answer for one kind. Takes memory for the bounds of a histogram.
+/// Asks a reader for its answer for one kind. Takes memory for the bounds of a histogram.
 fn ask<R: MetricReader>(reader: &R, kind: InstrumentKind) -> Result<Answer, Fault>
     ensures answer { IfOk result (λ a. IsAnswer (R.preference reader.now kind) (R.limit reader.now kind) (R.aggregation reader.now kind) a) }
     ensures only_memory { IsOkUnless result Fault.OutOfMemory }
@@ -91,8 +91,9 @@ fn ask<R: MetricReader>(reader: &R, kind: InstrumentKind) -> Result<Answer, Faul
 }
 
 impl Answers {
-    /// Asks a reader once for each kind for the temporality, the limit and the aggregation that it wants. Takes memory
-    /// for the list and for the bounds of the histograms that it wants, and is refused for want of it alone.
+    /// Asks a reader, once for each kind, for the temporality, the limit and the aggregation that it wants. Takes
+    /// memory for the list, and for the bounds of the histograms that the reader wants. Refused only for want of
+    /// memory.
     pub fn of<R: MetricReader>(alloc: Global, reader: &R) -> Result<Answers, Fault>
         ensures answers { IfOk result (λ a. IsAnsweredBy (R.preference reader.now) (R.limit reader.now) (R.aggregation reader.now) a) }
         ensures only_memory { IsOkUnless result Fault.OutOfMemory }
@@ -111,7 +112,7 @@ impl Answers {
         })
     }
 
-    /// The temporality that was wanted for a kind.
+    /// The temporality that the reader wanted for a kind.
     pub fn temporality(&self, kind: InstrumentKind) -> Temporality
         ensures { result ≡ (answer_for self.now kind).temporality }
     {
@@ -121,7 +122,7 @@ impl Answers {
         }
     }
 
-    /// The limit that was wanted for a kind, if one was.
+    /// The limit that the reader wanted for a kind, if any.
     pub fn limit(&self, kind: InstrumentKind) -> Option<usize>
         ensures { result ≡ (answer_for self.now kind).limit }
     {
@@ -131,7 +132,7 @@ impl Answers {
         }
     }
 
-    /// The aggregation that was wanted for a kind, if one was.
+    /// The aggregation that the reader wanted for a kind, if any.
     pub fn aggregation(&self, kind: InstrumentKind) -> Option<&Aggregation>
         ensures { option_copied result ≡ (answer_for self.now kind).aggregation }
     {

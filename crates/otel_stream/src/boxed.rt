@@ -1,4 +1,4 @@
-//! A boxed reader is a reader, and a boxed view a view.
+//! A boxed reader is a reader, and a boxed view is a view.
 
 ghost use Rattle.otel_stream.specs.Boxes.{Becomes};
 

@@ -54,7 +54,7 @@ impl<T> ByKind<T> {
 }
 
 impl<T: Drop> ByKind<T> {
-    /// Gives the kind this value in place of its own.
+    /// Sets the value for a kind, in place of the one before. The other kinds keep their values.
     pub(crate) fn set(&mut self, kind: InstrumentKind, value: T)
         ensures given { at_kind self.new kind ≡ value }
         ensures others { (other : InstrumentKind) → kind_eq other kind ≡ false → at_kind self.new other ≡ at_kind self.old other }

@@ -9,8 +9,8 @@ use otel_common::metrics::{Aggregation, MetricError};
 
 const INCOMPATIBLE: &str = "incompatible aggregation";
 
-/// Tells whether an aggregation can be used with a kind of instrument: `Drop`, `Default` and a histogram with all
-/// kinds, `Sum` with all but the gauges, `LastValue` with the gauges alone (Metrics SDK, "Aggregation").
+/// Checks that an aggregation can be used with a kind of instrument: `Drop`, `Default` and histograms with all kinds,
+/// `Sum` with all but gauges, `LastValue` with gauges alone (Metrics SDK, "Aggregation").
 ///
 /// The error is `MetricError::Other`. Takes no memory.
 pub fn is_aggregator_compatible(
@@ -38,7 +38,7 @@ fn fits(kind: InstrumentKind, aggregation: &Aggregation) -> bool
     }
 }
 
-/// Whether the instrument keeps a last value by itself.
+/// Whether the kind is a gauge, observable or not.
 fn is_gauge(kind: InstrumentKind) -> bool
     ensures { result ≡ fits kind Aggregation.LastValue }
 {

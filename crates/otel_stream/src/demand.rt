@@ -1,4 +1,4 @@
-//! What a build demands of a reader: streams, each named by what makes it the same stream.
+//! What a build demands of a reader: streams, each named by its identity.
 
 ghost use Rattle.std.specs.Prelude.{◌≡◌};
 
@@ -11,33 +11,34 @@ use otel_common::scopes::InstrumentationScope;
 use otel_common::strings::StringValue;
 use std::alloc::AllocError;
 
-/// What makes two demands name one stream of a reader (Metrics SDK, "Duplicate instrument registration").
+/// What makes two demands name the same stream of a reader (Metrics SDK, "Duplicate instrument registration").
 #[derive(Debug, Drop, PartialEq, Eq, Hash)]
 pub struct Identity {
     /// The scope of the meter.
     pub scope: InstrumentationScope,
     /// The kind of the instrument.
     pub kind: InstrumentKind,
-    /// Whether its values are of type `i64`; else they are of type `u64`.
+    /// Whether its values are of type `i64`; otherwise they are of type `u64`.
     pub signed: bool,
-    /// What the stream is for; empty where nothing was said.
+    /// What the stream is for; empty if no description was given.
     pub description: StringValue,
-    /// The unit of its values; empty where nothing was said.
+    /// The unit of its values; empty if none was given.
     pub unit: StringValue,
-    /// The name, with its ASCII letters lowered.
+    /// The name, with its ASCII letters in lower case.
     pub name: StringValue,
 }
 
 /// A stream that is demanded of a reader (Metrics SDK, "Stream configuration"). The first demand of an identity decides
-/// the rest.
+/// the other fields.
 #[derive(Debug, Drop)]
 pub struct Demand {
+    /// The identity, by which the streams of a reader are told apart.
     pub identity: Identity,
     /// The name, as collections show it.
     pub spelling: StringValue,
     /// What the stream keeps of its records.
     pub aggregation: Aggregation,
-    /// The keys that are kept of attributes; all of them where there is no list.
+    /// The attribute keys that are kept; all of them if there is no list.
     pub allow: Option<Items<Key>>,
     /// How many sets of attributes have points of their own.
     pub limit: usize,

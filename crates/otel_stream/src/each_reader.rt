@@ -1,4 +1,4 @@
-//! All readers of a provider are asked, one after another.
+//! Asks all readers of a provider, one after another.
 
 ghost use Rattle.std.specs.Prelude.{◌≡◌, ◌+◌, ◌-◌, ◌<◌, ◌≤◌, ◌^◌, ◌++◌, ◌∷◌, [], List, length, map};
 ghost use Rattle.otel_stream.specs.Questions.{does};
@@ -21,7 +21,7 @@ struct Tally {
     first: Option<usize>,
 }
 
-/// The tally after one reader more, which has this number and answered this.
+/// Returns the tally after one more reader, with this number and this answer.
 fn noted(tally: Tally, number: usize, answer: &OTelSdkResult) -> Tally
     requires room { number < 2 ^ 64 - 1 }
     requires below { tally.failed ≤ number }
@@ -41,7 +41,7 @@ fn noted(tally: Tally, number: usize, answer: &OTelSdkResult) -> Tally
     }
 }
 
-/// The answer for all readers.
+/// Returns the answer for all readers.
 fn outcome(tally: Tally) -> OTelSdkResult
     ensures { result ≡ outcome_by tally.failed tally.first }
 {
@@ -65,7 +65,7 @@ fn ask<R: MetricReader>(reader: &mut R, question: Question) -> OTelSdkResult
     }
 }
 
-/// Asks each reader once, in order, also after one that failed.
+/// Asks each reader once, in order, even after one has failed.
 fn ask_all<R: MetricReader>(readers: &mut [R], question: Question) -> OTelSdkResult
     ensures asked { AllAsked (does R.flushes R.shuts question) readers.old readers.new result }
     ensures wants { map (wanted_by R.preference R.limit R.aggregation) readers.new ≡ map (wanted_by R.preference R.limit R.aggregation) readers.old }
@@ -81,10 +81,10 @@ fn ask_all<R: MetricReader>(readers: &mut [R], question: Question) -> OTelSdkRes
     outcome(tally)
 }
 
-/// Asks each reader once to flush, in order, also after one that failed (Metrics SDK, "ForceFlush").
+/// Asks each reader once to flush, in order, even after one has failed (Metrics SDK, "ForceFlush").
 ///
-/// Where readers failed it is refused with how many did and the number of the first, from 0; what faults they answered
-/// is not told. What readers want stays as it was. Takes no memory beside what readers take.
+/// If readers failed, the answer is how many did and the number of the first, counted from 0; the readers' own faults
+/// are not passed on. What readers want doesn't change. Takes no memory besides what the readers take.
 pub fn flush_all<R: MetricReader>(readers: &mut [R]) -> OTelSdkResult
     ensures asked { AllAsked R.flushes readers.old readers.new result }
     ensures wants { map (wanted_by R.preference R.limit R.aggregation) readers.new ≡ map (wanted_by R.preference R.limit R.aggregation) readers.old }
@@ -92,8 +92,8 @@ pub fn flush_all<R: MetricReader>(readers: &mut [R]) -> OTelSdkResult
     ask_all(readers, Question::Flush)
 }
 
-/// Asks each reader once to shut down, in order, also after one that failed (Metrics SDK, "Shutdown"). It answers as
-/// `flush_all` does.
+/// Asks each reader once to shut down, with a timeout of 5 seconds, in order, even after one has failed (Metrics SDK,
+/// "Shutdown"). It answers as `flush_all` does.
 pub fn shut_all<R: MetricReader>(readers: &mut [R]) -> OTelSdkResult
     ensures asked { AllAsked (λ before after outcome. R.shuts before default_timeout after outcome) readers.old readers.new result }
     ensures wants { map (wanted_by R.preference R.limit R.aggregation) readers.new ≡ map (wanted_by R.preference R.limit R.aggregation) readers.old }

@@ -9,18 +9,18 @@ use otel_common::scopes::InstrumentationScope;
 use otel_common::strings::StringValue;
 use std::alloc::AllocError;
 
-/// What an instrument is: how its values are reported and what becomes of them (Metrics API, "Instrument").
+/// The kind of an instrument: how its values are reported and what becomes of them (Metrics API, "Instrument").
 #[derive(Clone, Copy, Debug, PartialEq, Eq, Hash)]
 pub enum InstrumentKind {
     /// Adds values that are never negative.
     Counter,
     /// Adds values of either sign.
     UpDownCounter,
-    /// Tells how values spread.
+    /// Keeps the distribution of values.
     Histogram,
     /// A counter whose sums are observed at each collection.
     ObservableCounter,
-    /// A counter of values of either sign whose sums are observed at each collection.
+    /// An up-down counter whose sums are observed at each collection.
     ObservableUpDownCounter,
     /// Keeps the last value.
     Gauge,
@@ -29,9 +29,9 @@ pub enum InstrumentKind {
 }
 
 impl InstrumentKind {
-    /// What a reader of this temporality prefers for the kind: `Cumulative` is cumulative for all kinds,
-    /// `Delta` is delta but for the two up-down kinds, `LowMemory` is delta for `Counter` and `Histogram`
-    /// alone (Metrics SDK, "MetricReader"). Takes no memory.
+    /// Returns the temporality that a reader of this temporality prefers for the kind. `Cumulative` means cumulative
+    /// for all kinds, `Delta` means delta for all but the two up-down kinds, and `LowMemory` means delta for `Counter`
+    /// and `Histogram` alone (Metrics SDK, "MetricReader"). Takes no memory.
     pub fn temporality_preference(self, temporality: Temporality) -> Temporality
         ensures { result ≡ temporality_preference self temporality }
     {
@@ -76,13 +76,13 @@ impl InstrumentKind {
 pub struct Instrument {
     /// The name, as it was given.
     pub name: StringValue,
-    /// What the instrument is for; empty where nothing was said.
+    /// What the instrument is for; empty if no description was given.
     pub description: StringValue,
-    /// What it is.
+    /// The kind of instrument.
     pub kind: InstrumentKind,
-    /// The unit of its values; empty where nothing was said.
+    /// The unit of its values; empty if none was given.
     pub unit: StringValue,
-    /// What its meter belongs to.
+    /// The scope of its meter.
     pub scope: InstrumentationScope,
 }
 
@@ -94,21 +94,21 @@ impl Instrument {
         self.name.as_str()
     }
 
-    /// What it is.
+    /// The kind of instrument.
     pub fn kind(&self) -> InstrumentKind
         ensures { result ≡ self.now.kind }
     {
         self.kind
     }
 
-    /// The unit of its values; empty where nothing was said.
+    /// The unit of its values; empty if none was given.
     pub fn unit(&self) -> &str
         ensures { result.now ≡ self.now.unit }
     {
         self.unit.as_str()
     }
 
-    /// What its meter belongs to.
+    /// The scope of its meter.
     pub fn scope(&self) -> &InstrumentationScope
         ensures { result.now ≡ self.now.scope }
     {

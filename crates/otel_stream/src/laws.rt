@@ -1,9 +1,9 @@
-//! Laws: two kinds of instruments are equal exactly if they are the same, two instruments exactly if their parts
-//! are; a box of a reader wants and does what the reader in it wants and does, and one of a view answers what the view
-//! in it does; what a reader answers that wants no limits and no aggregations.
+//! Laws: two kinds of instruments are equal exactly if they are the same, and two instruments exactly if their parts
+//! are; a boxed reader wants and does what the reader in the box wants and does, and a boxed view answers what the view
+//! in the box answers; and what a reader answers if it wants no limits and no aggregations.
 //!
 //! `kind_laws`, `equal_instruments`, `boxed_reader`, `boxed_view` and `plain_answers` do nothing. A function whose
-//! contract needs the law calls it first.
+//! contract needs one of these laws calls it first.
 
 ghost use Rattle.std.specs.Prelude.{◌≡◌, ◌↔◌, ℕ, Option, None, IfOk};
 ghost use Rattle.std.specs.Bool.{Decides};
@@ -25,7 +25,7 @@ use otel_common::laws::equal_scopes;
 use otel_common::metrics::Temporality;
 use std::alloc::{AllocError, Global};
 
-/// Two kinds are equal exactly if they are the same, and what a copy of a kind gives equals its source.
+/// Two kinds are equal exactly if they are the same, and a copy of a kind equals its source.
 pub fn kind_laws()
     ensures equal { (x y : InstrumentKind) → Decides (⟦<InstrumentKind as PartialEq>⟧.eq x y) (x ≡ y) }
     ensures copy { (x y : InstrumentKind) → ⟦<InstrumentKind as Clone>⟧.is_clone x y → y ≡ x }
@@ -39,8 +39,8 @@ pub fn equal_instruments()
     kind_laws();
 }
 
-/// A box wants for each kind of instrument what the reader in it wants, whatever its type is; and a flush or a shutdown
-/// makes of the box one that holds what it makes of the reader in it.
+/// A boxed reader wants for each kind of instrument what the reader in the box wants, whatever its type. A flush or a
+/// shutdown of the box does to the reader in it what a flush or a shutdown of that reader does.
 pub fn boxed_reader(reader: &Box<dyn MetricReader>)
     ensures temporality { ⟦<Box<dyn MetricReader> as MetricReader>⟧.preference reader.now ≡ (⟦<dyn MetricReader as MetricReader>⟧ reader.now.vtable).preference reader.now.value }
     ensures limit { ⟦<Box<dyn MetricReader> as MetricReader>⟧.limit reader.now ≡ (⟦<dyn MetricReader as MetricReader>⟧ reader.now.vtable).limit reader.now.value }
@@ -49,12 +49,13 @@ pub fn boxed_reader(reader: &Box<dyn MetricReader>)
     ensures shuts { (timeout : ℕ) (after : _) (outcome : Outcome) → ⟦<Box<dyn MetricReader> as MetricReader>⟧.shuts reader.now timeout after outcome ↔ Becomes reader.now after (λ object. (⟦<dyn MetricReader as MetricReader>⟧ reader.now.vtable).shuts reader.now.value timeout object outcome) }
 {}
 
-/// A box answers for each instrument what the view in it answers, whatever its type is.
+/// A boxed view answers for each instrument what the view in the box answers, whatever its type.
 pub fn boxed_view(view: &Box<dyn View>)
     ensures { ⟦<Box<dyn View> as View>⟧.answer view.now ≡ (⟦<dyn View as View>⟧ view.now.vtable).answer view.now.value }
 {}
 
-/// What a box of a manual reader wants for a kind of instrument: what the reader wants. Takes a box.
+/// Boxes a manual reader, and returns the temporality that the box wants for a kind of instrument, which is what the
+/// reader wants. Takes memory for the box.
 pub fn boxed_manual_reader(
     alloc: Global,
     reader: ManualReader,
@@ -72,8 +73,8 @@ fn wanted<R: MetricReader>(reader: &R, kind: InstrumentKind) -> Temporality
     reader.temporality(kind)
 }
 
-/// The answers of a reader that wants no limits and no aggregations are those of its temporalities alone; so are
-/// those of a manual reader of which the temporality alone was said.
+/// The answers of a reader that wants no limits and no aggregations are those of its temporalities alone. So are those
+/// of a manual reader for which only the temporality was set.
 pub fn plain_answers()
     ensures plain { (temporality : InstrumentKind → Temporality) (limit : InstrumentKind → Option ℕ) (aggregation : InstrumentKind → Option Aggregation) (answers : ReaderAnswers) → IsAnsweredBy temporality limit aggregation answers → ((kind : InstrumentKind) → limit kind ≡ None) → ((kind : InstrumentKind) → aggregation kind ≡ None) → answers ≡ answers_by temporality }
     ensures manual { (temporality : Temporality) (answers : ReaderAnswers) → IsAnsweredBy (λ kind. temporality_preference kind temporality) (limit_of (temporality_alone temporality)) (aggregation_of (temporality_alone temporality)) answers → answers ≡ answers_preferring temporality }

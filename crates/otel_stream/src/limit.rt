@@ -7,7 +7,7 @@ use crate::stream_fault::StreamFault;
 use std::marker::Model;
 
 /// How many sets of attributes of a stream have points of their own (Metrics SDK, "Cardinality limits"): at least 1,
-/// and less than `usize::MAX`. Contracts see the number.
+/// and less than `usize::MAX`. Contracts see it as the number.
 #[derive(Clone, Copy, Debug, PartialEq, Eq)]
 pub struct CardinalityLimit {
     limit: usize,
@@ -27,7 +27,7 @@ impl Model for CardinalityLimit {
 }
 
 impl CardinalityLimit {
-    /// The limit of this number. Refuses 0 with `LimitZero` and `usize::MAX` with `LimitMax`. Takes no memory.
+    /// Makes a limit of this number. Refuses 0 with `LimitZero` and `usize::MAX` with `LimitMax`. Takes no memory.
     pub fn new(limit: usize) -> Result<CardinalityLimit, StreamFault>
         ensures refused { IfErr result (λ fault. limit_fault limit ≡ Some fault) }
         ensures kept { IfOk result (λ made. (made ≡ limit) × (limit_fault limit ≡ None)) }

@@ -1,4 +1,4 @@
-//! The reader that collects when it is asked to.
+//! The reader that collects when its owner asks.
 
 ghost use Rattle.std.specs.Prelude.{◌≡◌, Ok, Some, false, IfSome, option_copied};
 ghost use Rattle.otel_common.specs.declared.metrics.Temporality.TheVariants.{Cumulative};
@@ -17,15 +17,15 @@ use std::fmt::{self, Debug, Formatter, Write};
 use std::marker::Model;
 use std::time::Duration;
 
-/// A reader whose collections its owner asks for (Metrics SDK, "MetricReader"). It has one temporality,
-/// and wants for each kind of instrument what `InstrumentKind::temporality_preference` says of it. For each
-/// kind it may want a limit and an aggregation besides. Contracts see what it wants.
+/// A reader that collects when its owner asks (Metrics SDK, "MetricReader"). It has one temporality, and wants for each
+/// kind of instrument what `InstrumentKind::temporality_preference` says of it. It may also want a limit and an
+/// aggregation for each kind. Contracts see it as what it wants.
 #[derive(Drop)]
 pub struct ManualReader {
     wants: Wants,
 }
 
-/// Makes a `ManualReader`. Contracts see what the reader will want.
+/// A builder of a `ManualReader`. Contracts see it as what the reader will want.
 #[derive(Drop)]
 pub struct ManualReaderBuilder {
     wants: Wants,
@@ -48,7 +48,7 @@ impl Model for ManualReaderBuilder {
 }
 
 impl ManualReader {
-    /// A builder of a cumulative reader, without limits and aggregations. Takes no memory.
+    /// Returns a builder of a cumulative reader, without limits and aggregations. Takes no memory.
     pub fn builder() -> ManualReaderBuilder
         ensures { result ≡ temporality_alone Cumulative }
     {
@@ -56,7 +56,7 @@ impl ManualReader {
     }
 }
 
-/// Cumulative, without limits and aggregations.
+/// The default reader is cumulative, without limits and aggregations.
 impl Default for ManualReader {
     ghost is_default = { λ r. r ≡ temporality_alone Cumulative };
 
@@ -113,7 +113,7 @@ impl MetricReader for ManualReader {
 }
 
 impl ManualReaderBuilder {
-    /// Of a cumulative reader, without limits and aggregations. Takes no memory.
+    /// Makes a builder of a cumulative reader, without limits and aggregations. Takes no memory.
     pub fn new() -> ManualReaderBuilder
         ensures { result ≡ temporality_alone Cumulative }
     {
@@ -122,7 +122,7 @@ impl ManualReaderBuilder {
         }
     }
 
-    /// With this temporality, in place of the one before. Limits and aggregations stay. Takes no memory.
+    /// Sets the temporality, in place of the one before. Limits and aggregations stay. Takes no memory.
     pub fn with_temporality(self, temporality: Temporality) -> ManualReaderBuilder
         ensures temporality { result.temporality ≡ temporality }
         ensures limits { result.limits ≡ self.limits }
@@ -133,8 +133,8 @@ impl ManualReaderBuilder {
         builder
     }
 
-    /// With this limit for a kind of instrument (Metrics SDK, "Cardinality limits"). The last one given for a kind
-    /// stands. Takes no memory.
+    /// Sets the limit for a kind of instrument (Metrics SDK, "Cardinality limits"). The last one given for a kind
+    /// counts. Takes no memory.
     pub fn with_cardinality_limit(
         self,
         kind: InstrumentKind,
@@ -150,8 +150,8 @@ impl ManualReaderBuilder {
         builder
     }
 
-    /// With this aggregation for a kind of instrument (Metrics SDK, "MetricReader"). The last one given for a
-    /// kind stands. Takes no memory.
+    /// Sets the aggregation for a kind of instrument (Metrics SDK, "MetricReader"). The last one given for a kind
+    /// counts. Takes no memory.
     pub fn with_default_aggregation(
         self,
         kind: InstrumentKind,
@@ -167,7 +167,7 @@ impl ManualReaderBuilder {
         builder
     }
 
-    /// The reader. Takes no memory.
+    /// Builds the reader. Takes no memory.
     pub fn build(self) -> ManualReader
         ensures { result ≡ self }
     {
@@ -175,7 +175,7 @@ impl ManualReaderBuilder {
     }
 }
 
-/// Of a cumulative reader, without limits and aggregations.
+/// The default builder is that of a cumulative reader, without limits and aggregations.
 impl Default for ManualReaderBuilder {
     ghost is_default = { λ b. b ≡ temporality_alone Cumulative };
 

@@ -13,14 +13,14 @@ use otel_common::faults::OTelSdkResult;
 use otel_common::metrics::{Aggregation, Temporality};
 use std::time::Duration;
 
-/// The timeout of a shutdown for which none is given, in seconds.
+/// The timeout, in seconds, of a shutdown for which none is given.
 const SHUTDOWN_SECONDS: u64 = 5;
 
-/// Whom a provider collects for (Metrics SDK, "MetricReader").
+/// A reader, for which a provider makes collections (Metrics SDK, "MetricReader").
 ///
-/// A provider asks a reader once for each kind of instrument, when it is handed in, and keeps the
-/// answers. It asks all its readers at a flush and at a shutdown; what a reader does then is its own matter, but for
-/// what it wants, which no call changes.
+/// A provider asks a reader once for each kind of instrument, when the reader is handed in, and keeps the answers. At a
+/// flush and at a shutdown it asks all its readers. What a reader does then is up to the reader, but no call changes
+/// what it wants.
 pub trait MetricReader: Drop + Send {
     /// The temporality that the reader wants for each kind of instrument.
     ghost preference: { Self → InstrumentKind → Temporality };
@@ -42,11 +42,11 @@ pub trait MetricReader: Drop + Send {
     fn temporality(&self, kind: InstrumentKind) -> Temporality
         ensures { result ≡ preference self.now kind };
 
-    /// The limit that the reader wants for a kind of instrument, or `None`: then it leaves the limit to the
-    /// provider (Metrics SDK, "Cardinality limits").
+    /// The limit that the reader wants for a kind of instrument, or `None` to leave the limit to the provider (Metrics
+    /// SDK, "Cardinality limits").
     ///
-    /// A reader that doesn't write this method has no limits. One that does answers what it wants or `None`: a
-    /// provider asks it once for each kind, when it is handed in, and keeps what was answered.
+    /// A reader that doesn't implement this method has no limits. One that does answers what it wants or `None`: a
+    /// provider asks it once for each kind, when the reader is handed in, and keeps the answer.
     fn cardinality_limit(&self, kind: InstrumentKind) -> Option<CardinalityLimit>
         ensures { IfSome result (λ answered. limit self.now kind ≡ Some answered) }
     {
@@ -54,11 +54,11 @@ pub trait MetricReader: Drop + Send {
         None
     }
 
-    /// The aggregation that the reader wants for a kind of instrument, or `None`: then it leaves the
-    /// aggregation to the kind (Metrics SDK, "MetricReader").
+    /// The aggregation that the reader wants for a kind of instrument, or `None` to leave the aggregation to the kind
+    /// (Metrics SDK, "MetricReader").
     ///
-    /// A reader that doesn't write this method has no aggregations. One that does answers what it wants or `None`: a
-    /// provider asks it once for each kind, when it is handed in, and keeps a copy of what was answered.
+    /// A reader that doesn't implement this method has no aggregations. One that does answers what it wants or `None`:
+    /// a provider asks it once for each kind, when the reader is handed in, and keeps a copy of the answer.
     fn default_aggregation(&self, kind: InstrumentKind) -> Option<&Aggregation>
         ensures { IfSome result (λ answered. aggregation self.now kind ≡ Some answered.now) }
     {
@@ -82,7 +82,7 @@ pub trait MetricReader: Drop + Send {
         ensures limit { limit self.new ≡ limit self.old }
         ensures aggregation { aggregation self.new ≡ aggregation self.old };
 
-    /// A shutdown with a timeout of 5 seconds. A provider asks its readers for this one.
+    /// Shuts down with a timeout of 5 seconds. This is the one that a provider calls.
     fn shutdown(&mut self) -> OTelSdkResult
         ensures shut { shuts self.old default_timeout self.new result }
         ensures temporality { preference self.new ≡ preference self.old }

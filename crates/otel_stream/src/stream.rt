@@ -14,11 +14,11 @@ use otel_common::metrics::Aggregation;
 use std::alloc::AllocError;
 use std::marker::Model;
 
-/// The settings of a stream (Metrics SDK, "Stream configuration"). What they lack is the instrument's or the
-/// reader's.
+/// The settings of a stream (Metrics SDK, "Stream configuration"). What is not set comes from the instrument or the
+/// reader.
 ///
-/// Unit, limit and bounds are always good: the unit has at most 63 bytes, all ASCII, the limit is neither 0 nor
-/// `usize::MAX`, and the bounds of a histogram rise.
+/// The unit, the limit and the bounds are always valid: the unit has at most 63 bytes, all ASCII, the limit is neither
+/// 0 nor `usize::MAX`, and the bounds of a histogram rise.
 #[derive(Debug, Drop)]
 pub struct Stream {
     spec: StreamSpec,
@@ -36,14 +36,14 @@ impl Model for Stream {
 }
 
 impl Stream {
-    /// A builder with nothing set. Takes no memory.
+    /// Returns a builder with nothing set. Takes no memory.
     pub fn builder() -> StreamBuilder
         ensures { result ≡ nothing_said }
     {
         StreamBuilder::default()
     }
 
-    /// The settings, each a field.
+    /// The settings as fields.
     pub fn spec(&self) -> &StreamSpec
         ensures { result.now ≡ self.now }
     {
@@ -87,7 +87,7 @@ impl Stream {
         self.spec.aggregation.as_ref()
     }
 
-    /// The keys that are kept of attributes, if they are set; else all are kept.
+    /// The attribute keys that are kept, if they are set; otherwise all are kept.
     pub fn allowed_attribute_keys(&self) -> Option<&[Key]>
         ensures { option_map (λ s. s.now) result ≡ self.now.allow }
     {
@@ -104,7 +104,8 @@ impl Stream {
         self.spec.limit
     }
 
-    /// What is always so. Does nothing: a function whose contract needs it calls it first.
+    /// The law that the unit, the limit and the bounds are valid. Does nothing; a function whose contract needs the law
+    /// calls it first.
     pub fn lawful(&self)
         ensures settings { IsLawful self.now }
         ensures limit { IfSome self.now.limit (λ n. 0 < n) }
@@ -114,7 +115,7 @@ impl Stream {
     }
 }
 
-/// Nothing is set.
+/// By default nothing is set.
 impl Default for Stream {
     ghost is_default = { λ s. s ≡ nothing_said };
 
@@ -135,8 +136,8 @@ impl Clone for Stream {
     }
 }
 
-/// Makes a stream (Metrics SDK, "Stream configuration"). What is set twice is as it was set last. To set something
-/// takes no memory.
+/// A builder of streams (Metrics SDK, "Stream configuration"). If something is set twice, the last setting counts.
+/// Setting something takes no memory.
 #[derive(Debug, Drop)]
 pub struct StreamBuilder {
     spec: StreamSpec,
@@ -151,7 +152,7 @@ impl Model for StreamBuilder {
 }
 
 impl StreamBuilder {
-    /// The stream's name, in place of the instrument's. Any text is good.
+    /// Sets the stream's name, in place of the instrument's. Any string is valid.
     pub fn with_name(self, name: String) -> StreamBuilder
         ensures { result ≡ record self { name = Some (string_bytes name) } }
     {
@@ -160,7 +161,7 @@ impl StreamBuilder {
         builder
     }
 
-    /// The stream's description, in place of the instrument's. Any text is good.
+    /// Sets the stream's description, in place of the instrument's. Any string is valid.
     pub fn with_description(self, description: String) -> StreamBuilder
         ensures { result ≡ record self { description = Some (string_bytes description) } }
     {
@@ -169,7 +170,7 @@ impl StreamBuilder {
         builder
     }
 
-    /// The stream's unit, in place of the instrument's: at most 63 bytes, all ASCII.
+    /// Sets the stream's unit, in place of the instrument's. A valid unit has at most 63 bytes, all ASCII.
     pub fn with_unit(self, unit: String) -> StreamBuilder
         ensures { result ≡ record self { unit = Some (string_bytes unit) } }
     {
@@ -178,8 +179,8 @@ impl StreamBuilder {
         builder
     }
 
-    /// What the stream keeps of its records, in place of what the reader wants for the kind of instrument. The
-    /// bounds of a histogram have to rise.
+    /// Sets what the stream keeps of its records, in place of what the reader wants for the kind of instrument. The
+    /// bounds of a histogram must rise.
     pub fn with_aggregation(self, aggregation: Aggregation) -> StreamBuilder
         ensures { result ≡ record self { aggregation = Some aggregation } }
     {
@@ -188,8 +189,8 @@ impl StreamBuilder {
         builder
     }
 
-    /// The keys that are kept of attributes; the others are dropped, and with an empty list all are. Where this is not
-    /// called all are kept.
+    /// Sets the attribute keys that are kept. The others are dropped; an empty list drops all. If this is not called,
+    /// all are kept.
     pub fn with_allowed_attribute_keys(self, attribute_keys: Vec<Key>) -> StreamBuilder
         ensures { result ≡ record self { allow = Some attribute_keys.items } }
     {
@@ -198,8 +199,8 @@ impl StreamBuilder {
         builder
     }
 
-    /// How many sets of attributes have points of their own (Metrics SDK, "Cardinality limits"): 1 to
-    /// `usize::MAX - 1`.
+    /// Sets how many sets of attributes have points of their own: 1 to `usize::MAX - 1` (Metrics SDK, "Cardinality
+    /// limits").
     pub fn with_cardinality_limit(self, limit: usize) -> StreamBuilder
         ensures { result ≡ record self { limit = Some limit } }
     {
@@ -208,8 +209,8 @@ impl StreamBuilder {
         builder
     }
 
-    /// The stream, or the first fault of its settings: those of the unit, of the limit, of the bounds, in the order of
-    /// `StreamFault`. The name is not looked at (Metrics SDK, "View").
+    /// Builds the stream, or returns the first fault of its settings, in the order of `StreamFault`: those of the unit,
+    /// of the limit, of the bounds. The name is not checked (Metrics SDK, "View").
     ///
     /// Goes over the unit and the bounds once, and takes no memory.
     pub fn build(self) -> Result<Stream, StreamFault>
@@ -223,7 +224,7 @@ impl StreamBuilder {
     }
 }
 
-/// Nothing is set.
+/// By default nothing is set.
 impl Default for StreamBuilder {
     ghost is_default = { λ b. b ≡ nothing_said };
 

@@ -2,8 +2,8 @@
 
 use thiserror::Error;
 
-/// Why the settings of a stream are refused (Metrics SDK, "View" and "Cardinality limits"). Of several that
-/// stand the first of this list is answered.
+/// Why the settings of a stream are refused (Metrics SDK, "View" and "Cardinality limits"). If several of these apply,
+/// the first in this list is answered.
 #[derive(Clone, Copy, Debug, PartialEq, Eq, Error)]
 pub enum StreamFault {
     /// The unit has more than 63 bytes.

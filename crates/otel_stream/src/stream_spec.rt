@@ -1,4 +1,4 @@
-//! What may be said of a stream, and what is wrong with it.
+//! What can be set for a stream, and what can be wrong with it.
 
 ghost use Rattle.std.specs.Prelude.{◌≡◌};
 ghost use Rattle.otel_stream.specs.Settings.{nothing_said, fault_by_unit, optional_limit_fault, optional_bounds_fault, bounds_of, settings_fault};
@@ -14,8 +14,8 @@ use otel_common::metrics::Aggregation;
 use otel_common::strings::StringValue;
 use std::alloc::AllocError;
 
-/// What is said of a stream (Metrics SDK, "Stream configuration"). What it lacks is the instrument's or the
-/// reader's.
+/// What is set for a stream (Metrics SDK, "Stream configuration"). What is not set comes from the instrument or the
+/// reader.
 #[derive(Debug, Drop)]
 pub struct StreamSpec {
     /// The name, in place of the instrument's.
@@ -26,15 +26,15 @@ pub struct StreamSpec {
     pub unit: Option<StringValue>,
     /// What the stream keeps of its records.
     pub aggregation: Option<Aggregation>,
-    /// The keys that are kept of attributes; all of them where there is no list.
+    /// The attribute keys that are kept; all of them if there is no list.
     pub allow: Option<Items<Key>>,
     /// How many sets of attributes have points of their own.
     pub limit: Option<usize>,
 }
 
 impl StreamSpec {
-    /// The first of these that stands: the unit has more than 63 bytes, it has a character outside ASCII, the limit
-    /// is 0, it is `usize::MAX`, the bounds of a histogram don't rise. The name is not looked at.
+    /// Returns the first of these that applies: the unit has more than 63 bytes, it has a character outside ASCII, the
+    /// limit is 0, it is `usize::MAX`, the bounds of a histogram don't rise. The name is not checked.
     ///
     /// Goes over the unit and the bounds once, and takes no memory.
     pub fn fault(&self) -> Option<StreamFault>
@@ -94,7 +94,7 @@ fn fault_of_bounds(aggregation: &Option<Aggregation>) -> Option<StreamFault>
     Some(StreamFault::Boundaries)
 }
 
-/// Nothing is said.
+/// By default nothing is set.
 impl Default for StreamSpec {
     ghost is_default = { λ s. s ≡ nothing_said };
 

@@ -1,4 +1,4 @@
-//! What no contract says: texts; and each preference once.
+//! Tests the texts, which no contract states, and each preference once.
 
 mod asked;
 mod instruments;
@@ -34,7 +34,7 @@ fn letter_of(temporality: Temporality) -> &'static str {
     }
 }
 
-/// Whether a reader wants these temporalities for the seven kinds, a letter each.
+/// Whether a reader wants these temporalities for the seven kinds, one letter for each.
 fn prefers<R: MetricReader>(reader: &R, letters: [&str; 7]) -> bool {
     let mut does = true;
     for (kind, letter) in KINDS.iter().zip(letters.iter()) {
@@ -56,7 +56,7 @@ fn reader_of(temporality: Temporality) -> ManualReader {
         .build()
 }
 
-/// Whether a value shows this text.
+/// Whether the `Debug` output of a value is this text.
 fn shows<T: Debug>(alloc: Global, value: &T, text: &str) -> bool {
     match format!(in alloc; "{value:?}") {
         Ok(shown) => shown.as_str() == text,
@@ -79,14 +79,14 @@ fn readers_show_their_names(rt: HostRuntime) {
     assert!(rt; show_their_names(rt.alloc()));
 }
 
-/// Whether all readers of which nothing was said are cumulative.
+/// Whether readers are cumulative by default.
 fn defaults_are_cumulative() -> bool {
     prefers(&ManualReader::default(), CUMULATIVE)
         && prefers(&ManualReaderBuilder::default().build(), CUMULATIVE)
         && prefers(&ManualReaderBuilder::new().build(), CUMULATIVE)
 }
 
-/// Whether readers of each temporality want what it says for each kind.
+/// Whether readers of each temporality want what it prefers for each kind.
 fn have_their_preferences() -> bool {
     prefers(&reader_of(Temporality::Cumulative), CUMULATIVE)
         && prefers(&reader_of(Temporality::Delta), DELTA)

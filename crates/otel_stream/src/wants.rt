@@ -7,7 +7,7 @@ use crate::by_kind::ByKind;
 use crate::limit::CardinalityLimit;
 use otel_common::metrics::{Aggregation, Temporality};
 
-/// What a manual reader wants: a temporality, and for each kind of instrument perhaps a limit and perhaps an
+/// What a manual reader wants: a temporality, and for each kind of instrument optionally a limit and optionally an
 /// aggregation.
 #[derive(Drop)]
 pub(crate) struct Wants {
@@ -17,7 +17,7 @@ pub(crate) struct Wants {
 }
 
 impl Wants {
-    /// A temporality alone.
+    /// Makes the wants of a temporality alone, without limits and aggregations.
     pub(crate) fn new(temporality: Temporality) -> Wants
         ensures { result ≡ temporality_alone temporality }
     {

@@ -76,6 +76,12 @@ counted-push (r ∷ rs) e =
     omega (arith, one, two, rest)
 
 -- ======== what is prepared ========
+pub sound-nothing : (t : Slotted) (few room : Bool) (p : Pending) → p ≡ Nothing → IsSound t few room p
+sound-nothing t few room p is = subst (IsSound t few room) (sym is) tt
+
+pub sound-at : (t : Slotted) (few room : Bool) (p : Pending) (n : ℕ) → p ≡ At n → IsSound t few room (At n) → IsSound t few room p
+sound-at t few room p n is found = subst (IsSound t few room) (sym is) found
+
 -- the set that is prepared and has an entry
 pub at-prepared : (t : Slotted) (few room : Bool) (p : Pending) (n : ℕ) (s : AttributeSet) → IsSound t few room p → At n ≡ p → pending_in t.numbers p ≡ Some s → (number_of s t.numbers ≡ Some n) × (is_placed s t.table.entries ≡ true)
 at-prepared t few room p n s sound is e =

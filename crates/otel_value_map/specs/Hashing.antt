@@ -4,7 +4,7 @@ use Rattle.std.specs.Hash.FoldHasher.{folded_multiply, read_u32, read_short, mix
 use Rattle.otel_value_map.specs.declared.hashing.SetHasher.{SetHasher}
 use Rattle.otel_value_map.specs.declared.hashing.SetHashBuilder.{SetHashBuilder}
 
--- the builder that nobody gave a seed
+-- a builder that was given no seed
 abbrev pub unseeded : SetHashBuilder
 unseeded = record { seed = 0x243f_6a88_85a3_08d3 }
 
@@ -12,15 +12,16 @@ unseeded = record { seed = 0x243f_6a88_85a3_08d3 }
 abbrev pub after_one : ℕ → ℕ → ℕ
 after_one state byte = (bit_xor state byte * 0x9e37_79b9_7f4a_7c15) % 2 ^ 64
 
--- the state after up to three bytes, taken as one number
+-- the state after up to three bytes, read as one number
 abbrev pub after_few : ℕ → List ℕ → ℕ
 after_few state bytes = folded_multiply (bit_xor state (read_short bytes)) (bit_xor 0x9e37_79b9_7f4a_7c15 (2 * length bytes))
 
--- the state after four to eight bytes: the first four and the last four, of which some may be the same
+-- the state after four to eight bytes: the first four and the last four, which may overlap
 abbrev pub after_some : ℕ → List ℕ → ℕ
 after_some state bytes = folded_multiply (bit_xor (read_u32 bytes 0) ((state + length bytes) % 2 ^ 64)) (bit_xor (read_u32 bytes (length bytes - 4)) 0x9e37_79b9_7f4a_7c15)
 
--- the state after more bytes: sixteen at a time, and the last sixteen, of which some may have been taken
+-- the state after more bytes: blocks of sixteen, then the last sixteen, which may overlap the last block; of fewer than
+-- sixteen, the first eight and the last eight
 abbrev pub after_many : ℕ → List ℕ → ℕ
 after_many state bytes = mix bytes (mix_blocks bytes ((state + length bytes) % 2 ^ 64) ((length bytes - 1) / 16)) (length bytes - 16) (length bytes - 8)
 

@@ -1,5 +1,5 @@
 -- What contracts see of a map.
-use Rattle.std.specs.Prelude.{◌≡◌, ◌&&◌, ◌||◌, not, Bool, true, false, cond, List, [], ◌∷◌, Option, Some, None, IsTrue, is_some}
+use Rattle.std.specs.Prelude.{◌≡◌, ◌&&◌, ◌||◌, not, ◌==◌, length, ℕ, Bool, true, false, cond, List, [], ◌∷◌, Option, Some, None, IsTrue, is_some}
 use Rattle.std.specs.Map.{keys_of}
 use Rattle.std.specs.Set.{is_member}
 use Rattle.otel_common.specs.Canonical.{canon}
@@ -8,13 +8,13 @@ use Rattle.otel_common.specs.declared.attributes.KeyValue.{KeyValue}
 use Rattle.otel_model_stream.specs.Sets.{AttributeSet, none_set}
 use Rattle.otel_model_stream.specs.Entries.{has}
 use Rattle.otel_model_stream.specs.Maps.{MapState, KnownMap}
-use Rattle.otel_value_map.specs.Keyed.{Slotted, IsNew, IsSpelling}
+use Rattle.otel_value_map.specs.Keyed.{Slotted, IsNew, IsSpelling, found}
 use Rattle.otel_value_map.specs.Numbers.{Numbers, number_of, set_named, is_placed}
 use Rattle.otel_value_map.specs.declared.pending.Pending.{Pending}
 use Rattle.otel_value_map.specs.declared.pending.Pending.TheVariants.{Nothing, At, New}
 
--- a map's state; the numbers of its entries, and the lists as they were given that it knows besides the sets of its entries;
--- the set of the record that is prepared, and the list that it adds to those
+-- a map's state; the numbers of its entries; the lists, as given, that it knows besides the sets of its entries; the
+-- set of the prepared record or bind, if any; and the list that this adds to those, if any
 pub record Held : Type 0 where
   pub state : MapState
   pub numbers : Numbers
@@ -22,27 +22,29 @@ pub record Held : Type 0 where
   pub pending : Option AttributeSet
   pub spelling : List (List KeyValue)
 
--- what a map knows
+-- a map with the lists that it knows
 abbrev pub known_of : Held → KnownMap
 known_of h = record { map_state = h.state; given = h.given }
 
--- the set of the record that is prepared
+-- the set of the prepared record or bind, if any
 abbrev pub pending_in : Numbers → Pending → Option AttributeSet
 pending_in ns Nothing = None
 pending_in ns (At n) = Some (set_named n ns)
 pending_in ns (New s list) = Some s
 
--- the list that it adds
+-- the list, if there is one, as a list of lists
 abbrev pub list_of : Option (List KeyValue) → List (List KeyValue)
 list_of None = []
 list_of (Some l) = l ∷ []
 
+-- the list that the prepared record or bind adds, if any
 abbrev pub spelling_in : Pending → List (List KeyValue)
 spelling_in Nothing = []
 spelling_in (At n) = []
 spelling_in (New s list) = list_of list
 
--- a set that can be given an entry: there is room for one, and a list is added only where the set will be counted
+-- a new set can be given an entry: there is room. The list, if there is one, can become a key too; there is one only if
+-- `few` says that the limit allows one more counted entry
 pub record IsReady (t : Slotted) (few : Bool) (room : Bool) (s : AttributeSet) (list : Option (List KeyValue)) : Type 0 where
   pub new : IsNew t.numbers.sets s
   pub absent : has s t.table.entries ≡ false
@@ -50,24 +52,48 @@ pub record IsReady (t : Slotted) (few : Bool) (room : Bool) (s : AttributeSet) (
   pub admitted : IsTrue (is_some list) → IsTrue few
   pub ready : IsTrue room
 
--- what is prepared can be carried out
+-- what is prepared can be carried out: the number names a set with an entry, or the new set can be given one
 abbrev pub IsSound : Slotted → Bool → Bool → Pending → Type 0
 IsSound t few room Nothing = Unit {0}
 IsSound t few room (At n) = (number_of (set_named n t.numbers) t.numbers ≡ Some n) × (is_placed (set_named n t.numbers) t.table.entries ≡ true)
 IsSound t few room (New s list) = IsReady t few room s list
 
+-- whether it is for a set that has no entry
 abbrev pub is_new : Pending → Bool
 is_new Nothing = false
 is_new (At n) = false
 is_new (New s list) = true
 
--- whether a list leads to an entry as it stands
+-- whether a record or a bind is prepared
+abbrev pub is_pending : Pending → Bool
+is_pending Nothing = false
+is_pending (At n) = true
+is_pending (New s list) = true
+
+-- the prepared record or bind, from what is kept of it: the number of an entry, or else a set that has no entry, and
+-- perhaps a list that is to lead to its entry too
+abbrev pub prepared : Option ℕ → Option (AttributeSet × Option (List KeyValue)) → Pending
+prepared (Some n) added = At n
+prepared None (Some p) = New p.0 p.1
+prepared None None = Nothing
+
+-- whether a list, as given, leads to an entry
 abbrev pub leads : List KeyValue → Slotted → Bool
 leads l t = set_eq l none_set || (is_member set_eq (keys_of t.given) l || has l t.table.entries)
 
--- what a record of the list is to do. `few` says whether the entries that count are below the limit
+-- the list, as given, leads to no entry
+pub record IsUnled (t : Slotted) (l : List KeyValue) : Type 0 where
+  pub some : (length l == 0) ≡ false
+  pub unknown : (is_member set_eq (keys_of t.given) l || has l t.table.entries) ≡ false
+  pub unfound : found l t.numbers.sets t.given ≡ None
+
+-- the plan is what a record or bind of the list is to do. `few` says whether the limit allows one more counted entry
 pub record IsPlan (t : Slotted) (few : Bool) (l : List KeyValue) (plan : Pending) : Type 0 where
   pub pending : pending_in t.numbers plan ≡ Some (canon l)
   pub spelling : spelling_in plan ≡ cond ((not (set_eq (canon l) none_set) && (not (has (canon l) t.table.entries) && few)) && not (set_eq (canon l) l)) (l ∷ []) []
   pub sound : (room : Bool) → IsTrue room → IsSound t few room plan
   pub unknown : IsTrue (is_new plan) → leads l t ≡ false
+
+-- a record or bind of the list is to use the entry with this number, whether or not the limit allows one more
+abbrev pub IsPlanAt : Slotted → List KeyValue → ℕ → Type 0
+IsPlanAt t l n = (few : Bool) → IsPlan t few l (At n)

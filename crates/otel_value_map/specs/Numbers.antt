@@ -1,4 +1,4 @@
--- The numbers of entries, by which handles name them, and the keys of a map.
+-- The numbers by which handles name entries, and the keys of a map.
 use Rattle.std.specs.Prelude.{◌≡◌, ℕ, ◌<◌, ◌-◌, ◌^◌, nat_eq, ◌&&◌, ◌||◌, not, cond, Bool, true, false, List, [], ◌∷◌, map, Option, Some, is_some}
 use Rattle.std.specs.Map.{lookup}
 use Rattle.otel_common.specs.Canonical.{canon}
@@ -8,7 +8,8 @@ use Rattle.otel_model_stream.specs.Sets.{AttributeSet, none_set}
 use Rattle.otel_model_stream.specs.Entries.{Entry, Table, is_of, has}
 use Rattle.otel_model_stream.specs.Maps.{MapState, is_admitted}
 
--- the number of the empty set's entry, and each set that has an entry with the number of that, in order of making
+-- the number of the empty set's entry, and the other sets that have entries, each with its entry's number, in order of
+-- making
 pub record Numbers : Type 0 where
   pub none : ℕ
   pub sets : List (AttributeSet × ℕ)
@@ -22,10 +23,11 @@ abbrev pub named_in : ℕ → List (AttributeSet × ℕ) → AttributeSet
 named_in n [] = none_set
 named_in n (e ∷ es) = cond (nat_eq n e.1) e.0 (named_in n es)
 
+-- the set that this number names; the empty one if it names no other
 abbrev pub set_named : ℕ → Numbers → AttributeSet
 set_named n ns = cond (nat_eq n ns.none) none_set (named_in n ns.sets)
 
--- each entry keeps its number
+-- each set that has a number keeps it
 abbrev pub KeepNumbers : Numbers → Numbers → Type 0
 KeepNumbers old new = (s : AttributeSet) (n : ℕ) → number_of s old ≡ Some n → number_of s new ≡ Some n
 
@@ -33,23 +35,23 @@ KeepNumbers old new = (s : AttributeSet) (n : ℕ) → number_of s old ≡ Some 
 abbrev pub is_placed : AttributeSet → List Entry → Bool
 is_placed s es = set_eq s none_set || has s es
 
--- each entry that is left keeps its number
+-- each set whose entry is left keeps its number
 abbrev pub KeepLeft : List Entry → Numbers → Numbers → Type 0
 KeepLeft left old new = (s : AttributeSet) (n : ℕ) → number_of s old ≡ Some n → is_placed s left ≡ true → number_of s new ≡ Some n
 
--- what has a number is named by it
+-- each number of a set names that set
 abbrev pub AreNamed : Numbers → Type 0
 AreNamed ns = (s : AttributeSet) (n : ℕ) → number_of s ns ≡ Some n → set_named n ns ≡ s
 
--- the sets that have entries have numbers, and no other has
+-- exactly the sets that have entries have numbers
 abbrev pub AreNumbered : List Entry → Numbers → Type 0
 AreNumbered es ns = (s : AttributeSet) → is_some (number_of s ns) ≡ is_placed s es
 
--- the list of a record that is prepared, as a key beside that of its set: if its set will be admitted, and isn't the list itself
+-- the list of a prepared record or bind, as one more key, if its set will get a counted entry and isn't the list itself
 abbrev pub spelling_of : List KeyValue → MapState → List (List KeyValue)
 spelling_of l m = cond (is_admitted (canon l) m && not (set_eq (canon l) l)) (l ∷ []) []
 
--- how many live handles the entry of a set has
+-- how many live handles the entry of a set has; 0 if it has no entry
 abbrev pub handles_in : AttributeSet → List Entry → ℕ
 handles_in s [] = 0
 handles_in s (e ∷ es) = cond (is_of s e) e.handles (handles_in s es)
@@ -57,20 +59,20 @@ handles_in s (e ∷ es) = cond (is_of s e) e.handles (handles_in s es)
 abbrev pub handles_at : AttributeSet → Table → ℕ
 handles_at s t = handles_in s (t.none ∷ t.entries)
 
--- a set that isn't empty has an entry of this number, and no other has
+-- a set that isn't empty has this number, and the number names it
 pub record IsNumberOf (s : AttributeSet) (n : ℕ) (ns : Numbers) : Type 0 where
   pub some : set_eq s none_set ≡ false
   pub number : lookup (set_eq s) ns.sets ≡ Some n
   pub named : set_named n ns ≡ s
 
--- an entry without live handles
+-- an entry, without its live handles
 abbrev pub entry_without_handles : Entry → Entry
 entry_without_handles e = record e { handles = 0 }
 
--- a table without live handles
+-- a table, without its live handles
 abbrev pub without_handles : Table → Table
 without_handles t = record { none = entry_without_handles t.none; entries = map entry_without_handles t.entries }
 
--- no entry has so many live handles that one more can't be counted
+-- every entry has so few live handles that one more can be counted in 64 bits
 abbrev pub AreHandlesFew : Table → Type 0
 AreHandlesFew t = (s : AttributeSet) → handles_at s t < 2 ^ 64 - 1

@@ -8,24 +8,24 @@ use crate::number::Number;
 use otel_common::faults::Fault;
 use std::alloc::Global;
 
-/// What is kept of a list of records, one record after the other.
+/// What an aggregation keeps of a list of records, which it takes in one after the other.
 pub trait Aggregator: Drop {
-    /// What one is made with.
+    /// What an aggregator is made from.
     type InitConfig: Drop;
 
-    /// A record.
+    /// One record.
     type PreComputedValue: Copy;
 
     /// What the records so far come to.
     ghost meaning: { Self → Fold };
 
-    /// What no records come to.
+    /// What no records at all come to.
     ghost empty: { Self.InitConfig → Fold };
 
-    /// The model's record.
+    /// The record as the model sees it.
     ghost sample: { Self.PreComputedValue → Sample };
 
-    /// One with no records.
+    /// Makes an aggregator with no records.
     fn create(alloc: Global, config: &Self::InitConfig) -> Result<Self, Fault>
         ensures empty { IfOk result (λ made. meaning made ≡ empty config.now) }
         ensures only_memory { IsOkUnless result Fault.OutOfMemory };
@@ -34,13 +34,12 @@ pub trait Aggregator: Drop {
     fn update(&mut self, value: Self::PreComputedValue)
         ensures { meaning self.new ≡ record_fold (meaning self.old) (sample value) };
 
-    /// One of the same records.
+    /// Makes an aggregator with the same records.
     fn copy(&self, alloc: Global) -> Result<Self, Fault>
         ensures copy { IfOk result (λ made. meaning made ≡ meaning self.now) }
         ensures only_memory { IsOkUnless result Fault.OutOfMemory };
 
-    /// What the records add up to: of a sum its 64 bits, of a histogram their number, of a last value
-    /// nothing.
+    /// What the records add up to: the 64 bits of a sum, the number of records of a histogram, and 0 for a last value.
     fn weight(&self) -> u64
         ensures { result ≡ weight (meaning self.now) };
 
@@ -48,11 +47,11 @@ pub trait Aggregator: Drop {
     fn reset(&mut self)
         ensures { meaning self.new ≡ clear_fold (meaning self.old) };
 
-    /// Forgetting where there are no records changes nothing.
+    /// The law that forgetting changes nothing where there are no records.
     ghost cleared_empty: { (config : Self.InitConfig) → clear_fold (empty config) ≡ empty config };
 }
 
-/// Adds up the records (Metrics SDK, "Sum Aggregation").
+/// The sum of the records (Metrics SDK, "Sum Aggregation").
 #[derive(Drop)]
 pub struct Increment<T> {
     pub value: T,
@@ -92,7 +91,7 @@ impl<T: Number + Drop> Aggregator for Increment<T> {
     }
 }
 
-/// The law that an aggregator as it is made has the meaning of no records.
+/// The law that a new aggregator has the meaning of no records.
 pub fn create_fold<A: Aggregator>(alloc: Global, config: &A::InitConfig) -> Result<A, Fault>
     ensures fold { IfOk result (λ made. A.meaning made ≡ fold_samples (A.empty config.now) []) }
     ensures only_memory { IsOkUnless result Fault.OutOfMemory }
@@ -100,8 +99,8 @@ pub fn create_fold<A: Aggregator>(alloc: Global, config: &A::InitConfig) -> Resu
     A::create(alloc, config)
 }
 
-/// The law that, where an aggregator's meaning is the fold of some records, an update makes it the
-/// fold of these and one more at their end.
+/// The law that, where an aggregator's meaning is the fold of some records, an update makes it the fold of those with
+/// one more at the end.
 pub fn update_fold<A: Aggregator>(aggregator: &mut A, value: A::PreComputedValue)
     ensures { (config : A.InitConfig) (samples : List Sample) → A.meaning aggregator.old ≡ fold_samples (A.empty config) samples
         → A.meaning aggregator.new ≡ fold_samples (A.empty config) (samples ++ A.sample value ∷ []) }
@@ -109,7 +108,7 @@ pub fn update_fold<A: Aggregator>(aggregator: &mut A, value: A::PreComputedValue
     aggregator.update(value);
 }
 
-/// The law that, where an aggregator's meaning is the fold of some records, a reset makes it that of none.
+/// The law that, where an aggregator's meaning is the fold of some records, a reset makes it the fold of none.
 pub fn reset_fold<A: Aggregator>(aggregator: &mut A)
     ensures { (config : A.InitConfig) (samples : List Sample) → A.meaning aggregator.old ≡ fold_samples (A.empty config) samples
         → A.meaning aggregator.new ≡ fold_samples (A.empty config) [] }

@@ -8,7 +8,7 @@ use crate::number::Number;
 use otel_common::faults::Fault;
 use std::alloc::Global;
 
-/// Keeps the last record (Metrics SDK, "Last Value Aggregation").
+/// The last record (Metrics SDK, "Last Value Aggregation").
 #[derive(Drop)]
 pub struct Assign<T> {
     pub value: T,

@@ -10,8 +10,8 @@ use otel_common::lists::Items;
 use std::alloc::Global;
 use std::marker::Model;
 
-/// The bounds of a histogram's buckets, each greater than the one before it (Metrics SDK, "Explicit
-/// Bucket Histogram Aggregation").
+/// The bounds of a histogram's buckets, each greater than the one before it (Metrics SDK, "Explicit Bucket Histogram
+/// Aggregation").
 #[derive(Drop)]
 pub struct Bounds {
     items: Items<i64>,
@@ -29,7 +29,7 @@ impl Model for Bounds {
 }
 
 impl Bounds {
-    /// These bounds, if they rise.
+    /// Makes bounds of these numbers, or returns `None` unless each is greater than the one before it.
     pub fn new(items: Items<i64>) -> Option<Bounds>
         ensures { result ≡ cond (rises items) (Some items) None }
     {
@@ -55,7 +55,7 @@ impl Bounds {
         Ok(Items::from(Vec::from_clones(alloc, self.items.as_slice())?))
     }
 
-    /// How many buckets there are: one more than bounds, or none without bounds.
+    /// The number of buckets: one more than there are bounds, or 0 without bounds.
     pub fn number_of_buckets(&self) -> usize
         ensures { result ≡ buckets_of self.now }
     {
@@ -67,7 +67,7 @@ impl Bounds {
         }
     }
 
-    /// The bucket of a value: how many bounds are less than it.
+    /// The bucket of a value, which is the number of bounds that are less than the value.
     pub fn bucket_of(&self, value: i128) -> usize
         ensures { result ≡ bounds_below self.now value }
     {

@@ -9,17 +9,17 @@ use crate::number::Number;
 use otel_common::faults::Fault;
 use std::alloc::Global;
 
-/// How many buckets there are, and what is kept besides their counts.
+/// The number of buckets, and what is kept besides their counts.
 #[derive(Clone, Copy, Debug)]
 pub struct BucketsConfig {
     pub number: usize,
     /// Whether the least and the greatest value are kept.
     pub has_min_max: bool,
-    /// Whether there is a sum; without one it is 0.
+    /// Whether a sum is kept; if not, it is 0.
     pub has_sum: bool,
 }
 
-/// Counts the records by bucket (Metrics SDK, "Explicit Bucket Histogram Aggregation").
+/// The records counted by bucket (Metrics SDK, "Explicit Bucket Histogram Aggregation").
 #[derive(Drop)]
 pub struct Buckets<T> {
     pub has_min_max: bool,
@@ -31,7 +31,7 @@ pub struct Buckets<T> {
     pub counts: Vec<u64>,
 }
 
-/// The lesser of what was least so far and a value.
+/// The lesser of the least value so far, if there is one, and this value.
 fn lesser_of<T: Number>(least: Option<T>, value: T) -> T
     ensures { Some (T.wide result) ≡ lesser (option_map T.wide least) (T.wide value) }
 {
@@ -41,7 +41,7 @@ fn lesser_of<T: Number>(least: Option<T>, value: T) -> T
     }
 }
 
-/// The greater of what was greatest so far and a value.
+/// The greater of the greatest value so far, if there is one, and this value.
 fn greater_of<T: Number>(greatest: Option<T>, value: T) -> T
     ensures { Some (T.wide result) ≡ greater (option_map T.wide greatest) (T.wide value) }
 {
@@ -57,7 +57,7 @@ fn greater_of<T: Number>(greatest: Option<T>, value: T) -> T
     }
 }
 
-/// The least value with one more, where it is kept.
+/// The least value after one more value, if it is kept.
 fn least_with<T: Number>(is_kept: bool, least: Option<T>, value: T) -> Option<T>
     ensures { option_map T.wide result ≡ cond is_kept (lesser (option_map T.wide least) (T.wide value)) (option_map T.wide least) }
 {
@@ -68,7 +68,7 @@ fn least_with<T: Number>(is_kept: bool, least: Option<T>, value: T) -> Option<T>
     }
 }
 
-/// The greatest value with one more, where it is kept.
+/// The greatest value after one more value, if it is kept.
 fn greatest_with<T: Number>(is_kept: bool, greatest: Option<T>, value: T) -> Option<T>
     ensures { option_map T.wide result ≡ cond is_kept (greater (option_map T.wide greatest) (T.wide value)) (option_map T.wide greatest) }
 {
@@ -79,14 +79,14 @@ fn greatest_with<T: Number>(is_kept: bool, greatest: Option<T>, value: T) -> Opt
     }
 }
 
-/// The sum with one value more, where there is one.
+/// The sum after one more value, if it is kept.
 fn sum_with<T: Number>(is_kept: bool, sum: T, value: T) -> T
     ensures { T.bits result ≡ cond is_kept (wrap (T.bits sum + T.bits value)) (T.bits sum) }
 {
     if is_kept { sum.add(value) } else { sum }
 }
 
-/// Counts one more in a bucket, if it is there.
+/// Counts one more record in a bucket, if there is such a bucket.
 fn count_in(counts: &mut [u64], bucket: usize)
     ensures { counts.new ≡ counted_in counts.old bucket }
 {
@@ -95,7 +95,7 @@ fn count_in(counts: &mut [u64], bucket: usize)
     }
 }
 
-/// A record is a value with its bucket: how many bounds are less than it.
+/// A record is a value with its bucket, which is the number of bounds that are less than the value.
 impl<T: Number + Drop> Aggregator for Buckets<T> {
     type InitConfig = BucketsConfig;
 

@@ -1,4 +1,4 @@
-//! How sets of attributes are hashed.
+//! Hashing of sets of attributes.
 
 ghost use Rattle.std.specs.Prelude.{◌≡◌, ◌+◌, ◌<◌, ◌≤◌, length};
 ghost use Rattle.std.specs.Hash.FoldHasher.{folded_multiply, read_u32, read_u64, read_short, mix};
@@ -9,24 +9,24 @@ use std::hash::{BuildHasher, Hasher};
 /// An odd number whose bits look random.
 const MULTIPLIER: u64 = 0x9e37_79b9_7f4a_7c15;
 
-/// A hasher for sets of attributes, which begins with a seed. It is no cryptographic one.
+/// A hasher for sets of attributes, started from a seed. It is not cryptographic.
 ///
-/// A key or a text costs a multiplication for each 16 bytes that it has, with its length, so that two texts are told
-/// apart from two others that are the same bytes in a row. A single byte, such as the end of a text, costs one of 64
-/// bits.
+/// A key or a text costs one multiplication for every 16 bytes. Its length is hashed too, which tells two texts apart
+/// from two others that join to the same bytes. A single byte, such as the end of a text, costs a 64-bit
+/// multiplication.
 #[derive(Clone, Copy)]
 pub struct SetHasher {
     state: u64,
 }
 
-/// Makes hashers of sets that begin with a seed. Keys that were made to collide under one seed don't under another.
+/// Makes hashers for sets, all started from one seed. Keys made to collide under one seed don't collide under another.
 #[derive(Clone, Copy)]
 pub struct SetHashBuilder {
     seed: u64,
 }
 
 impl SetHashBuilder {
-    /// A builder of hashers that begin with this seed.
+    /// Makes a builder of hashers that start from this seed.
     pub fn new(seed: u64) -> SetHashBuilder
         ensures { result ≡ record { seed = seed } }
     {
@@ -53,7 +53,7 @@ impl BuildHasher for SetHashBuilder {
     }
 }
 
-/// The halves of a product of 128 bits, joined.
+/// Joins the two halves of the 128-bit product.
 #[inline]
 fn folded_multiply(a: u64, b: u64) -> u64
     ensures { result ≡ folded_multiply a b }
@@ -62,7 +62,7 @@ fn folded_multiply(a: u64, b: u64) -> u64
     (product & 0xFFFF_FFFF_FFFF_FFFF) as u64 ^ (product >> 64) as u64
 }
 
-/// Four bytes, the lowest first.
+/// Reads four bytes, the lowest first.
 #[inline]
 fn read_u32(bytes: &[u8], at: usize) -> u64
     requires { at + 4 ≤ length bytes.now }
@@ -71,7 +71,7 @@ fn read_u32(bytes: &[u8], at: usize) -> u64
     u32::from_le_bytes([bytes[at], bytes[at + 1], bytes[at + 2], bytes[at + 3]]) as u64
 }
 
-/// Eight bytes, the lowest first.
+/// Reads eight bytes, the lowest first.
 #[inline]
 fn read_u64(bytes: &[u8], at: usize) -> u64
     requires { at + 8 ≤ length bytes.now }
@@ -80,7 +80,7 @@ fn read_u64(bytes: &[u8], at: usize) -> u64
     read_u32(bytes, at) | read_u32(bytes, at + 4) << 32
 }
 
-/// Up to 8 bytes as one number, by reads that may overlap.
+/// Reads up to 8 bytes as one number, by reads that may overlap.
 #[inline]
 fn read_short(bytes: &[u8]) -> u64
     ensures { result ≡ read_short bytes.now }
@@ -95,7 +95,7 @@ fn read_short(bytes: &[u8]) -> u64
     }
 }
 
-/// The state after the bytes of these two places, 8 each.
+/// The state after the 8 bytes at each of these two places.
 #[inline]
 fn mixed(state: u64, bytes: &[u8], first: usize, second: usize) -> u64
     requires first { first + 8 ≤ length bytes.now }
@@ -108,7 +108,7 @@ fn mixed(state: u64, bytes: &[u8], first: usize, second: usize) -> u64
     )
 }
 
-/// The state after more than 16 bytes, of which it takes 16 at a time.
+/// The state after more than 16 bytes, taken 16 at a time.
 #[inline(never)]
 fn after_long(before: u64, bytes: &[u8]) -> u64
     requires { 16 < length bytes.now }

@@ -1,4 +1,4 @@
-//! Aggregators and the map of them.
+//! Aggregators and the map that keeps them.
 
 pub use crate::aggregator::{Aggregator, Increment, create_fold, reset_fold, update_fold};
 pub use crate::assign::Assign;

@@ -1,4 +1,4 @@
-//! Numbers, aggregators, and a bounded map of aggregators by sets of attributes.
+//! Numbers, aggregators, and a bounded map from sets of attributes to aggregators.
 #![tactic(auto)]
 
 pub mod aggregator;

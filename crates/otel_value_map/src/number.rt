@@ -1,4 +1,4 @@
-//! Numbers of 64 bits.
+//! Numbers of 64 bits, unsigned or signed.
 
 ghost use Rattle.std.specs.Prelude.{◌≡◌, ℕ, ℤ, pos, int_lt, ◌+◌, ◌-◌, ◌%◌, ◌^◌};
 ghost use Rattle.otel_model_stream.specs.Data.{natural_of};
@@ -11,17 +11,17 @@ pub trait Number: Copy {
     /// The value as a whole number.
     ghost wide: { Self → ℤ };
 
-    /// The number of these bits.
+    /// The number with these bits.
     ghost of_bits: { ℕ → Self };
 
-    /// The number of this value.
+    /// The number with this value.
     ghost of_wide: { ℤ → Self };
 
-    /// The law that the bits tell the number.
+    /// The law that the bits determine the number.
     fn told_by_bits(self)
         ensures { of_bits (bits self) ≡ self };
 
-    /// The law that the value as a whole number tells the number.
+    /// The law that the value as a whole number determines the number.
     fn told_by_wide(self)
         ensures { of_wide (wide self) ≡ self };
 

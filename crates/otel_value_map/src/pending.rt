@@ -1,10 +1,12 @@
-//! A record that is prepared, and what is made in advance for it.
+//! A prepared record or bind, and what is made for it in advance.
 
-ghost use Rattle.std.specs.Prelude.{◌≡◌, true, cond, None, Some, IfSome, IfOk, IsOk, IsTrue, OnOk, IsOkUnless, is_some};
+ghost use Rattle.std.specs.Prelude.{◌≡◌, true, cond, None, Some, IfSome, IfOk, OnOk, IsOkUnless, is_some};
+ghost use Rattle.std.specs.Option.{IfNone};
 ghost use Rattle.otel_common.specs.Equality.{set_eq};
 ghost use Rattle.otel_model_stream.specs.Sets.{over_set};
 ghost use Rattle.otel_value_map.specs.Slots.{kept_of, new_kept};
-ghost use Rattle.otel_value_map.specs.Held.{IsPlan, is_new, leads};
+ghost use Rattle.otel_value_map.specs.Held.{IsPlan, IsPlanAt, IsUnled, is_new, is_pending};
+ghost use Rattle.otel_value_map.specs.declared.pending.Pending.TheVariants.{Nothing, At};
 
 use crate::aggregator::Aggregator;
 use crate::set_key::SetKey;
@@ -13,20 +15,21 @@ use crate::slots::Slot;
 use crate::table::Table;
 use otel_common::faults::Fault;
 use std::alloc::Global;
+use std::marker::Model;
 
-/// A record or a bind that is prepared.
+/// A prepared record or bind, if there is one.
 #[derive(Drop)]
 pub enum Pending {
-    /// None is.
+    /// Nothing is prepared.
     Nothing,
-    /// One of the set whose entry has this number.
+    /// A record or bind for the set whose entry has this number.
     At(usize),
-    /// One of this set, which has no entry, and of the list that is to lead to it too.
+    /// A record or bind for this set, which has no entry, and perhaps another list that is to lead to the entry too.
     New(SetKey<'static>, Option<SetKey<'static>>),
 }
 
 impl Pending {
-    /// Whether it is of a set that has no entry.
+    /// Whether it is for a set that has no entry.
     pub fn is_new(&self) -> bool
         ensures { result ≡ is_new self.now }
     {
@@ -38,7 +41,94 @@ impl Pending {
     }
 }
 
-/// A copy of a list that is to lead to the entry of this set, unless it is the set itself.
+/// A map's prepared record or bind, kept so that one for a set that has an entry is put and taken by its number alone.
+#[derive(Drop)]
+pub struct Prepared {
+    number: Option<usize>,
+    added: Option<(SetKey<'static>, Option<SetKey<'static>>)>,
+}
+
+impl Model for Prepared {
+    ghost use Rattle.std.specs.Prelude.{◌≡◌, is_some, IsTrue, false};
+    ghost use Rattle.otel_value_map.specs.Held.{prepared};
+    ghost use Rattle.otel_value_map.specs.declared.pending.Pending.{Pending};
+
+    ghost Value = { Pending };
+
+    ghost view = { λ p. prepared p.number p.added };
+
+    ghost invariant = { λ p. IsTrue (is_some p.number) → is_some p.added ≡ false };
+}
+
+impl Prepared {
+    /// Makes one with nothing prepared.
+    pub fn nothing() -> Prepared
+        ensures { result ≡ Nothing }
+    {
+        Prepared {
+            number: None,
+            added: None,
+        }
+    }
+
+    /// Whether a record or a bind is prepared.
+    #[inline(always)]
+    pub fn is_some(&self) -> bool
+        ensures { result ≡ is_pending self.now }
+    {
+        self.number.is_some() || self.added.is_some()
+    }
+
+    /// Gives up what is prepared, if there is anything.
+    #[inline(always)]
+    pub fn give_up(&mut self)
+        ensures { self.new ≡ Nothing }
+    {
+        self.number = None;
+        if self.added.is_some() {
+            self.added = None;
+        }
+    }
+
+    /// Replaces what is prepared with a record or bind for the set whose entry has this number.
+    #[inline(always)]
+    pub fn put_at(&mut self, number: usize)
+        ensures { self.new ≡ At number }
+    {
+        self.give_up();
+        self.number = Some(number);
+    }
+
+    /// Replaces what is prepared with this.
+    #[inline(never)]
+    pub fn put(&mut self, pending: Pending)
+        ensures { self.new ≡ pending }
+    {
+        self.give_up();
+        match pending {
+            Pending::Nothing => {}
+            Pending::At(number) => self.number = Some(number),
+            Pending::New(set, list) => self.added = Some((set, list)),
+        }
+    }
+
+    /// Takes out what is prepared and leaves nothing.
+    #[inline(always)]
+    pub fn take(&mut self) -> Pending
+        ensures taken { result ≡ self.old }
+        ensures left { self.new ≡ Nothing }
+    {
+        if let Some(number) = self.number.take() {
+            return Pending::At(number);
+        }
+        match self.added.take() {
+            Some((set, list)) => Pending::New(set, list),
+            None => Pending::Nothing,
+        }
+    }
+}
+
+/// A copy of a list that is to lead to this set's entry as well, or `None` if the list is the set itself.
 fn other_key(alloc: Global, list: &SetKey, set: &SetKey) -> Result<Option<SetKey<'static>>, Fault>
     ensures key { IfOk result (λ key. key ≡ cond (set_eq set.now list.now) None (Some list.now)) }
     ensures only_memory { IsOkUnless result Fault.OutOfMemory }
@@ -49,26 +139,31 @@ fn other_key(alloc: Global, list: &SetKey, set: &SetKey) -> Result<Option<SetKey
     Ok(Some(SetKey::owned(list.copy(alloc)?.into_vec())))
 }
 
-/// What a record of the list is to do. `few` says whether the entries that count are below the limit.
-///
-/// It looks the list up as it stands, and takes no memory where it leads to an entry or is empty. Else it sorts a copy
-/// and looks that up.
+/// The number of the entry to which a list, as given, leads. Takes no memory.
+#[inline]
+pub fn led_to<A: Aggregator>(table: &Table<A>, list: &SetKey) -> Option<usize>
+    ensures plan { IfSome result (IsPlanAt table.now list.now) }
+    ensures unled { IfNone result (IsUnled table.now list.now) }
+{
+    if list.is_empty() {
+        return Some(table.none());
+    }
+    table.find(list)
+}
+
+/// What a record is to do with a list that, as given, leads to no entry. `few` says whether the number of counted
+/// entries is below the limit. Sorts a copy of the list and looks that up.
+#[inline(never)]
 pub fn plan<A: Aggregator>(
     alloc: Global,
     table: &Table<A>,
     few: bool,
     list: &SetKey,
 ) -> Result<Pending, Fault>
+    requires { IsUnled table.now list.now }
     ensures plan { IfOk result (λ plan. IsPlan table.now few list.now plan) }
-    ensures known { IsTrue (leads list.now table.now) → IsOk result }
     ensures only_memory { IsOkUnless result Fault.OutOfMemory }
 {
-    if list.is_empty() {
-        return Ok(Pending::At(table.none()));
-    }
-    if let Some(number) = table.find(list) {
-        return Ok(Pending::At(number));
-    }
     let set = list.canonical(alloc)?;
     if let Some(number) = table.find_set(&set) {
         return Ok(Pending::At(number));
@@ -80,7 +175,7 @@ pub fn plan<A: Aggregator>(
     Ok(Pending::New(set, key))
 }
 
-/// Makes an aggregator in advance, where there is none.
+/// Makes an aggregator in advance, unless there is one already.
 pub fn make_unused<A: Aggregator>(
     unused: &mut Option<A>,
     alloc: Global,
@@ -98,7 +193,7 @@ pub fn make_unused<A: Aggregator>(
     Ok(())
 }
 
-/// Makes the set of the overflow entry in advance, where there is none.
+/// Makes the set of the overflow entry in advance, unless there is one already.
 pub fn make_key(key: &mut Option<SetKey<'static>>, alloc: Global) -> Result<(), Fault>
     requires { IfSome key.old (λ made. made ≡ over_set) }
     ensures over { IfSome key.new (λ made. made ≡ over_set) }
@@ -112,7 +207,7 @@ pub fn make_key(key: &mut Option<SetKey<'static>>, alloc: Global) -> Result<(), 
     Ok(())
 }
 
-/// The aggregator that was made in advance, as what is kept for a new entry.
+/// Takes the aggregator that was made in advance, as a slot for a new entry.
 pub fn take_slot<A: Aggregator>(
     unused: &mut Option<A>,
     config: &A::InitConfig,

@@ -1,4 +1,4 @@
-//! What is kept of a map to undo what it took in.
+//! What is saved of a map, to undo what it takes in later.
 
 ghost use Rattle.std.specs.Prelude.{◌≡◌};
 ghost use Rattle.otel_value_map.specs.Numbers.{without_handles};
@@ -9,7 +9,7 @@ use crate::table::Table;
 use std::marker::Model;
 use std::mem::swap;
 
-/// The entries of a map as they were when it was saved, to be put back into it. No handle holds any of them.
+/// A map's entries as they were when they were saved, to be put back into it. No handle holds any of them.
 #[derive(Drop)]
 pub struct Saved<A: Aggregator> {
     entries: Table<A>,
@@ -28,7 +28,7 @@ impl<A: Aggregator> Model for Saved<A> {
 }
 
 impl<A: Aggregator> Saved<A> {
-    /// These entries, saved.
+    /// Makes a save of these entries.
     pub(crate) fn of(entries: Table<A>) -> Self
         requires { without_handles entries.table ≡ entries.table }
         ensures { result ≡ entries.table }
@@ -36,7 +36,7 @@ impl<A: Aggregator> Saved<A> {
         Saved { entries }
     }
 
-    /// Puts its entries in the place of these.
+    /// Puts the saved entries in place of these.
     pub(crate) fn put_into(self, entries: &mut Table<A>)
         ensures table { entries.new.table ≡ self }
         ensures was { HasForm A.meaning entries.old.table }

@@ -10,7 +10,7 @@ use otel_common::faults::Fault;
 use otel_common::keys::Key;
 use std::alloc::Global;
 
-/// The set of the overflow entry.
+/// The set of the overflow entry: `otel.metric.overflow` is `true`.
 pub fn overflow_set(alloc: Global) -> Result<Vec<KeyValue>, Fault>
     ensures set { IfOk result (λ s. s.items ≡ over_set) }
     ensures only_memory { IsOkUnless result Fault.OutOfMemory }
@@ -38,7 +38,7 @@ fn add_allowed(left: &mut Vec<KeyValue>, allow: &[Key], attribute: &KeyValue) ->
     Ok(())
 }
 
-/// The attributes whose key is in an allow-list.
+/// Copies of the attributes whose key is in an allow-list, in their order.
 pub fn allowed_attributes(
     alloc: Global,
     allow: &[Key],

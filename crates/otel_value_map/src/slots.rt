@@ -13,16 +13,16 @@ pub struct Slot<A> {
     pub aggregator: A,
     /// Whether the limit counts it.
     pub counted: bool,
-    /// Whether it was updated since its making or the last reset.
+    /// Whether it was updated since it was made or last reset.
     pub updated: bool,
-    /// Whether it stays at every collection: that of the empty set, and the overflow entry.
+    /// Whether evictions always spare it: true for the empty set's slot and the overflow entry's.
     pub lasting: bool,
-    /// How many live handles it has.
+    /// How many live handles hold it.
     pub handles: u64,
 }
 
 impl<A> Slot<A> {
-    /// One without records.
+    /// Makes a slot without records.
     pub fn new(aggregator: A, counted: bool, lasting: bool) -> Slot<A>
         ensures { result ≡ record { aggregator = aggregator; counted = counted; updated = false; lasting = lasting; handles = 0 } }
     {
@@ -36,7 +36,7 @@ impl<A> Slot<A> {
     }
 }
 
-/// Fills a slot, and tells its number.
+/// Fills a vacant slot and returns its number.
 pub fn fill<A: Aggregator>(slots: &mut Slab<Slot<A>>, slot: Slot<A>) -> usize
     requires { HasRoomFor slots.old 1 }
     ensures vacant { look_in A.meaning slots.old result ≡ None }
@@ -45,7 +45,7 @@ pub fn fill<A: Aggregator>(slots: &mut Slab<Slot<A>>, slot: Slot<A>) -> usize
     slots.insert_reserved(slot)
 }
 
-/// Takes a record into the slot of this number. It looks nothing up.
+/// Takes a record into the slot with this number, without a look-up.
 pub fn touch<A: Aggregator>(slots: &mut Slab<Slot<A>>, number: usize, value: A::PreComputedValue)
     ensures look { SameLook (look_in A.meaning slots.new) (at_slot number (written (A.sample value)) (look_in A.meaning slots.old)) }
 {
@@ -55,7 +55,7 @@ pub fn touch<A: Aggregator>(slots: &mut Slab<Slot<A>>, number: usize, value: A::
     }
 }
 
-/// A live handle more of the slot of this number.
+/// Adds a live handle to the slot with this number.
 pub fn hold<A: Aggregator>(slots: &mut Slab<Slot<A>>, number: usize)
     requires { IfSome (get slots.old number) (λ slot. slot.handles < 2 ^ 64 - 1) }
     ensures look { SameLook (look_in A.meaning slots.new) (at_slot number held (look_in A.meaning slots.old)) }
@@ -65,7 +65,7 @@ pub fn hold<A: Aggregator>(slots: &mut Slab<Slot<A>>, number: usize)
     }
 }
 
-/// A live handle less of the slot of this number.
+/// Takes a live handle away from the slot with this number.
 pub fn release<A: Aggregator>(slots: &mut Slab<Slot<A>>, number: usize)
     ensures look { SameLook (look_in A.meaning slots.new) (at_slot number released (look_in A.meaning slots.old)) }
 {
@@ -74,7 +74,8 @@ pub fn release<A: Aggregator>(slots: &mut Slab<Slot<A>>, number: usize)
     }
 }
 
-/// Forgets all records, and frees the slots that had none since the last time and that no handle holds.
+/// Forgets all records, and frees the slots that had none since the last time, that no handle holds and that don't
+/// last.
 pub fn evict<A: Aggregator>(slots: &mut Slab<Slot<A>>)
     ensures look { (n : ℕ) → look_in A.meaning slots.new n ≡ left_of (look_in A.meaning slots.old n) }
 {

@@ -1,4 +1,4 @@
-//! Entries in slots, found by their sets and by the lists that admitted them.
+//! Entries in slots, found by their sets or by the lists that admitted them.
 
 ghost use Rattle.std.specs.Prelude.{◌≡◌, ◌<◌, ◌≤◌, ◌+◌, ◌-◌, ◌*◌, ◌^◌, ◌∷◌, [], ◌++◌, ◌||◌, None, Some, IfOk, IsOk, OnOk, IsOkUnless, IfSome, map, filter, is_some, length, cond, nat_eq, false, true, ℕ};
 ghost use Rattle.std.specs.Option.{option_map};
@@ -29,19 +29,19 @@ use slab::Slab;
 use std::alloc::{AllocError, Global};
 use std::marker::Model;
 
-/// Keys with the numbers of the slots to which they lead, in order of making.
+/// Keys with the numbers of the slots that they lead to, in order of making.
 type Numbered = IndexMap<SetKey<'static>, usize, SetHashBuilder>;
 
-/// The entries of a map. Each stands in a slot, whose number stays as long as the entry does; a slot that is
-/// freed is used again.
+/// The entries of a map. Each entry is in a slot and keeps the slot's number as long as it exists; a freed slot is
+/// used again.
 #[derive(Drop)]
 pub struct Table<A: Aggregator> {
     slots: Slab<Slot<A>>,
     /// The slot of the empty set, which has no key.
     none: usize,
-    /// By canonical sets, so that a list that is one as it stands is found without a copy.
+    /// Slots by canonical set, so that a list that is canonical as given is found without a copy.
     sets: Numbered,
-    /// By the lists as they were given that admitted a set in another form.
+    /// Slots by list as given, for lists that admitted a set in another form.
     given: Numbered,
 }
 
@@ -59,7 +59,7 @@ impl<A: Aggregator> Model for Table<A> {
     ghost invariant = { λ t. IsKept (look_in A.meaning t.slots) t.none t.sets.entries t.given.entries };
 }
 
-/// The number to which a key leads.
+/// The number that a key leads to.
 fn number_in<'s>(
     map: &'s IndexMap<SetKey<'s>, usize, SetHashBuilder>,
     key: &'s SetKey<'s>,
@@ -69,7 +69,7 @@ fn number_in<'s>(
     map.get(key).copied()
 }
 
-/// The number to which a list leads, by the keys of sets or by those of lists as they were given.
+/// The number that a list leads to, by the key of a set or else by that of a list as given.
 fn found_in<'s>(
     sets: &'s IndexMap<SetKey<'s>, usize, SetHashBuilder>,
     given: &'s IndexMap<SetKey<'s>, usize, SetHashBuilder>,
@@ -83,7 +83,7 @@ fn found_in<'s>(
     }
 }
 
-/// Adds a key.
+/// Adds a key, for which there is room.
 fn add_key(map: &mut Numbered, key: SetKey<'static>, number: usize)
     requires absent { lookup (set_eq key) map.old.entries ≡ None }
     requires room { 0 < spare map.old }
@@ -92,14 +92,14 @@ fn add_key(map: &mut Numbered, key: SetKey<'static>, number: usize)
     map.insert(key, number).unwrap();
 }
 
-/// Takes out the keys that lead to free slots.
+/// Removes the keys that lead to free slots.
 fn keep_filled<A: Aggregator>(map: &mut Numbered, slots: &Slab<Slot<A>>)
     ensures { map.new.entries ≡ filter (λ e. is_some (look_in A.meaning slots.now e.1)) map.old.entries }
 {
     map.retain(|_key, number| slots.contains(*number));
 }
 
-/// The point of the empty set, whose slot has this number, if it was updated.
+/// The point of the empty set, whose slot has this number, if that slot was updated.
 fn first_points<A: Aggregator>(
     alloc: Global,
     slots: &Slab<Slot<A>>,
@@ -118,7 +118,7 @@ fn first_points<A: Aggregator>(
     Ok(points)
 }
 
-/// Adds the points of the sets, in order: of every one, or of those that were updated.
+/// Adds the points of the sets, in order, either all of them or those that were updated.
 fn copy_out<A: Aggregator>(
     alloc: Global,
     slots: &Slab<Slot<A>>,
@@ -144,7 +144,7 @@ fn copy_out<A: Aggregator>(
     Ok(())
 }
 
-/// What the records in the slot of this number add up to, if its point is shown.
+/// What the records in the slot with this number add up to if its point is shown, and else 0.
 fn weight_shown<A: Aggregator>(slots: &Slab<Slot<A>>, number: usize, every: bool) -> u64
     ensures { (s : AttributeSet) → result ≡ points_total (map point_of_entry (filter (λ entry. every || entry.updated) (entry_at (look_in A.meaning slots.now) (s, number) ∷ []))) }
 {
@@ -161,7 +161,7 @@ fn weight_shown<A: Aggregator>(slots: &Slab<Slot<A>>, number: usize, every: bool
     }
 }
 
-/// What the records add up to that the points of the sets show, modulo 2^64.
+/// What the records that the points of the sets show add up to, modulo 2^64.
 fn total_of<A: Aggregator>(slots: &Slab<Slot<A>>, sets: &Numbered, every: bool) -> u64
     ensures { result ≡ wrap (points_total (map point_of_entry (filter (λ entry. every || entry.updated) (map (entry_at (look_in A.meaning slots.now)) sets.now.entries)))) }
 {
@@ -172,7 +172,7 @@ fn total_of<A: Aggregator>(slots: &Slab<Slot<A>>, sets: &Numbered, every: bool) 
     total
 }
 
-/// Whether the limit counts the slot of this number.
+/// Whether the limit counts the slot with this number.
 fn is_counted<A: Aggregator>(slots: &Slab<Slot<A>>, number: usize) -> bool
     ensures { (s : AttributeSet) → result ≡ (entry_at (look_in A.meaning slots.now) (s, number)).counted }
 {
@@ -196,7 +196,7 @@ fn count_counted<A: Aggregator>(slots: &Slab<Slot<A>>, sets: &Numbered) -> usize
     count
 }
 
-/// Forgets all records, and frees all slots but this one.
+/// Forgets all records, and frees all slots but the one with this number.
 fn clear_but<A: Aggregator>(slots: &mut Slab<Slot<A>>, number: usize)
     ensures { look_in A.meaning slots.new number ≡ option_map forgotten (look_in A.meaning slots.old number) }
 {
@@ -211,7 +211,7 @@ fn clear_but<A: Aggregator>(slots: &mut Slab<Slot<A>>, number: usize)
     );
 }
 
-/// The aggregator in the slot of this number, if it was updated.
+/// The aggregator in the slot with this number, if the slot was updated.
 fn shown_in<A: Aggregator>(slots: &Slab<Slot<A>>, number: usize) -> Option<&A>
     ensures { (s : AttributeSet) → option_map (λ found. A.meaning found.now) result ≡ cond (entry_at (look_in A.meaning slots.now) (s, number)).updated (Some (entry_at (look_in A.meaning slots.now) (s, number)).fold) None }
 {
@@ -223,7 +223,7 @@ fn shown_in<A: Aggregator>(slots: &Slab<Slot<A>>, number: usize) -> Option<&A>
     }
 }
 
-/// The aggregator in the slot of this number.
+/// The aggregator in the slot with this number.
 fn aggregator_in<A: Aggregator>(slots: &Slab<Slot<A>>, number: usize) -> Option<&A>
     ensures { option_map (λ found. A.meaning found.now) result ≡ option_map (λ kept. kept.fold) (look_in A.meaning slots.now number) }
 {
@@ -231,7 +231,7 @@ fn aggregator_in<A: Aggregator>(slots: &Slab<Slot<A>>, number: usize) -> Option<
     Some(&slot.aggregator)
 }
 
-/// A copy of a slot, which no handle holds.
+/// A copy of a slot, held by no handle.
 fn copy_slot<A: Aggregator>(alloc: Global, slot: &Slot<A>) -> Result<Slot<A>, Fault>
     ensures copy { IfOk result (λ made. kept_of A.meaning made ≡ record (kept_of A.meaning slot.now) { handles = 0 }) }
     ensures only_memory { IsOkUnless result Fault.OutOfMemory }
@@ -246,7 +246,8 @@ fn copy_slot<A: Aggregator>(alloc: Global, slot: &Slot<A>) -> Result<Slot<A>, Fa
 }
 
 impl<A: Aggregator> Table<A> {
-    /// No entry but that of the empty set, with an aggregator that has no records. It takes memory for that one slot.
+    /// Makes a table with no entry but that of the empty set, whose aggregator has no records. Takes memory for that
+    /// one slot.
     pub fn new(alloc: Global, hasher: SetHashBuilder, aggregator: A) -> Result<Table<A>, Fault>
         ensures table { IfOk result (λ made. made.table ≡ new_table (A.meaning aggregator)) }
         ensures sets { IfOk result (λ made. made.numbers.sets ≡ []) }
@@ -256,7 +257,7 @@ impl<A: Aggregator> Table<A> {
         Table::with_none(alloc, hasher, Slot::new(aggregator, false, true))
     }
 
-    /// No entry but that of the empty set, of which this is kept.
+    /// Makes a table with no entry but that of the empty set, in this slot.
     fn with_none(alloc: Global, hasher: SetHashBuilder, slot: Slot<A>) -> Result<Table<A>, Fault>
         requires lasting { slot.lasting ≡ true }
         requires uncounted { slot.counted ≡ false }
@@ -298,7 +299,7 @@ impl<A: Aggregator> Table<A> {
         self.none
     }
 
-    /// The number to which a set leads.
+    /// The number that a set leads to.
     pub fn find_set(&self, set: &SetKey) -> Option<usize>
         ensures number { result ≡ lookup (set_eq set.now) self.now.numbers.sets }
         ensures placed { is_some result ≡ has set.now self.now.table.entries }
@@ -307,7 +308,7 @@ impl<A: Aggregator> Table<A> {
         number_in(&self.sets, set)
     }
 
-    /// The number to which a list leads as it stands: as a set, or as the list that admitted one.
+    /// The number that a list leads to as given: as a set, or as the list that admitted one.
     pub fn find(&self, list: &SetKey) -> Option<usize>
         ensures number { result ≡ found list.now self.now.numbers.sets self.now.given }
         ensures known { is_some result ≡ (is_member set_eq (keys_of self.now.given) list.now || has list.now self.now.table.entries) }
@@ -317,7 +318,7 @@ impl<A: Aggregator> Table<A> {
         found_in(&self.sets, &self.given, list)
     }
 
-    /// How many keys lead to entries: those of sets, and those of lists as they were given.
+    /// How many keys lead to entries: those of sets, and those of lists as given.
     pub fn keys(&self) -> usize
         ensures number { result ≡ length self.now.table.entries + length self.now.given }
         ensures few { result ≤ 2 * length self.now.table.entries }
@@ -325,7 +326,7 @@ impl<A: Aggregator> Table<A> {
         self.sets.len() + self.given.len()
     }
 
-    /// Makes room for an entry more, with a key of its set and one of another list.
+    /// Makes room for one more entry, with a key for its set and one for another list.
     pub fn make_room(&mut self) -> Result<(), AllocError>
         ensures table { self.new.table ≡ self.old.table }
         ensures numbers { self.new.numbers ≡ self.old.numbers }
@@ -337,7 +338,7 @@ impl<A: Aggregator> Table<A> {
         self.given.reserve(1)
     }
 
-    /// Takes a record into the entry of this number. It looks nothing up.
+    /// Takes a record into the entry with this number, without a look-up.
     pub fn touch(&mut self, number: usize, value: A::PreComputedValue)
         ensures table { (s : AttributeSet) → number_of s self.old.numbers ≡ Some number → self.new.table ≡ at_entry s (write (A.sample value)) self.old.table }
         ensures counted { number_counted self.new.table.entries ≡ number_counted self.old.table.entries }
@@ -347,7 +348,7 @@ impl<A: Aggregator> Table<A> {
         touch(&mut self.slots, number, value);
     }
 
-    /// A live handle less of the entry of this number.
+    /// Takes a live handle away from the entry with this number.
     pub fn release(&mut self, number: usize)
         ensures table { (s : AttributeSet) → number_of s self.old.numbers ≡ Some number → self.new.table ≡ at_entry s drop_handle self.old.table }
         ensures counted { number_counted self.new.table.entries ≡ number_counted self.old.table.entries }
@@ -357,8 +358,8 @@ impl<A: Aggregator> Table<A> {
         release(&mut self.slots, number);
     }
 
-    /// Forgets all records, and the entries that had none since the last time and that no handle holds, but that of the
-    /// overflow set. An entry that is left keeps its number.
+    /// Forgets all records, and evicts the entries that had none since the last time and that no handle holds, except
+    /// that of the overflow set. An entry that stays keeps its number.
     pub fn evict(&mut self)
         ensures table { self.new.table ≡ evicted_table self.old.table }
         ensures numbers { KeepLeft (evicted_table self.old.table).entries self.old.numbers self.new.numbers }
@@ -369,8 +370,8 @@ impl<A: Aggregator> Table<A> {
         keep_filled(&mut self.given, &self.slots);
     }
 
-    /// Adds an entry for a set that has none: a slot, and keys of the set and of the list that admitted it, if that is
-    /// another. Tells its number. What lasts is that of the overflow set alone.
+    /// Adds an entry for a set that has none, and returns its number. The entry gets a slot, a key for the set, and a
+    /// key for the list that admitted it if that is another. Only the overflow set's slot lasts.
     pub fn add(
         &mut self,
         set: SetKey<'static>,
@@ -394,7 +395,7 @@ impl<A: Aggregator> Table<A> {
         number
     }
 
-    /// A live handle more of the entry of this number.
+    /// Adds a live handle to the entry with this number.
     pub fn hold(&mut self, number: usize)
         requires { (s : AttributeSet) × (number_of s self.old.numbers ≡ Some number) × (handles_at s self.old.table < 2 ^ 64 - 1) }
         ensures table { (s : AttributeSet) → number_of s self.old.numbers ≡ Some number → self.new.table ≡ at_entry s take_handle self.old.table }
@@ -405,7 +406,8 @@ impl<A: Aggregator> Table<A> {
         hold(&mut self.slots, number);
     }
 
-    /// Forgets all records, and all entries but that of the empty set. What it took for entries stays for later ones.
+    /// Forgets all records, and all entries but that of the empty set. Keeps the memory that it took for entries, for
+    /// later ones.
     pub fn drain(&mut self)
         ensures table { self.new.table ≡ drained_table self.old.table }
         ensures none { self.new.numbers.none ≡ self.old.numbers.none }
@@ -417,8 +419,8 @@ impl<A: Aggregator> Table<A> {
         self.given.clear();
     }
 
-    /// The points: of the empty set if it was updated, and of the sets in order of making, of every one or of those that
-    /// were updated. It copies each set that it gives.
+    /// The points: that of the empty set if it was updated, then those of the sets in order of making, either all or
+    /// those that were updated. Copies each set that it returns.
     pub fn points(&self, alloc: Global, every: bool) -> Result<Vec<(Items<KeyValue>, A)>, Fault>
         ensures points { IfOk result (λ given. copies A.meaning given.items ≡ points every self.now.table) }
         ensures only_memory { IsOkUnless result Fault.OutOfMemory }
@@ -428,7 +430,7 @@ impl<A: Aggregator> Table<A> {
         Ok(points)
     }
 
-    /// What the records add up to that `points` shows, modulo 2^64.
+    /// What the records that `points` shows add up to, modulo 2^64.
     pub fn total(&self, every: bool) -> u64
         ensures { result ≡ wrap (points_total (points every self.now.table)) }
     {
@@ -443,7 +445,7 @@ impl<A: Aggregator> Table<A> {
         count_counted(&self.slots, &self.sets)
     }
 
-    /// The aggregator of a set, as a collection that drains would show it; none where it would show no point of the set.
+    /// The aggregator of a set as a draining collection would show it, or `None` if it would show no point of the set.
     pub fn get(&self, set: &SetKey) -> Option<&A>
         ensures { option_map (λ found. A.meaning found.now) result ≡ fold_in (points true self.now.table) set.now }
     {
@@ -454,7 +456,7 @@ impl<A: Aggregator> Table<A> {
         aggregator_in(&self.slots, number)
     }
 
-    /// A copy of the entries, which no handle holds. Lists that admitted a set in another form are not known to it.
+    /// A copy of the entries, held by no handle. The copy doesn't know lists that admitted a set in another form.
     pub fn copy(&self, alloc: Global) -> Result<Table<A>, Fault>
         ensures table { IfOk result (λ made. made.table ≡ without_handles self.now.table) }
         ensures only_memory { IsOkUnless result Fault.OutOfMemory }
@@ -466,7 +468,7 @@ impl<A: Aggregator> Table<A> {
     }
 }
 
-/// Adds copies of the entries of these sets, which no handle holds, to a table that has none.
+/// Adds copies of the entries of these sets, held by no handle, to a table that has none.
 fn copy_entries<A: Aggregator>(
     alloc: Global,
     slots: &Slab<Slot<A>>,

@@ -16,7 +16,7 @@ ghost use Rattle.otel_value_map.specs.Slots.{HasForm, copies};
 
 use crate::aggregator::Aggregator;
 use crate::hashing::SetHashBuilder;
-use crate::pending::{Pending, make_key, make_unused, plan, take_slot};
+use crate::pending::{Pending, Prepared, led_to, make_key, make_unused, plan, take_slot};
 use crate::saved::Saved;
 use crate::set_key::SetKey;
 use crate::sets::overflow_set;
@@ -28,18 +28,17 @@ use otel_common::keys::Key;
 use otel_common::lists::Items;
 use std::alloc::Global;
 use std::marker::Model;
-use std::mem::replace;
 
 /// A bounded map from sets of attributes to aggregators (Metrics SDK, "Cardinality limits").
 ///
-/// Any limit is taken: with 0 every set but the empty one goes to the overflow entry. Nothing is reserved
-/// by it.
+/// Any limit is accepted; with 0, every set but the empty one goes to the overflow entry. No memory is reserved for
+/// the limit.
 ///
-/// A set that has an entry uses it. A new one gets an entry while their number is below the limit,
-/// and otherwise uses the overflow entry. The empty set has an entry of its own that isn't counted.
+/// A set that has an entry uses it. A new set gets an entry while the number of counted entries is below the limit,
+/// and otherwise uses the overflow entry. The empty set has an entry of its own, which isn't counted.
 ///
-/// Entries have numbers, by which handles name them. An entry keeps its number; that of an entry that went is given
-/// again.
+/// Entries have numbers, by which handles name them. An entry keeps its number; the number of an entry that is gone is
+/// used again.
 #[derive(Drop)]
 pub struct ValueMap<A: Aggregator> {
     alloc: Global,
@@ -48,13 +47,13 @@ pub struct ValueMap<A: Aggregator> {
     /// How many entries the limit counts.
     count: usize,
     table: Table<A>,
-    /// An aggregator that was made in advance for the next new entry.
+    /// An aggregator made in advance for the next new entry.
     unused: Option<A>,
-    /// The set of the overflow entry, to look it up.
+    /// The set of the overflow entry, for looking it up.
     overflow: SetKey<'static>,
-    /// The same set, made in advance to be the key of the overflow entry.
+    /// The same set, made in advance as the key of the overflow entry.
     spare_key: Option<SetKey<'static>>,
-    pending: Pending,
+    pending: Prepared,
 }
 
 impl<A: Aggregator> Model for ValueMap<A> {
@@ -82,8 +81,8 @@ impl<A: Aggregator> Model for ValueMap<A> {
 }
 
 impl<A: Aggregator> ValueMap<A> {
-    /// A map with no entry but that of the empty set, which hashes sets with this hasher. It takes memory for that entry,
-    /// for the set of the overflow entry, and what an aggregator takes.
+    /// Makes a map with no entry but that of the empty set, which hashes sets with this hasher. Takes memory for that
+    /// entry, for the set of the overflow entry, and for what an aggregator takes.
     pub fn new(
         alloc: Global,
         hasher: SetHashBuilder,
@@ -107,11 +106,11 @@ impl<A: Aggregator> ValueMap<A> {
             unused: None,
             overflow,
             spare_key: None,
-            pending: Pending::Nothing,
+            pending: Prepared::nothing(),
         })
     }
 
-    /// Prepares a record or a bind of a list, under its canonical form, in the place of one that was prepared before.
+    /// Prepares a record or a bind for the canonical form of a list, in place of one that was prepared before.
     fn prepare_list(&mut self, list: &SetKey) -> Result<(), Fault>
         ensures same { self.new.state ≡ self.old.state }
         ensures numbers { self.new.numbers ≡ self.old.numbers }
@@ -122,20 +121,24 @@ impl<A: Aggregator> ValueMap<A> {
         ensures known { SucceedsIfKnown list.now (known_of self.old) result }
         ensures only_memory { IsOkUnless result Fault.OutOfMemory }
     {
-        self.pending = Pending::Nothing;
+        if let Some(number) = led_to(&self.table, list) {
+            self.pending.put_at(number);
+            return Ok(());
+        }
+        self.pending.give_up();
         let plan = plan(self.alloc, &self.table, self.count < self.limit, list)?;
         if !plan.is_new() {
-            self.pending = plan;
+            self.pending.put(plan);
             return Ok(());
         }
         self.table.make_room()?;
         make_unused(&mut self.unused, self.alloc, &self.config)?;
         make_key(&mut self.spare_key, self.alloc)?;
-        self.pending = plan;
+        self.pending.put(plan);
         Ok(())
     }
 
-    /// Finds or makes the entry that the record that is prepared goes to, and tells its number.
+    /// Finds or makes the entry for what is prepared, and returns its number.
     fn place(&mut self) -> usize
         requires { IsSome self.old.pending }
         ensures state { (s : AttributeSet) → self.old.pending ≡ Some s → self.new.state ≡ with_place s self.old.state }
@@ -144,7 +147,7 @@ impl<A: Aggregator> ValueMap<A> {
         ensures given { self.new.given ≡ self.old.given ++ self.old.spelling }
         ensures spent { self.new.pending ≡ None }
     {
-        let (set, list) = match replace(&mut self.pending, Pending::Nothing) {
+        let (set, list) = match self.pending.take() {
             Pending::Nothing => return self.table.none(),
             Pending::At(number) => return number,
             Pending::New(set, list) => (set, list),
@@ -163,12 +166,13 @@ impl<A: Aggregator> ValueMap<A> {
         self.table.add(key, None, slot)
     }
 
-    /// Prepares a record or a bind of the attributes, under their canonical form, in the place of one that was
-    /// prepared before. What the map holds stays as it was.
+    /// Prepares a record or a bind for the canonical form of the attributes, in place of one that was prepared before.
+    /// The contents of the map stay unchanged.
     ///
-    /// The first of two phases: a record of many maps is prepared in all of them, and then taken in by all. It looks
-    /// the attributes up as they stand, which is all where they lead to an entry: as its set, or as the list that
-    /// admitted it. It takes no memory then, nor without attributes. Else it sorts a copy and looks that up.
+    /// This is the first of two phases: a record for several maps is prepared in all of them and then taken in by all.
+    /// It looks the attributes up as given. If they lead to an entry, as its set or as the list that admitted it, that
+    /// is all, and it takes no memory; the same holds if there are no attributes. Otherwise it sorts a copy and looks
+    /// that up.
     pub fn prepare(&mut self, attributes: &[KeyValue]) -> Result<(), Fault>
         ensures same { self.new.state ≡ self.old.state }
         ensures numbers { self.new.numbers ≡ self.old.numbers }
@@ -180,18 +184,17 @@ impl<A: Aggregator> ValueMap<A> {
         ensures only_memory { IsOkUnless result Fault.OutOfMemory }
     {
         if attributes.is_empty() {
-            self.pending = Pending::At(self.table.none());
+            self.pending.put_at(self.table.none());
             return Ok(());
         }
         self.prepare_list(&SetKey::given(attributes))
     }
 
-    /// Prepares a record or a bind of those of the attributes whose key is in the allow-list, as `prepare` does of
-    /// all (Metrics SDK, "View").
+    /// Prepares a record or a bind, as `prepare` does, for those of the attributes whose key is in the allow-list
+    /// (Metrics SDK, "View").
     ///
-    /// It looks what is kept up where it stands, without a copy of it, and takes no memory where that,
-    /// in its order, leads to an entry, or where nothing is kept. Else it copies what is kept, sorts
-    /// a copy of that and looks it up.
+    /// It looks up what is kept without copying it. It takes no memory if what is kept leads to an entry in the order
+    /// given, or if nothing is kept. Otherwise it copies what is kept, sorts a copy of that and looks it up.
     pub fn prepare_allowed(&mut self, allow: &[Key], attributes: &[KeyValue]) -> Result<(), Fault>
         ensures same { self.new.state ≡ self.old.state }
         ensures numbers { self.new.numbers ≡ self.old.numbers }
@@ -205,8 +208,8 @@ impl<A: Aggregator> ValueMap<A> {
         self.prepare_list(&SetKey::allowed(allow, attributes))
     }
 
-    /// Prepares a record at the entry of this number, in the place of one that was prepared before. It looks nothing up
-    /// and takes no memory.
+    /// Prepares a record at the entry with this number, in place of one that was prepared before. Looks nothing up and
+    /// takes no memory.
     pub fn prepare_at(&mut self, number: usize)
         requires { (s : AttributeSet) × (number_of s self.old.numbers ≡ Some number) }
         ensures same { self.new.state ≡ self.old.state }
@@ -217,32 +220,27 @@ impl<A: Aggregator> ValueMap<A> {
     {
         // Tells the prover that the number names its entry.
         self.table.told_numbers();
-        self.pending = Pending::At(number);
+        self.pending.put_at(number);
     }
 
-    /// Gives up the record or bind that is prepared, if there is one.
+    /// Gives up the prepared record or bind, if there is one.
     pub fn give_up(&mut self)
         ensures same { self.new.state ≡ self.old.state }
         ensures numbers { self.new.numbers ≡ self.old.numbers }
         ensures given { self.new.given ≡ self.old.given }
         ensures spent { self.new.pending ≡ None }
     {
-        self.pending = Pending::Nothing;
+        self.pending.give_up();
     }
 
     /// Whether a record or a bind is prepared.
     pub fn is_prepared(&self) -> bool
         ensures { result ≡ is_some self.now.pending }
     {
-        match self.pending {
-            Pending::Nothing => false,
-            Pending::At(_) => true,
-            Pending::New(_, _) => true,
-        }
+        self.pending.is_some()
     }
 
-    /// Takes in the record that was prepared. The second phase, without a look-up for a set that has
-    /// an entry.
+    /// Takes in the prepared record. This is the second phase; it looks nothing up for a set that has an entry.
     pub fn measure_ready(&mut self, value: A::PreComputedValue)
         requires { IsSome self.old.pending }
         ensures measured { (s : AttributeSet) → self.old.pending ≡ Some s → self.new.state ≡ measured_map s (A.sample value) self.old.state }
@@ -254,9 +252,9 @@ impl<A: Aggregator> ValueMap<A> {
         self.table.touch(entry, value);
     }
 
-    /// Takes in a record of the attributes, under their canonical form. Without attributes, and with
-    /// those that lead to an entry as they stand, it takes no memory. Where it admits their set, the attributes and
-    /// their canonical form lead to it from then on.
+    /// Takes in a record for the canonical form of the attributes. Takes no memory without attributes, or if they lead
+    /// to an entry as given. If it admits their set, the attributes and their canonical form lead to that set's entry
+    /// from then on.
     pub fn measure(
         &mut self,
         value: A::PreComputedValue,
@@ -275,8 +273,8 @@ impl<A: Aggregator> ValueMap<A> {
         Ok(())
     }
 
-    /// Carries out the bind that was prepared, and tells the number of its entry: that of its set, or the overflow entry.
-    /// The second phase; it can't fail.
+    /// Carries out the prepared bind, and returns the number of the entry: that of the set, or the overflow entry.
+    /// This is the second phase; it can't fail.
     pub fn bind_ready(&mut self) -> usize
         requires prepared { IsSome self.old.pending }
         requires few { AreHandlesFew self.old.state.table }
@@ -291,8 +289,9 @@ impl<A: Aggregator> ValueMap<A> {
         number
     }
 
-    /// Binds a handle at the attributes, under their canonical form, and tells the number of its entry, which stays
-    /// with it for its life. It takes memory as a record of them does, and lets them lead to an entry as that does.
+    /// Binds a handle to the entry for the canonical form of the attributes, and returns the entry's number. The
+    /// handle stays with that entry for life. Takes memory as a record of the attributes does, and makes them lead to
+    /// an entry as that does.
     pub fn bind(&mut self, attributes: &[KeyValue]) -> Result<usize, Fault>
         requires { AreHandlesFew self.old.state.table }
         ensures ok { OnOk result (known_of self.new ≡ bound_list attributes.now (known_of self.old)) }
@@ -308,31 +307,31 @@ impl<A: Aggregator> ValueMap<A> {
         Ok(self.bind_ready())
     }
 
-    /// Takes in a record through a handle, by the number of its entry. It looks nothing up and takes no memory, and
-    /// gives up what was prepared.
+    /// Takes in a record through a handle, by the number of its entry. Looks nothing up, takes no memory, and gives up
+    /// what was prepared.
     pub fn update_bound(&mut self, number: usize, value: A::PreComputedValue)
         ensures updated { (s : AttributeSet) → number_of s self.old.numbers ≡ Some number → self.new.state ≡ updated_bound s (A.sample value) self.old.state }
         ensures numbers { self.new.numbers ≡ self.old.numbers }
         ensures given { self.new.given ≡ self.old.given }
         ensures spent { self.new.pending ≡ None }
     {
-        self.pending = Pending::Nothing;
+        self.pending.give_up();
         self.table.touch(number, value);
     }
 
-    /// Ends a handle, by the number of its entry. It takes no memory, and gives up what was prepared.
+    /// Ends a handle, by the number of its entry. Takes no memory, and gives up what was prepared.
     pub fn unbind(&mut self, number: usize)
         ensures unbound { (s : AttributeSet) → number_of s self.old.numbers ≡ Some number → self.new.state ≡ unbound_map s self.old.state }
         ensures numbers { self.new.numbers ≡ self.old.numbers }
         ensures given { self.new.given ≡ self.old.given }
         ensures spent { self.new.pending ≡ None }
     {
-        self.pending = Pending::Nothing;
+        self.pending.give_up();
         self.table.release(number);
     }
 
-    /// Whether the attributes lead to an entry as they stand: as its set, or as the list that admitted it. Without
-    /// attributes they do. A record or a bind of such attributes takes no memory.
+    /// Whether the attributes as given lead to an entry: as its set, as the list that admitted it, or because there
+    /// are none. A record or a bind with such attributes takes no memory.
     pub fn knows(&self, attributes: &[KeyValue]) -> bool
         ensures { result ≡ knows attributes.now (known_of self.now) }
     {
@@ -343,8 +342,8 @@ impl<A: Aggregator> ValueMap<A> {
         self.table.find(&list).is_some()
     }
 
-    /// How many keys it has: the sets of its entries, and the lists as they were given that admitted one of them in
-    /// another form. There are at most two of an entry.
+    /// How many keys the map has: the sets of its entries, and the lists as given that admitted one of them in another
+    /// form. There are at most two for each entry.
     pub fn keys(&self) -> usize
         ensures number { result ≡ keys (known_of self.now) }
         ensures few { result ≤ 2 * length self.now.state.table.entries }
@@ -367,8 +366,8 @@ impl<A: Aggregator> ValueMap<A> {
         self.count
     }
 
-    /// The sets with copies of their aggregators: the empty set if it was updated, and then the entries in order of
-    /// making, every one or those that were updated. The map stays as it was. It copies each set that it gives.
+    /// The sets with copies of their aggregators: the empty set if it was updated, then the entries in order of
+    /// making, either all or those that were updated. The map stays unchanged. Copies each set that it returns.
     pub fn points(&self, alloc: Global, every: bool) -> Result<Vec<(Items<KeyValue>, A)>, Fault>
         ensures points { IfOk result (λ given. copies A.meaning given.items ≡ points every self.now.state.table) }
         ensures only_memory { IsOkUnless result Fault.OutOfMemory }
@@ -376,41 +375,41 @@ impl<A: Aggregator> ValueMap<A> {
         self.table.points(alloc, every)
     }
 
-    /// What the records add up to that `points` shows, modulo 2^64.
+    /// What the records that `points` shows add up to, modulo 2^64.
     pub fn total(&self, every: bool) -> u64
         ensures { result ≡ wrap (points_total (points every self.now.state.table)) }
     {
         self.table.total(every)
     }
 
-    /// Forgets all records. An entry that had none since the last time and that no handle holds goes, but for the
-    /// overflow entry, and with it the list that admitted it. A record that was prepared is given up.
+    /// Forgets all records, and evicts the entries that had none since the last time and that no handle holds, except
+    /// the overflow entry. With an entry goes the list that admitted it. A prepared record is given up.
     pub fn reset_and_evict(&mut self)
         ensures state { self.new.state ≡ evicted_map self.old.state }
         ensures numbers { KeepLeft (evicted_map self.old.state).table.entries self.old.numbers self.new.numbers }
         ensures given { self.new.given ≡ given_left (evicted_map self.old.state) self.old.given }
         ensures unprepared { self.new.pending ≡ None }
     {
-        self.pending = Pending::Nothing;
+        self.pending.give_up();
         self.table.evict();
         self.count = self.table.count_counted();
     }
 
-    /// Forgets all records and all entries. A record that was prepared is given up. What the map took
-    /// for entries stays with it for later ones.
+    /// Forgets all records, and all entries but that of the empty set. A prepared record is given up. The map keeps
+    /// the memory that it took for entries, for later ones.
     pub fn drain(&mut self)
         ensures state { self.new.state ≡ drained_map self.old.state }
         ensures none { self.new.numbers.none ≡ self.old.numbers.none }
         ensures given { self.new.given ≡ [] }
         ensures unprepared { self.new.pending ≡ None }
     {
-        self.pending = Pending::Nothing;
+        self.pending.give_up();
         self.table.drain();
         self.count = 0;
     }
 
-    /// A copy of the entries, which no handle holds, to be restored later. Of a map without entries it takes memory for
-    /// that of the empty set.
+    /// A copy of the entries, held by no handle, to be restored later. For a map without other entries it takes memory
+    /// for that of the empty set.
     pub fn save(&self, alloc: Global) -> Result<Saved<A>, Fault>
         ensures saved { IfOk result (λ saved. saved ≡ without_handles self.now.state.table) }
         ensures only_memory { IsOkUnless result Fault.OutOfMemory }
@@ -418,8 +417,8 @@ impl<A: Aggregator> ValueMap<A> {
         Ok(Saved::of(self.table.copy(alloc)?))
     }
 
-    /// Puts saved entries in the place of its own, and gives up a record that was prepared. It takes no
-    /// memory. Entries may get other numbers, so no handle is to be live.
+    /// Puts saved entries in place of the map's own, and gives up a prepared record. Takes no memory. Entries may get
+    /// other numbers, so no handle should be live.
     pub fn restore(&mut self, saved: Saved<A>)
         ensures state { self.new.state ≡ record self.old.state { table = saved } }
         ensures unprepared { self.new.pending ≡ None }
@@ -427,21 +426,21 @@ impl<A: Aggregator> ValueMap<A> {
         ensures is { HasForm A.meaning saved }
         ensures unheld { without_handles saved ≡ saved }
     {
-        self.pending = Pending::Nothing;
+        self.pending.give_up();
         saved.put_into(&mut self.table);
         self.count = self.table.count_counted();
     }
 
-    /// The aggregator of a set, as a collection that drains would show it; none where it would show no
-    /// point of the set. The attributes are looked up as they stand, without a copy.
+    /// The aggregator of a set as a draining collection would show it, or `None` if it would show no point of the set.
+    /// The attributes are looked up as given, without a copy.
     pub fn get(&self, attributes: &[KeyValue]) -> Option<&A>
         ensures { option_map (λ found. A.meaning found.now) result ≡ fold_in (draining_points self.now.state) attributes.now }
     {
         self.table.get(&SetKey::given(attributes))
     }
 
-    /// The points of a collection that changes nothing: of the empty set if it was updated, and of
-    /// every entry.
+    /// The points of a collection that changes nothing: that of the empty set if it was updated, and those of all
+    /// other entries.
     pub fn collect_readonly(&self, alloc: Global) -> Result<Vec<(Items<KeyValue>, A)>, Fault>
         ensures points { IfOk result (λ given. copies A.meaning given.items ≡ readonly_points self.now.state) }
         ensures only_memory { IsOkUnless result Fault.OutOfMemory }
@@ -449,9 +448,9 @@ impl<A: Aggregator> ValueMap<A> {
         self.points(alloc, true)
     }
 
-    /// The points of a collection that resets: of what was updated since the last one. Then the map
-    /// forgets all records, evicts the entries that had none and that no handle holds, and gives up a record that was
-    /// prepared. Where it is refused, all stays as it was.
+    /// The points of a resetting collection: of the entries updated since the last one. The map then forgets all
+    /// records, evicts the entries that had none and that no handle holds, and gives up a prepared record. If it
+    /// fails, nothing changes.
     pub fn collect_and_reset(&mut self, alloc: Global) -> Result<Vec<(Items<KeyValue>, A)>, Fault>
         ensures points { IfOk result (λ given. copies A.meaning given.items ≡ resetting_points self.old.state) }
         ensures ok { OnOk result (known_of self.new ≡ evicted_known (known_of self.old)) }
@@ -465,9 +464,9 @@ impl<A: Aggregator> ValueMap<A> {
         Ok(points)
     }
 
-    /// The points of a collection that drains: of the empty set if it was updated, and of every entry.
-    /// Then the map forgets all records and all entries, and gives up a record that was prepared. Where
-    /// it is refused, all stays as it was.
+    /// The points of a draining collection: that of the empty set if it was updated, and those of all other entries.
+    /// The map then forgets all records and all entries but that of the empty set, and gives up a prepared record. If
+    /// it fails, nothing changes.
     pub fn drain_and_reset(&mut self, alloc: Global) -> Result<Vec<(Items<KeyValue>, A)>, Fault>
         ensures points { IfOk result (λ given. copies A.meaning given.items ≡ draining_points self.old.state) }
         ensures ok { OnOk result (self.new.state ≡ drained_map self.old.state) }

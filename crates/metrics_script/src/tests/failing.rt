@@ -8,7 +8,7 @@ use std::io::{ErrorKind, Read, Write};
 use std::process::Abort;
 use std::test::Fail;
 
-/// Gives some bytes, and then fails.
+/// Gives some bytes and then fails.
 #[derive(Drop)]
 struct FailingReader<'a> {
     bytes: &'a [u8],
@@ -24,7 +24,7 @@ impl Read for FailingReader<'_> {
     }
 }
 
-/// Takes some bytes, and fails at a write that has no room for all of its bytes.
+/// Takes some bytes, and fails on a write that it has no room for.
 #[derive(Drop)]
 struct FailingWriter {
     taken: Vec<u8>,
@@ -47,14 +47,14 @@ impl FailingWriter {
         }
     }
 
-    /// Counts the call if one failed before it.
+    /// Counts the call if an earlier one failed.
     fn count_call(&mut self) {
         if self.failures > 0 {
             self.calls_after_failure = self.calls_after_failure.saturating_add(1);
         }
     }
 
-    /// Counts a failure, and gives its error.
+    /// Counts a failure and returns its error.
     fn failure(&mut self) -> io::Error {
         self.failures = self.failures.saturating_add(1);
         ErrorKind::BrokenPipe.into()
@@ -90,7 +90,7 @@ struct Example {
     output: String,
 }
 
-/// A script that prints more than two buffers of the program hold.
+/// A script that prints more than two of the program's buffers hold.
 fn long_example(alloc: Global) -> Result<Example, Fail> {
     let mut script = String::from_str(alloc, "go\n")?;
     let mut output = String::new(alloc);
@@ -103,7 +103,7 @@ fn long_example(alloc: Global) -> Result<Example, Fail> {
     Ok(Example { script, output })
 }
 
-/// A read fails in mid-stream: nothing is run.
+/// If a read fails in mid-stream, nothing is run.
 #[test]
 fn read_fails(rt: HostRuntime) -> Result<(), Fail> {
     for (kind, status, text) in [
@@ -123,8 +123,8 @@ fn read_fails(rt: HostRuntime) -> Result<(), Fail> {
     Ok(())
 }
 
-/// Asserts that this script ends with the status of a failed write, that standard error says so,
-/// and that after the failure the writer wasn't called any more.
+/// Asserts that this script ends with the status of a failed write, that standard error says so, and that the writer
+/// wasn't called again after the failure.
 fn assert_fails(
     rt: &impl Abort,
     alloc: Global,
@@ -142,7 +142,7 @@ fn assert_fails(
     Ok(())
 }
 
-/// The first write fails: nothing is written.
+/// If the first write fails, nothing is written.
 #[test]
 fn write_fails(rt: HostRuntime) -> Result<(), Fail> {
     let mut output = FailingWriter::new(rt.alloc(), 3, false);
@@ -151,7 +151,7 @@ fn write_fails(rt: HostRuntime) -> Result<(), Fail> {
     Ok(())
 }
 
-/// A write fails after others: what was written before it is the beginning of the output.
+/// If a later write fails, what was written before it is the beginning of the output.
 #[test]
 fn later_write_fails(rt: HostRuntime) -> Result<(), Fail> {
     let example = long_example(rt.alloc())?;
@@ -168,7 +168,7 @@ fn later_write_fails(rt: HostRuntime) -> Result<(), Fail> {
     Ok(())
 }
 
-/// The whole output is written, and what takes it fails to pass it on.
+/// The whole output is written, but the writer fails to pass it on.
 #[test]
 fn flush_fails(rt: HostRuntime) -> Result<(), Fail> {
     let mut output = FailingWriter::new(rt.alloc(), 100, true);
@@ -180,7 +180,7 @@ fn flush_fails(rt: HostRuntime) -> Result<(), Fail> {
     Ok(())
 }
 
-/// Where nothing can be written to standard error, the status stays as it was to be.
+/// If nothing can be written to standard error, the status is the same.
 #[test]
 fn error_write_fails(rt: HostRuntime) -> Result<(), Fail> {
     let mut output = Vec::new(rt.alloc());

@@ -3,7 +3,7 @@
 use super::assert_prints;
 use std::test::Fail;
 
-/// A histogram with bounds of its own.
+/// A histogram with its own bounds.
 #[test]
 fn histogram(rt: HostRuntime) -> Result<(), Fail> {
     assert_prints(
@@ -28,7 +28,7 @@ fn histogram(rt: HostRuntime) -> Result<(), Fail> {
     )
 }
 
-/// Two readers, of which one is delta.
+/// Two readers, one of them delta.
 #[test]
 fn readers(rt: HostRuntime) -> Result<(), Fail> {
     assert_prints(
@@ -61,7 +61,7 @@ fn readers(rt: HostRuntime) -> Result<(), Fail> {
     )
 }
 
-/// What views can say of a stream.
+/// What views can say about a stream.
 #[test]
 fn views(rt: HostRuntime) -> Result<(), Fail> {
     assert_prints(

@@ -3,7 +3,7 @@
 use super::assert_prints;
 use std::test::Fail;
 
-/// A handle that was bound past the limit stays with the overflow point, also once its attributes have a place.
+/// A handle bound past the limit stays with the overflow point, even once its attributes have a place.
 #[test]
 fn row_8(rt: HostRuntime) -> Result<(), Fail> {
     assert_prints(
@@ -36,7 +36,7 @@ fn row_8(rt: HostRuntime) -> Result<(), Fail> {
     )
 }
 
-/// A handle has a point at a cumulative reader also without records.
+/// A handle has a point at a cumulative reader even without records.
 #[test]
 fn row_9(rt: HostRuntime) -> Result<(), Fail> {
     assert_prints(
@@ -56,7 +56,7 @@ fn row_9(rt: HostRuntime) -> Result<(), Fail> {
     )
 }
 
-/// A handle of a gauge, which ends once; its number is not used again.
+/// A handle of a gauge, which can be ended only once; its number is not used again.
 #[test]
 fn row_27(rt: HostRuntime) -> Result<(), Fail> {
     assert_prints(
@@ -88,7 +88,8 @@ fn row_27(rt: HostRuntime) -> Result<(), Fail> {
     )
 }
 
-/// What a handle refuses: other kinds, other number types, instruments and handles that aren't there.
+/// What is refused: observable instruments, values of another number type, and instruments and handles that don't
+/// exist.
 #[test]
 fn refused(rt: HostRuntime) -> Result<(), Fail> {
     assert_prints(

@@ -25,14 +25,14 @@ fn before_go(rt: HostRuntime) -> Result<(), Fail> {
     Ok(())
 }
 
-/// A line before `go` that is none, and the empty input.
+/// An invalid line before `go`, and the empty input.
 #[test]
 fn script_s3(rt: HostRuntime) -> Result<(), Fail> {
     assert_is_bad(&rt, rt.alloc(), b"reader delta\ngone\n", 2)?;
     assert_is_bad(&rt, rt.alloc(), b"", 1)
 }
 
-/// Lines after `go` with too many or too few words, or with a word that isn't there yet.
+/// Lines after `go` with too many or too few words, or with a word that doesn't belong there.
 #[test]
 fn commands(rt: HostRuntime) -> Result<(), Fail> {
     let lines = [
@@ -62,7 +62,7 @@ fn commands(rt: HostRuntime) -> Result<(), Fail> {
     Ok(())
 }
 
-/// Sorts of instruments that are none.
+/// Words that are not sorts of instruments.
 #[test]
 fn sorts(rt: HostRuntime) -> Result<(), Fail> {
     let words = [
@@ -83,7 +83,7 @@ fn sorts(rt: HostRuntime) -> Result<(), Fail> {
     Ok(())
 }
 
-/// Bounds that are none, or that are given twice.
+/// Bounds that are invalid or given twice.
 #[test]
 fn bounds(rt: HostRuntime) -> Result<(), Fail> {
     let options = [
@@ -111,7 +111,7 @@ fn bounds(rt: HostRuntime) -> Result<(), Fail> {
     Ok(())
 }
 
-/// Numbers that are none, or that are out of range.
+/// Numbers that are invalid or out of range.
 #[test]
 fn numbers(rt: HostRuntime) -> Result<(), Fail> {
     let lines = [
@@ -139,7 +139,7 @@ fn numbers(rt: HostRuntime) -> Result<(), Fail> {
     Ok(())
 }
 
-/// Attributes that are none.
+/// Invalid attributes.
 #[test]
 fn attributes(rt: HostRuntime) -> Result<(), Fail> {
     let words = [
@@ -165,7 +165,7 @@ fn attributes(rt: HostRuntime) -> Result<(), Fail> {
     Ok(())
 }
 
-/// A line that isn't skipped has to be UTF-8.
+/// A line that isn't skipped must be UTF-8.
 #[test]
 fn not_utf8(rt: HostRuntime) -> Result<(), Fail> {
     assert_is_bad(&rt, rt.alloc(), b"go\nmeter \xff\n", 2)?;

@@ -3,7 +3,7 @@
 use super::{assert_is_bad, assert_prints};
 use std::test::Fail;
 
-/// A delta reader is told how much an observed sum rose since the collection before.
+/// A delta reader gets the amount by which an observed sum rose since the previous collection.
 #[test]
 fn row_5(rt: HostRuntime) -> Result<(), Fail> {
     assert_prints(
@@ -62,7 +62,7 @@ fn row_21(rt: HostRuntime) -> Result<(), Fail> {
     )
 }
 
-/// What one reader observes the other does not see.
+/// What is observed for one reader doesn't reach the other.
 #[test]
 fn row_25(rt: HostRuntime) -> Result<(), Fail> {
     assert_prints(
@@ -119,7 +119,7 @@ fn row_51(rt: HostRuntime) -> Result<(), Fail> {
     )
 }
 
-/// Each sort of observable instruments, at a cumulative reader.
+/// Each sort of observable instrument, at a cumulative reader.
 #[test]
 fn sorts(rt: HostRuntime) -> Result<(), Fail> {
     assert_prints(
@@ -159,7 +159,7 @@ fn sorts(rt: HostRuntime) -> Result<(), Fail> {
     )
 }
 
-/// Records at observable instruments, observations of others, and others that are refused.
+/// Refusals: records at observable instruments, observations of other instruments, and more.
 #[test]
 fn refusals(rt: HostRuntime) -> Result<(), Fail> {
     assert_prints(
@@ -200,7 +200,7 @@ fn refusals(rt: HostRuntime) -> Result<(), Fail> {
     )
 }
 
-/// Between observations and their collection only further ones and skipped lines may stand.
+/// Only further observations and skipped lines may come between observations and their collection.
 #[test]
 fn between(rt: HostRuntime) -> Result<(), Fail> {
     let scripts: [(&[u8], u64); 10] = [
@@ -224,7 +224,7 @@ fn between(rt: HostRuntime) -> Result<(), Fail> {
     Ok(())
 }
 
-/// Observations with too few or too many words, or with words that say nothing.
+/// Observations with too few or too many words, or with invalid ones.
 #[test]
 fn bad_words(rt: HostRuntime) -> Result<(), Fail> {
     let lines = [

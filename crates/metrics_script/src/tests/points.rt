@@ -1,4 +1,4 @@
-//! The lines of points, of each aggregation and number type.
+//! The lines of points, for each aggregation and number type.
 
 use crate::points::write_metric;
 use opentelemetry_sdk::common::{Items, Key, KeyValue, StringValue, Value};

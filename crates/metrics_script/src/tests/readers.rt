@@ -31,7 +31,7 @@ fn row_42(rt: HostRuntime) -> Result<(), Fail> {
     )
 }
 
-/// The limit of a view wins over that of a reader.
+/// A view's limit wins over a reader's.
 #[test]
 fn row_43(rt: HostRuntime) -> Result<(), Fail> {
     assert_prints(
@@ -55,7 +55,7 @@ fn row_43(rt: HostRuntime) -> Result<(), Fail> {
     )
 }
 
-/// The limit for counters is none for an up-down counter.
+/// A limit for counters does not apply to an up-down counter.
 #[test]
 fn row_44(rt: HostRuntime) -> Result<(), Fail> {
     assert_prints(
@@ -150,7 +150,7 @@ fn row_47(rt: HostRuntime) -> Result<(), Fail> {
     )
 }
 
-/// The bounds of a histogram win over those of a reader, which says whether its least and greatest values are kept.
+/// A histogram's own bounds win over a reader's, but the reader says whether the least and the greatest value are kept.
 #[test]
 fn row_48(rt: HostRuntime) -> Result<(), Fail> {
     assert_prints(
@@ -176,7 +176,7 @@ fn row_48(rt: HostRuntime) -> Result<(), Fail> {
     )
 }
 
-/// A view that wants the default wants the bounds of the reader.
+/// A view that asks for the default aggregation gets the reader's bounds, not the instrument's.
 #[test]
 fn row_49(rt: HostRuntime) -> Result<(), Fail> {
     assert_prints(
@@ -203,7 +203,7 @@ fn row_49(rt: HostRuntime) -> Result<(), Fail> {
     )
 }
 
-/// A reader that wants of counters what they have not gets sums.
+/// A reader that wants an aggregation that doesn't fit counters gets sums.
 #[test]
 fn row_50(rt: HostRuntime) -> Result<(), Fail> {
     assert_prints(
@@ -247,8 +247,8 @@ fn row_52(rt: HostRuntime) -> Result<(), Fail> {
     )
 }
 
-/// A limit for a kind wins in whatever order the two stand, and bounds of a reader may be any: where
-/// they do not rise the kind's own are taken.
+/// A limit for a kind wins, in whichever order the two limits stand. A reader's bounds may be any: if they do not rise,
+/// the kind's own are taken.
 #[test]
 fn options(rt: HostRuntime) -> Result<(), Fail> {
     assert_prints(
@@ -295,7 +295,7 @@ fn options(rt: HostRuntime) -> Result<(), Fail> {
     )
 }
 
-/// Options that are none, that are given twice, or whose values are none.
+/// Options that are invalid, given twice, or have invalid values.
 #[test]
 fn bad_options(rt: HostRuntime) -> Result<(), Fail> {
     let options = [

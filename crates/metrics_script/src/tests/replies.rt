@@ -3,7 +3,7 @@
 use super::assert_prints;
 use std::test::Fail;
 
-/// One meter, one counter, two records of one set of attributes.
+/// One meter, one counter, and two records of one set of attributes.
 #[test]
 fn script_s1(rt: HostRuntime) -> Result<(), Fail> {
     assert_prints(
@@ -25,7 +25,7 @@ fn script_s1(rt: HostRuntime) -> Result<(), Fail> {
     )
 }
 
-/// A histogram behind a view, with refusals of each kind; a shutdown, and a collection after it.
+/// A histogram with a view, refusals of each kind, a shutdown, and a collection after it.
 #[test]
 fn script_s2(rt: HostRuntime) -> Result<(), Fail> {
     assert_prints(
@@ -57,7 +57,7 @@ fn script_s2(rt: HostRuntime) -> Result<(), Fail> {
     )
 }
 
-/// What is asked after a shutdown.
+/// Calls after a shutdown.
 #[test]
 fn shutdowns(rt: HostRuntime) -> Result<(), Fail> {
     assert_prints(
@@ -80,7 +80,7 @@ fn shutdowns(rt: HostRuntime) -> Result<(), Fail> {
     )
 }
 
-/// The script of `examples/requests.script`, and what the README says that it prints.
+/// The script `examples/requests.script`, and what the README says that it prints.
 #[test]
 fn example(rt: HostRuntime) -> Result<(), Fail> {
     assert_prints(
@@ -113,7 +113,7 @@ fn example(rt: HostRuntime) -> Result<(), Fail> {
     )
 }
 
-/// Escapes and the special word of names; three meters, since an absent version is no empty one.
+/// Escapes, and the special word for a name. There are four meters, since an absent version is not an empty one.
 #[test]
 fn texts(rt: HostRuntime) -> Result<(), Fail> {
     assert_prints(
@@ -151,7 +151,7 @@ fn texts(rt: HostRuntime) -> Result<(), Fail> {
     )
 }
 
-/// Attributes as they are read, in the order of their keys.
+/// Attributes as they are read, printed in the order of their keys.
 #[test]
 fn attributes(rt: HostRuntime) -> Result<(), Fail> {
     assert_prints(
@@ -177,7 +177,7 @@ fn attributes(rt: HostRuntime) -> Result<(), Fail> {
     )
 }
 
-/// Numbers at their ends, with leading zeros, and words between runs of spaces.
+/// Numbers at the end of their range, leading zeros, and words between runs of spaces.
 #[test]
 fn numbers(rt: HostRuntime) -> Result<(), Fail> {
     assert_prints(
@@ -201,7 +201,7 @@ fn numbers(rt: HostRuntime) -> Result<(), Fail> {
     )
 }
 
-/// What is refused changes nothing, and the status stays 0.
+/// Refused calls change nothing, and the status stays 0.
 #[test]
 fn refused_calls(rt: HostRuntime) -> Result<(), Fail> {
     assert_prints(
@@ -281,7 +281,7 @@ fn no_reader(rt: HostRuntime) -> Result<(), Fail> {
     )
 }
 
-/// A unit and a description are parts of what an instrument is; what isn't given is the empty text.
+/// A unit and a description are part of an instrument's identity; an absent one is the empty text.
 #[test]
 fn options(rt: HostRuntime) -> Result<(), Fail> {
     assert_prints(

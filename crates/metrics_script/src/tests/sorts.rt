@@ -1,9 +1,9 @@
-//! What instruments of each sort give.
+//! What collections of instruments of each sort give.
 
 use super::assert_prints;
 use std::test::Fail;
 
-/// A histogram with bounds of its own.
+/// A histogram with its own bounds.
 #[test]
 fn row_1(rt: HostRuntime) -> Result<(), Fail> {
     assert_prints(
@@ -41,7 +41,7 @@ fn row_1(rt: HostRuntime) -> Result<(), Fail> {
     )
 }
 
-/// A histogram without bounds of its own.
+/// A histogram without its own bounds.
 #[test]
 fn row_2(rt: HostRuntime) -> Result<(), Fail> {
     assert_prints(
@@ -69,7 +69,7 @@ fn row_2(rt: HostRuntime) -> Result<(), Fail> {
     )
 }
 
-/// A sum past the end of its numbers.
+/// A sum that exceeds the range of its type.
 #[test]
 fn row_13(rt: HostRuntime) -> Result<(), Fail> {
     assert_prints(
@@ -91,8 +91,7 @@ fn row_13(rt: HostRuntime) -> Result<(), Fail> {
     )
 }
 
-/// A reader of low memory wants the sums of a counter since its last collection, and those of an
-/// up-down counter since the build.
+/// A `lowmemory` reader gets a counter's sums since its last collection, and an up-down counter's since the build.
 #[test]
 fn row_19(rt: HostRuntime) -> Result<(), Fail> {
     assert_prints(
@@ -124,8 +123,8 @@ fn row_19(rt: HostRuntime) -> Result<(), Fail> {
     )
 }
 
-/// Gauges keep the last value, of either number type: a cumulative reader sees it again, a delta
-/// reader only where it was set since.
+/// Gauges of either number type keep the last value: a cumulative reader sees it again, a delta reader only if it was
+/// set since its last collection.
 #[test]
 fn gauges(rt: HostRuntime) -> Result<(), Fail> {
     assert_prints(
@@ -173,7 +172,7 @@ fn gauges(rt: HostRuntime) -> Result<(), Fail> {
     )
 }
 
-/// Up-down counters add numbers of either sign, and a delta reader sees them since the build too.
+/// Up-down counters add numbers of either sign, and even a delta reader sees their sums since the build.
 #[test]
 fn up_down_counters(rt: HostRuntime) -> Result<(), Fail> {
     assert_prints(
@@ -207,8 +206,8 @@ fn up_down_counters(rt: HostRuntime) -> Result<(), Fail> {
     )
 }
 
-/// Histograms count since the build or since the last collection. A value that is a bound belongs to
-/// the bucket that ends there.
+/// Histograms count since the build or since the last collection. A value equal to a bound belongs to the bucket that
+/// ends there.
 #[test]
 fn histograms(rt: HostRuntime) -> Result<(), Fail> {
     assert_prints(
@@ -247,8 +246,8 @@ fn histograms(rt: HostRuntime) -> Result<(), Fail> {
     )
 }
 
-/// Bounds: none, one, those of the build that was first, and those that do not rise, by which an
-/// instrument ignores its records. For other instruments they say nothing.
+/// Bounds: none; one; those of the first of two builds; and those that do not rise, with which a histogram ignores its
+/// records. For other instruments they don't matter.
 #[test]
 fn bounds(rt: HostRuntime) -> Result<(), Fail> {
     assert_prints(
@@ -290,7 +289,7 @@ fn bounds(rt: HostRuntime) -> Result<(), Fail> {
     )
 }
 
-/// Numbers of a type that isn't the instrument's, also at one that ignores its records.
+/// Numbers of another type than the instrument's, even at an instrument that ignores its records.
 #[test]
 fn wrong_numbers(rt: HostRuntime) -> Result<(), Fail> {
     assert_prints(

@@ -3,7 +3,7 @@
 use super::{assert_is_bad, assert_prints};
 use std::test::Fail;
 
-/// Attributes beyond the limit of a view go to the overflow point.
+/// Sets of attributes past the limit of a view go to the overflow point.
 #[test]
 fn row_3(rt: HostRuntime) -> Result<(), Fail> {
     assert_prints(
@@ -32,7 +32,7 @@ fn row_3(rt: HostRuntime) -> Result<(), Fail> {
     )
 }
 
-/// A place is free again when its attributes were quiet from one collection to the next.
+/// A place is free again once its set had no records from one collection to the next.
 #[test]
 fn row_4(rt: HostRuntime) -> Result<(), Fail> {
     assert_prints(
@@ -63,7 +63,7 @@ fn row_4(rt: HostRuntime) -> Result<(), Fail> {
     )
 }
 
-/// The attributes of the overflow point, given by a record, take the only place for good.
+/// A record with the attributes of the overflow point takes the only place for good.
 #[test]
 fn row_7(rt: HostRuntime) -> Result<(), Fail> {
     assert_prints(
@@ -93,7 +93,7 @@ fn row_7(rt: HostRuntime) -> Result<(), Fail> {
     )
 }
 
-/// Two views give a counter one name in other letters: one stream, which counts once.
+/// Two views give a counter names that differ only in case: there is one stream, which counts once.
 #[test]
 fn row_11(rt: HostRuntime) -> Result<(), Fail> {
     assert_prints(
@@ -115,7 +115,7 @@ fn row_11(rt: HostRuntime) -> Result<(), Fail> {
     )
 }
 
-/// A view that drops the stream, before one that wants what a counter has not.
+/// A view that drops the stream comes before one whose aggregation doesn't fit a counter.
 #[test]
 fn row_12(rt: HostRuntime) -> Result<(), Fail> {
     assert_prints(
@@ -136,7 +136,7 @@ fn row_12(rt: HostRuntime) -> Result<(), Fail> {
     )
 }
 
-/// No attributes at all have a place beside the limit.
+/// The empty set has a place apart from those that the limit counts.
 #[test]
 fn row_22(rt: HostRuntime) -> Result<(), Fail> {
     assert_prints(
@@ -163,7 +163,7 @@ fn row_22(rt: HostRuntime) -> Result<(), Fail> {
     )
 }
 
-/// The only view wants what a counter has not: the stream is the counter's own.
+/// If the aggregation of the only view doesn't fit a counter, the counter has its own stream.
 #[test]
 fn row_23(rt: HostRuntime) -> Result<(), Fail> {
     assert_prints(
@@ -184,7 +184,7 @@ fn row_23(rt: HostRuntime) -> Result<(), Fail> {
     )
 }
 
-/// A view that keeps no keys.
+/// A view that keeps no keys of attributes.
 #[test]
 fn row_24(rt: HostRuntime) -> Result<(), Fail> {
     assert_prints(
@@ -207,7 +207,7 @@ fn row_24(rt: HostRuntime) -> Result<(), Fail> {
     )
 }
 
-/// Limits that are none, and the greatest one.
+/// Invalid limits, and the greatest valid one.
 #[test]
 fn row_16(rt: HostRuntime) -> Result<(), Fail> {
     assert_is_bad(&rt, rt.alloc(), b"view c limit=0\ngo\n", 1)?;
@@ -225,8 +225,8 @@ fn row_16(rt: HostRuntime) -> Result<(), Fail> {
     )
 }
 
-/// The name of a view is compared byte for byte. The word `*` stands for all instruments, its escape for
-/// the name `*`. Views are asked in the order of their lines, and readers may stand among them.
+/// A view's name is compared byte for byte. The word `*` stands for all instruments, and its escape for the name `*`.
+/// Views are asked in the order of their lines, and readers may come between them.
 #[test]
 fn selectors(rt: HostRuntime) -> Result<(), Fail> {
     assert_prints(
@@ -257,7 +257,7 @@ fn selectors(rt: HostRuntime) -> Result<(), Fail> {
     )
 }
 
-/// Options that are none, that are given twice, or whose values are none or no good settings.
+/// Options that are invalid, given twice, or have invalid values or bad settings.
 #[test]
 fn bad_options(rt: HostRuntime) -> Result<(), Fail> {
     let options = [

@@ -3,7 +3,7 @@
 use super::{assert_is_bad, assert_prints};
 use std::test::Fail;
 
-/// A description may be any text and a unit may not, and both tell streams apart.
+/// A description may be any text, a unit may not, and both tell streams apart.
 #[test]
 fn descriptions_and_units(rt: HostRuntime) -> Result<(), Fail> {
     assert_prints(
@@ -101,7 +101,7 @@ fn names_and_versions(rt: HostRuntime) -> Result<(), Fail> {
     )
 }
 
-/// A tab is a byte of a word: it neither stands between words nor makes a line empty.
+/// A tab is a byte of a word: it neither separates words nor makes a line empty.
 #[test]
 fn tabs(rt: HostRuntime) -> Result<(), Fail> {
     let scripts: [(&[u8], u64); 6] = [
@@ -123,7 +123,7 @@ fn tabs(rt: HostRuntime) -> Result<(), Fail> {
     )
 }
 
-/// Names, texts and lists of any length are taken.
+/// Names, texts and lists of any length are accepted.
 #[test]
 fn long_lines(rt: HostRuntime) -> Result<(), Fail> {
     let alloc = rt.alloc();

@@ -1,4 +1,4 @@
-//! The provider, what it is asked and what it answers.
+//! The provider, its calls and their replies.
 
 pub use otel_callback::laws::copied_observed;
 pub use otel_callback::observation::Observed;

@@ -12,13 +12,13 @@ use crate::metrics::{Aggregation, InstrumentKind, ManualReader, SdkMeterProvider
 use std::alloc::Global;
 use std::test::Fail;
 
-/// The attributes k=1.
+/// The attributes `k=1`.
 fn place(alloc: Global) -> Result<Items<KeyValue>, Fault> {
     let attribute = KeyValue::new(Key::new(alloc, "k")?, Value::I64(1));
     Ok(Items::from(vec![in alloc; attribute]?))
 }
 
-/// Observes these values, one in each run, and then nothing.
+/// Observes these values, one in each run, and after that nothing.
 #[derive(Drop)]
 struct InTurn {
     alloc: Global,
@@ -51,7 +51,7 @@ impl ObserveU64 for InTurn {
     }
 }
 
-/// Observes -5, but answers a fault in its first run.
+/// Observes -5, but answers a fault on its first run.
 #[derive(Drop)]
 struct FailsFirst {
     alloc: Global,
@@ -82,7 +82,7 @@ impl ObserveI64 for FailsFirst {
     }
 }
 
-/// What a reader collects at a moment by the provider's callbacks, or the fault.
+/// What a reader collects at a moment, with the provider's callbacks, or the fault.
 fn collected<P: Parts>(
     alloc: Global,
     provider: &mut Provider<P>,
@@ -96,7 +96,7 @@ fn collected<P: Parts>(
     }
 }
 
-/// The same of these readers in turn, each behind the one before, from the moment 200 on.
+/// The same for these readers in turn, one after the other, from the moment 200 on.
 fn collected_in_turn<P: Parts>(
     alloc: Global,
     provider: &mut Provider<P>,
@@ -143,7 +143,7 @@ fn hold<P: Parts>(
     Ok(())
 }
 
-/// What these readers collect of one counter with this callback.
+/// What these readers collect from one counter with this callback.
 fn counted<P: Parts>(
     alloc: Global,
     provider: &mut Provider<P>,
@@ -154,7 +154,7 @@ fn counted<P: Parts>(
     collected_in_turn(alloc, provider, readers)
 }
 
-/// The readers of row 51, of which the first drops observable counters: the callback runs in each collection.
+/// With the readers of row 51, of which the first drops observable counters, the callback runs in each collection.
 #[test]
 fn row_51(rt: HostRuntime) -> Result<(), Fail> {
     let alloc = rt.alloc();
@@ -177,7 +177,7 @@ fn row_51(rt: HostRuntime) -> Result<(), Fail> {
     Ok(())
 }
 
-/// What two collections give of three instruments with these callbacks.
+/// What two collections of three instruments with these callbacks give.
 fn collected_of_three<P: Parts>(
     alloc: Global,
     provider: &mut Provider<P>,
@@ -192,7 +192,7 @@ fn collected_of_three<P: Parts>(
 }
 
 /// Callbacks run in the order in which their instruments were built, up to the first that fails; those before it have
-/// run, and nothing was taken in.
+/// run, but nothing is taken in.
 #[test]
 fn callback_refuses(rt: HostRuntime) -> Result<(), Fail> {
     let alloc = rt.alloc();
@@ -207,7 +207,7 @@ fn callback_refuses(rt: HostRuntime) -> Result<(), Fail> {
     Ok(())
 }
 
-/// What is collected of one counter with two callbacks.
+/// What is collected from one counter with two callbacks.
 fn collected_of_two<P: Parts>(
     alloc: Global,
     provider: &mut Provider<P>,
@@ -228,7 +228,7 @@ fn collected_of_two<P: Parts>(
     collected(alloc, provider, 0, 200)
 }
 
-/// Two callbacks of one counter, which observe the same place: the later one counts.
+/// If two callbacks of one counter observe the same set of attributes, the later one counts.
 #[test]
 fn callbacks_in_order(rt: HostRuntime) -> Result<(), Fail> {
     let alloc = rt.alloc();
@@ -242,7 +242,7 @@ fn callbacks_in_order(rt: HostRuntime) -> Result<(), Fail> {
     Ok(())
 }
 
-/// What is answered where there is no such reader, and after a shutdown.
+/// The answers for a reader that doesn't exist, and after a shutdown.
 fn refused<P: Parts>(
     alloc: Global,
     provider: &mut Provider<P>,
@@ -260,7 +260,7 @@ fn refused<P: Parts>(
     Ok(format!(in alloc; "{};{}", unknown.as_str(), shut.as_str())?)
 }
 
-/// Then no callback runs: this one would answer another fault.
+/// In these cases no callback runs: this one would answer another fault.
 #[test]
 fn callbacks_do_not_run(rt: HostRuntime) -> Result<(), Fail> {
     let alloc = rt.alloc();

@@ -1,4 +1,4 @@
-//! Calls of attributes, scopes and readers.
+//! Functions of attributes, scopes and readers.
 
 use super::replies::{attributes, text, values, write_attributes};
 use crate::common::{InstrumentationScope, Key, KeyValue, StringValue, canonical};
@@ -32,7 +32,7 @@ fn equal_values(rt: HostRuntime) -> Result<(), Fail> {
     Ok(())
 }
 
-/// Adds 1 for each of the values, as the value of an attribute.
+/// Adds 1 for each of the values, with the value as that of an attribute.
 fn measure_values(alloc: Global, sum: &mut Sum<u64>) -> Result<(), Fail> {
     for value in values(alloc)? {
         let set = KeyValue::new(Key::new(alloc, "key")?, value);
@@ -41,7 +41,7 @@ fn measure_values(alloc: Global, sum: &mut Sum<u64>) -> Result<(), Fail> {
     Ok(())
 }
 
-/// Records whose attribute has equal values share a point, whatever the kind of the value.
+/// Records whose attributes have equal values share a point, whatever the kind of the values.
 #[test]
 fn points_by_value(rt: HostRuntime) -> Result<(), Fail> {
     let mut sum = Sum::new(
@@ -63,7 +63,7 @@ fn points_by_value(rt: HostRuntime) -> Result<(), Fail> {
     Ok(())
 }
 
-/// For each key the value of its first occurrence, keys in byte order.
+/// A canonical set has for each key the value of its first occurrence, with the keys in byte order.
 #[test]
 fn canonical_sets(rt: HostRuntime) -> Result<(), Fail> {
     let given = attributes(rt.alloc(), &[("b", 1), ("a", 2), ("a", 9), ("B", 3)])?;
@@ -75,7 +75,7 @@ fn canonical_sets(rt: HostRuntime) -> Result<(), Fail> {
     Ok(())
 }
 
-/// A scope that has all four parts.
+/// A scope with all four parts.
 fn full_scope(alloc: Global) -> Result<InstrumentationScope, Fail> {
     let scope = InstrumentationScope::builder(alloc, String::from_str(alloc, "app")?)
         .with_version(String::from_str(alloc, "1.0")?)
@@ -110,7 +110,7 @@ fn empty_scope(rt: HostRuntime) -> Result<(), Fail> {
     Ok(())
 }
 
-/// What a reader answers, asked through the bound.
+/// A reader's answer, asked through the trait bound.
 fn answer_of<R: MetricReader>(reader: &R, kind: InstrumentKind) -> Temporality {
     reader.temporality(kind)
 }

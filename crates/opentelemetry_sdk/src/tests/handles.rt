@@ -11,7 +11,7 @@ use crate::metrics::provider::{Parts, Provider};
 use std::alloc::Global;
 use std::test::Fail;
 
-/// Ends a handle; where that is refused it answers the fault's number, else 0.
+/// Ends a handle. Returns the fault's number if that is refused, otherwise 0.
 fn ended<T, P: Parts>(handle: Bound<T>, provider: &mut Provider<P>) -> u8 {
     match handle.unbind(provider) {
         Ok(()) => 0,
@@ -22,7 +22,7 @@ fn ended<T, P: Parts>(handle: Bound<T>, provider: &mut Provider<P>) -> u8 {
     }
 }
 
-/// Binds a handle without attributes at an instrument, hands it one value, and ends it.
+/// Binds a handle without attributes at an instrument, records one value through it, and ends it.
 fn hand<K, T: NumberType, P: Parts>(
     provider: &mut Provider<P>,
     instrument: Synchronous<K, T>,
@@ -68,7 +68,7 @@ fn spread<P: Parts>(alloc: Global, provider: &mut Provider<P>, meter: Meter) -> 
     hand(provider, size, 13)
 }
 
-/// What a provider's first reader collects at 200, as text, after each instrument had a handle.
+/// What a provider's first reader collects at 200, as text, after each instrument has had a handle.
 fn collected<P: Parts>(alloc: Global, provider: &mut Provider<P>) -> Result<String, Fail> {
     let meter = provider.meter("app")?;
     add(alloc, provider, meter)?;
@@ -79,7 +79,7 @@ fn collected<P: Parts>(alloc: Global, provider: &mut Provider<P>) -> Result<Stri
     Ok(format!(in alloc; "{metrics:?}")?)
 }
 
-/// Through handles each instrument collects what it does by records.
+/// Each instrument collects the same through handles as by records.
 #[test]
 fn through_handles(rt: HostRuntime) -> Result<(), Fail> {
     let wanted = wanted(rt.alloc())?;
@@ -88,7 +88,7 @@ fn through_handles(rt: HostRuntime) -> Result<(), Fail> {
     Ok(())
 }
 
-/// How another provider takes the end of a handle, and then its own.
+/// The fault numbers when another provider is asked to end a handle, and then its own.
 fn ended_twice<P: Parts>(
     alloc: Global,
     own: &mut Provider<P>,

@@ -1,5 +1,5 @@
-//! Each sort of instrument: its whole collections, the numbers that it takes, and the settings with which it ignores
-//! its records.
+//! Each sort of instrument: its whole collections, the number types that it takes, and the settings with which it
+//! ignores its records.
 
 use super::replies::Step::{Collect, Make, Meter, Record};
 use super::replies::assert_replies;
@@ -10,10 +10,10 @@ use crate::metrics::provider::InstrumentSort;
 use crate::metrics::provider::NumberValue::{I64, U64};
 use std::test::Fail;
 
-/// A negative bound is less than each value.
+/// Bounds of which the negative one is less than every value.
 const BOUNDS: &[i64] = &[-1, 5];
 
-/// Of 5 and 18446744073709551615.
+/// The spread of 5 and 18446744073709551615.
 const FIRST: Spread<'static> = Spread {
     bounds: BOUNDS,
     buckets: &[0, 1, 1],
@@ -23,7 +23,7 @@ const FIRST: Spread<'static> = Spread {
     max: 18446744073709551615,
 };
 
-/// Of 6 alone.
+/// The spread of 6 alone.
 const SECOND: Spread<'static> = Spread {
     bounds: BOUNDS,
     buckets: &[0, 0, 1],
@@ -33,7 +33,7 @@ const SECOND: Spread<'static> = Spread {
     max: 6,
 };
 
-/// Of all three.
+/// The spread of all three values.
 const BOTH: Spread<'static> = Spread {
     bounds: BOUNDS,
     buckets: &[0, 1, 2],
@@ -43,8 +43,7 @@ const BOTH: Spread<'static> = Spread {
     max: 18446744073709551615,
 };
 
-/// Each sort of instrument at a cumulative and at a delta reader. The values tell the sorts and the types of numbers
-/// apart.
+/// Each sort of instrument at a cumulative and at a delta reader. The values tell apart the sorts and the number types.
 #[test]
 fn sorts(rt: HostRuntime) -> Result<(), Fail> {
     let steps = [
@@ -126,7 +125,7 @@ fn sorts(rt: HostRuntime) -> Result<(), Fail> {
     )
 }
 
-/// A number of the other type is refused, and changes nothing.
+/// A number of the other type is refused and changes nothing.
 #[test]
 fn wrong_numbers(rt: HostRuntime) -> Result<(), Fail> {
     let steps = [
@@ -161,8 +160,8 @@ fn wrong_numbers(rt: HostRuntime) -> Result<(), Fail> {
     assert_replies(&rt, rt.alloc(), steps.as_slice())
 }
 
-/// With a bad name, a bad unit or, of a histogram, bad bounds an instrument ignores its records. The bounds of other
-/// instruments are not looked at.
+/// An instrument with a bad name, a bad unit or, for a histogram, bad bounds ignores its records. The bounds of other
+/// instruments are not checked.
 #[test]
 fn bad_settings(rt: HostRuntime) -> Result<(), Fail> {
     let steps = [

@@ -16,10 +16,10 @@ use std::test::Fail;
 /// A good observation, and one of an instrument that takes in records.
 const GOOD_AND_OTHER: &[Seen<'static>] = &[Seen(0, U64(99), &[("k", 1)]), Seen(1, U64(1), &[])];
 
-/// A value of the other number type, and an instrument that isn't there.
+/// A value of the other number type, and an instrument that doesn't exist.
 const NUMBER_AND_NONE: &[Seen<'static>] = &[Seen(0, I64(1), &[]), Seen(9, U64(1), &[])];
 
-/// The same the other way round.
+/// The same, the other way round.
 const NONE_AND_NUMBER: &[Seen<'static>] = &[Seen(9, U64(1), &[]), Seen(0, I64(1), &[])];
 
 /// Observations of four instruments.
@@ -30,7 +30,7 @@ const FIRST: &[Seen<'static>] = &[
     Seen(3, I64(-4), &[]),
 ];
 
-/// Later ones, in another order.
+/// Later observations, in another order.
 const SECOND: &[Seen<'static>] = &[
     Seen(3, I64(3), &[]),
     Seen(2, U64(6), &[]),
@@ -38,7 +38,7 @@ const SECOND: &[Seen<'static>] = &[
     Seen(0, U64(12), &[]),
 ];
 
-/// A delta reader is told how much an observed sum rose since the collection before.
+/// A delta reader gets the amount by which an observed sum rose since the previous collection.
 #[test]
 fn row_5(rt: HostRuntime) -> Result<(), Fail> {
     let steps = [
@@ -64,7 +64,7 @@ fn row_5(rt: HostRuntime) -> Result<(), Fail> {
     assert_replies_at(&rt, rt.alloc(), &[Delta], steps.as_slice())
 }
 
-/// What one reader observes the other does not see.
+/// What is observed for one reader doesn't reach the other.
 #[test]
 fn row_25(rt: HostRuntime) -> Result<(), Fail> {
     let steps = [
@@ -90,7 +90,7 @@ fn row_25(rt: HostRuntime) -> Result<(), Fail> {
     assert_replies_at(&rt, rt.alloc(), &[Delta, Delta], steps.as_slice())
 }
 
-/// A refused collection changes nothing: also what was observed before the bad observation goes nowhere.
+/// A refused collection changes nothing: even what was observed before the bad observation goes nowhere.
 #[test]
 fn row_40(rt: HostRuntime) -> Result<(), Fail> {
     let steps = [
@@ -113,8 +113,8 @@ fn row_40(rt: HostRuntime) -> Result<(), Fail> {
     assert_replies_at(&rt, rt.alloc(), &[Delta], steps.as_slice())
 }
 
-/// A collection for which memory is refused is as if it had not been asked for: what it observed is not kept. Memory is
-/// refused by hand: `rt try --test --fail-alloc N`.
+/// A collection for which memory is refused has no effect: what was observed for it is not kept. Memory is refused by
+/// hand: `rt try --test --fail-alloc N`.
 #[test]
 fn refused_memory(rt: HostRuntime) -> Result<(), Fail> {
     let steps = [
@@ -143,8 +143,8 @@ fn refused_memory(rt: HostRuntime) -> Result<(), Fail> {
     )
 }
 
-/// Each sort of observable instruments, at a cumulative and at a delta reader: a collection shows what was observed
-/// for it, and no more.
+/// Each sort of observable instrument, at a cumulative and at a delta reader: a collection shows what was observed for
+/// it, and no more.
 #[test]
 fn each_sort(rt: HostRuntime) -> Result<(), Fail> {
     let steps = [
@@ -197,7 +197,7 @@ fn each_sort(rt: HostRuntime) -> Result<(), Fail> {
     )
 }
 
-/// A record at an observable instrument is refused, whatever its number.
+/// A record at an observable instrument is refused, whatever its number type.
 #[test]
 fn records_of_observables(rt: HostRuntime) -> Result<(), Fail> {
     let steps = [
@@ -225,7 +225,7 @@ fn records_of_observables(rt: HostRuntime) -> Result<(), Fail> {
     assert_replies(&rt, rt.alloc(), steps.as_slice())
 }
 
-/// Of an instrument that takes in records nothing is observed.
+/// Nothing can be observed of an instrument that takes in records.
 #[test]
 fn observations_of_others(rt: HostRuntime) -> Result<(), Fail> {
     for (sort, value) in [
@@ -246,8 +246,8 @@ fn observations_of_others(rt: HostRuntime) -> Result<(), Fail> {
     Ok(())
 }
 
-/// The reader, the provider and then each observation in turn is looked at: its instrument, its kind, its number. An
-/// instrument with a bad name is looked at too.
+/// The reader is checked first, then the provider, then each observation in turn: its instrument, its kind, its number
+/// type. An instrument with a bad name is checked too.
 #[test]
 fn bad_observations(rt: HostRuntime) -> Result<(), Fail> {
     let steps = [

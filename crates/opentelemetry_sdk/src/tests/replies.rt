@@ -1,4 +1,4 @@
-//! Runs as tables: steps, and beside each the text of its reply.
+//! Runs as tables: steps, each beside the text of its reply.
 
 use crate::common::{Array, InstrumentationScope, Items, Key, KeyValue, StringValue, Value};
 use crate::metrics::data::{
@@ -13,24 +13,24 @@ use std::process::Abort;
 use std::slice::Iter;
 use std::test::Fail;
 
-/// An observation of this instrument, with these attributes.
+/// An observation of the instrument of this number, with this value and these attributes.
 #[derive(Clone, Copy)]
 pub struct Seen<'a>(pub usize, pub NumberValue, pub &'a [(&'a str, i64)]);
 
-/// A call, written short.
+/// A call, in short form.
 #[derive(Drop)]
 pub enum Step<'a> {
     /// The meter of the scope of this name and version.
     Meter(&'a str, Option<&'a str>),
-    /// A counter of this meter and name, made at 100.
+    /// A counter of this meter, with this name, made at 100.
     Build(Option<usize>, &'a str),
-    /// An instrument of meter 0, of this sort, name, unit and bounds, made at 100.
+    /// An instrument of meter 0, with this sort, name, unit and bounds, made at 100.
     Make(InstrumentSort, &'a str, Option<&'a str>, Option<&'a [i64]>),
-    /// A record at this instrument, with these attributes.
+    /// A record of this value at this instrument, with these attributes.
     Record(usize, NumberValue, &'a [(&'a str, i64)]),
-    /// A collection of this reader at this moment, of which nothing was observed.
+    /// A collection of this reader at this moment, for which nothing was observed.
     Collect(usize, u64),
-    /// The same with what was observed.
+    /// The same, with what was observed for it.
     Observe(usize, u64, &'a [Seen<'a>]),
     Flush,
     Shutdown,
@@ -41,7 +41,7 @@ pub fn text(alloc: Global, text: &str) -> Result<StringValue, Fail> {
     Ok(StringValue::new(alloc, text)?)
 }
 
-/// Arrays of all kinds, of which no two are equal.
+/// Arrays of all kinds, no two of them equal.
 fn arrays(alloc: Global) -> Result<[Array; 4], Fail> {
     let texts = vec![in alloc; text(alloc, "1")?]?;
     let truths = [true].to_vec(alloc)?;
@@ -54,7 +54,7 @@ fn arrays(alloc: Global) -> Result<[Array; 4], Fail> {
     ])
 }
 
-/// Values of all kinds, of which no two are equal.
+/// Values of all kinds, no two of them equal.
 pub fn values(alloc: Global) -> Result<Vec<Value>, Fail> {
     let mut values = Vec::new(alloc);
     values.push(Value::Bool(true))?;
@@ -68,7 +68,7 @@ pub fn values(alloc: Global) -> Result<Vec<Value>, Fail> {
     Ok(values)
 }
 
-/// The attributes of these keys and values.
+/// Attributes with these keys and values.
 pub fn attributes(alloc: Global, pairs: &[(&str, i64)]) -> Result<Vec<KeyValue>, Fail> {
     let mut attributes = Vec::new(alloc);
     for (key, value) in pairs {
@@ -90,7 +90,7 @@ pub fn scope(
     Ok(builder.build()?)
 }
 
-/// A build in meter 0 at 100, without a description.
+/// A build at meter 0, at the moment 100, without a description.
 fn made(
     alloc: Global,
     sort: InstrumentSort,
@@ -117,7 +117,7 @@ fn made(
     })
 }
 
-/// A collection of this reader at this moment, of which nothing was observed.
+/// A collection of this reader at this moment, for which nothing was observed.
 pub fn collection(alloc: Global, reader: usize, now: u64) -> Call {
     Call::Collect {
         reader,
@@ -126,7 +126,7 @@ pub fn collection(alloc: Global, reader: usize, now: u64) -> Call {
     }
 }
 
-/// What was observed.
+/// These observations, as a call takes them.
 fn observations(alloc: Global, seen: &[Seen<'_>]) -> Result<Vec<Observed>, Fail> {
     let mut observations = Vec::new(alloc);
     for Seen(instrument, value, pairs) in seen {
@@ -171,7 +171,7 @@ pub fn call_of(alloc: Global, step: &Step<'_>) -> Result<Call, Fail> {
     }
 }
 
-/// Attributes as text, joined by commas; `-` for none.
+/// Writes attributes as text, joined by commas; `-` if there are none.
 pub fn write_attributes(text: &mut String, attributes: Iter<'_, KeyValue>) -> Result<(), Fail> {
     if attributes.len() == 0 {
         text.push_str("-")?;
@@ -191,7 +191,7 @@ pub fn write_attributes(text: &mut String, attributes: Iter<'_, KeyValue>) -> Re
     Ok(())
 }
 
-/// Adds a text for each point of a sum: this start, and its moments, attributes and value.
+/// Adds a text for each point of a sum: this start, then its moments, attributes and value.
 fn push_points<T: NumberType + Display>(
     alloc: Global,
     points: &mut Vec<String>,
@@ -235,7 +235,7 @@ fn push_scope(alloc: Global, points: &mut Vec<String>, scope: &ScopeMetrics) -> 
     Ok(())
 }
 
-/// A text for each point of a collection, in order.
+/// Returns a text for each point of a collection, in order.
 pub fn points_of(alloc: Global, collected: &ResourceMetrics) -> Result<Vec<String>, Fail> {
     let mut points = Vec::new(alloc);
     for scope in collected.scope_metrics() {
@@ -244,7 +244,7 @@ pub fn points_of(alloc: Global, collected: &ResourceMetrics) -> Result<Vec<Strin
     Ok(points)
 }
 
-/// A reply as text; the points of a collection stand behind strokes.
+/// A reply as text; each point of a collection follows a vertical bar.
 pub fn text_of(alloc: Global, reply: &Reply) -> Result<String, Fail> {
     match reply {
         Reply::Meter(Some(number)) => Ok(format!(in alloc; "meter {number}")?),
@@ -293,7 +293,7 @@ fn replies_of(
     Ok(provider_of(alloc, readers)?.run(alloc, calls.as_slice())?)
 }
 
-/// Runs the steps at a new provider with one cumulative reader, and asserts that each reply has its text.
+/// Runs the steps on a new provider with one cumulative reader, and asserts that each reply has its text.
 pub fn assert_replies(
     rt: &impl Abort,
     alloc: Global,
@@ -302,7 +302,7 @@ pub fn assert_replies(
     assert_replies_at(rt, alloc, &[Temporality::Cumulative], steps)
 }
 
-/// The same with these readers.
+/// The same, with these readers.
 pub fn assert_replies_at(
     rt: &impl Abort,
     alloc: Global,
@@ -317,7 +317,7 @@ pub fn assert_replies_at(
     Ok(())
 }
 
-/// The texts of the replies of a new provider with these readers, each ended by a semicolon.
+/// The texts of the replies of a new provider with these readers, each followed by a semicolon.
 fn outcome_of(
     alloc: Global,
     readers: &[Temporality],
@@ -330,8 +330,8 @@ fn outcome_of(
     Ok(outcome)
 }
 
-/// Asserts that the steps have the outcome that there is with ample memory. Where it is one of those with memory
-/// refused once, it has to be the other one when the steps are run again.
+/// Asserts that the steps have the outcome of a run with ample memory. If they have one of the outcomes in which memory
+/// was refused once, a second run of the steps must have the first one.
 pub fn assert_outcomes(
     rt: &impl Abort,
     alloc: Global,

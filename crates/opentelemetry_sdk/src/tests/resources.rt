@@ -11,7 +11,7 @@ use std::fmt::Write;
 use std::process::Abort;
 use std::test::Fail;
 
-/// Attributes whose values are texts, and a schema URL; the empty one is none.
+/// Attributes whose values are texts, and a schema URL; the empty URL stands for none.
 type Parts<'a> = (&'a [(&'a str, &'a str)], &'a str);
 
 fn list(alloc: Global, pairs: &[(&str, &str)]) -> Result<Vec<KeyValue>, Fail> {
@@ -34,7 +34,7 @@ fn resource(alloc: Global, parts: Parts<'_>) -> Result<Resource, Fail> {
     Ok(builder(alloc, parts)?.build())
 }
 
-/// The attributes and the URL, as in `a=b c=d u`; `-` stands for no URL.
+/// The attributes and the URL as text, as in `a=b c=d u`; `-` stands for no URL.
 fn shown(alloc: Global, resource: &Resource) -> Result<String, Fail> {
     let mut shown = String::new(alloc);
     for (key, value) in resource {
@@ -131,7 +131,7 @@ fn merge_resource_with_missing_attributes(rt: HostRuntime) -> Result<(), Fail> {
     Ok(())
 }
 
-/// Of the URLs `u1`, `u2` and `u2` the last stays, merged from the left; merged from the right, none.
+/// Merged from the left, the URLs `u1`, `u2` and `u2` leave the last one; merged from the right, they leave none.
 #[test]
 fn urls_merge_from_left_and_right(rt: HostRuntime) -> Result<(), Fail> {
     let one = resource(rt.alloc(), (&[], "u1"))?;
@@ -141,7 +141,7 @@ fn urls_merge_from_left_and_right(rt: HostRuntime) -> Result<(), Fail> {
     Ok(())
 }
 
-/// Of doubled keys in one list the last stays.
+/// If a key stands twice in one list, its last value stays.
 #[test]
 fn new_resource(rt: HostRuntime) -> Result<(), Fail> {
     for (pairs, wanted) in [

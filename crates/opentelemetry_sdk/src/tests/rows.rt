@@ -1,4 +1,4 @@
-//! Short runs whose collections are known by hand.
+//! Short runs whose collections are worked out by hand.
 
 use super::replies::Step::{self, Collect, Make, Meter, Record};
 use super::wanted::Data::{I64Sum, U64Histogram, U64Sum};
@@ -10,7 +10,7 @@ use crate::metrics::provider::InstrumentSort::{
 use crate::metrics::provider::NumberValue::{I64, U64};
 use std::test::Fail;
 
-/// A histogram with bounds of its own: a value falls into the bucket whose number is how many bounds are less.
+/// A histogram with its own bounds: a value falls into the bucket whose number is how many bounds are less than it.
 #[test]
 fn row_1(rt: HostRuntime) -> Result<(), Fail> {
     let steps = [
@@ -46,7 +46,7 @@ fn row_1(rt: HostRuntime) -> Result<(), Fail> {
     )
 }
 
-/// A histogram without bounds of its own has fifteen.
+/// A histogram without its own bounds has fifteen.
 #[test]
 fn row_2(rt: HostRuntime) -> Result<(), Fail> {
     let steps = [
@@ -104,7 +104,7 @@ fn row_13(rt: HostRuntime) -> Result<(), Fail> {
     )
 }
 
-/// A reader that wants little memory gets a counter's sums as differences, and those of an up-down counter whole.
+/// A `LowMemory` reader gets the sums of a counter as differences, and those of an up-down counter in full.
 #[test]
 fn row_19(rt: HostRuntime) -> Result<(), Fail> {
     let counter = [

@@ -11,7 +11,7 @@ use std::alloc::Global;
 use std::process::Abort;
 use std::test::Fail;
 
-/// The order of attributes doesn't matter, and of a doubled key the first value stays.
+/// The order of attributes doesn't matter, and if a key stands twice, its first value counts.
 #[test]
 fn row_10(rt: HostRuntime) -> Result<(), Fail> {
     let steps = [
@@ -57,8 +57,8 @@ fn row_14(rt: HostRuntime) -> Result<(), Fail> {
     assert_replies_at(&rt, rt.alloc(), &[Temporality::Delta], steps.as_slice())
 }
 
-/// A record of a new set at two readers for which memory is refused: neither has it. Memory is refused by
-/// hand: `rt try --test --fail-alloc N`.
+/// If memory is refused for a record of a new set at two readers, neither has it. Memory is refused by hand: `rt try
+/// --test --fail-alloc N`.
 #[test]
 fn row_17(rt: HostRuntime) -> Result<(), Fail> {
     let steps = [
@@ -88,7 +88,7 @@ fn row_17(rt: HostRuntime) -> Result<(), Fail> {
     )
 }
 
-/// What is refused changes nothing.
+/// Refused calls change nothing.
 #[test]
 fn refusals(rt: HostRuntime) -> Result<(), Fail> {
     let steps = [
@@ -108,7 +108,7 @@ fn refusals(rt: HostRuntime) -> Result<(), Fail> {
     assert_replies(&rt, rt.alloc(), steps.as_slice())
 }
 
-/// Without a meter, or with a bad name, an instrument ignores its records.
+/// An instrument without a meter or with a bad name ignores its records.
 #[test]
 fn ignored(rt: HostRuntime) -> Result<(), Fail> {
     let steps = [
@@ -124,7 +124,7 @@ fn ignored(rt: HostRuntime) -> Result<(), Fail> {
     assert_replies(&rt, rt.alloc(), steps.as_slice())
 }
 
-/// Builds whose names differ in the case of ASCII letters share a stream, spelled as by the first.
+/// Builds whose names differ only in the case of ASCII letters share a stream, which has the spelling of the first.
 #[test]
 fn shared_streams(rt: HostRuntime) -> Result<(), Fail> {
     let steps = [
@@ -143,8 +143,8 @@ fn shared_streams(rt: HostRuntime) -> Result<(), Fail> {
     assert_replies(&rt, rt.alloc(), steps.as_slice())
 }
 
-/// The same scope gives the same meter, another version another one. A collection has scopes in order
-/// of their meters, metrics in order of making, and no metric without points.
+/// Equal scopes give the same meter, and another version gives another one. A collection has scopes in the order of
+/// their meters, metrics in the order in which they were made, and no metric without points.
 #[test]
 fn meters(rt: HostRuntime) -> Result<(), Fail> {
     let steps = [
@@ -169,7 +169,7 @@ fn meters(rt: HostRuntime) -> Result<(), Fail> {
     assert_replies(&rt, rt.alloc(), steps.as_slice())
 }
 
-/// A record of 1 for each of 2002 sets, then one of 4 for the first of them, and a collection.
+/// The calls that record 1 for each of 2002 sets, then 4 for the first of them, and then collect.
 fn many_sets(alloc: Global) -> Result<Vec<Call>, Fail> {
     let mut calls = Vec::new(alloc);
     calls.push(call_of(alloc, &Meter("app", None))?)?;
@@ -183,7 +183,7 @@ fn many_sets(alloc: Global) -> Result<Vec<Call>, Fail> {
     Ok(calls)
 }
 
-/// Asserts that there are 2000 sets and the overflow point, with these values.
+/// Asserts that there are points of 2000 sets and the overflow point, with these values.
 fn assert_overflow(rt: &impl Abort, points: &[String]) {
     assert_eq!(rt; points.len(), 2001);
     assert_eq!(rt; points[0].as_str(), "app requests 100 200 number=0 5");
@@ -210,8 +210,8 @@ fn overflow(rt: HostRuntime) -> Result<(), Fail> {
     Ok(())
 }
 
-/// A call for which memory is refused is as if it had not been made, whichever call it is. Memory is
-/// refused by hand: `rt try --test --fail-alloc N`.
+/// A call for which memory is refused has no effect, whichever call it is. Memory is refused by hand: `rt try --test
+/// --fail-alloc N`.
 #[test]
 fn refused_memory(rt: HostRuntime) -> Result<(), Fail> {
     let steps = [

@@ -38,7 +38,7 @@ impl MetricReader for Failing {
     }
 }
 
-/// The number of a fault, 0 for none; how many readers failed, and the first of them.
+/// The number of the fault, or 0 if there is none; how many readers failed; and the number of the first of them.
 fn seen(answer: OTelSdkResult) -> (u8, usize, usize) {
     match answer {
         Ok(()) => (0, 0, 0),
@@ -70,7 +70,7 @@ fn row_15(rt: HostRuntime) -> Result<(), Fail> {
     )
 }
 
-/// Three readers, of which two fail: the provider is shut down all the same.
+/// With three readers, of which two fail, the provider is shut down all the same.
 #[test]
 fn row_26(rt: HostRuntime) -> Result<(), Fail> {
     let first = Box::new(rt.alloc(), ManualReader::default())?;

@@ -31,7 +31,7 @@ fn answer_of(alloc: Global, answer: Result<(), MetricError>) -> Result<String, F
     }
 }
 
-/// What a check is to answer: `Ok`, or the error of this text.
+/// What a check should answer: `Ok`, or the error with this text.
 fn wanted(alloc: Global, text: &str) -> Result<String, Fail> {
     if text == "Ok" {
         return Ok(String::from_str(alloc, text)?);

@@ -12,7 +12,7 @@ use crate::metrics::provider::{Parts, Provider};
 use std::alloc::Global;
 use std::test::Fail;
 
-/// Makes both instruments that add, and adds at them.
+/// Makes both instruments that add, and adds values.
 fn add<P: Parts>(alloc: Global, provider: &mut Provider<P>, meter: Meter) -> Result<(), Fault> {
     let hits = meter
         .u64_counter(String::from_str(alloc, "hits")?)
@@ -25,7 +25,7 @@ fn add<P: Parts>(alloc: Global, provider: &mut Provider<P>, meter: Meter) -> Res
     open.add(provider, -7, &[])
 }
 
-/// Makes both gauges, and records at them.
+/// Makes both gauges, and records values.
 fn gauge<P: Parts>(alloc: Global, provider: &mut Provider<P>, meter: Meter) -> Result<(), Fault> {
     let load = meter
         .u64_gauge(String::from_str(alloc, "load")?)
@@ -37,7 +37,7 @@ fn gauge<P: Parts>(alloc: Global, provider: &mut Provider<P>, meter: Meter) -> R
     heat.record(provider, -11, &[])
 }
 
-/// Makes a histogram, and records at it.
+/// Makes a histogram, and records a value.
 fn spread<P: Parts>(alloc: Global, provider: &mut Provider<P>, meter: Meter) -> Result<(), Fault> {
     let size = meter
         .u64_histogram(String::from_str(alloc, "size")?)
@@ -46,7 +46,7 @@ fn spread<P: Parts>(alloc: Global, provider: &mut Provider<P>, meter: Meter) -> 
     size.record(provider, 13, &[])
 }
 
-/// What a provider's first reader collects at 200, as text, after each instrument was used.
+/// What a provider's first reader collects at 200, as text, after each instrument has been used.
 fn collected<P: Parts>(alloc: Global, provider: &mut Provider<P>) -> Result<String, Fail> {
     let meter = provider.meter("app")?;
     add(alloc, provider, meter)?;
@@ -57,7 +57,7 @@ fn collected<P: Parts>(alloc: Global, provider: &mut Provider<P>) -> Result<Stri
     Ok(format!(in alloc; "{metrics:?}")?)
 }
 
-/// The same of the collection that is wanted.
+/// The wanted collection, as text.
 pub(super) fn wanted(alloc: Global) -> Result<String, Fail> {
     let size = Spread {
         bounds: &[10],
@@ -78,7 +78,7 @@ pub(super) fn wanted(alloc: Global) -> Result<String, Fail> {
     Ok(format!(in alloc; "{wanted:?}")?)
 }
 
-/// Each builder once, and each instrument.
+/// Uses each builder and each instrument once.
 #[test]
 fn typed(rt: HostRuntime) -> Result<(), Fail> {
     let wanted = wanted(rt.alloc())?;
@@ -87,7 +87,7 @@ fn typed(rt: HostRuntime) -> Result<(), Fail> {
     Ok(())
 }
 
-/// The number of the fault, and 0 where there is none.
+/// The number of the fault, or 0 if there is none.
 fn fault_of<T: Drop>(answer: Result<T, Fault>) -> u8 {
     match answer {
         Ok(_) => 0,
@@ -95,7 +95,8 @@ fn fault_of<T: Drop>(answer: Result<T, Fault>) -> u8 {
     }
 }
 
-/// How a provider takes a record of its own instrument, and how another one takes it, and a build of its meter.
+/// The fault numbers of a record at an instrument's own provider, of one at another provider, and of a build of its
+/// meter there.
 fn faults<P: Parts>(
     alloc: Global,
     own: &mut Provider<P>,

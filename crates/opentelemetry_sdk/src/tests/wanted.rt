@@ -13,7 +13,7 @@ use std::alloc::Global;
 use std::process::Abort;
 use std::test::Fail;
 
-/// How the values of the one point of a histogram spread.
+/// How the values of a histogram's only point are distributed.
 #[derive(Clone, Copy)]
 pub struct Spread<'a> {
     pub bounds: &'a [i64],
@@ -24,7 +24,7 @@ pub struct Spread<'a> {
     pub max: u64,
 }
 
-/// What the one point of a metric has, which has no attributes.
+/// The data of a metric's only point, which has no attributes.
 #[derive(Clone, Copy)]
 pub enum Data<'a> {
     /// The sum of a counter.
@@ -36,21 +36,21 @@ pub enum Data<'a> {
     U64Histogram(Temporality, Spread<'a>),
 }
 
-/// A metric of this name, unit, start and time.
+/// A metric with this name, unit, start, time and data.
 #[derive(Clone, Copy)]
 pub struct Wanted<'a>(pub &'a str, pub &'a str, pub u64, pub u64, pub Data<'a>);
 
-/// A sum point of this value.
+/// A sum point with this value.
 fn sum_point<T: Copy>(alloc: Global, value: T) -> SumDataPoint<T> {
     SumDataPoint::new(empty(alloc), empty(alloc), value)
 }
 
-/// A gauge point of this value.
+/// A gauge point with this value.
 fn gauge_point<T: Copy>(alloc: Global, value: T) -> GaugeDataPoint<T> {
     GaugeDataPoint::new(empty(alloc), empty(alloc), value)
 }
 
-/// A histogram of one point.
+/// A histogram with one point.
 fn histogram(
     alloc: Global,
     start: u64,
@@ -126,7 +126,7 @@ fn metric_of(alloc: Global, wanted: &Wanted<'_>) -> Result<Metric, Fail> {
     ))
 }
 
-/// These metrics of the scope `app`, of the empty resource. Without metrics there is no scope.
+/// A collection of these metrics, of the scope `app` and the empty resource. Without metrics there is no scope.
 pub fn collection_of(alloc: Global, wanted: &[Wanted<'_>]) -> Result<ResourceMetrics, Fail> {
     let mut metrics = Vec::new(alloc);
     for metric in wanted {
@@ -141,7 +141,7 @@ pub fn collection_of(alloc: Global, wanted: &[Wanted<'_>]) -> Result<ResourceMet
     Ok(ResourceMetrics::new(resource, Items::from(scopes)))
 }
 
-/// What the steps collect at a new provider with these readers, as text.
+/// What the steps collect on a new provider with these readers, as text.
 fn collected(alloc: Global, readers: &[Temporality], steps: &[Step<'_>]) -> Result<String, Fail> {
     let mut calls = Vec::new(alloc);
     for step in steps {
@@ -157,8 +157,8 @@ fn collected(alloc: Global, readers: &[Temporality], steps: &[Step<'_>]) -> Resu
     Ok(text)
 }
 
-/// Asserts that the steps give these collections, in order, at a new provider with these readers: each heading,
-/// moment and point that there is, and nothing else.
+/// Asserts that the steps give these collections, in order, on a new provider with these readers: each heading, moment
+/// and point, and nothing else.
 pub fn assert_collections(
     rt: &impl Abort,
     alloc: Global,

@@ -1,4 +1,4 @@
-//! Whole collections: each heading, moment and point that there is, and nothing else.
+//! Whole collections: each heading, moment and point, and nothing else.
 
 ghost use Rattle.std.specs.Prelude.{◌≡◌, Ok, cond};
 ghost use Rattle.otel_stream.specs.declared.instrument.InstrumentKind.TheVariants.{Counter};
@@ -51,12 +51,12 @@ impl MetricReader for Choosy {
     }
 }
 
-/// A text of this many of these letters.
+/// A text of this letter, repeated this many times.
 fn long(alloc: Global, letter: &str, count: usize) -> Result<StringValue, Fail> {
     Ok(StringValue::from(letter.repeat(alloc, count)?))
 }
 
-/// This many attributes, in falling order of their keys, of long values.
+/// This many attributes with long values, in falling order of their keys.
 fn many(alloc: Global, count: u32) -> Result<Vec<KeyValue>, Fail> {
     let mut many = Vec::new(alloc);
     for number in (0..count).rev() {
@@ -67,14 +67,14 @@ fn many(alloc: Global, count: u32) -> Result<Vec<KeyValue>, Fail> {
     Ok(many)
 }
 
-/// The same, in rising order.
+/// The same attributes, in rising order of their keys.
 fn many_sorted(alloc: Global, count: u32) -> Result<Vec<KeyValue>, Fail> {
     let mut many = many(alloc, count)?;
     many.reverse();
     Ok(many)
 }
 
-/// A scope that has all four parts, its name and its attributes long.
+/// A scope with all four parts, of which the name and the attributes are long.
 fn long_scope(alloc: Global) -> Result<InstrumentationScope, Fail> {
     let name = "scope".repeat(alloc, 1000)?;
     Ok(
@@ -86,13 +86,14 @@ fn long_scope(alloc: Global) -> Result<InstrumentationScope, Fail> {
     )
 }
 
-/// A scope with a name alone.
+/// A scope with only a name.
 fn short_scope(alloc: Global) -> Result<InstrumentationScope, Fail> {
     Ok(InstrumentationScope::builder(alloc, String::from_str(alloc, "app")?).build()?)
 }
 
-/// Two meters, and three counters: of the second meter `hits`, made at 110; of the first one of long texts, made
-/// at 120, and `bytes`, made at 130, which has a unit alone. Then records.
+/// Calls for two meters and three counters, followed by records. The counters are `hits` of the second meter, made at
+/// 110; one with long texts of the first meter, made at 120; and `bytes` of the first meter, made at 130, which has
+/// only a unit.
 fn calls(alloc: Global) -> Result<Vec<Call>, Fail> {
     Ok(vec![in alloc;
         Call::Meter {
@@ -148,7 +149,7 @@ fn record(instrument: usize, value: u64, attributes: Vec<KeyValue>) -> Call {
     }
 }
 
-/// The sum of one point.
+/// A sum with one point.
 fn sum_of(
     alloc: Global,
     set: Vec<KeyValue>,
@@ -181,12 +182,12 @@ fn hits(
     ))
 }
 
-/// The metrics of these scopes, of the empty resource.
+/// A collection of these scopes, with the empty resource.
 fn whole(alloc: Global, scopes: Vec<ScopeMetrics>) -> ResourceMetrics {
     ResourceMetrics::new(Resource::builder_empty(alloc).build(), Items::from(scopes))
 }
 
-/// The metric of the counter of long texts.
+/// The metric of the counter with long texts.
 fn long_metric(alloc: Global, time: u64, temporality: Temporality) -> Result<Metric, Fail> {
     let data = sum_of(alloc, many_sorted(alloc, 300)?, 5, 120, time, temporality)?;
     Ok(Metric::new(
@@ -208,7 +209,7 @@ fn bytes_metric(alloc: Global, time: u64, temporality: Temporality) -> Result<Me
     ))
 }
 
-/// What the long scope has.
+/// The metrics of the long scope.
 fn long_metrics(alloc: Global, time: u64, temporality: Temporality) -> Result<ScopeMetrics, Fail> {
     let mut metrics = Vec::new(alloc);
     metrics.push(long_metric(alloc, time, temporality)?)?;
@@ -216,7 +217,7 @@ fn long_metrics(alloc: Global, time: u64, temporality: Temporality) -> Result<Sc
     Ok(ScopeMetrics::new(long_scope(alloc)?, Items::from(metrics)))
 }
 
-/// What the short scope has, with one metric.
+/// The metrics of the short scope, of which there is one.
 fn short_metrics(alloc: Global, metric: Metric) -> Result<ScopeMetrics, Fail> {
     let metrics = vec![in alloc; metric]?;
     Ok(ScopeMetrics::new(short_scope(alloc)?, Items::from(metrics)))
@@ -231,13 +232,13 @@ fn first(alloc: Global, time: u64, temporality: Temporality) -> Result<ResourceM
     Ok(whole(alloc, scopes))
 }
 
-/// One metric of the short scope.
+/// A collection of one metric of the short scope.
 fn one(alloc: Global, metric: Metric) -> Result<ResourceMetrics, Fail> {
     let scopes = vec![in alloc; short_metrics(alloc, metric)?]?;
     Ok(whole(alloc, scopes))
 }
 
-/// Asserts that the provider's collection of a reader at a moment is this one.
+/// Asserts that this is what a reader of the provider collects at a moment.
 fn assert_collected(
     rt: &impl Abort,
     alloc: Global,
@@ -280,7 +281,7 @@ fn provider(alloc: Global) -> Result<SdkMeterProvider, Fail> {
     Ok(provider)
 }
 
-/// A cumulative collection has all that was recorded since the builds, each time. So has one of a reader that
+/// A cumulative collection has, each time, all that was recorded since the builds. So does that of a reader that
 /// answers `LowMemory` for the kind: only `Delta` starts a stream again.
 #[test]
 fn cumulative_wholes(rt: HostRuntime) -> Result<(), Fail> {
@@ -304,7 +305,7 @@ fn assert_all(
     assert_collected(rt, alloc, provider, reader, 200, &all)
 }
 
-/// Asserts that its second one has nothing.
+/// Asserts that a delta reader's second collection has nothing.
 fn assert_nothing(
     rt: &impl Abort,
     alloc: Global,
@@ -315,7 +316,7 @@ fn assert_nothing(
     assert_collected(rt, alloc, provider, reader, 300, &nothing)
 }
 
-/// Makes a record, and asserts that its third one has that record alone.
+/// Makes a record, and asserts that a delta reader's third collection has only that record.
 fn assert_one(
     rt: &impl Abort,
     alloc: Global,
@@ -328,8 +329,8 @@ fn assert_one(
     assert_collected(rt, alloc, provider, reader, 400, &one)
 }
 
-/// A delta collection has what was recorded since the reader's last one, which is the start. Without records it
-/// has nothing, and the start moves all the same.
+/// A delta collection has what was recorded since the reader's previous one, whose moment is the start. Without records
+/// it has nothing, and the start moves all the same.
 #[test]
 fn delta_wholes(rt: HostRuntime) -> Result<(), Fail> {
     let alloc = rt.alloc();

@@ -1,4 +1,4 @@
-//! Streams of records by sets of attributes: worked rows and carried tests.
+//! Streams of records by sets of attributes: worked rows and ported tests.
 
 use otel_common::attributes::{KeyValue, Value};
 use otel_common::faults::Fault;
@@ -6,7 +6,7 @@ use otel_common::keys::Key;
 use otel_common::strings::StringValue;
 use std::alloc::Global;
 
-/// A set of attributes, by keys in the order in which they are given.
+/// A set of attributes, named by its keys in the order given.
 #[derive(Clone, Copy)]
 enum Set {
     Nothing,

@@ -1,4 +1,4 @@
-//! Worked values of the map of sets, of its aggregators and its numbers.
+//! Worked examples of the map of sets, its aggregators and its numbers.
 
 use otel_common::attributes::{KeyValue, Value};
 use otel_common::faults::Fault;
@@ -7,7 +7,7 @@ use otel_value_map::sets::allowed_attributes;
 use std::alloc::Global;
 use std::test::Fail;
 
-/// A set of attributes, by their keys and values.
+/// A set of attributes, as keys and values.
 type Set = &'static [(&'static str, i64)];
 
 fn attributes(alloc: Global, set: Set) -> Result<Vec<KeyValue>, Fault> {
@@ -18,7 +18,7 @@ fn attributes(alloc: Global, set: Set) -> Result<Vec<KeyValue>, Fault> {
     Ok(made)
 }
 
-/// Whether an allow-list of one key leaves this set of another.
+/// Whether an allow-list of this one key leaves `left` of `set`.
 fn leaves(alloc: Global, key: &str, set: Set, left: Set) -> Result<bool, Fault> {
     let given = attributes(alloc, set)?;
     let allowed = allowed_attributes(alloc, &[Key::new(alloc, key)?], &given)?;

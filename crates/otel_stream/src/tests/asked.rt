@@ -12,7 +12,7 @@ use otel_common::metrics::Temporality;
 use std::test::Fail;
 use std::time::Duration;
 
-/// A reader that can flush once, and fails from then on.
+/// A reader that can flush once; its later flushes fail.
 #[derive(Drop)]
 struct Once {
     has_flushed: bool,
@@ -44,7 +44,7 @@ impl MetricReader for Once {
     }
 }
 
-/// Whether so many readers failed, of which this was the first.
+/// Whether an answer says that this many readers failed, and that this was the first of them.
 fn is_failure(answer: OTelSdkResult, wanted: (usize, usize)) -> bool {
     match answer {
         Err(Fault::InternalFailure(InternalFault::Readers { failed, first })) => {
@@ -54,7 +54,7 @@ fn is_failure(answer: OTelSdkResult, wanted: (usize, usize)) -> bool {
     }
 }
 
-/// Whether all readers can flush once, and two of three no more; and all can shut down.
+/// Whether all three readers can flush once, two of them fail to from then on, and all can shut down.
 fn can_flush_once(readers: &mut [Box<dyn MetricReader>]) -> bool {
     flush_all(readers).is_ok()
         && is_failure(flush_all(readers), (2, 1))

@@ -16,7 +16,7 @@ use otel_common::strings::StringValue;
 use std::alloc::Global;
 use std::test::Fail;
 
-/// A view that sets the limit of the streams of gauges.
+/// A view that answers the same stream for every instrument.
 #[derive(Drop)]
 struct Limiting {
     stream: Stream,
@@ -51,7 +51,7 @@ fn is_hits(instrument: &Instrument) -> bool {
         && instrument.scope().name() == ""
 }
 
-/// Whether an instrument equals its copy, and its copy without a description not.
+/// Whether an instrument equals its copy, but not its copy without the description.
 fn is_equal_by_parts(instrument: &Instrument, nothing: StringValue) -> Result<bool, Fault> {
     equal_instruments();
     let mut other = instrument.clone()?;
@@ -91,7 +91,7 @@ fn boxes_answer_what_is_in_them(rt: HostRuntime) -> Result<(), Fail> {
     Ok(())
 }
 
-/// Whether an answer is an error of this text.
+/// Whether an answer is an error with this text.
 fn is_refused(alloc: Global, answer: Result<(), MetricError>, text: &str) -> Result<bool, Fail> {
     match answer {
         Ok(()) => Ok(false),
@@ -121,7 +121,7 @@ fn histogram(alloc: Global, bounds: &[i64]) -> Result<Aggregation, Fault> {
     })
 }
 
-/// Whether a histogram of these bounds is good.
+/// Whether a histogram with these bounds is valid.
 fn is_valid(alloc: Global, bounds: &[i64]) -> Result<bool, Fault> {
     Ok(histogram(alloc, bounds)?.validate().is_ok())
 }

@@ -1,4 +1,4 @@
-//! Which settings of streams are refused, and by which text.
+//! Which settings of streams are refused, and with which text.
 
 use crate::stream::{Stream, StreamBuilder};
 use crate::stream_fault::StreamFault;
@@ -44,7 +44,7 @@ fn fault_by_limit(limit: usize) -> Option<StreamFault> {
     fault_of(Stream::builder().with_cardinality_limit(limit))
 }
 
-/// Whether a builder with this unit shows this text, or `Ok`.
+/// Whether the fault of a builder with this unit shows this text; no fault shows `Ok`.
 fn unit_shows(alloc: Global, unit: &str, text: &str) -> Result<bool, Fail> {
     let fault = fault_by_unit(alloc, unit)?;
     shows(alloc, fault, text)
@@ -121,7 +121,7 @@ fn stream_histogram_bucket_validation(rt: HostRuntime) -> Result<(), Fail> {
     Ok(())
 }
 
-/// A builder with each setting, of these texts and keys.
+/// A builder with everything set, from these texts and keys.
 fn with_all(name: String, description: String, unit: String, keys: Vec<Key>) -> StreamBuilder {
     StreamBuilder::default()
         .with_name(name)
@@ -160,7 +160,7 @@ fn is_valid_build(stream: &Stream) -> bool {
     has_texts(stream) && has_rest(stream)
 }
 
-/// Whether a builder builds a stream that has all settings, and whose copy has.
+/// Whether a builder builds a stream that has all settings and whose copy has them too.
 fn builds(builder: StreamBuilder) -> bool {
     match builder.build() {
         Ok(stream) => is_valid_build(&stream) && copy_is_valid(&stream),
@@ -183,12 +183,12 @@ fn copy_builds(builder: &StreamBuilder) -> bool {
     }
 }
 
-/// Whether a stream of which nothing was said has no name.
+/// Whether a stream has no name by default.
 fn default_has_no_name() -> bool {
     Stream::default().name().is_none()
 }
 
-/// Each setting once, with its getter.
+/// Tests each setting once, with its getter.
 #[test]
 fn stream_valid_build(rt: HostRuntime) -> Result<(), Fail> {
     assert!(rt; copy_builds(&builder(rt.alloc())?));

@@ -48,13 +48,13 @@ const NO_LIMITS: [usize; 7] = [0, 0, 0, 0, 0, 0, 0];
 
 const SOME_LIMITS: [usize; 7] = [6, 0, 0, 0, 0, 7, 0];
 
-/// The aggregations for the seven kinds, a letter each, as `letter_of` has them.
+/// The aggregations for the seven kinds, one letter for each, as `letter_of` returns them.
 const NO_AGGREGATIONS: [&str; 7] = ["-", "-", "-", "-", "-", "-", "-"];
 
 const SOME_AGGREGATIONS: [&str; 7] = ["D", "-", "H", "-", "-", "-", "-"];
 
-/// A letter for an aggregation: D drop, A default, S sum, L last value, H histogram of the bounds 10 and 20 alone, `-`
-/// for none, `?` for another histogram.
+/// A letter for an aggregation: D for drop, A for default, S for sum, L for last value, H for a histogram with the
+/// bounds 10 and 20 and without minimum and maximum, `-` for none, `?` for another histogram.
 fn letter_of(aggregation: Option<&Aggregation>) -> &'static str {
     match aggregation {
         None => "-",
@@ -122,7 +122,7 @@ fn answered_aggregations(answers: &Answers, letters: [&str; 7]) -> bool {
     does
 }
 
-/// A reader with limits for two kinds, one of them given twice, and aggregations for two, likewise.
+/// A reader with limits for two kinds, one of them given twice, and the same for aggregations.
 fn built(limits: [CardinalityLimit; 3], histogram: Aggregation) -> ManualReader {
     ManualReader::builder()
         .with_cardinality_limit(InstrumentKind::Counter, limits[0])
@@ -170,7 +170,7 @@ fn readers_want_what_was_given_last(rt: HostRuntime) -> Result<(), Fail> {
     Ok(())
 }
 
-/// Whether a box wants what is in it.
+/// Whether a boxed reader wants what the reader in the box wants.
 fn is_kept_in_a_box(alloc: Global) -> Result<bool, Fail> {
     let boxed: Box<dyn MetricReader> = Box::new(alloc, reader(alloc)?)?;
     Ok(boxed_wants_all(&boxed))

@@ -31,7 +31,7 @@ pub fn rising(alloc: Global, bounds: &[i64]) -> Result<Bounds, Fail> {
     Ok(Bounds::new(items).ok_or("bounds that do not rise")?)
 }
 
-/// A histogram with a limit of 10, made at 100, that keeps everything or the counts alone.
+/// Makes a histogram with a limit of 10, at 100, that keeps everything or only the counts.
 fn made<T: Number + Drop>(
     alloc: Global,
     temporality: Temporality,
@@ -51,7 +51,7 @@ fn made<T: Number + Drop>(
     )
 }
 
-/// Takes in records of these values under a set.
+/// Takes in a record of each of these values under a set.
 fn measure<T: Number + Drop>(
     alloc: Global,
     histogram: &mut Histogram<T>,
@@ -65,7 +65,7 @@ fn measure<T: Number + Drop>(
     Ok(())
 }
 
-/// A point of these parts, without exemplars.
+/// Makes a point of these parts, without exemplars.
 fn point<T: Copy + Drop>(
     alloc: Global,
     set: Set,
@@ -88,7 +88,7 @@ fn point<T: Copy + Drop>(
     ))
 }
 
-/// Whether the data are of this one point.
+/// Whether the data are exactly this one point.
 pub fn is_spread<T: Copy + Drop + PartialEq>(
     alloc: Global,
     data: &HistogramData<T>,
@@ -227,7 +227,7 @@ fn check_buckets_are_selected_correctly(rt: HostRuntime) -> Result<(), Fail> {
     Ok(())
 }
 
-/// Whether a histogram of one bound shows a record of 3 under a set.
+/// Whether a histogram with one bound shows a record of 3 under a set.
 fn aggregates(alloc: Global, temporality: Temporality) -> Result<bool, Fail> {
     let want: Spread<u64> = Spread {
         counts: &[0, 1],
@@ -246,7 +246,7 @@ fn explicit_bucket_histogram_aggregation(rt: HostRuntime) -> Result<(), Fail> {
     Ok(())
 }
 
-/// Takes in a record without attributes that is prepared, if one is.
+/// Takes in the prepared record, if there is one, and returns whether there was.
 fn take_in(histogram: &mut Histogram<i64>, value: i64) -> bool {
     let is_prepared = histogram.is_prepared();
     if is_prepared {
@@ -255,7 +255,7 @@ fn take_in(histogram: &mut Histogram<i64>, value: i64) -> bool {
     is_prepared
 }
 
-/// Whether a cumulative histogram without records takes one in, in two phases.
+/// Whether a cumulative histogram without records takes in one in two phases.
 fn is_taken_in(histogram: &mut Histogram<i64>) -> Result<bool, Fault> {
     let is_still = !histogram.resets() && !histogram.is_prepared();
     histogram.prepare(&[])?;
@@ -276,14 +276,14 @@ fn count_points(alloc: Global, histogram: &Histogram<i64>) -> Result<usize, Faul
     Ok(histogram.points(alloc, 200)?.data_points().count())
 }
 
-/// Whether a collection at 300 is one since 200.
+/// Whether a collection at 300 starts at 200.
 fn restarts(alloc: Global, histogram: &mut Histogram<i64>) -> Result<bool, Fault> {
     let data = histogram.collect(alloc, 300)?;
     let moments = data.start_time() == 200 && data.time() == 300;
     Ok(moments && data.temporality() == Temporality::Delta)
 }
 
-/// Whether a delta histogram without records starts again after two.
+/// Whether a delta histogram starts again after a collection of two records.
 fn starts_again(alloc: Global, histogram: &mut Histogram<i64>) -> Result<bool, Fault> {
     measure(alloc, histogram, NONE, &[-1, 1])?;
     let is_one = count_points(alloc, histogram)? == 1;

@@ -25,7 +25,7 @@ fn points<T: Copy + Drop>(
     Ok(points)
 }
 
-/// Whether the data are of these points, whole and in order, between these moments.
+/// Whether the data are exactly these points, in order, between these moments.
 pub fn are_last_values<T: Copy + Drop + PartialEq>(
     alloc: Global,
     data: &Gauge<T>,
@@ -38,7 +38,7 @@ pub fn are_last_values<T: Copy + Drop + PartialEq>(
     Ok(moments && data.data_points().as_slice() == wanted.as_slice())
 }
 
-/// Last values with a limit of 10, made at 100.
+/// Makes last values with a limit of 10, at 100.
 fn made<T: Number + Drop>(alloc: Global, temporality: Temporality) -> Result<LastValue<T>, Fault> {
     LastValue::new(alloc, SetHashBuilder::default(), temporality, None, 10, 100)
 }
@@ -61,7 +61,7 @@ fn take_in(gauge: &mut LastValue<i64>, value: i64) -> Result<(), Fault> {
     Ok(())
 }
 
-/// Whether points between two moments are these.
+/// Whether the stream shows these points between 100 and `now`.
 fn shows(
     alloc: Global,
     gauge: &LastValue<i64>,
@@ -72,7 +72,7 @@ fn shows(
     are_last_values(alloc, &data, 100, now, wanted)
 }
 
-/// Whether a collection between two moments gives these points.
+/// Whether a collection gives these points between two moments.
 fn gives<T: Number + Drop + PartialEq>(
     alloc: Global,
     gauge: &mut LastValue<T>,
@@ -84,7 +84,7 @@ fn gives<T: Number + Drop + PartialEq>(
     are_last_values(alloc, &data, start, now, wanted)
 }
 
-/// Whether last values that are kept show one record of 2.
+/// Whether a collection shows one record of 2.
 fn aggregates(alloc: Global, gauge: &mut LastValue<u64>) -> Result<bool, Fault> {
     measure(alloc, gauge, B, 2)?;
     gives(alloc, gauge, 100, 200, &[(B, 2)])
@@ -97,7 +97,7 @@ fn last_value_aggregation(rt: HostRuntime) -> Result<(), Fail> {
     Ok(())
 }
 
-/// Whether the last of two values stays from collection to collection.
+/// Whether the last of two values stays from one collection to the next.
 fn stays(alloc: Global, gauge: &mut LastValue<i64>) -> Result<bool, Fault> {
     let is_still = !gauge.resets() && !gauge.is_prepared();
     gauge.measure(7, &[])?;
@@ -128,7 +128,7 @@ fn a_delta_value_is_forgotten(rt: HostRuntime) -> Result<(), Fail> {
     Ok(())
 }
 
-/// Whether a handle at k=v records there, and the last of two values stands.
+/// Whether a handle bound to k=v records there, and the last of two values is shown.
 fn writes_through(alloc: Global, gauge: &mut LastValue<u64>) -> Result<bool, Fault> {
     gauge.bind(0, &attributes(alloc, Set::KIsV)?)?;
     let is_written = gauge.update_bound(0, 7) && gauge.update_bound(0, 42);
@@ -149,7 +149,7 @@ fn bind_writes_through_bound_handle(rt: HostRuntime) -> Result<(), Fail> {
     Ok(())
 }
 
-/// Whether what a handle recorded is shown once after its end.
+/// Whether what a handle recorded is shown exactly once after the handle's end.
 fn is_shown_once(alloc: Global, gauge: &mut LastValue<u64>) -> Result<bool, Fault> {
     gauge.bind(0, &attributes(alloc, Set::KIsV)?)?;
     let is_written = gauge.update_bound(0, 5);

@@ -1,4 +1,4 @@
-//! Sums that are observed: whole points, in both temporalities and of both number types.
+//! Observed sums: whole points, in both temporalities and of both number types.
 
 use super::sums::are_sums;
 use super::{B, Set, X, attributes};
@@ -10,7 +10,7 @@ use otel_value_map::number::Number;
 use std::alloc::Global;
 use std::test::Fail;
 
-/// Sums that never fall, with a limit of 10, made at 100.
+/// Makes monotonic sums with a limit of 10, at 100.
 fn made<T: Number + Drop>(
     alloc: Global,
     temporality: Temporality,
@@ -26,7 +26,7 @@ fn made<T: Number + Drop>(
     )
 }
 
-/// Observes a value of a set in two phases.
+/// Takes in an observation of a set in two phases.
 fn observe(
     alloc: Global,
     sum: &mut PrecomputedSum<i64>,
@@ -37,7 +37,7 @@ fn observe(
     Ok(sum.is_prepared() && sum.commit(value))
 }
 
-/// Whether a collection between two moments gives these points.
+/// Whether a collection gives these points between two moments.
 fn gives(
     alloc: Global,
     sum: &mut PrecomputedSum<i64>,
@@ -49,7 +49,7 @@ fn gives(
     are_sums(alloc, &data, start, now, wanted)
 }
 
-/// Whether one value is shown as it was observed.
+/// Whether a first value is shown as it was observed.
 fn shows_one(
     alloc: Global,
     sum: &mut PrecomputedSum<u64>,
@@ -61,7 +61,7 @@ fn shows_one(
     Ok(is_of && are_sums(alloc, &data, 100, 200, &[(B, 3)])?)
 }
 
-/// The same of new sums.
+/// The same for newly made sums.
 fn aggregates(alloc: Global, temporality: Temporality) -> Result<bool, Fault> {
     let mut sum = made::<u64>(alloc, temporality)?;
     shows_one(alloc, &mut sum, temporality)
@@ -74,7 +74,7 @@ fn precomputed_sum_aggregation(rt: HostRuntime) -> Result<(), Fail> {
     Ok(())
 }
 
-/// Whether what is added is shown, and a value that no point showed is forgotten.
+/// Whether points show what was added since the collection before, and count from 0 if the set had no point there.
 fn shows_what_is_added(alloc: Global, sum: &mut PrecomputedSum<i64>) -> Result<bool, Fault> {
     let is_whole = observe(alloc, sum, X, 5)? && gives(alloc, sum, 100, 200, &[(X, 5)])?;
     let is_less = observe(alloc, sum, X, 3)? && gives(alloc, sum, 200, 300, &[(X, -2)])?;

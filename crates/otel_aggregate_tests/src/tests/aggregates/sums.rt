@@ -14,7 +14,7 @@ use otel_value_map::number::Number;
 use std::alloc::Global;
 use std::test::Fail;
 
-/// What a sum is made with, besides its limit: its keys, if there is an allow-list.
+/// What a sum is made from, besides its limit. If there is an allow-list, it has one key.
 #[derive(Clone, Copy)]
 struct Kind {
     temporality: Temporality,
@@ -34,7 +34,7 @@ const DELTA: Kind = Kind {
     allow: None,
 };
 
-/// What is done to a sum, or what is seen of it.
+/// What is done to a sum, or what is checked of it.
 #[derive(Clone, Copy)]
 enum Step {
     Record(Set, u64),
@@ -42,15 +42,15 @@ enum Step {
     TakeIn(u64),
     IsPrepared(bool),
     Total(u64),
-    /// The bind of a handle of this number.
+    /// The bind of a handle with this number.
     Bind(u64, Set),
     /// A record through a live handle.
     RecordBound(u64, u64),
     Unbind(u64),
-    /// What is shown between two moments, and nothing changes.
+    /// The points shown between two moments, without a change.
     Shows(u64, u64, &'static [(Set, u64)]),
     Finish(u64),
-    /// A collection between two moments.
+    /// The points of a collection, between two moments.
     Gives(u64, u64, &'static [(Set, u64)]),
 }
 
@@ -67,7 +67,7 @@ fn points<T: Copy + Drop>(
     Ok(points)
 }
 
-/// Whether the data are of these points, whole and in order, between these moments.
+/// Whether the data are exactly these points, in order, between these moments.
 pub fn are_sums<T: Copy + Drop + PartialEq>(
     alloc: Global,
     data: &SumData<T>,
@@ -80,7 +80,7 @@ pub fn are_sums<T: Copy + Drop + PartialEq>(
     Ok(moments && data.data_points().as_slice() == wanted.as_slice())
 }
 
-/// Whether the data are of a sum of this kind.
+/// Whether the data have the temporality and monotonicity of this kind.
 fn is_of<T>(data: &SumData<T>, kind: Kind) -> bool {
     data.temporality() == kind.temporality && data.is_monotonic() == kind.is_monotonic
 }
@@ -101,7 +101,7 @@ fn prepare<T: Number + Drop>(alloc: Global, sum: &mut Sum<T>, set: Set) -> Resul
     Ok(true)
 }
 
-/// Takes in what was prepared, if anything was.
+/// Takes in the prepared record, if there is one, and returns whether there was.
 fn take_in<T: Number + Drop>(sum: &mut Sum<T>, value: T) -> bool {
     let is_prepared = sum.is_prepared();
     if is_prepared {
@@ -115,7 +115,7 @@ fn bind(alloc: Global, sum: &mut Sum<u64>, handle: u64, set: Set) -> Result<bool
     Ok(true)
 }
 
-/// Ends a handle, and tells whether it is over.
+/// Ends a handle, and returns whether it no longer records.
 fn unbind(sum: &mut Sum<u64>, handle: u64) -> bool {
     sum.unbind(handle);
     !sum.update_bound(handle, 1)
@@ -150,7 +150,7 @@ fn gives<T: Number + Drop + PartialEq>(
     Ok(are_sums(alloc, &data, moments.0, moments.1, wanted)? && is_of(&data, kind))
 }
 
-/// Does a step, and tells whether what is seen is as wanted.
+/// Does a step, and returns whether the outcome is as wanted.
 fn goes(alloc: Global, sum: &mut Sum<u64>, kind: Kind, step: &Step) -> Result<bool, Fault> {
     match step {
         Step::Record(set, value) => record(alloc, sum, *set, *value),
@@ -167,7 +167,7 @@ fn goes(alloc: Global, sum: &mut Sum<u64>, kind: Kind, step: &Step) -> Result<bo
     }
 }
 
-/// A sum of this kind without records, made at 100.
+/// Makes a sum of this kind without records, at 100.
 fn made<T: Number + Drop>(alloc: Global, kind: Kind, limit: usize) -> Result<Sum<T>, Fault> {
     let allow = match kind.allow {
         None => None,
@@ -184,7 +184,7 @@ fn made<T: Number + Drop>(alloc: Global, kind: Kind, limit: usize) -> Result<Sum
     )?)
 }
 
-/// Does all steps, and tells whether what is seen is as wanted.
+/// Does all steps, and returns whether every outcome is as wanted.
 fn goes_on(alloc: Global, sum: &mut Sum<u64>, kind: Kind, steps: &[Step]) -> Result<bool, Fault> {
     let mut as_wanted = sum.resets() == (kind.temporality == Temporality::Delta);
     for step in steps {
@@ -195,7 +195,7 @@ fn goes_on(alloc: Global, sum: &mut Sum<u64>, kind: Kind, steps: &[Step]) -> Res
     Ok(as_wanted)
 }
 
-/// Whether a sum of this kind and limit, made at 100, goes so from step to step.
+/// Whether a sum of this kind and limit, made at 100, follows these steps.
 fn follows(alloc: Global, kind: Kind, limit: usize, steps: &[Step]) -> Result<bool, Fault> {
     let mut sum = made(alloc, kind, limit)?;
     Ok(goes_on(alloc, &mut sum, kind, steps).unwrap_or(false))
@@ -281,7 +281,7 @@ fn row_22(rt: HostRuntime) -> Result<(), Fail> {
     Ok(())
 }
 
-/// A delta collection has the moments since the one before, also where that had no points.
+/// A delta collection starts at the moment of the one before, even if that had no points.
 #[test]
 fn delta_moments(rt: HostRuntime) -> Result<(), Fail> {
     let steps: [Step; 3] = [
@@ -293,7 +293,7 @@ fn delta_moments(rt: HostRuntime) -> Result<(), Fail> {
     Ok(())
 }
 
-/// And where its points add up to 0.
+/// The same if the points of the one before add up to 0.
 #[test]
 fn delta_moments_of_zero(rt: HostRuntime) -> Result<(), Fail> {
     let steps: [Step; 3] = [
@@ -349,7 +349,7 @@ fn a_record_is_prepared_and_then_taken_in(rt: HostRuntime) -> Result<(), Fail> {
     Ok(())
 }
 
-/// A collection that resets gives up a record that was prepared.
+/// A resetting collection gives up a prepared record.
 #[test]
 fn a_delta_collection_gives_up_a_record(rt: HostRuntime) -> Result<(), Fail> {
     let steps: [Step; 3] = [
@@ -370,7 +370,7 @@ fn sum_aggregation(rt: HostRuntime) -> Result<(), Fail> {
     Ok(())
 }
 
-/// Whether a plain sum of signed numbers wraps around, and stays from collection to collection.
+/// Whether a cumulative sum of signed numbers wraps around, and stays from one collection to the next.
 fn wraps_around(alloc: Global, sum: &mut Sum<i64>, kind: Kind) -> Result<bool, Fault> {
     let want = [(NONE, -9223372036854775808i64)];
     prepare(alloc, sum, NONE)?;
@@ -392,7 +392,8 @@ fn row_13(rt: HostRuntime) -> Result<(), Fail> {
     Ok(())
 }
 
-/// An entry that a live handle holds outlives collections without records, and counts toward the limit; then it goes.
+/// An entry that a live handle holds outlives collections without records and counts toward the limit, until the
+/// handle ends.
 #[test]
 fn a_held_entry_stays(rt: HostRuntime) -> Result<(), Fail> {
     let steps: [Step; 12] = [
@@ -413,7 +414,7 @@ fn a_held_entry_stays(rt: HostRuntime) -> Result<(), Fail> {
     Ok(())
 }
 
-/// Whether a sum shows a record of 1; where memory is refused, at a second try.
+/// Whether a sum shows a record of 1. If memory is refused, tries again.
 fn still_shows(alloc: Global, sum: &Sum<u64>) -> bool {
     let wanted = [(X, 1)];
     match shows(alloc, sum, DELTA, (100, 200), &wanted) {
@@ -422,7 +423,8 @@ fn still_shows(alloc: Global, sum: &Sum<u64>) -> bool {
     }
 }
 
-/// Makes room for a handle; where memory is refused, at a second try. Whether that left the sum as it was.
+/// Makes room for a handle, and returns whether the sum shows what it showed before. If memory is refused, tries
+/// again.
 fn makes_room(alloc: Global, sum: &mut Sum<u64>) -> bool {
     if sum.make_room().is_ok() {
         return still_shows(alloc, sum);
@@ -430,8 +432,8 @@ fn makes_room(alloc: Global, sum: &mut Sum<u64>) -> bool {
     still_shows(alloc, sum) && sum.make_room().is_ok()
 }
 
-/// Binds a handle; where memory is refused, at a second try. Whether the sum shows what it showed, and the handle is
-/// live then and wasn't where it was refused.
+/// Binds a handle, and returns whether the sum shows what it showed before. If memory is refused, checks that the
+/// handle isn't live, and tries again.
 fn binds(alloc: Global, sum: &mut Sum<u64>, handle: u64, attributes: &[KeyValue]) -> bool {
     if sum.bind(handle, attributes).is_ok() {
         return still_shows(alloc, sum);
@@ -440,7 +442,7 @@ fn binds(alloc: Global, sum: &mut Sum<u64>, handle: u64, attributes: &[KeyValue]
     is_same && sum.bind(handle, attributes).is_ok()
 }
 
-/// Attributes; where memory is refused, at a second try.
+/// The attributes of a set. If memory is refused, tries again.
 fn attributes_of(alloc: Global, set: Set) -> Result<Vec<KeyValue>, Fault> {
     match attributes(alloc, set) {
         Ok(given) => Ok(given),
@@ -448,7 +450,7 @@ fn attributes_of(alloc: Global, set: Set) -> Result<Vec<KeyValue>, Fault> {
     }
 }
 
-/// A delta sum with a record of 1; where memory is refused, at a second try.
+/// Makes a delta sum with a record of 1. If memory is refused, tries again.
 fn recorded(alloc: Global) -> Result<Sum<u64>, Fault> {
     let mut sum = match made(alloc, DELTA, 10) {
         Ok(sum) => sum,
@@ -461,7 +463,7 @@ fn recorded(alloc: Global) -> Result<Sum<u64>, Fault> {
     Ok(sum)
 }
 
-/// Whether handles are bound at some sets, one of them twice, and records through all are counted.
+/// Whether handles are bound to several sets, one of them twice, and a record through each is counted.
 fn binds_all(alloc: Global, sum: &mut Sum<u64>) -> Result<bool, Fault> {
     let sets = [
         Y,
@@ -488,7 +490,7 @@ fn binds_all(alloc: Global, sum: &mut Sum<u64>) -> Result<bool, Fault> {
     Ok(are_bound && sum.total() == 9)
 }
 
-/// It passes also where any one request for memory is refused.
+/// A refused handle changes nothing: this passes even if any one request for memory is refused.
 #[test]
 fn a_refused_handle_changes_nothing(rt: HostRuntime) -> Result<(), Fail> {
     let mut sum = recorded(rt.alloc())?;

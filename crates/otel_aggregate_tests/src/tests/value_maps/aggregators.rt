@@ -11,7 +11,7 @@ use otel_value_map::number::Number;
 use std::alloc::Global;
 use std::test::Fail;
 
-/// An aggregator of two records.
+/// Makes an aggregator of two records.
 fn made_of<A: Aggregator>(
     alloc: Global,
     config: &A::InitConfig,
@@ -24,7 +24,7 @@ fn made_of<A: Aggregator>(
     Ok(aggregator)
 }
 
-/// Whether a sum of two values is this one, weighs this, is copied, and is 0 after a reset.
+/// Whether the sum of two values is `want` and weighs `weight`, also in a copy, and is 0 after a reset.
 fn adds_up<T: Number + Drop + PartialEq>(
     alloc: Global,
     values: [T; 2],
@@ -37,7 +37,7 @@ fn adds_up<T: Number + Drop + PartialEq>(
     Ok(is_sum && sum.value == T::zero())
 }
 
-/// Whether of two values the second is kept, weighs nothing, is copied, and is 0 after a reset.
+/// Whether the second of two values is kept, also in a copy, weighs nothing, and is 0 after a reset.
 fn keeps_the_last<T: Number + Drop + PartialEq>(
     alloc: Global,
     first: T,
@@ -79,7 +79,7 @@ fn bounds_that_rise(rt: HostRuntime) -> Result<(), Fail> {
     Ok(())
 }
 
-/// Whether a copy of the bounds is these.
+/// Whether a copy of the bounds has these numbers.
 fn is_copied(alloc: Global, bounds: &Bounds, want: &[i64]) -> Result<bool, Fault> {
     Ok(bounds.copy(alloc)?.as_slice() == want)
 }
@@ -99,7 +99,7 @@ fn bounds_rise(rt: HostRuntime) -> Result<(), Fail> {
     Ok(())
 }
 
-/// Buckets with their ends and sum after three records.
+/// Makes buckets, with least and greatest value and sum, of three records.
 fn counted<T: Number + Drop>(
     alloc: Global,
     first: (T, usize),

@@ -1,4 +1,4 @@
-//! The map of sets.
+//! The map from sets of attributes to aggregators.
 
 use super::{Set, attributes};
 use otel_common::attributes::KeyValue;
@@ -14,14 +14,14 @@ use std::test::Fail;
 
 const NONE: Set = &[];
 
-/// The set [a=2, b=1], and its attributes in another order.
+/// The set [a=2, b=1]. `TURNED` has the same attributes in another order.
 const BOTH: Set = &[("a", 2), ("b", 1)];
 
 const TURNED: Set = &[("b", 1), ("a", 2)];
 
 const OTHER: Set = &[("c", 1)];
 
-/// Whether this is a sum of the set.
+/// Whether this is the wanted set with the wanted sum.
 fn is_sum<T: Number + Drop + PartialEq>(
     alloc: Global,
     given: &(Items<KeyValue>, Increment<T>),
@@ -31,7 +31,7 @@ fn is_sum<T: Number + Drop + PartialEq>(
     Ok(given.0.as_slice() == set.as_slice() && given.1.value == want.1)
 }
 
-/// Whether these are the sums of the sets, in order.
+/// Whether these are the wanted sets and sums, in order.
 fn are_sums<T: Number + Drop + PartialEq>(
     alloc: Global,
     given: &[(Items<KeyValue>, Increment<T>)],
@@ -46,7 +46,7 @@ fn are_sums<T: Number + Drop + PartialEq>(
     Ok(are)
 }
 
-/// Takes in a record in two phases, and tells whether it was prepared.
+/// Takes in a record in two phases, and returns whether it was prepared.
 fn takes_in<T: Number + Drop>(
     alloc: Global,
     map: &mut ValueMap<Increment<T>>,
@@ -71,7 +71,7 @@ fn record<T: Number + Drop>(
     map.measure(value, &attributes(alloc, set)?)
 }
 
-/// Prepares a record and gives it up, and tells whether none is prepared then.
+/// Prepares a record and gives it up, and returns whether none is prepared after that.
 fn gives_up<T: Number + Drop>(
     alloc: Global,
     map: &mut ValueMap<Increment<T>>,
@@ -82,7 +82,7 @@ fn gives_up<T: Number + Drop>(
     Ok(!map.is_prepared())
 }
 
-/// Whether a collection that changes nothing gives these sums, and what they add up to.
+/// Whether a collection that changes nothing gives these sums, and they add up to `total`.
 fn shows<T: Number + Drop + PartialEq>(
     alloc: Global,
     map: &ValueMap<Increment<T>>,
@@ -93,7 +93,7 @@ fn shows<T: Number + Drop + PartialEq>(
     Ok(map.total(true) == total && are_sums(alloc, &given, wanted)?)
 }
 
-/// Whether a collection that resets gives these sums.
+/// Whether a resetting collection gives these sums.
 fn gives<T: Number + Drop + PartialEq>(
     alloc: Global,
     map: &mut ValueMap<Increment<T>>,
@@ -114,7 +114,7 @@ fn finds(
     Ok(map.get(&set).is_some_and(|sum| sum.value == want))
 }
 
-/// Whether a collection that drains gives these sums, and leaves none.
+/// Whether a draining collection gives these sums and leaves none.
 fn drains(
     alloc: Global,
     map: &mut ValueMap<Increment<u64>>,
@@ -136,7 +136,7 @@ fn a_map_drains(rt: HostRuntime) -> Result<(), Fail> {
     Ok(())
 }
 
-/// Takes in a record and restores the map, and tells whether it shows these sums as before.
+/// Takes in a record and restores the map, and returns whether it then shows these sums again.
 fn restores(
     alloc: Global,
     map: &mut ValueMap<Increment<u64>>,
@@ -195,7 +195,7 @@ fn a_map_of_signed_sums(rt: HostRuntime) -> Result<(), Fail> {
     Ok(())
 }
 
-/// A list that isn't its set in order leads to the entry that it made, as the set does, until the entry is evicted.
+/// A list in another order than its set leads to the entry that it made, as the set does, until the entry is evicted.
 #[test]
 fn row_31(rt: HostRuntime) -> Result<(), Fail> {
     let alloc = rt.alloc();

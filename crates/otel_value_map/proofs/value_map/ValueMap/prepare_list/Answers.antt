@@ -1,5 +1,7 @@
-use Rattle.std.proofs.Common.{◌≡◌, ◌∙◌, ◌&&◌, ap, sym, true, Bool, is_some, nat_lt}
+use Rattle.std.proofs.Common.{◌≡◌, ◌∙◌, ◌&&◌, ap, sym, subst, refl, true, Bool, is_some, nat_lt}
 use Rattle.otel_model_stream.specs.Entries.{Table, number_counted}
+use Rattle.otel_value_map.specs.Held.{IsSound, pending_in}
+use Rattle.otel_value_map.proofs.PlaceLemmas.{sound-at}
 use Rattle.otel_value_map.proofs.PlanLemmas.{sound-same, all-true}
 use Rattle.otel_value_map.proofs.value_map.ValueMap.prepare_list.Goals as goal
 
@@ -14,5 +16,13 @@ invariant_of-self-2 g c =
       c.make_unused.ensures.empty,
       c.self.invariant.2,
       c.make_key.ensures.over,
-      sound-same t n few room c.in_ok-plan.plan c.make_room.ensures.table c.make_room.ensures.numbers c.make_room.ensures.given (c.in_ok-plan.ensures.plan.sound room ready),
+      subst (IsSound n few room) (sym c.put-2.ensures) (sound-same t n few room c.in_ok-plan.plan c.make_room.ensures.table c.make_room.ensures.numbers c.make_room.ensures.given (c.in_ok-plan.ensures.plan.sound room ready)),
     )
+
+pub invariant_of-self : goal.invariant_of-self
+invariant_of-self g c =
+    let few : Bool = nat_lt c.self.inside.count c.self.inside.limit in
+    (c.self.invariant.0, c.self.invariant.1, c.self.invariant.2, c.self.invariant.3, sound-at c.self.inside.table _ _ c.put_at.new.self c.in-Some.number c.put_at.ensures ((c.in-Some.ensures.plan few).sound true refl))
+
+pub returns-in-Some-clause-ready : goal.returns-in-Some-clause-ready
+returns-in-Some-clause-ready g c = ap (pending_in c.self.inside.table.numbers) c.put_at.ensures ∙ (c.in-Some.ensures.plan true).pending
