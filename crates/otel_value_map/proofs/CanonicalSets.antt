@@ -23,7 +23,7 @@ some-set [] e = absurd (true≢false e)
 some-set (p ∷ l) e = refl
 
 -- attributes leave something
-pub some-canon : (l : List KeyValue) → (length l == 0) ≡ false → set_eq (canon l) none_set ≡ false
+pub some-canon : (l : List KeyValue) → set_eq l none_set ≡ false → set_eq (canon l) none_set ≡ false
 some-canon [] h = absurd (true≢false h)
 some-canon (p ∷ l) h = by (canon (p ∷ l)) refl
   where

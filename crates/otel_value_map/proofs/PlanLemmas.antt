@@ -1,20 +1,21 @@
 -- What a record is to do, in a map.
-use Rattle.std.proofs.Common.{◌≡◌, Bool, true, false, cond, not, ◌||◌, ◌&&◌, List, [], ◌∷◌, Option, Some, None, refl, sym, ap, subst, ◌∙◌, true≢false}
+use Rattle.std.proofs.Common.{◌≡◌, Bool, true, false, cond, not, ◌||◌, ◌&&◌, List, [], ◌∷◌, Option, Some, None, is_some, ℕ, refl, sym, ap, subst, ◌∙◌, true≢false}
 use Rattle.std.specs.Map.{lookup, keys_of}
 use Rattle.std.specs.Set.{is_member}
+use Rattle.std.proofs.lemmas.Map.Made.{is_some-lookup}
 use Rattle.otel_common.specs.Canonical.{canon}
 use Rattle.otel_common.specs.Equality.{set_eq}
 use Rattle.otel_common.specs.declared.attributes.KeyValue.{KeyValue}
 use Rattle.otel_common.proofs.CanonLaws.{canon-canon}
 use Rattle.otel_model_stream.specs.Sets.{AttributeSet, none_set}
 use Rattle.otel_model_stream.specs.Entries.{has}
-use Rattle.otel_value_map.specs.Keyed.{Slotted, IsNew, IsSpelling, found}
+use Rattle.otel_value_map.specs.Keyed.{Slotted, IsNew, IsSpelling}
 use Rattle.otel_value_map.specs.Numbers.{number_of, set_named, named_in}
-use Rattle.otel_value_map.specs.Held.{IsPlan, IsSound, IsReady, is_new, leads, list_of}
+use Rattle.otel_value_map.specs.Held.{IsPlan, IsSound, IsReady, leads, list_of}
 use Rattle.otel_value_map.specs.declared.pending.Pending.{Pending}
 use Rattle.otel_value_map.specs.declared.pending.Pending.TheVariants.{Nothing, At, New}
-use Rattle.otel_value_map.proofs.CanonicalSets.{canon-nil}
-use Rattle.otel_value_map.proofs.KeyedLemmas.{same_set, same_number, first_of-None}
+use Rattle.otel_value_map.proofs.CanonicalSets.{canon-nil, some-canon}
+use Rattle.otel_value_map.proofs.KeyedLemmas.{same_set, same_number}
 
 -- one without attributes
 pub plan-empty : (t : Slotted) (few : Bool) (l : List KeyValue) → set_eq l none_set ≡ true → IsPlan t few l (At t.numbers.none)
@@ -26,22 +27,30 @@ plan-empty t few l e =
       pending = ap Some (named ∙ sym bare);
       spelling = sym (ap (λ s. cond ((not (set_eq s none_set) && (not (has s t.table.entries) && few)) && not (set_eq s l)) (l ∷ []) []) bare);
       sound = λ room ready. (ap (λ s. number_of s t.numbers) named, ap (λ s. set_eq s none_set || has s t.table.entries) named);
-      unknown = λ new. absurd (cc);
     }
 
-or-none : (a b c : Bool) → a ≡ false → b ≡ false → c ≡ false → (a || (b || c)) ≡ false
-or-none true b c p q r = absurd (true≢false p)
-or-none false true c p q r = absurd (true≢false q)
-or-none false false c p q r = r
+-- none of the three
+or-none : (a b c : Bool) → (a || (b || c)) ≡ false → (a ≡ false) × (b ≡ false)
+or-none true b c e = absurd (true≢false e)
+or-none false true c e = absurd (true≢false e)
+or-none false false c e = (refl, refl)
 
-module _ (t : Slotted) (l : List KeyValue) (some : set_eq l none_set ≡ false) (bare : set_eq (canon l) none_set ≡ false)
-    (unled : (is_member set_eq (keys_of t.given) l || has l t.table.entries) ≡ false) (unfound : found l t.numbers.sets t.given ≡ None)
-    (absent : lookup (set_eq (canon l)) t.numbers.sets ≡ None) (away : has (canon l) t.table.entries ≡ false) where
+lacking : (o : Option ℕ) → is_some o ≡ false → o ≡ None
+lacking None e = refl
+lacking (Some n) e = absurd (true≢false e)
+
+module _ (t : Slotted) (l : List KeyValue) (unled : leads l t ≡ false) (absent : lookup (set_eq (canon l)) t.numbers.sets ≡ None) (away : has (canon l) t.table.entries ≡ false) where
+  apart : (set_eq l none_set ≡ false) × (is_member set_eq (keys_of t.given) l ≡ false)
+  apart = or-none (set_eq l none_set) (is_member set_eq (keys_of t.given) l) (has l t.table.entries) unled
+
+  bare : set_eq (canon l) none_set ≡ false
+  bare = some-canon l apart.0
+
+  ungiven : lookup (set_eq l) t.given ≡ None
+  ungiven = lacking (lookup (set_eq l) t.given) (is_some-lookup (set_eq l) t.given ∙ apart.1)
+
   new : IsNew t.numbers.sets (canon l)
   new = record { absent = absent; canonical = canon-canon l; some = bare }
-
-  unknown : leads l t ≡ false
-  unknown = ap (λ b. b || (is_member set_eq (keys_of t.given) l || has l t.table.entries)) some ∙ unled
 
   -- past the limit
   pub plan-past : (set : AttributeSet) → set ≡ canon l → IsPlan t false l (New set None)
@@ -49,7 +58,6 @@ module _ (t : Slotted) (l : List KeyValue) (some : set_eq l none_set ≡ false) 
     pending = ap Some is;
     spelling = sym (ap (λ b. cond (b && not (set_eq (canon l) l)) (l ∷ []) []) (none_few (not (set_eq (canon l) none_set)) (not (has (canon l) t.table.entries))));
     sound = λ room ready. subst (λ s. IsReady t false room s None) (sym is) (record { new = new; absent = away; spelling = tt; admitted = λ h. absurd (true≢false (sym h)); ready = ready });
-    unknown = λ h. unknown;
   }
     where
       none_few : (a b : Bool) → (a && (b && false)) ≡ false
@@ -59,7 +67,7 @@ module _ (t : Slotted) (l : List KeyValue) (some : set_eq l none_set ≡ false) 
 
   spelled : (b : Bool) → set_eq (canon l) l ≡ b → (o : Option (List KeyValue)) → o ≡ cond b None (Some l) → IsSpelling t.given (canon l) o
   spelled true q o e = subst (IsSpelling t.given (canon l)) (sym e) tt
-  spelled false q o e = subst (IsSpelling t.given (canon l)) (sym e) (refl, (first_of-None _ _ unfound).1)
+  spelled false q o e = subst (IsSpelling t.given (canon l)) (sym e) (refl, ungiven)
 
   listed : (b : Bool) (o : Option (List KeyValue)) → o ≡ cond b None (Some l) → list_of o ≡ cond (not b) (l ∷ []) []
   listed true o e = ap list_of e
@@ -73,18 +81,7 @@ module _ (t : Slotted) (l : List KeyValue) (some : set_eq l none_set ≡ false) 
         pending = ap Some is;
         spelling = listed (set_eq (canon l) l) o f ∙ (λ i. cond ((not (sym bare i) && (not (sym away i) && true)) && not (set_eq (canon l) l)) (l ∷ []) []);
         sound = λ room ready. subst (λ s. IsReady t true room s o) (sym is) (record { new = new; absent = away; spelling = spelled (set_eq (canon l) l) refl o f; admitted = λ h. refl; ready = ready });
-        unknown = λ h. unknown;
-      }
-
--- what isn't new needs no room
-pub sound-known : (t : Slotted) (few room : Bool) (p : Pending) → is_new p ≡ false → IsSound t few true p → IsSound t few room p
-sound-known t few room Nothing e s = tt
-sound-known t few room (At n) e s = s
-sound-known t few room (New set list) e s = absurd (true≢false e)
-
--- one that leads to an entry isn't new
-pub unled : (t : Slotted) (few : Bool) (l : List KeyValue) (p : Pending) {C : Type 0} → IsPlan t few l p → is_new p ≡ true → leads l t ≡ true → C
-unled t few l p plan new known = absurd (true≢false (sym known ∙ plan.unknown new))
+          }
 
 pub all-true : (a b c : Bool) → a ≡ true → b ≡ true → c ≡ true → (a && (b && c)) ≡ true
 all-true a b c p q r = ap (λ x. x && (b && c)) p ∙ ap (λ x. true && (x && c)) q ∙ r

@@ -8,7 +8,7 @@ use Rattle.otel_common.specs.declared.attributes.KeyValue.{KeyValue}
 use Rattle.otel_model_stream.specs.Sets.{AttributeSet, none_set}
 use Rattle.otel_model_stream.specs.Entries.{has}
 use Rattle.otel_model_stream.specs.Maps.{MapState, KnownMap}
-use Rattle.otel_value_map.specs.Keyed.{Slotted, IsNew, IsSpelling, found}
+use Rattle.otel_value_map.specs.Keyed.{Slotted, IsNew, IsSpelling}
 use Rattle.otel_value_map.specs.Numbers.{Numbers, number_of, set_named, is_placed}
 use Rattle.otel_value_map.specs.declared.pending.Pending.{Pending}
 use Rattle.otel_value_map.specs.declared.pending.Pending.TheVariants.{Nothing, At, New}
@@ -70,6 +70,12 @@ is_pending Nothing = false
 is_pending (At n) = true
 is_pending (New s list) = true
 
+-- the number of the entry that it is for, if it is for a set that has an entry
+abbrev pub number_prepared : Pending → Option ℕ
+number_prepared Nothing = None
+number_prepared (At n) = Some n
+number_prepared (New s list) = None
+
 -- the prepared record or bind, from what is kept of it: the number of an entry, or else a set that has no entry, and
 -- perhaps a list that is to lead to its entry too
 abbrev pub prepared : Option ℕ → Option (AttributeSet × Option (List KeyValue)) → Pending
@@ -81,18 +87,11 @@ prepared None None = Nothing
 abbrev pub leads : List KeyValue → Slotted → Bool
 leads l t = set_eq l none_set || (is_member set_eq (keys_of t.given) l || has l t.table.entries)
 
--- the list, as given, leads to no entry
-pub record IsUnled (t : Slotted) (l : List KeyValue) : Type 0 where
-  pub some : (length l == 0) ≡ false
-  pub unknown : (is_member set_eq (keys_of t.given) l || has l t.table.entries) ≡ false
-  pub unfound : found l t.numbers.sets t.given ≡ None
-
 -- the plan is what a record or bind of the list is to do. `few` says whether the limit allows one more counted entry
 pub record IsPlan (t : Slotted) (few : Bool) (l : List KeyValue) (plan : Pending) : Type 0 where
   pub pending : pending_in t.numbers plan ≡ Some (canon l)
   pub spelling : spelling_in plan ≡ cond ((not (set_eq (canon l) none_set) && (not (has (canon l) t.table.entries) && few)) && not (set_eq (canon l) l)) (l ∷ []) []
   pub sound : (room : Bool) → IsTrue room → IsSound t few room plan
-  pub unknown : IsTrue (is_new plan) → leads l t ≡ false
 
 -- a record or bind of the list is to use the entry with this number, whether or not the limit allows one more
 abbrev pub IsPlanAt : Slotted → List KeyValue → ℕ → Type 0

@@ -1,11 +1,11 @@
 //! A prepared record or bind, and what is made for it in advance.
 
-ghost use Rattle.std.specs.Prelude.{◌≡◌, true, cond, None, Some, IfSome, IfOk, OnOk, IsOkUnless, is_some};
+ghost use Rattle.std.specs.Prelude.{◌≡◌, true, false, cond, None, Some, IfSome, IfOk, OnOk, IsOkUnless, is_some};
 ghost use Rattle.std.specs.Option.{IfNone};
 ghost use Rattle.otel_common.specs.Equality.{set_eq};
 ghost use Rattle.otel_model_stream.specs.Sets.{over_set};
 ghost use Rattle.otel_value_map.specs.Slots.{kept_of, new_kept};
-ghost use Rattle.otel_value_map.specs.Held.{IsPlan, IsPlanAt, IsUnled, is_new, is_pending};
+ghost use Rattle.otel_value_map.specs.Held.{IsPlan, IsPlanAt, is_new, is_pending, leads, number_prepared};
 ghost use Rattle.otel_value_map.specs.declared.pending.Pending.TheVariants.{Nothing, At};
 
 use crate::aggregator::Aggregator;
@@ -79,6 +79,14 @@ impl Prepared {
         self.number.is_some() || self.added.is_some()
     }
 
+    /// The number of the entry that a record or bind is prepared for, if it is one for a set that has an entry.
+    #[inline(always)]
+    pub fn number(&self) -> Option<usize>
+        ensures { result ≡ number_prepared self.now }
+    {
+        self.number
+    }
+
     /// Gives up what is prepared, if there is anything.
     #[inline(always)]
     pub fn give_up(&mut self)
@@ -143,7 +151,7 @@ fn other_key(alloc: Global, list: &SetKey, set: &SetKey) -> Result<Option<SetKey
 #[inline]
 pub fn led_to<A: Aggregator>(table: &Table<A>, list: &SetKey) -> Option<usize>
     ensures plan { IfSome result (IsPlanAt table.now list.now) }
-    ensures unled { IfNone result (IsUnled table.now list.now) }
+    ensures unled { IfNone result (leads list.now table.now ≡ false) }
 {
     if list.is_empty() {
         return Some(table.none());
@@ -160,7 +168,7 @@ pub fn plan<A: Aggregator>(
     few: bool,
     list: &SetKey,
 ) -> Result<Pending, Fault>
-    requires { IsUnled table.now list.now }
+    requires { leads list.now table.now ≡ false }
     ensures plan { IfOk result (λ plan. IsPlan table.now few list.now plan) }
     ensures only_memory { IsOkUnless result Fault.OutOfMemory }
 {

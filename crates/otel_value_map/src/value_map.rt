@@ -111,6 +111,7 @@ impl<A: Aggregator> ValueMap<A> {
     }
 
     /// Prepares a record or a bind for the canonical form of a list, in place of one that was prepared before.
+    #[inline(always)]
     fn prepare_list(&mut self, list: &SetKey) -> Result<(), Fault>
         ensures same { self.new.state ≡ self.old.state }
         ensures numbers { self.new.numbers ≡ self.old.numbers }
@@ -125,6 +126,22 @@ impl<A: Aggregator> ValueMap<A> {
             self.pending.put_at(number);
             return Ok(());
         }
+        self.prepare_unknown(list)
+    }
+
+    /// Prepares a record or a bind for the canonical form of a list that, as given, leads to no entry, in place of one
+    /// that was prepared before.
+    #[inline(never)]
+    fn prepare_unknown(&mut self, list: &SetKey) -> Result<(), Fault>
+        requires { knows list.now (known_of self.old) ≡ false }
+        ensures same { self.new.state ≡ self.old.state }
+        ensures numbers { self.new.numbers ≡ self.old.numbers }
+        ensures given { self.new.given ≡ self.old.given }
+        ensures ready { OnOk result (self.new.pending ≡ Some (canon list.now)) }
+        ensures spelling { OnOk result (self.new.spelling ≡ spelling_of list.now self.old.state) }
+        ensures refused { OnErr result (self.new.pending ≡ None) }
+        ensures only_memory { IsOkUnless result Fault.OutOfMemory }
+    {
         self.pending.give_up();
         let plan = plan(self.alloc, &self.table, self.count < self.limit, list)?;
         if !plan.is_new() {
@@ -139,7 +156,27 @@ impl<A: Aggregator> ValueMap<A> {
     }
 
     /// Finds or makes the entry for what is prepared, and returns its number.
+    #[inline(always)]
     fn place(&mut self) -> usize
+        requires { IsSome self.old.pending }
+        ensures state { (s : AttributeSet) → self.old.pending ≡ Some s → self.new.state ≡ with_place s self.old.state }
+        ensures number { (s : AttributeSet) → self.old.pending ≡ Some s → number_of (entry_for s self.new.state.table.entries) self.new.numbers ≡ Some result }
+        ensures numbers { KeepNumbers self.old.numbers self.new.numbers }
+        ensures given { self.new.given ≡ self.old.given ++ self.old.spelling }
+        ensures spent { self.new.pending ≡ None }
+    {
+        match self.pending.number() {
+            Some(number) => {
+                self.pending.give_up();
+                number
+            }
+            None => self.place_new(),
+        }
+    }
+
+    /// Does what `place` does, out of line, as few records are for a set that has no entry.
+    #[inline(never)]
+    fn place_new(&mut self) -> usize
         requires { IsSome self.old.pending }
         ensures state { (s : AttributeSet) → self.old.pending ≡ Some s → self.new.state ≡ with_place s self.old.state }
         ensures number { (s : AttributeSet) → self.old.pending ≡ Some s → number_of (entry_for s self.new.state.table.entries) self.new.numbers ≡ Some result }

@@ -6,7 +6,6 @@ use Rattle.otel_model_stream.specs.Sets.{AttributeSet}
 use Rattle.otel_model_stream.specs.Entries.{has}
 use Rattle.otel_value_map.specs.Held.{IsPlan}
 use Rattle.otel_value_map.specs.declared.pending.Pending.TheVariants.{New}
-use Rattle.otel_value_map.proofs.CanonicalSets.{some-set, some-canon}
 use Rattle.otel_value_map.proofs.PlanLemmas.{plan-past, plan-admitted}
 use Rattle.otel_value_map.proofs.pending.plan.Goals as goal
 
@@ -15,21 +14,19 @@ returns-then-not-few-clause-plan g c =
     let t = c.args.table.now in
     let l = c.args.list.now in
     let set : c.in_ok-set.set ≡ canon l = c.in_ok-set.ensures.canonical in
-    let some = c.requires.some in
     let absent : lookup (set_eq (canon l)) t.numbers.sets ≡ None = ap (λ (s : AttributeSet). lookup (set_eq s) t.numbers.sets) (sym set) ∙ sym c.in_default.ensures.number in
     let away : has (canon l) t.table.entries ≡ false = ap (λ (s : AttributeSet). has s t.table.entries) (sym set) ∙ sym c.in_default.ensures.placed in
     let past : c.args.few ≡ false = search rules in
     subst (λ (b : Bool). IsPlan t b l (New c.in_ok-set.set None)) (sym past)
-    (plan-past t l (some-set l some) (some-canon l some) c.requires.unknown c.requires.unfound absent away c.in_ok-set.set set)
+    (plan-past t l c.requires absent away c.in_ok-set.set set)
 
 pub returns-clause-plan : goal.returns-clause-plan
 returns-clause-plan g c =
     let t = c.args.table.now in
     let l = c.args.list.now in
     let set : c.in_ok-set.set ≡ canon l = c.in_ok-set.ensures.canonical in
-    let some = c.requires.some in
     let absent : lookup (set_eq (canon l)) t.numbers.sets ≡ None = ap (λ (s : AttributeSet). lookup (set_eq s) t.numbers.sets) (sym set) ∙ sym c.in_default.ensures.number in
     let away : has (canon l) t.table.entries ≡ false = ap (λ (s : AttributeSet). has s t.table.entries) (sym set) ∙ sym c.in_default.ensures.placed in
     let below : c.args.few ≡ true = search rules in
     subst (λ (b : Bool). IsPlan t b l (New c.in_ok-set.set c.in_ok-key.key)) (sym below)
-    (plan-admitted t l (some-set l some) (some-canon l some) c.requires.unknown c.requires.unfound absent away c.in_ok-set.set c.in_ok-key.key set c.in_ok-key.ensures.key)
+    (plan-admitted t l c.requires absent away c.in_ok-set.set c.in_ok-key.key set c.in_ok-key.ensures.key)

@@ -13,7 +13,7 @@ use Rattle.otel_value_map.specs.Numbers.{number_of}
 use Rattle.otel_value_map.specs.Held.{Held, IsReady}
 use Rattle.otel_value_map.proofs.CanonicalSets.{canon-over}
 use Rattle.otel_value_map.proofs.PlaceLemmas.{Placing, place-admitted, place-over_made, new-prepared, new-set, numbers-added}
-use Rattle.otel_value_map.proofs.value_map.ValueMap.place.Goals as goal
+use Rattle.otel_value_map.proofs.value_map.ValueMap.place_new.Goals as goal
 
 not_below : (a b : ℕ) → b ≤ a → nat_lt a b ≡ false
 not_below a b h = grind (arith, nat_tests)
