@@ -8,6 +8,7 @@ mod balanced;
 pub mod bound;
 pub mod builders;
 pub mod calls;
+mod core_checks;
 mod each_pipeline;
 mod fresh;
 mod instrument;

@@ -1,12 +1,11 @@
 //! The state of a provider: everything but its views, readers and callbacks.
 
-ghost use Rattle.std.specs.Prelude.{◌≡◌, ◌<◌, ◌-◌, ◌^◌, ◌∷◌, ◌++◌, [], Option, All, cond, length, map, slice_get, Some, None, true, false, OnOk, OnErr, IfOk, IfErr, IsOk, IsOkUnless, MatchResult};
+ghost use Rattle.std.specs.Prelude.{◌≡◌, ◌∷◌, ◌++◌, [], Option, length, map, Some, None, true, false, OnOk, OnErr, IfOk, IfErr, IsOk, IsOkUnless};
 ghost use Rattle.std.specs.Option.{option_map};
-ghost use Rattle.otel_aggregate.specs.Any.{is_signed_value};
 ghost use Rattle.otel_model.specs.Calls as model;
-ghost use Rattle.otel_model.specs.Demands.{Views, is_good, are_good_bounds};
+ghost use Rattle.otel_model.specs.Demands.{Views};
 ghost use Rattle.otel_model.specs.Machine.{new_state, new_part, new_instrument, part_after_build};
-ghost use Rattle.otel_model.specs.Refusals.{meter_refusal, record_refusal, bind_refusal, held_refusal, observation_refusal, observations_refusal};
+ghost use Rattle.otel_model.specs.Refusals.{meter_refusal};
 ghost use Rattle.otel_model.specs.Resources.{empty_resource, merged_resource};
 ghost use Rattle.otel_model.specs.Sent.{has_scope};
 ghost use Rattle.otel_model.specs.Steps.{Step, Run};
@@ -17,19 +16,19 @@ ghost use Rattle.otel_provider.specs.Callbacks.{has_stream, collect_refusal};
 ghost use Rattle.otel_provider.specs.Correspondence.{fault_of, about, kind_of, is_signed, number_of, observed_of, call_of, reply_of, reply_to};
 ghost use Rattle.otel_provider.specs.Known.{is_known, IsKnown, HasMemory};
 ghost use Rattle.otel_provider.specs.Readers.{AreReached, AreReachedBy, ShutsDown, StepReaches, RunReaches};
-ghost use Rattle.otel_provider.specs.States.{IsMade, IsFault, IsFaultOf, IsNamed, IsScopeOf, IsNoMeter, IsGoodIn, IsTakenBy, IsTaken, IsBindable};
+ghost use Rattle.otel_provider.specs.States.{IsMade, IsFaultOf, IsNamed, IsGoodIn};
 ghost use Rattle.otel_stream.specs.Requests.{wanted_by};
 ghost use Rattle.otel_provider.specs.declared.sorts.InstrumentSort.{InstrumentSort};
 
 use crate::asking::ask_in;
 use crate::calls::{Call, Reply};
+use crate::core_checks::{
+    check_bind, check_held, check_observations, check_value, good_scope, scope_of,
+};
 use crate::each_pipeline::{
     any_stream, bind_or_none, build_or_none, record_held, record_or_none, set_hashers, unbind_held,
 };
 use crate::instrument::Instrument;
-use crate::instrument_checks::{
-    validate_bucket_boundaries, validate_instrument_name, validate_instrument_unit,
-};
 use crate::sorts::InstrumentSort;
 use indexmap::{IndexMap, IndexSet};
 use otel_bound_map::links::{Links, add, make_room, number_in, take_out};
@@ -47,7 +46,6 @@ use otel_pipeline::about::About;
 use otel_pipeline::pipeline::Pipeline;
 use otel_stream::answers::Answers;
 use otel_stream::each_reader::{flush_all, shut_all};
-use otel_stream::instrument::InstrumentKind;
 use otel_stream::reader::MetricReader;
 use otel_stream::stream::Stream;
 use otel_stream::view::View;
@@ -86,31 +84,6 @@ impl Model for Core {
     ghost invariant = { λ c. AreTyped c.instruments.items (map part_of c.pipelines.items) };
 }
 
-/// Whether the bounds of an instrument are good. Only those of a histogram are checked.
-fn has_good_bounds(about: &About<'_>) -> bool
-    ensures { result ≡ are_good_bounds about.now.kind about.now.bounds }
-{
-    match (about.kind, about.bounds) {
-        (InstrumentKind::Histogram, Some(bounds)) => {
-            validate_bucket_boundaries(bounds.as_slice()).is_ok()
-        }
-        _ => true,
-    }
-}
-
-/// Whether the name, the unit and the bounds of an instrument are good.
-fn is_good(about: &About<'_>) -> bool
-    ensures { result ≡ is_good about.now }
-{
-    let unit = match about.unit {
-        Some(unit) => Some(unit.as_str()),
-        None => None,
-    };
-    validate_instrument_name(about.name.as_str()).is_ok()
-        && validate_instrument_unit(unit).is_ok()
-        && has_good_bounds(about)
-}
-
 /// Copies a scope.
 fn copy_scope(scope: &InstrumentationScope) -> Result<InstrumentationScope, Fault>
     ensures copy { IfOk result (λ s. s ≡ scope.now) }
@@ -118,114 +91,6 @@ fn copy_scope(scope: &InstrumentationScope) -> Result<InstrumentationScope, Faul
 {
     copied_scope();
     Ok(scope.clone()?)
-}
-
-/// Returns the scope of the meter that a build names, or none if it names no meter.
-fn scope_of(
-    meters: &IndexSet<InstrumentationScope>,
-    meter: Option<usize>,
-) -> Result<Option<&InstrumentationScope>, Fault>
-    ensures { MatchResult result (λ scope. IsScopeOf meters.now.keys meter (option_map (λ s. s.now) scope)) (λ f. IsNoMeter meters.now.keys meter f) }
-{
-    match meter {
-        None => Ok(None),
-        Some(number) => match meters.get_index(number) {
-            Some(scope) => Ok(Some(scope)),
-            None => Err(Fault::UnknownMeter),
-        },
-    }
-}
-
-/// Returns the scope, or none if the name, the unit or the bounds of the instrument are bad.
-fn good_scope<'a>(
-    scope: Option<&'a InstrumentationScope>,
-    about: &About<'_>,
-) -> Option<&'a InstrumentationScope>
-    ensures { option_map (λ s. s.now) result ≡ cond (is_good about.now) (option_map (λ s. s.now) scope.entry) None }
-{
-    if is_good(about) { scope } else { None }
-}
-
-/// Checks that there is an instrument of this number that takes in records, and that a value has its number type.
-fn check_value(
-    instruments: &[Instrument],
-    instrument: usize,
-    value: NumberValue,
-) -> Result<(), Fault>
-    ensures taken { OnOk result (IsTakenBy instruments.now instrument (number_of value)) }
-    ensures fits { OnOk result (record_refusal (slice_get instruments.now instrument) (number_of value).signed ≡ None) }
-    ensures fault { IfErr result (IsFault (record_refusal (slice_get instruments.now instrument) (number_of value).signed)) }
-    ensures named { IfErr result IsNamed }
-{
-    match instruments.get(instrument) {
-        Some(found) => found.check(value),
-        None => Err(Fault::UnknownInstrument),
-    }
-}
-
-/// Checks that an observation is of an existing observable instrument and has its number type.
-fn check_observation(instruments: &[Instrument], observed: &Observed) -> Result<(), Fault>
-    ensures taken { OnOk result (IsTaken instruments.now observed.now) }
-    ensures fits { OnOk result (observation_refusal (slice_get instruments.now observed.now.instrument) (is_signed_value observed.now.value) ≡ None) }
-    ensures fault { IfErr result (IsFault (observation_refusal (slice_get instruments.now observed.now.instrument) (is_signed_value observed.now.value))) }
-    ensures named { IfErr result IsNamed }
-{
-    match instruments.get(observed.instrument) {
-        Some(found) => found.check_observed(observed.value),
-        None => Err(Fault::UnknownInstrument),
-    }
-}
-
-/// Checks that a handle can be bound at the instrument of this number, and that a number is left after `next` handles.
-fn check_bind(instruments: &[Instrument], instrument: usize, next: u64) -> Result<(), Fault>
-    ensures bindable { OnOk result (IsBindable instruments.now instrument) }
-    ensures fits { OnOk result (bind_refusal next (slice_get instruments.now instrument) ≡ None) }
-    ensures more { OnOk result (next < 2 ^ 64 - 1) }
-    ensures fault { IfErr result (IsFault (bind_refusal next (slice_get instruments.now instrument))) }
-{
-    let found = match instruments.get(instrument) {
-        Some(found) => found,
-        None => return Err(Fault::UnknownInstrument),
-    };
-    if let Err(fault) = found.check_kind() {
-        return Err(fault);
-    }
-    if next == u64::MAX {
-        return Err(Fault::Exhausted);
-    }
-    Ok(())
-}
-
-/// Checks that a value has the number type of a handle's instrument.
-fn check_held(
-    instruments: &[Instrument],
-    instrument: usize,
-    value: NumberValue,
-) -> Result<(), Fault>
-    ensures taken { OnOk result (IsTakenBy instruments.now instrument (number_of value)) }
-    ensures fits { OnOk result (held_refusal (slice_get instruments.now instrument) (number_of value).signed ≡ None) }
-    ensures fault { IfErr result (IsFault (held_refusal (slice_get instruments.now instrument) (number_of value).signed)) }
-    ensures named { IfErr result IsNamed }
-{
-    match instruments.get(instrument) {
-        Some(found) => found.check_number(value),
-        None => Err(Fault::UnknownHandle),
-    }
-}
-
-/// Checks that all observations are good, or returns the fault of the first bad one. Takes no memory.
-fn check_observations(instruments: &[Instrument], observations: &[Observed]) -> Result<(), Fault>
-    ensures taken { OnOk result (All (IsTaken instruments.now) observations.now) }
-    ensures fits { OnOk result (observations_refusal instruments.now (map observed_of observations.now) ≡ None) }
-    ensures fault { IfErr result (IsFault (observations_refusal instruments.now (map observed_of observations.now))) }
-    ensures named { IfErr result IsNamed }
-{
-    for observed in observations {
-        if let Err(fault) = check_observation(instruments, observed) {
-            return Err(fault);
-        }
-    }
-    Ok(())
 }
 
 /// Makes an instrument at all readers or at none, given each view's answer. Without a scope it demands no stream.
@@ -442,6 +307,7 @@ impl Core {
     }
 
     /// Records a value with attributes at an instrument, in all the streams that it feeds or in none.
+    #[inline(always)]
     pub(crate) fn record(
         &mut self,
         instrument: usize,
@@ -481,6 +347,7 @@ impl Core {
     }
 
     /// Records a value through a handle, in all the streams that its instrument feeds. Takes no memory.
+    #[inline(always)]
     pub(crate) fn record_bound(&mut self, handle: u64, value: NumberValue) -> Result<(), Fault>
         requires { IsLawful self.old }
         ensures ok { OnOk result ((views : Views) → IsMade views self.old (model.Call.RecordBound handle (number_of value)) model.Reply.Done self.new) }
@@ -710,6 +577,35 @@ impl Core {
 
     /// Makes one call and returns its reply.
     pub(crate) fn step<V: View, R: MetricReader>(
+        &mut self,
+        views: &[V],
+        readers: &mut [R],
+        call: &Call,
+    ) -> Reply
+        requires { IsLawful self.old }
+        ensures step { Step (map V.answer views.now) self.old (call_of call.now) (reply_of result) self.new }
+        ensures known { IsKnown self.old (call_of call.now) → HasMemory result }
+        ensures reached { StepReaches R.flushes R.shuts self.old.shared.shut (call_of call.now) readers.old (reply_of result) readers.new }
+        ensures wants { map (wanted_by R.preference R.limit R.aggregation) readers.new ≡ map (wanted_by R.preference R.limit R.aggregation) readers.old }
+    {
+        if let Call::Record {
+            instrument,
+            value,
+            attributes,
+        } = call
+        {
+            return self.step_record(*instrument, *value, attributes.as_slice());
+        }
+        if let Call::RecordBound { handle, value } = call {
+            return self.step_record_bound(*handle, *value);
+        }
+        let reply = self.step_any(views, readers, call);
+        reply
+    }
+
+    /// Does what `step` does, out of line, as most calls are records.
+    #[inline(never)]
+    fn step_any<V: View, R: MetricReader>(
         &mut self,
         views: &[V],
         readers: &mut [R],

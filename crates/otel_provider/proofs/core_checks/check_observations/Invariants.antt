@@ -3,7 +3,7 @@ use Rattle.std.specs.List.{AllWithin}
 use Rattle.otel_model.specs.Refusals.{observations_refusal}
 use Rattle.otel_provider.specs.Correspondence.{observed_of}
 use Rattle.otel_provider.specs.States.{IsTaken}
-use Rattle.otel_provider.proofs.provider_core.check_observations.Given as goal
+use Rattle.otel_provider.proofs.core_checks.check_observations.Given as goal
 
 -- the observations so far are good, so those that are left decide
 abbrev pub invariant-loop-observed : goal.invariant-loop-observed
