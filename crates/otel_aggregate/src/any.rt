@@ -190,6 +190,7 @@ impl AnyAggregate {
 
     /// Takes in the prepared record, if there is one and the value has the stream's number type, and returns whether
     /// it did. This is the second phase; it takes no memory, and looks nothing up for a set that has an entry.
+    #[inline(always)]
     pub fn commit(&mut self, value: NumberValue) -> bool
         ensures taken { self.new ≡ any_after_commit value self.old }
         ensures told { result ≡ is_taken value self.old }

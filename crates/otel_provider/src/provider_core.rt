@@ -480,6 +480,7 @@ impl Core {
         }
     }
 
+    #[inline(always)]
     fn step_record(
         &mut self,
         instrument: usize,
@@ -506,6 +507,7 @@ impl Core {
         }
     }
 
+    #[inline(always)]
     fn step_record_bound(&mut self, handle: u64, value: NumberValue) -> Reply
         requires { IsLawful self.old }
         ensures { (views : Views) → Step views self.old (model.Call.RecordBound handle (number_of value)) (reply_of result) self.new }

@@ -81,7 +81,7 @@ module _ (t : Slotted) (l : List KeyValue) (unled : leads l t ≡ false) (absent
         pending = ap Some is;
         spelling = listed (set_eq (canon l) l) o f ∙ (λ i. cond ((not (sym bare i) && (not (sym away i) && true)) && not (set_eq (canon l) l)) (l ∷ []) []);
         sound = λ room ready. subst (λ s. IsReady t true room s o) (sym is) (record { new = new; absent = away; spelling = spelled (set_eq (canon l) l) refl o f; admitted = λ h. refl; ready = ready });
-          }
+      }
 
 pub all-true : (a b c : Bool) → a ≡ true → b ≡ true → c ≡ true → (a && (b && c)) ≡ true
 all-true a b c p q r = ap (λ x. x && (b && c)) p ∙ ap (λ x. true && (x && c)) q ∙ r

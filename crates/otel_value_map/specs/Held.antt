@@ -70,12 +70,6 @@ is_pending Nothing = false
 is_pending (At n) = true
 is_pending (New s list) = true
 
--- the number of the entry that it is for, if it is for a set that has an entry
-abbrev pub number_prepared : Pending → Option ℕ
-number_prepared Nothing = None
-number_prepared (At n) = Some n
-number_prepared (New s list) = None
-
 -- the prepared record or bind, from what is kept of it: the number of an entry, or else a set that has no entry, and
 -- perhaps a list that is to lead to its entry too
 abbrev pub prepared : Option ℕ → Option (AttributeSet × Option (List KeyValue)) → Pending

@@ -5,7 +5,7 @@ ghost use Rattle.std.specs.Option.{IfNone};
 ghost use Rattle.otel_common.specs.Equality.{set_eq};
 ghost use Rattle.otel_model_stream.specs.Sets.{over_set};
 ghost use Rattle.otel_value_map.specs.Slots.{kept_of, new_kept};
-ghost use Rattle.otel_value_map.specs.Held.{IsPlan, IsPlanAt, is_new, is_pending, leads, number_prepared};
+ghost use Rattle.otel_value_map.specs.Held.{IsPlan, IsPlanAt, is_new, is_pending, leads};
 ghost use Rattle.otel_value_map.specs.declared.pending.Pending.TheVariants.{Nothing, At};
 
 use crate::aggregator::Aggregator;
@@ -79,12 +79,15 @@ impl Prepared {
         self.number.is_some() || self.added.is_some()
     }
 
-    /// The number of the entry that a record or bind is prepared for, if it is one for a set that has an entry.
+    /// Takes out the number of the entry that a record or bind is prepared for, if that is one for a set that has an
+    /// entry.
     #[inline(always)]
-    pub fn number(&self) -> Option<usize>
-        ensures { result ≡ number_prepared self.now }
+    pub fn take_number(&mut self) -> Option<usize>
+        ensures at { IfSome result (λ n. self.old ≡ At n) }
+        ensures left { IfSome result (λ _. self.new ≡ Nothing) }
+        ensures other { IfNone result (self.new ≡ self.old) }
     {
-        self.number
+        self.number.take()
     }
 
     /// Gives up what is prepared, if there is anything.

@@ -165,11 +165,8 @@ impl<A: Aggregator> ValueMap<A> {
         ensures given { self.new.given ≡ self.old.given ++ self.old.spelling }
         ensures spent { self.new.pending ≡ None }
     {
-        match self.pending.number() {
-            Some(number) => {
-                self.pending.give_up();
-                number
-            }
+        match self.pending.take_number() {
+            Some(number) => number,
             None => self.place_new(),
         }
     }
@@ -232,6 +229,7 @@ impl<A: Aggregator> ValueMap<A> {
     ///
     /// It looks up what is kept without copying it. It takes no memory if what is kept leads to an entry in the order
     /// given, or if nothing is kept. Otherwise it copies what is kept, sorts a copy of that and looks it up.
+    #[inline(never)]
     pub fn prepare_allowed(&mut self, allow: &[Key], attributes: &[KeyValue]) -> Result<(), Fault>
         ensures same { self.new.state ≡ self.old.state }
         ensures numbers { self.new.numbers ≡ self.old.numbers }
