@@ -10,7 +10,7 @@ use Rattle.otel_common.proofs.CanonLaws.{canon-canon}
 use Rattle.otel_model_stream.specs.Sets.{AttributeSet, none_set}
 use Rattle.otel_model_stream.specs.Entries.{has}
 use Rattle.otel_value_map.specs.Keyed.{Slotted, IsNew, IsSpelling}
-use Rattle.otel_value_map.specs.Numbers.{number_of, set_named, named_in}
+use Rattle.otel_value_map.specs.Numbers.{number_of, set_named, named_in, AreNumbered}
 use Rattle.otel_value_map.specs.Held.{IsPlan, IsSound, IsReady, leads, list_of}
 use Rattle.otel_value_map.specs.declared.pending.Pending.{Pending}
 use Rattle.otel_value_map.specs.declared.pending.Pending.TheVariants.{Nothing, At, New}
@@ -30,17 +30,32 @@ plan-empty t few l e =
     }
 
 -- none of the three
-or-none : (a b c : Bool) → (a || (b || c)) ≡ false → (a ≡ false) × (b ≡ false)
+or-none : (a b c : Bool) → (a || (b || c)) ≡ false → (a ≡ false) × (b ≡ false) × (c ≡ false)
 or-none true b c e = absurd (true≢false e)
 or-none false true c e = absurd (true≢false e)
-or-none false false c e = (refl, refl)
+or-none false false true e = absurd (true≢false e)
+or-none false false false e = (refl, refl, refl)
 
 lacking : (o : Option ℕ) → is_some o ≡ false → o ≡ None
 lacking None e = refl
 lacking (Some n) e = absurd (true≢false e)
 
+-- a list that leads to no entry is not the set of one
+pub unlisted : (t : Slotted) (l : List KeyValue) → leads l t ≡ false → has l t.table.entries ≡ false
+unlisted t l unled = (or-none (set_eq l none_set) (is_member set_eq (keys_of t.given) l) (has l t.table.entries) unled).2
+
+-- and has no number
+pub unnumbered : (t : Slotted) (l : List KeyValue) → leads l t ≡ false → AreNumbered t.table.entries t.numbers → lookup (set_eq l) t.numbers.sets ≡ None
+unnumbered t l unled numbered =
+    let apart = or-none (set_eq l none_set) (is_member set_eq (keys_of t.given) l) (has l t.table.entries) unled in
+    lacking (lookup (set_eq l) t.numbers.sets)
+    (ap (λ b. is_some (cond b (Some t.numbers.none) (lookup (set_eq l) t.numbers.sets))) (sym apart.0)
+    ∙ numbered l
+    ∙ ap (λ b. b || has l t.table.entries) apart.0
+    ∙ apart.2)
+
 module _ (t : Slotted) (l : List KeyValue) (unled : leads l t ≡ false) (absent : lookup (set_eq (canon l)) t.numbers.sets ≡ None) (away : has (canon l) t.table.entries ≡ false) where
-  apart : (set_eq l none_set ≡ false) × (is_member set_eq (keys_of t.given) l ≡ false)
+  apart : (set_eq l none_set ≡ false) × (is_member set_eq (keys_of t.given) l ≡ false) × (has l t.table.entries ≡ false)
   apart = or-none (set_eq l none_set) (is_member set_eq (keys_of t.given) l) (has l t.table.entries) unled
 
   bare : set_eq (canon l) none_set ≡ false
@@ -51,6 +66,18 @@ module _ (t : Slotted) (l : List KeyValue) (unled : leads l t ≡ false) (absent
 
   new : IsNew t.numbers.sets (canon l)
   new = record { absent = absent; canonical = canon-canon l; some = bare }
+
+  -- it is its own set
+  pub plan-own : (few : Bool) (set : AttributeSet) → set ≡ canon l → set_eq (canon l) l ≡ true → IsPlan t few l (New set None)
+  plan-own few set is own = record {
+    pending = ap Some is;
+    spelling = sym (ap (λ b. cond ((not (set_eq (canon l) none_set) && (not (has (canon l) t.table.entries) && few)) && not b) (l ∷ []) []) own ∙ ap (λ b. cond b (l ∷ []) []) (none (not (set_eq (canon l) none_set) && (not (has (canon l) t.table.entries) && few))));
+    sound = λ room ready. subst (λ s. IsReady t few room s None) (sym is) (record { new = new; absent = away; spelling = tt; admitted = λ h. absurd (true≢false (sym h)); ready = ready });
+  }
+    where
+      none : (b : Bool) → (b && false) ≡ false
+      none true = refl
+      none false = refl
 
   -- past the limit
   pub plan-past : (set : AttributeSet) → set ≡ canon l → IsPlan t false l (New set None)

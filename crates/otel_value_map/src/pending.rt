@@ -139,17 +139,6 @@ impl Prepared {
     }
 }
 
-/// A copy of a list that is to lead to this set's entry as well, or `None` if the list is the set itself.
-fn other_key(alloc: Global, list: &SetKey, set: &SetKey) -> Result<Option<SetKey<'static>>, Fault>
-    ensures key { IfOk result (λ key. key ≡ cond (set_eq set.now list.now) None (Some list.now)) }
-    ensures only_memory { IsOkUnless result Fault.OutOfMemory }
-{
-    if set == list {
-        return Ok(None);
-    }
-    Ok(Some(SetKey::owned(list.copy(alloc)?.into_vec())))
-}
-
 /// The number of the entry to which a list, as given, leads. Takes no memory.
 #[inline]
 pub fn led_to<A: Aggregator>(table: &Table<A>, list: &SetKey) -> Option<usize>
@@ -163,7 +152,7 @@ pub fn led_to<A: Aggregator>(table: &Table<A>, list: &SetKey) -> Option<usize>
 }
 
 /// What a record is to do with a list that, as given, leads to no entry. `few` says whether the number of counted
-/// entries is below the limit. Sorts a copy of the list and looks that up.
+/// entries is below the limit. Sorts a copy of the list, and looks that up if it is another list.
 #[inline(never)]
 pub fn plan<A: Aggregator>(
     alloc: Global,
@@ -176,14 +165,19 @@ pub fn plan<A: Aggregator>(
     ensures only_memory { IsOkUnless result Fault.OutOfMemory }
 {
     let set = list.canonical(alloc)?;
+    if set == *list {
+        // Tells the prover that the set has no number.
+        table.told_numbers();
+        return Ok(Pending::New(set, None));
+    }
     if let Some(number) = table.find_set(&set) {
         return Ok(Pending::At(number));
     }
     if !few {
         return Ok(Pending::New(set, None));
     }
-    let key = other_key(alloc, list, &set)?;
-    Ok(Pending::New(set, key))
+    let key = SetKey::owned(list.copy(alloc)?.into_vec());
+    Ok(Pending::New(set, Some(key)))
 }
 
 /// Makes an aggregator in advance, unless there is one already.

@@ -79,6 +79,7 @@ fn found_in<'s>(
 {
     match number_in(sets, list) {
         Some(number) => Some(number),
+        None if given.is_empty() => None,
         None => number_in(given, list),
     }
 }

@@ -205,8 +205,8 @@ impl<A: Aggregator> ValueMap<A> {
     ///
     /// This is the first of two phases: a record for several maps is prepared in all of them and then taken in by all.
     /// It looks the attributes up as given. If they lead to an entry, as its set or as the list that admitted it, that
-    /// is all, and it takes no memory; the same holds if there are no attributes. Otherwise it sorts a copy and looks
-    /// that up.
+    /// is all, and it takes no memory; the same holds if there are no attributes. Otherwise it sorts a copy, and looks
+    /// that up if it is another list.
     pub fn prepare(&mut self, attributes: &[KeyValue]) -> Result<(), Fault>
         ensures same { self.new.state ≡ self.old.state }
         ensures numbers { self.new.numbers ≡ self.old.numbers }
