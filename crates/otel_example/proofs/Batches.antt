@@ -11,7 +11,7 @@ use Rattle.otel_model.specs.Refusals.{record_refusal}
 use Rattle.otel_model.specs.State.{InstrumentState, State}
 use Rattle.otel_model.specs.Steps.{Step, reply_by, after_by}
 use Rattle.otel_model.proofs.Single.{step_cases}
-use Rattle.otel_provider.specs.Correspondence.{fault_of}
+use Rattle.otel_core.specs.Correspondence.{fault_of}
 use Rattle.otel_provider.specs.Typed.{record_reply}
 use Rattle.otel_example.specs.Totals.{sum_of, total_of}
 

@@ -1,12 +1,3 @@
-pub mod Asked
-pub mod Callbacks
-pub mod Collects
 pub mod Headlines
 pub mod Lawful
-pub mod Outcomes
-pub mod Reached
-pub mod Runs
-pub mod StepLemmas
 pub mod Stepped
-pub mod Typed
-pub mod Held

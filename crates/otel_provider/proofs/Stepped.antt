@@ -17,8 +17,8 @@ use Rattle.otel_model.specs.Refusals.{refusal}
 use Rattle.otel_model.specs.State.{Shared, State}
 use Rattle.otel_model.specs.Steps.{Step, Run, takes_memory, answer_of, reply_by, after_by, reply_of, after}
 use Rattle.otel_model.proofs.Single.{step_cases}
-use Rattle.otel_provider.specs.Correspondence.{fault_of}
-use Rattle.otel_provider.specs.States.{IsMade, IsFaultOf, IsNamed}
+use Rattle.otel_core.specs.Correspondence.{fault_of}
+use Rattle.otel_core.specs.States.{IsMade, IsFaultOf, IsNamed}
 use Rattle.otel_provider.specs.Typed.{reply_from, named_scope}
 
 -- refused by a fault that the machine names

@@ -1,10 +1,4 @@
 pub mod Callbacks
-pub mod Correspondence
-pub mod Fresh
 pub mod Headline
-pub mod Instruments
 pub mod Providers
-pub mod Readers
-pub mod States
 pub mod Typed
-pub mod Known

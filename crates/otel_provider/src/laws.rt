@@ -10,19 +10,19 @@ ghost use Rattle.otel_model.specs.Demands.{Views};
 ghost use Rattle.otel_model.specs.State.{State};
 ghost use Rattle.otel_model.specs.Steps.{Step, Run};
 ghost use Rattle.otel_provider.specs.declared.asynchronous.Asynchronous.{Asynchronous};
-ghost use Rattle.otel_provider.specs.declared.calls.Call.{Call};
-ghost use Rattle.otel_provider.specs.declared.calls.Reply.{Reply};
+ghost use Rattle.otel_core.specs.declared.calls.Call.{Call};
+ghost use Rattle.otel_core.specs.declared.calls.Reply.{Reply};
 ghost use Rattle.otel_provider.specs.declared.meters.Meter.{Meter};
-ghost use Rattle.otel_provider.specs.declared.sorts.InstrumentSort.{InstrumentSort};
+ghost use Rattle.otel_core.specs.declared.sorts.InstrumentSort.{InstrumentSort};
 ghost use Rattle.otel_provider.specs.declared.synchronous.Synchronous.{Synchronous};
 
 use crate::asynchronous::Asynchronous;
-use crate::calls::{Call, Reply};
 use crate::meters::Meter;
-use crate::sorts::InstrumentSort;
 use crate::synchronous::Synchronous;
 use otel_callback::laws::copied_observed;
 use otel_common::laws::{copied_attributes, copied_scope};
+use otel_core::calls::{Call, Reply};
+use otel_core::sorts::InstrumentSort;
 use otel_data::copies::copied_collection;
 use otel_data::numbers::NumberValue;
 

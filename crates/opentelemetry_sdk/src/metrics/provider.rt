@@ -2,8 +2,9 @@
 
 pub use otel_callback::laws::copied_observed;
 pub use otel_callback::observation::Observed;
+pub use otel_core::calls::{Call, Reply};
+pub use otel_core::sorts::InstrumentSort;
 pub use otel_data::numbers::NumberValue;
-pub use otel_provider::calls::{Call, Reply};
 pub use otel_provider::laws::{copied_call, copied_numbers, copied_reply};
 pub use otel_provider::parts::{
     Boxed, ObserveI64Part, ObserveU64Part, Parts, ReaderPart, ViewPart,
@@ -11,4 +12,3 @@ pub use otel_provider::parts::{
 pub use otel_provider::provider::{
     MeterProviderBuilder, Provider, ProviderBuilder, SdkMeterProvider,
 };
-pub use otel_provider::sorts::InstrumentSort;

@@ -1,6 +1,6 @@
 //! Functions of attributes, scopes and readers.
 
-use super::replies::{attributes, text, values, write_attributes};
+use super::support::{attributes, text, values};
 use crate::common::{InstrumentationScope, Key, KeyValue, StringValue, canonical};
 use crate::metrics::internal::{SetHashBuilder, Sum};
 use crate::metrics::reader::MetricReader;
@@ -91,9 +91,8 @@ fn scopes(rt: HostRuntime) -> Result<(), Fail> {
     assert_eq!(rt; scope.name(), "app");
     assert_eq!(rt; scope.version(), Some("1.0"));
     assert_eq!(rt; scope.schema_url(), Some("https://example.org"));
-    let mut listed = String::new(rt.alloc());
-    write_attributes(&mut listed, scope.attributes())?;
-    assert_eq!(rt; listed.as_str(), "a=2,b=1,b=3");
+    let sorted = attributes(rt.alloc(), &[("a", 2), ("b", 1), ("b", 3)])?;
+    assert_eq!(rt; scope.attributes().as_slice(), sorted.as_slice());
     assert_eq!(rt; scope.clone()?, scope);
     Ok(())
 }

@@ -1,6 +1,6 @@
 //! Merges of resources, their builders, and the resource of a collection.
 
-use super::replies::{collection, text};
+use super::support::{collection, text};
 use crate::common::{Key, KeyValue, Value};
 use crate::metrics::data::ResourceMetrics;
 use crate::metrics::provider::Reply;

@@ -3,7 +3,7 @@
 ghost use Rattle.std.specs.Prelude.{◌≡◌, Ok, cond};
 ghost use Rattle.otel_stream.specs.declared.instrument.InstrumentKind.TheVariants.{Counter};
 
-use super::replies::{attributes, builder_of, collection, text};
+use super::support::{attributes, collection, text};
 use crate::common::{
     InstrumentationScope, Items, Key, KeyValue, OTelSdkResult, StringValue, Value,
 };
@@ -12,7 +12,7 @@ use crate::metrics::data::{
 };
 use crate::metrics::provider::{Call, InstrumentSort, NumberValue, Reply};
 use crate::metrics::reader::MetricReader;
-use crate::metrics::{InstrumentKind, SdkMeterProvider, Temporality};
+use crate::metrics::{InstrumentKind, ManualReader, SdkMeterProvider, Temporality};
 use crate::resource::Resource;
 use std::alloc::Global;
 use std::process::Abort;
@@ -261,14 +261,17 @@ fn assert_collected(
 
 /// A provider with a reader of each kind, after the calls.
 fn provider(alloc: Global) -> Result<SdkMeterProvider, Fail> {
-    let mut builder = builder_of(
-        alloc,
-        &[
-            Temporality::Cumulative,
-            Temporality::Delta,
-            Temporality::LowMemory,
-        ],
-    )?;
+    let mut builder = SdkMeterProvider::builder(alloc);
+    for temporality in [
+        Temporality::Cumulative,
+        Temporality::Delta,
+        Temporality::LowMemory,
+    ] {
+        let reader = ManualReader::builder()
+            .with_temporality(temporality)
+            .build();
+        builder = builder.with_reader(Box::new(alloc, reader)?)?;
+    }
     for (counters, others) in [
         (Temporality::Delta, Temporality::Cumulative),
         (Temporality::LowMemory, Temporality::Delta),

@@ -1,7 +1,7 @@
 use Rattle.std.proofs.Common.{◌∙◌, sym}
 use Rattle.otel_data.specs.declared.numbers.NumberValue.TheVariants.{U64}
 use Rattle.otel_model.specs.Calls as model
-use Rattle.otel_provider.specs.Correspondence.{number_of}
+use Rattle.otel_core.specs.Correspondence.{number_of}
 use Rattle.otel_provider.specs.Providers.{state_of, views_of}
 use Rattle.otel_provider.specs.Typed.{instrument_number, record_reply}
 use Rattle.otel_example.proofs.Batches.{total_grown, record_unchanged}

@@ -2,7 +2,7 @@ use Rattle.std.proofs.Common.{[], map}
 use Rattle.otel_model.proofs.Kept.{kept_at_once}
 use Rattle.otel_model.specs.Calls as model
 use Rattle.otel_model_laws.proofs.Booked.{balances_law}
-use Rattle.otel_provider.specs.Correspondence.{observed_of}
+use Rattle.otel_core.specs.Correspondence.{observed_of}
 use Rattle.otel_provider.specs.Typed.{reply_from}
 use Rattle.otel_provider.proofs.Lawful.{lawful-step}
 use Rattle.otel_provider.proofs.Stepped.{collect-step}

@@ -3,7 +3,7 @@ use Rattle.otel_model.proofs.Kept.{kept_at_once}
 use Rattle.otel_model.specs.Calls as model
 use Rattle.otel_model_laws.specs.Lawful.{Balances}
 use Rattle.otel_model_laws.proofs.Booked.{balances_law}
-use Rattle.otel_provider.specs.Correspondence.{number_of}
+use Rattle.otel_core.specs.Correspondence.{number_of}
 use Rattle.otel_provider.specs.Typed.{reply_from}
 use Rattle.otel_provider.proofs.Lawful.{lawful-step}
 use Rattle.otel_provider.proofs.Stepped.{free-step}

@@ -1,6 +1,6 @@
 use Rattle.std.proofs.Common.{map}
 use Rattle.otel_model_laws.proofs.Booked.{balances_law}
-use Rattle.otel_provider.specs.Correspondence.{call_of, reply_of}
+use Rattle.otel_core.specs.Correspondence.{call_of, reply_of}
 use Rattle.otel_provider.proofs.Lawful.{lawful-run}
 use Rattle.otel_provider.proofs.balanced.BalancedCore.run.Goals as goal
 

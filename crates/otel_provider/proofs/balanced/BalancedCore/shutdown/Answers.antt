@@ -1,7 +1,7 @@
 use Rattle.std.specs.Prelude.{[]}
 use Rattle.otel_model.specs.Calls as model
 use Rattle.otel_model_laws.proofs.Booked.{balances_law}
-use Rattle.otel_provider.specs.Correspondence.{reply_to}
+use Rattle.otel_core.specs.Correspondence.{reply_to}
 use Rattle.otel_provider.proofs.Lawful.{lawful-step}
 use Rattle.otel_provider.proofs.balanced.BalancedCore.shutdown.Goals as goal
 

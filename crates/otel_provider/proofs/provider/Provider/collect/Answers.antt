@@ -2,9 +2,9 @@ use Rattle.std.proofs.Common.{Ok, Err, arith, map, refl, subst, sym}
 use Rattle.otel_callback.specs.Runs.{Ran, RanAll}
 use Rattle.otel_model.specs.Calls as model
 use Rattle.otel_model.specs.Steps.{Step}
-use Rattle.otel_provider.specs.Correspondence.{fault_of, observed_of}
+use Rattle.otel_core.specs.Correspondence.{fault_of, observed_of}
 use Rattle.otel_provider.specs.Providers.{views_of}
-use Rattle.otel_provider.proofs.StepLemmas.{lent_back}
+use Rattle.otel_core.proofs.StepLemmas.{lent_back}
 use Rattle.otel_provider.proofs.provider.Provider.collect.Goals as goal
 
 -- the callbacks come back as they were lent. They answered a fault

@@ -1,0 +1,139 @@
+-- Handles at all readers, and the calls on them as the machine makes them.
+use Rattle.std.proofs.Common.{◌≡◌, ℕ, ◌+◌, ◌<◌, ◌==◌, Bool, true, false, cond, List, [], ◌∷◌, ◌++◌, map, Option, Some, None, slice_get, nat_eq, refl, sym, ◌∙◌, ap, subst, arith, suc, ne_eqb}
+use Rattle.std.proofs.lemmas.Bool.Decides.{nat_tests}
+use Rattle.std.specs.List.{AllByRecursion as EachOf}
+use Rattle.std.specs.Map.{lookup, remove_entry}
+use Rattle.std.specs.Prelude.{All}
+use Rattle.otel_common.specs.declared.attributes.KeyValue.{KeyValue}
+use Rattle.otel_common.specs.declared.scopes.InstrumentationScope.{InstrumentationScope}
+use Rattle.otel_data.specs.declared.numbers.NumberValue.{NumberValue}
+use Rattle.otel_model.specs.Calls as model
+use Rattle.otel_model.specs.Calls.{is_observable}
+use Rattle.otel_model.specs.Demands.{Views}
+use Rattle.otel_model.specs.Machine as machine
+use Rattle.otel_model.specs.Machine.{part_after_call, accepted_by, without_handle}
+use Rattle.otel_model.specs.Refusals.{bind_refusal, instrument_held, held_refusal, handle_refusal, unbind_refusal}
+use Rattle.otel_model.specs.Resources.{Resource}
+use Rattle.otel_model.specs.State.{InstrumentState, LiveHandle, Shared, ReaderPart, State}
+use Rattle.otel_model.specs.Steps.{reply_by, after_by}
+use Rattle.otel_model_laws.specs.Lawful.{HandlesAreSound, PartIsLawful, TakesRecords}
+use Rattle.otel_model_laws.proofs.Handles.{unfed-unheld, new-unheld}
+use Rattle.otel_pipeline.specs.Handles.{FeedsSynchronous, IsNewAt, IsHeldByFed, IsReadyToBindAt, part_after_bind, IsPreparedHeldAt, part_after_unbind}
+use Rattle.otel_pipeline.specs.Pipelines.{Piped, part_of, part_after_record}
+use Rattle.otel_pipeline.proofs.Handles.{bound-sent, update-sent, unbind-sent}
+use Rattle.otel_core.specs.Correspondence.{number_of}
+use Rattle.otel_core.specs.States.{IsMade, AreTyped, FeedType, state_of, shared_of}
+use Rattle.otel_core.proofs.StepLemmas.{number-is}
+
+-- ======== all readers ========
+pub all_bound : (h n : ℕ) (l : List KeyValue) (ps : List Piped) → All (IsReadyToBindAt n l) ps → EachOf (FeedsSynchronous n) (map part_of ps) → EachOf (IsNewAt h) (map part_of ps)
+    → map (part_after_bind n h) ps ≡ map (part_after_call h (model.Call.Bind n l)) (map part_of ps)
+all_bound h n l [] all sync new = refl
+all_bound h n l (p ∷ ps) all sync new = λ i. bound-sent h n l p (all 0 p (omega arith)) sync.0 new.0 i ∷ all_bound h n l ps (λ j d g. all (suc j) d (omega arith)) sync.1 new.1 i
+
+pub all_updated : (n h : ℕ) (value : NumberValue) (ps : List Piped) → All (IsPreparedHeldAt n h) ps → FeedType n (number_of value) (map part_of ps) → EachOf (FeedsSynchronous n) (map part_of ps) → EachOf (IsHeldByFed n h) (map part_of ps)
+    → map (part_after_record n value) ps ≡ map (part_after_call 0 (model.Call.RecordBound h (number_of value))) (map part_of ps)
+all_updated n h value [] all typed sync held = refl
+all_updated n h value (p ∷ ps) all typed sync held =
+    λ i. (update-sent n h value p (all 0 p (omega arith)) (λ x fed. typed.0 x fed ∙ ap (λ (v : model.Number). v.signed) (number-is value)) sync.0 held.0
+    ∙ ap (λ v. part_after_call 0 (model.Call.RecordBound h v) (part_of p)) (sym (number-is value))) i
+    ∷ all_updated n h value ps (λ j d g. all (suc j) d (omega arith)) typed.1 sync.1 held.1 i
+
+pub all_ended : (n h : ℕ) (ps : List Piped) → All (IsPreparedHeldAt n h) ps → EachOf (FeedsSynchronous n) (map part_of ps) → EachOf (IsHeldByFed n h) (map part_of ps)
+    → map (part_after_unbind n h) ps ≡ map (part_after_call 0 (model.Call.Unbind h)) (map part_of ps)
+all_ended n h [] all sync held = refl
+all_ended n h (p ∷ ps) all sync held = λ i. unbind-sent n h p (all 0 p (omega arith)) sync.0 held.0 i ∷ all_ended n h ps (λ j d g. all (suc j) d (omega arith)) sync.1 held.1 i
+
+-- ======== what is known of handles ========
+-- an instrument that takes in records feeds no observable stream
+pub feeds-synchronous : (n : ℕ) (is : List InstrumentState) (i : InstrumentState) (ps : List ReaderPart) → slice_get is n ≡ Some i → is_observable i.kind ≡ false → AreTyped is ps → EachOf (FeedsSynchronous n) ps
+feeds-synchronous n is i [] at sync all = tt
+feeds-synchronous n is i (p ∷ ps) at sync all = (λ x fed. ap is_observable (all.0.kinds n x i fed at) ∙ sync, feeds-synchronous n is i ps at sync all.1)
+
+-- no stream has the next handle
+pub next-new : (s : Shared) (ps : List ReaderPart) → HandlesAreSound s → EachOf (PartIsLawful s.live s.instruments) ps → EachOf (IsNewAt s.next) ps
+next-new s [] sound all = tt
+next-new s (p ∷ ps) sound all = (new-unheld s p sound all.0, next-new s ps sound all.1)
+
+-- a stream that the handle's instrument does not feed doesn't have it
+pub held-fed : (s : Shared) (h n : ℕ) (ps : List ReaderPart) → HandlesAreSound s → instrument_held h s.live ≡ Some n → EachOf (PartIsLawful s.live s.instruments) ps → EachOf (IsHeldByFed n h) ps
+held-fed s h n [] sound at all = tt
+held-fed s h n (p ∷ ps) sound at all = (unfed-unheld s p h n sound all.0 at, held-fed s h n ps sound at all.1)
+
+-- the instrument of a live handle takes in records
+held-takes : (is : List InstrumentState) (h n : ℕ) (live : List LiveHandle) → instrument_held h live ≡ Some n → EachOf (λ (p : LiveHandle). TakesRecords is p.1) live → TakesRecords is n
+held-takes is h n [] e all = absurd (cc)
+held-takes is h n (p ∷ ps) e all = by (p.0 == h) e (λ q. held-takes is h n ps q all.1)
+  where
+    by : (b : Bool) → cond b (Some p.1) (instrument_held h ps) ≡ Some n → (instrument_held h ps ≡ Some n → TakesRecords is n) → TakesRecords is n
+    by true e rest = let same : p.1 ≡ n = cc in subst (TakesRecords is) same all.0
+    by false e rest = rest e
+
+-- so it feeds no observable stream
+pub synchronous-held : (s : Shared) (h n : ℕ) (ps : List ReaderPart) → HandlesAreSound s → instrument_held h s.live ≡ Some n → AreTyped s.instruments ps → EachOf (FeedsSynchronous n) ps
+synchronous-held s h n ps sound at all = let t = held-takes s.instruments h n s.live at sound.synchronous in feeds-synchronous n s.instruments t.0 ps t.1 t.2 all
+
+-- the handle of a number, as a map of handles has it
+test-is : (h k : ℕ) → (k == h) ≡ nat_eq h k
+test-is h k = grind (arith, nat_tests)
+
+pub held-lookup : (h : ℕ) (live : List LiveHandle) → instrument_held h live ≡ lookup (nat_eq h) live
+held-lookup h [] = refl
+held-lookup h (p ∷ ps) = λ i. cond (test-is h p.0 i) (Some p.1) (held-lookup h ps i)
+
+-- the instrument of a handle that the map has, or of one that it doesn't have
+pub held-as : (h : ℕ) (live : List LiveHandle) (o : Option ℕ) → o ≡ lookup (nat_eq h) live → instrument_held h live ≡ o
+held-as h live o e = held-lookup h live ∙ sym e
+
+pub without-removed : (h : ℕ) (live : List LiveHandle) → remove_entry (nat_eq h) live ≡ without_handle h live
+without-removed h [] = refl
+without-removed h (p ∷ ps) = λ i. cond (sym (test-is h p.0) i) ps (p ∷ without-removed h ps i)
+
+-- the next number is none of those that are live
+pub next-absent : (next : ℕ) (live : List LiveHandle) → EachOf (λ (p : LiveHandle). p.0 < next) live → lookup (nat_eq next) live ≡ None
+next-absent next [] all = refl
+next-absent next (p ∷ ps) all =
+    let away : nat_eq next p.0 ≡ false = sym (test-is next p.0) ∙ ne_eqb p.0 next (λ e. omega (arith, all.0)) in
+    ap (λ b. cond b (Some p.1) (lookup (nat_eq next) ps)) away ∙ next-absent next ps all.1
+
+-- what is sent keeps number types and kinds
+pub typed-kept : (is : List InstrumentState) (next : ℕ) (c : model.Call) (ps : List ReaderPart) → AreTyped is ps → AreTyped is (map (part_after_call next c) ps)
+typed-kept is next c [] all = tt
+typed-kept is next c (p ∷ ps) all = (record { as_many = all.0.as_many; types = all.0.types; kinds = all.0.kinds }, typed-kept is next c ps all.1)
+
+-- ======== whole calls ========
+module _ (shut : Bool) (resource : Resource) (identity : ℕ) (meters : List InstrumentationScope) (instruments : List InstrumentState) (live : List LiveHandle) (next : ℕ) (ps : List Piped) where
+  abbrev old : State
+  old = state_of shut resource identity meters instruments live next ps
+
+  pub bind-made : (n : ℕ) (l : List KeyValue) (more : List LiveHandle) (after : ℕ) (readers : List ReaderPart) → bind_refusal next (slice_get instruments n) ≡ None
+      → more ≡ live ++ (next, n) ∷ [] → after ≡ next + 1 → readers ≡ map (part_after_call next (model.Call.Bind n l)) (map part_of ps)
+      → (views : Views) → IsMade views old (model.Call.Bind n l) (model.Reply.Handle next) (record { shared = shared_of shut resource identity meters instruments more after; readers = readers })
+  bind-made n l more after readers fits added grown sent views = record {
+    answer = sym (ap (λ o. reply_by o (model.Reply.Handle next)) fits);
+    state = (λ i. record { shared = shared_of shut resource identity meters instruments (added i) (grown i); readers = sent i })
+        ∙ sym (ap (λ o. after_by o old (machine.accepted_after views old (model.Call.Bind n l))) fits);
+  }
+
+  pub update-made : (h n : ℕ) (v : model.Number) (more : List InstrumentState) (readers : List ReaderPart) → instrument_held h live ≡ Some n → held_refusal (slice_get instruments n) v.signed ≡ None
+      → more ≡ machine.changed_at n (machine.instrument_after_record v.amount) instruments → readers ≡ map (part_after_call 0 (model.Call.RecordBound h v)) (map part_of ps)
+      → (views : Views) → IsMade views old (model.Call.RecordBound h v) model.Reply.Done (record { shared = shared_of shut resource identity meters more live next; readers = readers })
+  update-made h n v more readers held fits accepted sent views =
+      let none : handle_refusal (instrument_held h live) instruments v.signed ≡ None = ap (λ o. handle_refusal o instruments v.signed) held ∙ fits in
+      let counted : more ≡ accepted_by (instrument_held h live) v.amount instruments = accepted ∙ ap (λ o. accepted_by o v.amount instruments) (sym held) in
+      record {
+        answer = sym (ap (λ o. reply_by o model.Reply.Done) none);
+        state = (λ i. record { shared = shared_of shut resource identity meters (counted i) live next; readers = sent i })
+            ∙ sym (ap (λ o. after_by o old (machine.accepted_after views old (model.Call.RecordBound h v))) none);
+      }
+
+  pub unbind-made : (h n : ℕ) (less : List LiveHandle) (readers : List ReaderPart) → instrument_held h live ≡ Some n
+      → less ≡ without_handle h live → readers ≡ map (part_after_call 0 (model.Call.Unbind h)) (map part_of ps)
+      → (views : Views) → IsMade views old (model.Call.Unbind h) model.Reply.Done (record { shared = shared_of shut resource identity meters instruments less next; readers = readers })
+  unbind-made h n less readers held ended sent views =
+      let none : unbind_refusal (instrument_held h live) ≡ None = ap unbind_refusal held in
+      record {
+        answer = sym (ap (λ o. reply_by o model.Reply.Done) none);
+        state = (λ i. record { shared = shared_of shut resource identity meters instruments (ended i) next; readers = sent i })
+            ∙ sym (ap (λ o. after_by o old (machine.accepted_after views old (model.Call.Unbind h))) none);
+      }

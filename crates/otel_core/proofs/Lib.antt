@@ -1,0 +1,9 @@
+pub mod Asked
+pub mod Collects
+pub mod Held
+pub mod Mapped
+pub mod Outcomes
+pub mod Reached
+pub mod Runs
+pub mod StepLemmas
+pub mod Typed

@@ -1,0 +1,274 @@
+//! Observable instruments with callbacks.
+
+ghost use Rattle.std.specs.Prelude.{◌≡◌, true, IfOk};
+
+use super::replies::{provider_of, text_of};
+use opentelemetry_sdk::common::{Fault, Items, Key, KeyValue, Value};
+use opentelemetry_sdk::metrics::Temporality::{Cumulative, Delta};
+use opentelemetry_sdk::metrics::callback::{Observation, ObserveI64, ObserveU64};
+use opentelemetry_sdk::metrics::data::ResourceMetrics;
+use opentelemetry_sdk::metrics::provider::{Parts, Provider, Reply};
+use opentelemetry_sdk::metrics::{Aggregation, InstrumentKind, ManualReader, SdkMeterProvider};
+use std::alloc::Global;
+use std::test::Fail;
+
+/// The attributes `k=1`.
+fn place(alloc: Global) -> Result<Items<KeyValue>, Fault> {
+    let attribute = KeyValue::new(Key::new(alloc, "k")?, Value::I64(1));
+    Ok(Items::from(vec![in alloc; attribute]?))
+}
+
+/// Observes these values, one in each run, and after that nothing.
+#[derive(Drop)]
+struct InTurn {
+    alloc: Global,
+    values: [u64; 3],
+    runs: usize,
+}
+
+impl InTurn {
+    fn new(alloc: Global, values: [u64; 3]) -> InTurn {
+        InTurn {
+            alloc,
+            values,
+            runs: 0,
+        }
+    }
+}
+
+impl ObserveU64 for InTurn {
+    ghost observes = { λ before after left answer. after.values ≡ before.values };
+
+    fn observe(&mut self, out: &mut Vec<Observation<u64>>) -> Result<(), Fault> {
+        let Some(value) = self.values.get(self.runs) else {
+            return Ok(());
+        };
+        let value = *value;
+        self.runs = self.runs.saturating_add(1);
+        let attributes = place(self.alloc)?;
+        out.push(Observation { value, attributes })?;
+        Ok(())
+    }
+}
+
+/// Observes -5, but answers a fault on its first run.
+#[derive(Drop)]
+struct FailsFirst {
+    alloc: Global,
+    failed: bool,
+}
+
+impl FailsFirst {
+    fn new(alloc: Global) -> FailsFirst {
+        FailsFirst {
+            alloc,
+            failed: false,
+        }
+    }
+}
+
+impl ObserveI64 for FailsFirst {
+    ghost observes = { λ before after left answer. IfOk answer (λ _. before.failed ≡ true) };
+
+    fn observe(&mut self, out: &mut Vec<Observation<i64>>) -> Result<(), Fault> {
+        if !self.failed {
+            self.failed = true;
+            return Err(Fault::WrongKind);
+        }
+        let attributes = place(self.alloc)?;
+        let value = -5;
+        out.push(Observation { value, attributes })?;
+        Ok(())
+    }
+}
+
+/// What a reader collects at a moment, with the provider's callbacks, or the fault.
+fn collected<P: Parts>(
+    alloc: Global,
+    provider: &mut Provider<P>,
+    reader: usize,
+    now: u64,
+) -> Result<String, Fail> {
+    let mut metrics = ResourceMetrics::default(alloc);
+    match provider.collect(reader, now, &mut metrics) {
+        Ok(()) => text_of(alloc, &Reply::Collected(metrics)),
+        Err(fault) => text_of(alloc, &Reply::Refused(fault)),
+    }
+}
+
+/// The same for these readers in turn, one after the other, from the moment 200 on.
+fn collected_in_turn<P: Parts>(
+    alloc: Global,
+    provider: &mut Provider<P>,
+    readers: &[usize],
+) -> Result<String, Fail> {
+    let mut all = String::new(alloc);
+    let mut now: u64 = 200;
+    for reader in readers {
+        let text = collected(alloc, provider, *reader, now)?;
+        write!(all, "{};", text.as_str())?;
+        now = now.saturating_add(100);
+    }
+    Ok(all)
+}
+
+/// Makes an observable counter with this callback at the moment 100.
+fn count<P: Parts>(
+    alloc: Global,
+    provider: &mut Provider<P>,
+    name: &str,
+    callback: P::ObserveU64,
+) -> Result<(), Fault> {
+    let name = String::from_str(alloc, name)?;
+    let meter = provider.meter("app")?;
+    meter
+        .u64_observable_counter(name)
+        .with_callback(callback)?
+        .build(provider, 100)?;
+    Ok(())
+}
+
+/// Makes an observable up-down counter with this callback at the moment 110.
+fn hold<P: Parts>(
+    alloc: Global,
+    provider: &mut Provider<P>,
+    callback: P::ObserveI64,
+) -> Result<(), Fault> {
+    let name = String::from_str(alloc, "middle")?;
+    let meter = provider.meter("app")?;
+    meter
+        .i64_observable_up_down_counter(name)
+        .with_callback(callback)?
+        .build(provider, 110)?;
+    Ok(())
+}
+
+/// What these readers collect from one counter with this callback.
+fn counted<P: Parts>(
+    alloc: Global,
+    provider: &mut Provider<P>,
+    readers: &[usize],
+    callback: P::ObserveU64,
+) -> Result<String, Fail> {
+    count(alloc, provider, "seen", callback)?;
+    collected_in_turn(alloc, provider, readers)
+}
+
+/// With the readers of row 51, of which the first drops observable counters, the callback runs in each collection.
+#[test]
+fn row_51(rt: HostRuntime) -> Result<(), Fail> {
+    let alloc = rt.alloc();
+    let dropping = ManualReader::builder()
+        .with_temporality(Delta)
+        .with_default_aggregation(InstrumentKind::ObservableCounter, Aggregation::Drop)
+        .build();
+    let dropping = Box::new(alloc, dropping)?;
+    let delta = ManualReader::builder().with_temporality(Delta).build();
+    let delta = Box::new(alloc, delta)?;
+    let callback = Box::new(alloc, InTurn::new(alloc, [7, 9, 12]))?;
+    let mut provider = SdkMeterProvider::builder(alloc)
+        .with_reader(dropping)?
+        .with_reader(delta)?
+        .build()?;
+    assert_eq!(rt;
+        counted(alloc, &mut provider, &[0, 1, 1], callback)?.as_str(),
+        "collected;collected | app seen 100 300 k=1 9;collected | app seen 300 400 k=1 3;"
+    );
+    Ok(())
+}
+
+/// What two collections of three instruments with these callbacks give.
+fn collected_of_three<P: Parts>(
+    alloc: Global,
+    provider: &mut Provider<P>,
+    first: P::ObserveU64,
+    middle: P::ObserveI64,
+    last: P::ObserveU64,
+) -> Result<String, Fail> {
+    count(alloc, provider, "first", first)?;
+    hold(alloc, provider, middle)?;
+    count(alloc, provider, "last", last)?;
+    collected_in_turn(alloc, provider, &[0, 0])
+}
+
+/// Callbacks run in the order in which their instruments were built, up to the first that fails; those before it have
+/// run, but nothing is taken in.
+#[test]
+fn callback_refuses(rt: HostRuntime) -> Result<(), Fail> {
+    let alloc = rt.alloc();
+    let first = Box::new(alloc, InTurn::new(alloc, [1, 2, 3]))?;
+    let middle = Box::new(alloc, FailsFirst::new(alloc))?;
+    let last = Box::new(alloc, InTurn::new(alloc, [4, 5, 6]))?;
+    let mut provider = provider_of(alloc, &[Cumulative])?;
+    assert_eq!(rt;
+        collected_of_three(alloc, &mut provider, first, middle, last)?.as_str(),
+        "refused 7;collected | app first 100 300 k=1 2 | app middle 110 300 k=1 -5 | app last 100 300 k=1 4;"
+    );
+    Ok(())
+}
+
+/// What is collected from one counter with two callbacks.
+fn collected_of_two<P: Parts>(
+    alloc: Global,
+    provider: &mut Provider<P>,
+    early: P::ObserveU64,
+    late: P::ObserveU64,
+) -> Result<String, Fail> {
+    let name = String::from_str(alloc, "load")?;
+    let description = String::from_str(alloc, "how much")?;
+    let unit = String::from_str(alloc, "1")?;
+    let meter = provider.meter("app")?;
+    meter
+        .u64_observable_counter(name)
+        .with_description(description)
+        .with_unit(unit)
+        .with_callback(early)?
+        .with_callback(late)?
+        .build(provider, 100)?;
+    collected(alloc, provider, 0, 200)
+}
+
+/// If two callbacks of one counter observe the same set of attributes, the later one counts.
+#[test]
+fn callbacks_in_order(rt: HostRuntime) -> Result<(), Fail> {
+    let alloc = rt.alloc();
+    let early = Box::new(alloc, InTurn::new(alloc, [1, 2, 3]))?;
+    let late = Box::new(alloc, InTurn::new(alloc, [8, 9, 10]))?;
+    let mut provider = provider_of(alloc, &[Cumulative])?;
+    assert_eq!(rt;
+        collected_of_two(alloc, &mut provider, early, late)?.as_str(),
+        "collected | app load 100 200 k=1 8"
+    );
+    Ok(())
+}
+
+/// The answers for a reader that doesn't exist, and after a shutdown.
+fn refused<P: Parts>(
+    alloc: Global,
+    provider: &mut Provider<P>,
+    callback: P::ObserveI64,
+) -> Result<String, Fail> {
+    let name = String::from_str(alloc, "heat")?;
+    let meter = provider.meter("app")?;
+    meter
+        .i64_observable_gauge(name)
+        .with_callback(callback)?
+        .build(provider, 100)?;
+    let unknown = collected(alloc, provider, 1, 200)?;
+    provider.shutdown()?;
+    let shut = collected(alloc, provider, 0, 300)?;
+    Ok(format!(in alloc; "{};{}", unknown.as_str(), shut.as_str())?)
+}
+
+/// In these cases no callback runs: this one would answer another fault.
+#[test]
+fn callbacks_do_not_run(rt: HostRuntime) -> Result<(), Fail> {
+    let alloc = rt.alloc();
+    let callback = Box::new(alloc, FailsFirst::new(alloc))?;
+    let mut provider = provider_of(alloc, &[Cumulative])?;
+    assert_eq!(rt;
+        refused(alloc, &mut provider, callback)?.as_str(),
+        "refused 5;refused 9"
+    );
+    Ok(())
+}
