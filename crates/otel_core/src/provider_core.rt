@@ -601,6 +601,7 @@ impl Core {
         if let Call::RecordBound { handle, value } = call {
             return self.step_record_bound(*handle, *value);
         }
+        // With a name, the reply is made where the caller wants it, and not copied there.
         let reply = self.step_any(views, readers, call);
         reply
     }
