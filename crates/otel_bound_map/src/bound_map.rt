@@ -19,7 +19,7 @@ use indexmap::IndexMap;
 use otel_common::attributes::KeyValue;
 use otel_common::faults::Fault;
 use otel_common::keys::Key;
-use otel_common::lists::Items;
+use otel_common::lists::SharedItems;
 use otel_value_map::aggregator::Aggregator;
 use otel_value_map::hashing::SetHashBuilder;
 use otel_value_map::saved::Saved;
@@ -201,7 +201,11 @@ impl<A: Aggregator> BoundMap<A> {
     }
 
     /// The sets with copies of their aggregators, as `ValueMap::points` returns them.
-    pub fn points(&self, alloc: Global, every: bool) -> Result<Vec<(Items<KeyValue>, A)>, Fault>
+    pub fn points(
+        &self,
+        alloc: Global,
+        every: bool,
+    ) -> Result<Vec<(SharedItems<KeyValue>, A)>, Fault>
         ensures points { IfOk result (λ given. copies A.meaning given.items ≡ points every self.now.state.table) }
         ensures only_memory { IsOkUnless result Fault.OutOfMemory }
     {

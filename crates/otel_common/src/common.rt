@@ -8,6 +8,6 @@ pub use crate::laws::{
     copied_attributes, copied_scope, equal_attributes, equal_scopes, resource_laws,
     temporality_laws,
 };
-pub use crate::lists::Items;
+pub use crate::lists::{Items, SharedItems};
 pub use crate::scopes::{InstrumentationScope, InstrumentationScopeBuilder};
 pub use crate::strings::StringValue;

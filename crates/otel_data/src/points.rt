@@ -5,21 +5,21 @@ ghost use Rattle.std.specs.Slice.Iter.{iter_rest};
 
 use crate::exemplars::Exemplar;
 use otel_common::attributes::KeyValue;
-use otel_common::lists::Items;
+use otel_common::lists::{Items, SharedItems};
 use std::slice::Iter;
 
 /// A point of a sum: what the records of one set of attributes add up to (Metrics data model,
 /// "Sums").
 #[derive(Clone, Debug, Drop, PartialEq)]
 pub struct SumDataPoint<T> {
-    attributes: Items<KeyValue>,
+    attributes: SharedItems<KeyValue>,
     exemplars: Items<Exemplar<T>>,
     value: T,
 }
 
 impl<T> SumDataPoint<T> {
     /// Makes a point of its parts.
-    pub fn new(attributes: Items<KeyValue>, exemplars: Items<Exemplar<T>>, value: T) -> Self
+    pub fn new(attributes: SharedItems<KeyValue>, exemplars: Items<Exemplar<T>>, value: T) -> Self
         ensures { result ≡ record { attributes = attributes; exemplars = exemplars; value = value } }
     {
         SumDataPoint {
@@ -56,14 +56,14 @@ impl<T> SumDataPoint<T> {
 /// A point of a gauge: the last value of one set of attributes (Metrics data model, "Gauge").
 #[derive(Clone, Debug, Drop, PartialEq)]
 pub struct GaugeDataPoint<T> {
-    attributes: Items<KeyValue>,
+    attributes: SharedItems<KeyValue>,
     exemplars: Items<Exemplar<T>>,
     value: T,
 }
 
 impl<T> GaugeDataPoint<T> {
     /// Makes a point of its parts.
-    pub fn new(attributes: Items<KeyValue>, exemplars: Items<Exemplar<T>>, value: T) -> Self
+    pub fn new(attributes: SharedItems<KeyValue>, exemplars: Items<Exemplar<T>>, value: T) -> Self
         ensures { result ≡ record { attributes = attributes; exemplars = exemplars; value = value } }
     {
         GaugeDataPoint {
@@ -101,9 +101,9 @@ impl<T> GaugeDataPoint<T> {
 /// "Histogram").
 #[derive(Clone, Debug, Drop, PartialEq)]
 pub struct HistogramDataPoint<T> {
-    attributes: Items<KeyValue>,
+    attributes: SharedItems<KeyValue>,
     exemplars: Items<Exemplar<T>>,
-    bounds: Items<i64>,
+    bounds: SharedItems<i64>,
     bucket_counts: Items<u64>,
     count: u64,
     min: Option<T>,
@@ -114,9 +114,9 @@ pub struct HistogramDataPoint<T> {
 impl<T> HistogramDataPoint<T> {
     /// Makes a point of its parts.
     pub fn new(
-        attributes: Items<KeyValue>,
+        attributes: SharedItems<KeyValue>,
         exemplars: Items<Exemplar<T>>,
-        bounds: Items<i64>,
+        bounds: SharedItems<i64>,
         bucket_counts: Items<u64>,
         count: u64,
         min: Option<T>,

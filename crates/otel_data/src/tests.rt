@@ -11,7 +11,7 @@ use crate::sums::Sum;
 use otel_common::attributes::{KeyValue, Value};
 use otel_common::faults::Fault;
 use otel_common::keys::Key;
-use otel_common::lists::Items;
+use otel_common::lists::{Items, SharedItems};
 use otel_common::metrics::Temporality;
 use otel_common::resource::Resource;
 use otel_common::scopes::InstrumentationScope;
@@ -19,10 +19,10 @@ use otel_common::strings::StringValue;
 use std::alloc::Global;
 use std::test::Fail;
 
-fn attributes(alloc: Global) -> Result<Items<KeyValue>, Fault> {
+fn attributes(alloc: Global) -> Result<SharedItems<KeyValue>, Fault> {
     let value = Value::String(StringValue::new(alloc, "value")?);
     let attribute = KeyValue::new(Key::new(alloc, "key")?, value);
-    Ok(Items::from(vec![in alloc; attribute]?))
+    Ok(SharedItems::new(vec![in alloc; attribute]?)?)
 }
 
 fn exemplar<T>(alloc: Global, value: T) -> Exemplar<T> {
@@ -42,7 +42,7 @@ fn gauge_point(alloc: Global, value: i64) -> Result<GaugeDataPoint<i64>, Fault> 
 /// A point of three values, of which this is the greatest.
 fn histogram_point(alloc: Global, greatest: u64) -> Result<HistogramDataPoint<u64>, Fault> {
     let exemplars = Items::from(vec![in alloc; exemplar(alloc, greatest)]?);
-    let bounds = Items::from(vec![in alloc; -5, 10]?);
+    let bounds = SharedItems::new(vec![in alloc; -5, 10]?)?;
     let counts = Items::from(vec![in alloc; 1, 0, 2]?);
     Ok(HistogramDataPoint::new(
         attributes(alloc)?,
@@ -162,7 +162,7 @@ fn is_copied_sum_point(alloc: Global) -> Result<bool, Fault> {
 fn zero_histogram_point(alloc: Global) -> Result<HistogramDataPoint<u64>, Fault> {
     let exemplars = Items::from(vec![in alloc; exemplar(alloc, 0)]?);
     let attributes = attributes(alloc)?;
-    let bounds = Items::from(Vec::new(alloc));
+    let bounds = SharedItems::new(Vec::new(alloc))?;
     let counts = Items::from(Vec::new(alloc));
     Ok(HistogramDataPoint::new(attributes, exemplars, bounds, counts, 0, None, None, 0))
 }

@@ -9,7 +9,7 @@ use Rattle.otel_value_map.specs.declared.set_key.Form.TheVariants.{Owned, Given,
 
 -- the attributes of a key: its own set, the ones given, or those of the ones given that are allowed
 abbrev pub set_in : Form → AttributeSet
-set_in (Owned set) = set.items
+set_in (Owned set) = set
 set_in (Given attributes) = attributes.now
 set_in (Allowed allow attributes) = allowed_part (Some allow.now) attributes.now
 

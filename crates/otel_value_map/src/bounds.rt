@@ -6,15 +6,14 @@ ghost use Rattle.otel_model_stream.specs.Data.{rises};
 
 use otel_common::bounds::is_rising;
 use otel_common::faults::Fault;
-use otel_common::lists::Items;
-use std::alloc::Global;
+use otel_common::lists::SharedItems;
 use std::marker::Model;
 
 /// The bounds of a histogram's buckets, each greater than the one before it (Metrics SDK, "Explicit Bucket Histogram
 /// Aggregation").
 #[derive(Drop)]
 pub struct Bounds {
-    items: Items<i64>,
+    items: SharedItems<i64>,
 }
 
 impl Model for Bounds {
@@ -30,7 +29,7 @@ impl Model for Bounds {
 
 impl Bounds {
     /// Makes bounds of these numbers, or returns `None` unless each is greater than the one before it.
-    pub fn new(items: Items<i64>) -> Option<Bounds>
+    pub fn new(items: SharedItems<i64>) -> Option<Bounds>
         ensures { result ≡ cond (rises items) (Some items) None }
     {
         if is_rising(items.as_slice()) {
@@ -47,12 +46,12 @@ impl Bounds {
         self.items.as_slice()
     }
 
-    /// A copy of the bounds.
-    pub fn copy(&self, alloc: Global) -> Result<Items<i64>, Fault>
-        ensures copy { IfOk result (λ made. made ≡ self.now) }
+    /// Another owner of the list of bounds. Copies nothing and takes no memory.
+    pub fn share(&self) -> Result<SharedItems<i64>, Fault>
+        ensures bounds { IfOk result (λ made. made ≡ self.now) }
         ensures only_memory { IsOkUnless result Fault.OutOfMemory }
     {
-        Ok(Items::from(Vec::from_clones(alloc, self.items.as_slice())?))
+        Ok(self.items.share()?)
     }
 
     /// The number of buckets: one more than there are bounds, or 0 without bounds.

@@ -176,7 +176,7 @@ pub fn plan<A: Aggregator>(
     if !few {
         return Ok(Pending::New(set, None));
     }
-    let key = SetKey::owned(list.copy(alloc)?.into_vec());
+    let key = SetKey::owned(list.share(alloc)?);
     Ok(Pending::New(set, Some(key)))
 }
 

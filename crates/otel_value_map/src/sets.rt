@@ -8,15 +8,16 @@ ghost use Rattle.otel_model_stream.specs.Sets.{over_set, allowed_part};
 use otel_common::attributes::{KeyValue, Value};
 use otel_common::faults::Fault;
 use otel_common::keys::Key;
+use otel_common::lists::SharedItems;
 use std::alloc::Global;
 
 /// The set of the overflow entry: `otel.metric.overflow` is `true`.
-pub fn overflow_set(alloc: Global) -> Result<Vec<KeyValue>, Fault>
-    ensures set { IfOk result (λ s. s.items ≡ over_set) }
+pub fn overflow_set(alloc: Global) -> Result<SharedItems<KeyValue>, Fault>
+    ensures set { IfOk result (λ s. s ≡ over_set) }
     ensures only_memory { IsOkUnless result Fault.OutOfMemory }
 {
     let key = Key::new(alloc, "otel.metric.overflow")?;
-    Ok(vec![in alloc; KeyValue::new(key, Value::Bool(true))]?)
+    Ok(SharedItems::new(vec![in alloc; KeyValue::new(key, Value::Bool(true))]?)?)
 }
 
 /// Whether a key is in an allow-list.

@@ -24,7 +24,7 @@ use crate::slots::{Slot, evict, fill, hold, release, touch};
 use indexmap::IndexMap;
 use otel_common::attributes::KeyValue;
 use otel_common::faults::Fault;
-use otel_common::lists::Items;
+use otel_common::lists::SharedItems;
 use slab::Slab;
 use std::alloc::{AllocError, Global};
 use std::marker::Model;
@@ -105,14 +105,14 @@ fn first_points<A: Aggregator>(
     alloc: Global,
     slots: &Slab<Slot<A>>,
     none: usize,
-) -> Result<Vec<(Items<KeyValue>, A)>, Fault>
+) -> Result<Vec<(SharedItems<KeyValue>, A)>, Fault>
     ensures points { IfOk result (λ given. copies A.meaning given.items ≡ map point_of_entry (filter (λ entry. entry.updated) (entry_at (look_in A.meaning slots.now) (none_set, none) ∷ []))) }
     ensures only_memory { IsOkUnless result Fault.OutOfMemory }
 {
     let mut points = Vec::new(alloc);
     if let Some(slot) = slots.get(none) {
         if slot.updated {
-            let set = Items::from(Vec::new(alloc));
+            let set = SharedItems::new(Vec::new(alloc))?;
             points.push((set, slot.aggregator.copy(alloc)?))?;
         }
     }
@@ -125,7 +125,7 @@ fn copy_out<A: Aggregator>(
     slots: &Slab<Slot<A>>,
     sets: &Numbered,
     every: bool,
-    points: &mut Vec<(Items<KeyValue>, A)>,
+    points: &mut Vec<(SharedItems<KeyValue>, A)>,
 ) -> Result<(), Fault>
     requires { AllByRecursion (Fits (look_in A.meaning slots.now)) sets.now.entries }
     ensures points { OnOk result (copies A.meaning points.new.items ≡ copies A.meaning points.old.items ++ map point_of_entry (filter (λ entry. every || entry.updated) (map (entry_at (look_in A.meaning slots.now)) sets.now.entries))) }
@@ -138,7 +138,7 @@ fn copy_out<A: Aggregator>(
         if let Some(slot) = slots.get(*number) {
             let is_shown = every || slot.updated;
             if is_shown {
-                points.push((set.copy(alloc)?, slot.aggregator.copy(alloc)?))?;
+                points.push((set.share(alloc)?, slot.aggregator.copy(alloc)?))?;
             }
         }
     }
@@ -421,8 +421,12 @@ impl<A: Aggregator> Table<A> {
     }
 
     /// The points: that of the empty set if it was updated, then those of the sets in order of making, either all or
-    /// those that were updated. Copies each set that it returns.
-    pub fn points(&self, alloc: Global, every: bool) -> Result<Vec<(Items<KeyValue>, A)>, Fault>
+    /// those that were updated. They share the table's sets: none is copied.
+    pub fn points(
+        &self,
+        alloc: Global,
+        every: bool,
+    ) -> Result<Vec<(SharedItems<KeyValue>, A)>, Fault>
         ensures points { IfOk result (λ given. copies A.meaning given.items ≡ points every self.now.table) }
         ensures only_memory { IsOkUnless result Fault.OutOfMemory }
     {
@@ -457,7 +461,8 @@ impl<A: Aggregator> Table<A> {
         aggregator_in(&self.slots, number)
     }
 
-    /// A copy of the entries, held by no handle. The copy doesn't know lists that admitted a set in another form.
+    /// A copy of the entries, held by no handle, which shares their sets. It doesn't know lists that admitted a set in
+    /// another form.
     pub fn copy(&self, alloc: Global) -> Result<Table<A>, Fault>
         ensures table { IfOk result (λ made. made.table ≡ without_handles self.now.table) }
         ensures only_memory { IsOkUnless result Fault.OutOfMemory }
@@ -469,7 +474,7 @@ impl<A: Aggregator> Table<A> {
     }
 }
 
-/// Adds copies of the entries of these sets, held by no handle, to a table that has none.
+/// Adds copies of the entries of these sets, held by no handle, to a table that has none. It shares the sets.
 fn copy_entries<A: Aggregator>(
     alloc: Global,
     slots: &Slab<Slot<A>>,
@@ -486,7 +491,7 @@ fn copy_entries<A: Aggregator>(
         if let Some(slot) = slots.get(*number) {
             made.make_room()?;
             let slot = copy_slot(alloc, slot)?;
-            let set = SetKey::owned(set.copy(alloc)?.into_vec());
+            let set = SetKey::owned(set.share(alloc)?);
             made.add(set, None, slot);
         }
     }

@@ -25,7 +25,7 @@ use crate::table::Table;
 use otel_common::attributes::KeyValue;
 use otel_common::faults::Fault;
 use otel_common::keys::Key;
-use otel_common::lists::Items;
+use otel_common::lists::SharedItems;
 use std::alloc::Global;
 use std::marker::Model;
 
@@ -402,8 +402,12 @@ impl<A: Aggregator> ValueMap<A> {
     }
 
     /// The sets with copies of their aggregators: the empty set if it was updated, then the entries in order of
-    /// making, either all or those that were updated. The map stays unchanged. Copies each set that it returns.
-    pub fn points(&self, alloc: Global, every: bool) -> Result<Vec<(Items<KeyValue>, A)>, Fault>
+    /// making, either all or those that were updated. The map stays unchanged. It shares their sets, and copies none.
+    pub fn points(
+        &self,
+        alloc: Global,
+        every: bool,
+    ) -> Result<Vec<(SharedItems<KeyValue>, A)>, Fault>
         ensures points { IfOk result (λ given. copies A.meaning given.items ≡ points every self.now.state.table) }
         ensures only_memory { IsOkUnless result Fault.OutOfMemory }
     {
@@ -443,8 +447,8 @@ impl<A: Aggregator> ValueMap<A> {
         self.count = 0;
     }
 
-    /// A copy of the entries, held by no handle, to be restored later. For a map without other entries it takes memory
-    /// for that of the empty set.
+    /// A copy of the entries, held by no handle, to be restored later, which shares their sets. For a map without other
+    /// entries it takes memory for that of the empty set.
     pub fn save(&self, alloc: Global) -> Result<Saved<A>, Fault>
         ensures saved { IfOk result (λ saved. saved ≡ without_handles self.now.state.table) }
         ensures only_memory { IsOkUnless result Fault.OutOfMemory }
@@ -475,8 +479,8 @@ impl<A: Aggregator> ValueMap<A> {
     }
 
     /// The points of a collection that changes nothing: that of the empty set if it was updated, and those of all
-    /// other entries.
-    pub fn collect_readonly(&self, alloc: Global) -> Result<Vec<(Items<KeyValue>, A)>, Fault>
+    /// other entries. They share their sets with the map.
+    pub fn collect_readonly(&self, alloc: Global) -> Result<Vec<(SharedItems<KeyValue>, A)>, Fault>
         ensures points { IfOk result (λ given. copies A.meaning given.items ≡ readonly_points self.now.state) }
         ensures only_memory { IsOkUnless result Fault.OutOfMemory }
     {
@@ -484,9 +488,12 @@ impl<A: Aggregator> ValueMap<A> {
     }
 
     /// The points of a resetting collection: of the entries updated since the last one. The map then forgets all
-    /// records, evicts the entries that had none and that no handle holds, and gives up a prepared record. If it
-    /// fails, nothing changes.
-    pub fn collect_and_reset(&mut self, alloc: Global) -> Result<Vec<(Items<KeyValue>, A)>, Fault>
+    /// records, evicts the entries that had none and that no handle holds, and gives up a prepared record. Sets are
+    /// shared with the entries that stay, and never copied. If it fails, nothing changes.
+    pub fn collect_and_reset(
+        &mut self,
+        alloc: Global,
+    ) -> Result<Vec<(SharedItems<KeyValue>, A)>, Fault>
         ensures points { IfOk result (λ given. copies A.meaning given.items ≡ resetting_points self.old.state) }
         ensures ok { OnOk result (known_of self.new ≡ evicted_known (known_of self.old)) }
         ensures numbers { KeepLeft self.new.state.table.entries self.old.numbers self.new.numbers }
@@ -500,9 +507,12 @@ impl<A: Aggregator> ValueMap<A> {
     }
 
     /// The points of a draining collection: that of the empty set if it was updated, and those of all other entries.
-    /// The map then forgets all records and all entries but that of the empty set, and gives up a prepared record. If
-    /// it fails, nothing changes.
-    pub fn drain_and_reset(&mut self, alloc: Global) -> Result<Vec<(Items<KeyValue>, A)>, Fault>
+    /// The map then forgets all records and all entries but that of the empty set, and gives up a prepared record. No
+    /// set is copied. If it fails, nothing changes.
+    pub fn drain_and_reset(
+        &mut self,
+        alloc: Global,
+    ) -> Result<Vec<(SharedItems<KeyValue>, A)>, Fault>
         ensures points { IfOk result (λ given. copies A.meaning given.items ≡ draining_points self.old.state) }
         ensures ok { OnOk result (self.new.state ≡ drained_map self.old.state) }
         ensures given { OnOk result (self.new.given ≡ []) }
