@@ -312,7 +312,7 @@ impl AnyAggregate {
     }
 
     /// What a collection at the moment `now`, in nanoseconds since 1970, gives: the start, the points and `now`. The
-    /// stream stays unchanged. Copies each set that it shows.
+    /// stream stays unchanged. Shares the sets that it shows, and copies none.
     pub fn points(&self, alloc: Global, now: u64) -> Result<AggregatedMetrics, Fault>
         ensures points { IfOk result (λ given. given ≡ metrics_now now self.now) }
         ensures only_memory { IsOkUnless result Fault.OutOfMemory }

@@ -193,7 +193,7 @@ impl<T: Number + Drop> Histogram<T> {
     }
 
     /// What a collection at the moment `now`, in nanoseconds since 1970, gives: the start, the points and `now`. The
-    /// histograms stay unchanged. Copies each set that it shows.
+    /// histograms stay unchanged. Shares the sets that it shows, and copies none.
     pub fn points(&self, alloc: Global, now: u64) -> Result<HistogramData<T>, Fault>
         ensures spreads { self.now.state.aggregate ≡ HistogramAggregate (bounds_of self.now.state.aggregate) (keeps_min_max self.now.state.aggregate) (keeps_sum self.now.state.aggregate) }
         ensures data { IfOk result (λ given. given ≡ histogram_data T.of_bits T.of_wide now self.now.state) }

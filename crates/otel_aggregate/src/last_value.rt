@@ -178,7 +178,7 @@ impl<T: Number + Drop> LastValue<T> {
     }
 
     /// What a collection at the moment `now`, in nanoseconds since 1970, gives: the start, the values and `now`. The
-    /// values stay unchanged. Copies each set that it shows.
+    /// values stay unchanged. Shares the sets that it shows, and copies none.
     pub fn points(&self, alloc: Global, now: u64) -> Result<Gauge<T>, Fault>
         ensures last { self.now.state.aggregate ≡ LastValueAggregate }
         ensures data { IfOk result (λ given. given ≡ gauge_data T.of_bits T.of_wide now self.now.state) }

@@ -19,7 +19,7 @@ use otel_bound_map::bound_map::BoundMap;
 use otel_common::attributes::KeyValue;
 use otel_common::faults::Fault;
 use otel_common::keys::Key;
-use otel_common::lists::Items;
+use otel_common::lists::{Items, SharedItems};
 use otel_common::metrics::Temporality;
 use otel_data::points::SumDataPoint;
 use otel_data::sums::Sum as SumData;
@@ -67,7 +67,7 @@ fn shown_value<T: Number + Drop>(
 fn shown_point<T: Number + Drop>(
     alloc: Global,
     reported: Option<&BoundMap<Assign<T>>>,
-    attributes: Items<KeyValue>,
+    attributes: SharedItems<KeyValue>,
     value: T,
 ) -> SumDataPoint<T>
     ensures { result ≡ sum_point T.of_bits T.of_wide (since_reported (option_map (λ before. draining_points before.now.state) reported.entry) (attributes, Last (T.bits value))) }
@@ -81,7 +81,7 @@ fn shown_point<T: Number + Drop>(
 fn shown_points<T: Number + Drop>(
     alloc: Global,
     reported: Option<&BoundMap<Assign<T>>>,
-    given: Vec<(Items<KeyValue>, Assign<T>)>,
+    given: Vec<(SharedItems<KeyValue>, Assign<T>)>,
 ) -> Result<Items<SumDataPoint<T>>, Fault>
     ensures points { IfOk result (λ made. made ≡ map (λ p. sum_point T.of_bits T.of_wide (since_reported (option_map (λ before. draining_points before.now.state) reported.entry) p)) (copies (λ last. Last (T.bits last.value)) given.items)) }
     ensures only_memory { IsOkUnless result Fault.OutOfMemory }
@@ -222,7 +222,8 @@ impl<T: Number + Drop> PrecomputedSum<T> {
     }
 
     /// What a collection at the moment `now`, in nanoseconds since 1970, gives: the start, the sums and `now`. The
-    /// sums stay unchanged. Copies each set that it shows, and with `Delta` looks each up.
+    /// sums stay unchanged. Shares the sets that it shows, and copies none; with `Delta` looks each
+    /// up.
     pub fn points(&self, alloc: Global, now: u64) -> Result<SumData<T>, Fault>
         ensures data { IfOk result (λ given. given ≡ observed_data T.of_bits T.of_wide now self.now.state) }
         ensures only_memory { IsOkUnless result Fault.OutOfMemory }

@@ -11,7 +11,7 @@ ghost use Rattle.otel_value_map.specs.Slots.{copies};
 use crate::settings::HistogramSettings;
 use otel_common::attributes::KeyValue;
 use otel_common::faults::Fault;
-use otel_common::lists::Items;
+use otel_common::lists::{Items, SharedItems};
 use otel_common::metrics::Temporality;
 use otel_data::gauges::Gauge;
 use otel_data::histograms::Histogram;
@@ -62,7 +62,7 @@ pub trait Shows: Aggregator {
         self,
         alloc: Global,
         settings: &Self::Settings,
-        attributes: Items<KeyValue>,
+        attributes: SharedItems<KeyValue>,
     ) -> Result<Self::Point, Fault>
         ensures point { IfOk result (λ made. made ≡ point (aggregate settings.now) (attributes, Self.meaning self)) }
         ensures only_memory { IsOkUnless result Fault.OutOfMemory };
@@ -106,7 +106,7 @@ impl<T: Number + Drop> Shows for Increment<T> {
         self,
         alloc: Global,
         _settings: &bool,
-        attributes: Items<KeyValue>,
+        attributes: SharedItems<KeyValue>,
     ) -> Result<SumDataPoint<T>, Fault> {
         let value = self.value;
         value.told_by_bits();
@@ -153,7 +153,7 @@ impl<T: Number + Drop> Shows for Assign<T> {
         self,
         alloc: Global,
         _settings: &(),
-        attributes: Items<KeyValue>,
+        attributes: SharedItems<KeyValue>,
     ) -> Result<GaugeDataPoint<T>, Fault> {
         let value = self.value;
         value.told_by_bits();
@@ -219,9 +219,9 @@ impl<T: Number + Drop> Shows for Buckets<T> {
         self,
         alloc: Global,
         settings: &HistogramSettings,
-        attributes: Items<KeyValue>,
+        attributes: SharedItems<KeyValue>,
     ) -> Result<HistogramDataPoint<T>, Fault> {
-        let bounds = settings.bounds.copy(alloc)?;
+        let bounds = settings.bounds.share()?;
         let Buckets {
             has_min_max: _,
             has_sum: _,
@@ -261,7 +261,7 @@ impl<T: Number + Drop> Shows for Buckets<T> {
 pub fn into_points<A: Shows>(
     alloc: Global,
     settings: &A::Settings,
-    given: Vec<(Items<KeyValue>, A)>,
+    given: Vec<(SharedItems<KeyValue>, A)>,
 ) -> Result<Items<A::Point>, Fault>
     ensures points { IfOk result (λ made. made ≡ map (A.point (A.aggregate settings.now)) (copies A.meaning given.items)) }
     ensures only_memory { IsOkUnless result Fault.OutOfMemory }

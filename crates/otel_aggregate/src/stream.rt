@@ -18,7 +18,7 @@ use otel_bound_map::bound_map::BoundMap;
 use otel_common::attributes::KeyValue;
 use otel_common::faults::Fault;
 use otel_common::keys::Key;
-use otel_common::lists::Items;
+use otel_common::lists::{Items, SharedItems};
 use otel_common::metrics::Temporality;
 use otel_value_map::hashing::SetHashBuilder;
 use otel_value_map::saved::Saved;
@@ -237,7 +237,7 @@ impl<A: Shows> Stream<A> {
     }
 
     /// What a collection at the moment `now`, in nanoseconds since 1970, gives: the start, the points and `now`. The
-    /// stream stays unchanged. Copies each set that it shows.
+    /// stream stays unchanged. Shares the sets that it shows, and copies none.
     pub fn points(&self, alloc: Global, now: u64) -> Result<A::Data, Fault>
         ensures kind { (s : A.Settings) × (self.now.state.aggregate ≡ A.aggregate s) }
         ensures points { IfOk result (λ given. given ≡ A.collection self.now.state.is_monotonic (temporality_of self.now.state) self.now.state.start now (map (A.point self.now.state.aggregate) (points_now self.now.state))) }
@@ -249,8 +249,9 @@ impl<A: Shows> Stream<A> {
         Ok(A::into_data(&self.settings, points, temporality, self.start, now))
     }
 
-    /// Every set that has an entry, and the empty set if it was updated, with copies of their aggregators.
-    pub fn every_set(&self, alloc: Global) -> Result<Vec<(Items<KeyValue>, A)>, Fault>
+    /// Every set that has an entry, and the empty set if it was updated, with copies of their aggregators. Shares the
+    /// sets.
+    pub fn every_set(&self, alloc: Global) -> Result<Vec<(SharedItems<KeyValue>, A)>, Fault>
         ensures points { IfOk result (λ given. copies A.meaning given.items ≡ draining_points self.now.state.map_state) }
         ensures only_memory { IsOkUnless result Fault.OutOfMemory }
     {

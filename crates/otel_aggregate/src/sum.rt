@@ -179,7 +179,7 @@ impl<T: Number + Drop> Sum<T> {
     }
 
     /// What a collection at the moment `now`, in nanoseconds since 1970, gives: the start, the sums and `now`. The
-    /// sums stay unchanged. Copies each set that it shows.
+    /// sums stay unchanged. Shares the sets that it shows, and copies none.
     pub fn points(&self, alloc: Global, now: u64) -> Result<SumData<T>, Fault>
         ensures sums { self.now.state.aggregate ≡ SumAggregate }
         ensures data { IfOk result (λ given. given ≡ sum_data T.of_bits T.of_wide now self.now.state) }

@@ -11,6 +11,7 @@ ghost use Rattle.otel_pipeline.specs.Streams.{IsMakeable, asks_monotonic};
 use crate::numbers::bits_of;
 use otel_aggregate::settings::{AnySettings, HistogramSettings};
 use otel_common::faults::Fault;
+use otel_common::lists::SharedItems;
 use otel_common::metrics::{Aggregation, Temporality};
 use otel_data::numbers::NumberValue;
 use otel_stream::answers::Answers;
@@ -127,7 +128,8 @@ pub(crate) fn settings_of(demand: &Demand) -> Result<AnySettings, Fault>
             boundaries,
             record_min_max,
         } => {
-            let bounds = Bounds::new(boundaries.clone()?).unwrap();
+            let boundaries = SharedItems::new(boundaries.clone()?.into_vec())?;
+            let bounds = Bounds::new(boundaries).unwrap();
             Ok(AnySettings::Histogram(HistogramSettings {
                 bounds,
                 has_min_max: *record_min_max,

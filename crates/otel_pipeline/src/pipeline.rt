@@ -245,8 +245,8 @@ impl Pipeline {
     /// resource and by the scopes of these meters. After that, the streams that reset start again, and those of
     /// observed sums are empty. If it fails, the observations are undone.
     ///
-    /// Goes once over streams, points and meters. Copies the resource, the scopes and each set that is shown, and also
-    /// the entries of each stream that takes an observation in, to undo that if need be.
+    /// Goes once over streams, points and meters. Copies the resource and the scopes, and also the entries of each
+    /// stream that takes an observation in, to undo that if need be. Shares the sets that are shown, and copies none.
     pub fn collect(
         &mut self,
         resource: &Resource,

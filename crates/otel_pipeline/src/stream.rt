@@ -194,7 +194,7 @@ impl Stream {
 
     /// Saves the entries and the total of the records of an observable instrument's stream.
     ///
-    /// Copies each set that has an entry.
+    /// Copies the entries, and shares their sets.
     pub(crate) fn save(&self, alloc: Global) -> Result<SavedStream, Fault>
         requires { is_observable self.now.stream.demand.identity.kind ≡ true }
         ensures saved { IfOk result (λ saved. saved ≡ saved_by self.now) }

@@ -277,10 +277,10 @@ impl<P: Parts> Provider<P> {
     /// - `Collect` checks each observation, in order, before it changes anything. Each goes to the streams of this
     ///   reader that its instrument feeds, as a record does; the entries of these streams are copied first, so that all
     ///   is undone if memory runs out. Then it goes once over the reader's streams, their points and the meters. It
-    ///   copies the resource, the scopes, texts and sets of what is shown, and the bounds and counts of histograms.
-    ///   Then the streams whose reader wants `Delta` and the last values of observable gauges start again, and observed
-    ///   sums are emptied, which takes no memory. Nothing else changes; other readers' streams never do. After a
-    ///   shutdown it is refused.
+    ///   copies the resource, the scopes and texts of what is shown, and the counts of histograms; sets and bounds are
+    ///   shared with the streams. Then the streams whose reader wants `Delta` and the last values of observable gauges
+    ///   start again, and observed sums are emptied, which takes no memory. Nothing else changes; other readers'
+    ///   streams never do. After a shutdown it is refused.
     /// - `Flush` and `Shutdown` ask each reader once, in order, including those after one that failed. If readers
     ///   failed, they are refused with how many did and the number of the first; such a shutdown has shut the provider
     ///   down all the same. After a shutdown they are refused, and ask no reader. They take no memory beyond what

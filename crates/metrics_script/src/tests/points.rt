@@ -1,7 +1,7 @@
 //! The lines of points, for each aggregation and number type.
 
 use crate::points::write_metric;
-use opentelemetry_sdk::common::{Items, Key, KeyValue, StringValue, Value};
+use opentelemetry_sdk::common::{Items, Key, KeyValue, SharedItems, StringValue, Value};
 use opentelemetry_sdk::metrics::Temporality;
 use opentelemetry_sdk::metrics::data::{
     AggregatedMetrics, Gauge, GaugeDataPoint, Histogram, HistogramDataPoint, Metric, MetricData,
@@ -12,9 +12,9 @@ use std::process::Abort;
 use std::test::Fail;
 
 /// The set of the attribute `a` with the value 1.
-fn set(alloc: Global) -> Result<Items<KeyValue>, Fail> {
+fn set(alloc: Global) -> Result<SharedItems<KeyValue>, Fail> {
     let attribute = KeyValue::new(Key::new(alloc, "a")?, Value::I64(1));
-    Ok(Items::from(vec![in alloc; attribute]?))
+    Ok(SharedItems::new(vec![in alloc; attribute]?)?)
 }
 
 /// Asserts that the points of a metric named `m` of the scope `s` are printed as this line.
@@ -64,7 +64,7 @@ fn sums(rt: HostRuntime) -> Result<(), Fail> {
 fn histograms(rt: HostRuntime) -> Result<(), Fail> {
     let alloc = rt.alloc();
     let none = Items::from(Vec::new(alloc));
-    let bounds = Items::from([5i64].to_vec(alloc)?);
+    let bounds = SharedItems::new([5i64].to_vec(alloc)?)?;
     let counts = Items::from([1u64, 2].to_vec(alloc)?);
     let point = HistogramDataPoint::new(
         set(alloc)?,
@@ -82,7 +82,7 @@ fn histograms(rt: HostRuntime) -> Result<(), Fail> {
     let line = "point s m histogram cumulative 1 2 a=i:1 3 20 4 9 1,2\n";
     assert_line(&rt, alloc, data, line)?;
     let none = Items::from(Vec::new(alloc));
-    let bounds = Items::from(Vec::new(alloc));
+    let bounds = SharedItems::new(Vec::new(alloc))?;
     let counts = Items::from(Vec::new(alloc));
     let point = HistogramDataPoint::new(set(alloc)?, none, bounds, counts, 1, None, None, -5i64);
     let points = Items::from(vec![in alloc; point]?);

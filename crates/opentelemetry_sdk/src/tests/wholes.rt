@@ -5,7 +5,7 @@ ghost use Rattle.otel_stream.specs.declared.instrument.InstrumentKind.TheVariant
 
 use super::support::{attributes, collection, text};
 use crate::common::{
-    InstrumentationScope, Items, Key, KeyValue, OTelSdkResult, StringValue, Value,
+    InstrumentationScope, Items, Key, KeyValue, OTelSdkResult, SharedItems, StringValue, Value,
 };
 use crate::metrics::data::{
     AggregatedMetrics, Metric, MetricData, ResourceMetrics, ScopeMetrics, Sum, SumDataPoint,
@@ -158,7 +158,8 @@ fn sum_of(
     time: u64,
     temporality: Temporality,
 ) -> Result<AggregatedMetrics, Fail> {
-    let point = SumDataPoint::new(Items::from(set), Items::from(Vec::new(alloc)), value);
+    let set = SharedItems::new(set)?;
+    let point = SumDataPoint::new(set, Items::from(Vec::new(alloc)), value);
     let points = Items::from(vec![in alloc; point]?);
     let sum = Sum::new(points, start, time, temporality, true);
     Ok(AggregatedMetrics::from(MetricData::from(sum)))

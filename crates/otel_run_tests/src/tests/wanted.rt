@@ -1,7 +1,7 @@
 //! Wanted collections, written as constants.
 
 use super::replies::{Step, call_of, provider_of, scope, text};
-use opentelemetry_sdk::common::Items;
+use opentelemetry_sdk::common::{Items, SharedItems};
 use opentelemetry_sdk::metrics::Temporality;
 use opentelemetry_sdk::metrics::data::{
     AggregatedMetrics, Gauge, GaugeDataPoint, Histogram, HistogramDataPoint, Metric, MetricData,
@@ -41,13 +41,15 @@ pub enum Data<'a> {
 pub struct Wanted<'a>(pub &'a str, pub &'a str, pub u64, pub u64, pub Data<'a>);
 
 /// A sum point with this value.
-fn sum_point<T: Copy>(alloc: Global, value: T) -> SumDataPoint<T> {
-    SumDataPoint::new(empty(alloc), empty(alloc), value)
+fn sum_point<T: Copy>(alloc: Global, value: T) -> Result<SumDataPoint<T>, Fail> {
+    let set = SharedItems::new(Vec::new(alloc))?;
+    Ok(SumDataPoint::new(set, empty(alloc), value))
 }
 
 /// A gauge point with this value.
-fn gauge_point<T: Copy>(alloc: Global, value: T) -> GaugeDataPoint<T> {
-    GaugeDataPoint::new(empty(alloc), empty(alloc), value)
+fn gauge_point<T: Copy>(alloc: Global, value: T) -> Result<GaugeDataPoint<T>, Fail> {
+    let set = SharedItems::new(Vec::new(alloc))?;
+    Ok(GaugeDataPoint::new(set, empty(alloc), value))
 }
 
 /// A histogram with one point.
@@ -58,10 +60,10 @@ fn histogram(
     temporality: Temporality,
     spread: &Spread<'_>,
 ) -> Result<Histogram<u64>, Fail> {
-    let bounds = Items::from(spread.bounds.to_vec(alloc)?);
+    let bounds = SharedItems::new(spread.bounds.to_vec(alloc)?)?;
     let buckets = Items::from(spread.buckets.to_vec(alloc)?);
     let point = HistogramDataPoint::new(
-        empty(alloc),
+        SharedItems::new(Vec::new(alloc))?,
         empty(alloc),
         bounds,
         buckets,
@@ -88,22 +90,22 @@ fn data_of(
 ) -> Result<AggregatedMetrics, Fail> {
     match data {
         Data::U64Sum(temporality, value) => {
-            let points = vec![in alloc; sum_point(alloc, *value)]?;
+            let points = vec![in alloc; sum_point(alloc, *value)?]?;
             let sum = Sum::new(Items::from(points), start, time, *temporality, true);
             Ok(AggregatedMetrics::U64(MetricData::Sum(sum)))
         }
         Data::I64Sum(temporality, value) => {
-            let points = vec![in alloc; sum_point(alloc, *value)]?;
+            let points = vec![in alloc; sum_point(alloc, *value)?]?;
             let sum = Sum::new(Items::from(points), start, time, *temporality, false);
             Ok(AggregatedMetrics::I64(MetricData::Sum(sum)))
         }
         Data::U64Gauge(value) => {
-            let points = vec![in alloc; gauge_point(alloc, *value)]?;
+            let points = vec![in alloc; gauge_point(alloc, *value)?]?;
             let gauge = Gauge::new(Items::from(points), start, time);
             Ok(AggregatedMetrics::U64(MetricData::Gauge(gauge)))
         }
         Data::I64Gauge(value) => {
-            let points = vec![in alloc; gauge_point(alloc, *value)]?;
+            let points = vec![in alloc; gauge_point(alloc, *value)?]?;
             let gauge = Gauge::new(Items::from(points), start, time);
             Ok(AggregatedMetrics::I64(MetricData::Gauge(gauge)))
         }

@@ -3,7 +3,7 @@
 use super::{B, NONE, Set, attributes};
 use otel_aggregate::histogram::Histogram;
 use otel_common::faults::Fault;
-use otel_common::lists::Items;
+use otel_common::lists::{Items, SharedItems};
 use otel_common::metrics::Temporality;
 use otel_data::histograms::Histogram as HistogramData;
 use otel_data::points::HistogramDataPoint;
@@ -27,7 +27,7 @@ pub struct Spread<T> {
 }
 
 pub fn rising(alloc: Global, bounds: &[i64]) -> Result<Bounds, Fail> {
-    let items = Items::from(Vec::from_clones(alloc, bounds)?);
+    let items = SharedItems::new(Vec::from_clones(alloc, bounds)?)?;
     Ok(Bounds::new(items).ok_or("bounds that do not rise")?)
 }
 
@@ -77,9 +77,9 @@ fn point<T: Copy + Drop>(
         Some((least, greatest)) => (Some(least), Some(greatest)),
     };
     Ok(HistogramDataPoint::new(
-        Items::from(attributes(alloc, set)?),
+        SharedItems::new(attributes(alloc, set)?)?,
         Items::from(Vec::new(alloc)),
-        Items::from(Vec::from_clones(alloc, bounds)?),
+        SharedItems::new(Vec::from_clones(alloc, bounds)?)?,
         Items::from(Vec::from_clones(alloc, spread.counts)?),
         spread.count,
         least,

@@ -3,7 +3,7 @@
 use super::{B, NONE, Set, X, attributes};
 use otel_aggregate::last_value::LastValue;
 use otel_common::faults::Fault;
-use otel_common::lists::Items;
+use otel_common::lists::{Items, SharedItems};
 use otel_common::metrics::Temporality;
 use otel_data::gauges::Gauge;
 use otel_data::points::GaugeDataPoint;
@@ -19,7 +19,7 @@ fn points<T: Copy + Drop>(
 ) -> Result<Vec<GaugeDataPoint<T>>, Fault> {
     let mut points = Vec::new(alloc);
     for (set, value) in wanted {
-        let attributes = Items::from(attributes(alloc, *set)?);
+        let attributes = SharedItems::new(attributes(alloc, *set)?)?;
         points.push(GaugeDataPoint::new(attributes, Items::from(Vec::new(alloc)), *value))?;
     }
     Ok(points)

@@ -5,7 +5,7 @@ use otel_aggregate::sum::Sum;
 use otel_common::attributes::KeyValue;
 use otel_common::faults::Fault;
 use otel_common::keys::Key;
-use otel_common::lists::Items;
+use otel_common::lists::{Items, SharedItems};
 use otel_common::metrics::Temporality;
 use otel_data::points::SumDataPoint;
 use otel_data::sums::Sum as SumData;
@@ -61,7 +61,7 @@ fn points<T: Copy + Drop>(
 ) -> Result<Vec<SumDataPoint<T>>, Fault> {
     let mut points = Vec::new(alloc);
     for (set, value) in wanted {
-        let attributes = Items::from(attributes(alloc, *set)?);
+        let attributes = SharedItems::new(attributes(alloc, *set)?)?;
         points.push(SumDataPoint::new(attributes, Items::from(Vec::new(alloc)), *value))?;
     }
     Ok(points)

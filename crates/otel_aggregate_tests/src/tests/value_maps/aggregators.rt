@@ -2,7 +2,7 @@
 
 use otel_common::bounds::is_rising;
 use otel_common::faults::Fault;
-use otel_common::lists::Items;
+use otel_common::lists::SharedItems;
 use otel_value_map::aggregator::{Aggregator, Increment, create_fold, reset_fold, update_fold};
 use otel_value_map::assign::Assign;
 use otel_value_map::bounds::Bounds;
@@ -64,7 +64,8 @@ fn an_assign_keeps_the_last(rt: HostRuntime) -> Result<(), Fail> {
 }
 
 fn rising(alloc: Global, bounds: &[i64]) -> Result<Option<Bounds>, Fault> {
-    Ok(Bounds::new(Items::from(Vec::from_clones(alloc, bounds)?)))
+    let items = SharedItems::new(Vec::from_clones(alloc, bounds)?)?;
+    Ok(Bounds::new(items))
 }
 
 #[test]
@@ -79,9 +80,9 @@ fn bounds_that_rise(rt: HostRuntime) -> Result<(), Fail> {
     Ok(())
 }
 
-/// Whether a copy of the bounds has these numbers.
-fn is_copied(alloc: Global, bounds: &Bounds, want: &[i64]) -> Result<bool, Fault> {
-    Ok(bounds.copy(alloc)?.as_slice() == want)
+/// Whether another owner of the bounds has these numbers.
+fn is_shared(bounds: &Bounds, want: &[i64]) -> Result<bool, Fault> {
+    Ok(bounds.share()?.as_slice() == want)
 }
 
 #[test]
@@ -89,7 +90,7 @@ fn bounds_rise(rt: HostRuntime) -> Result<(), Fail> {
     let bounds = rising(rt.alloc(), &[1, 3])?.ok_or("bounds that do not rise")?;
     assert_eq!(rt; bounds.number_of_buckets(), 3);
     assert!(rt; bounds.as_slice() == [1, 3].as_slice());
-    assert!(rt; is_copied(rt.alloc(), &bounds, &[1, 3]).unwrap_or(false));
+    assert!(rt; is_shared(&bounds, &[1, 3]).unwrap_or(false));
     assert_eq!(rt; bounds.bucket_of(1), 0);
     assert_eq!(rt; bounds.bucket_of(2), 1);
     assert_eq!(rt;

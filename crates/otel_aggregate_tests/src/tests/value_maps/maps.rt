@@ -3,7 +3,7 @@
 use super::{Set, attributes};
 use otel_common::attributes::KeyValue;
 use otel_common::faults::Fault;
-use otel_common::lists::Items;
+use otel_common::lists::SharedItems;
 use otel_value_map::aggregator::Increment;
 use otel_value_map::assign::Assign;
 use otel_value_map::hashing::SetHashBuilder;
@@ -24,7 +24,7 @@ const OTHER: Set = &[("c", 1)];
 /// Whether this is the wanted set with the wanted sum.
 fn is_sum<T: Number + Drop + PartialEq>(
     alloc: Global,
-    given: &(Items<KeyValue>, Increment<T>),
+    given: &(SharedItems<KeyValue>, Increment<T>),
     want: &(Set, T),
 ) -> Result<bool, Fault> {
     let set = attributes(alloc, want.0)?;
@@ -34,7 +34,7 @@ fn is_sum<T: Number + Drop + PartialEq>(
 /// Whether these are the wanted sets and sums, in order.
 fn are_sums<T: Number + Drop + PartialEq>(
     alloc: Global,
-    given: &[(Items<KeyValue>, Increment<T>)],
+    given: &[(SharedItems<KeyValue>, Increment<T>)],
     wanted: &[(Set, T)],
 ) -> Result<bool, Fault> {
     let mut are = given.len() == wanted.len();
