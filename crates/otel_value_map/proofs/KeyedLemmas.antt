@@ -21,7 +21,7 @@ use Rattle.otel_model_stream.specs.Folds.{Fold}
 use Rattle.otel_value_map.specs.declared.slots.Slot.{Slot}
 use Rattle.otel_value_map.specs.Slots.{Kept, Look, Keyed, kept_of, look_in, entry_of, entry_at, table_at, HasForm}
 use Rattle.otel_value_map.specs.Keyed.{Fits, Links, IsKept, found, first_of, is_lasting, is_counted}
-use Rattle.otel_value_map.specs.Numbers.{Numbers, named_in, set_named, number_of, is_placed, AreNamed, AreNumbered, IsNumberOf}
+use Rattle.otel_value_map.specs.Numbers.{named_in, set_named, AreNamed, AreNumbered, IsNumberOf}
 
 pub same_set : (s t : AttributeSet) → set_eq s t ≡ true → s ≡ t
 same_set s t h = (set_eq-Decides s t).0 h

@@ -12,3 +12,5 @@ pub mod BoundLemmas
 pub mod FoldLaws
 pub mod WeightLemmas
 pub mod KeptLemmas
+pub mod RisingKeys
+pub mod Referenced

@@ -9,6 +9,7 @@ pub mod hashing;
 pub mod internal;
 pub mod number;
 mod pending;
+mod references;
 pub mod saved;
 mod set_key;
 pub mod sets;

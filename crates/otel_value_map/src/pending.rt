@@ -151,8 +151,16 @@ pub fn led_to<A: Aggregator>(table: &Table<A>, list: &SetKey) -> Option<usize>
     table.find(list)
 }
 
+/// A copy of a set, as a key that owns it.
+fn kept(alloc: Global, set: &SetKey) -> Result<SetKey<'static>, Fault>
+    ensures copy { IfOk result (λ key. key ≡ set.now) }
+    ensures only_memory { IsOkUnless result Fault.OutOfMemory }
+{
+    Ok(SetKey::owned(set.share(alloc)?))
+}
+
 /// What a record is to do with a list that, as given, leads to no entry. `few` says whether the number of counted
-/// entries is below the limit. Sorts a copy of the list, and looks that up if it is another list.
+/// entries is below the limit. Looks the canonical form up if that is another list, by sorted references.
 #[inline(never)]
 pub fn plan<A: Aggregator>(
     alloc: Global,
@@ -164,19 +172,21 @@ pub fn plan<A: Aggregator>(
     ensures plan { IfOk result (λ plan. IsPlan table.now few list.now plan) }
     ensures only_memory { IsOkUnless result Fault.OutOfMemory }
 {
-    let set = list.canonical(alloc)?;
-    if set == *list {
+    if list.is_canonical() {
         // Tells the prover that the set has no number.
         table.told_numbers();
-        return Ok(Pending::New(set, None));
+        let own = kept(alloc, list)?;
+        return Ok(Pending::New(own, None));
     }
-    if let Some(number) = table.find_set(&set) {
+    let sorted = list.canonical(alloc)?;
+    if let Some(number) = table.find_set(&sorted) {
         return Ok(Pending::At(number));
     }
+    let set = kept(alloc, &sorted)?;
     if !few {
         return Ok(Pending::New(set, None));
     }
-    let key = SetKey::owned(list.share(alloc)?);
+    let key = kept(alloc, list)?;
     Ok(Pending::New(set, Some(key)))
 }
 
