@@ -205,8 +205,8 @@ impl<A: Aggregator> ValueMap<A> {
     ///
     /// This is the first of two phases: a record for several maps is prepared in all of them and then taken in by all.
     /// It looks the attributes up as given. If they lead to an entry, as its set or as the list that admitted it, that
-    /// is all, and it takes no memory; the same holds if there are no attributes. Otherwise it sorts a copy, and looks
-    /// that up if it is another list.
+    /// is all, and it takes no memory; the same holds if there are no attributes. Otherwise it sorts references to them
+    /// and looks these up, unless the keys rise as given; attributes are copied only for a set without an entry.
     pub fn prepare(&mut self, attributes: &[KeyValue]) -> Result<(), Fault>
         ensures same { self.new.state ≡ self.old.state }
         ensures numbers { self.new.numbers ≡ self.old.numbers }
@@ -228,7 +228,7 @@ impl<A: Aggregator> ValueMap<A> {
     /// (Metrics SDK, "View").
     ///
     /// It looks up what is kept without copying it. It takes no memory if what is kept leads to an entry in the order
-    /// given, or if nothing is kept. Otherwise it copies what is kept, sorts a copy of that and looks it up.
+    /// given, or if nothing is kept. Otherwise it sorts references to what is kept and looks these up.
     #[inline(never)]
     pub fn prepare_allowed(&mut self, allow: &[Key], attributes: &[KeyValue]) -> Result<(), Fault>
         ensures same { self.new.state ≡ self.old.state }
