@@ -12,7 +12,9 @@ use crate::metrics::data::{
 };
 use crate::metrics::provider::{Call, InstrumentSort, NumberValue, Reply};
 use crate::metrics::reader::MetricReader;
-use crate::metrics::{InstrumentKind, ManualReader, SdkMeterProvider, Temporality};
+use crate::metrics::{
+    InstrumentKind, ManualReader, MeterProviderBuilder, SdkMeterProvider, Temporality,
+};
 use crate::resource::Resource;
 use std::alloc::Global;
 use std::process::Abort;
@@ -260,8 +262,8 @@ fn assert_collected(
     Ok(())
 }
 
-/// A provider with a reader of each kind, after the calls.
-fn provider(alloc: Global) -> Result<SdkMeterProvider, Fail> {
+/// The builder of a provider with a manual reader of each temporality.
+fn manual_readers(alloc: Global) -> Result<MeterProviderBuilder, Fail> {
     let mut builder = SdkMeterProvider::builder(alloc);
     for temporality in [
         Temporality::Cumulative,
@@ -273,6 +275,12 @@ fn provider(alloc: Global) -> Result<SdkMeterProvider, Fail> {
             .build();
         builder = builder.with_reader(Box::new(alloc, reader)?)?;
     }
+    Ok(builder)
+}
+
+/// A provider with a reader of each kind, after the calls.
+fn provider(alloc: Global) -> Result<SdkMeterProvider, Fail> {
+    let mut builder = manual_readers(alloc)?;
     for (counters, others) in [
         (Temporality::Delta, Temporality::Cumulative),
         (Temporality::LowMemory, Temporality::Delta),
