@@ -6,9 +6,9 @@ ghost use Rattle.otel_common.specs.Canonical.{canon};
 ghost use Rattle.otel_model_stream.specs.Entries.{points};
 ghost use Rattle.otel_model_stream.specs.Events.{held_by};
 ghost use Rattle.otel_model_stream.specs.Folds.{wrap};
-ghost use Rattle.otel_model_stream.specs.Maps.{new_map, measured_map, evicted_map, drained_map, draining_points, without_lists, SucceedsIfKnown};
+ghost use Rattle.otel_model_stream.specs.Maps.{new_map, measured_map, evicted_map, drained_map, draining_points};
 ghost use Rattle.otel_model_stream.specs.Observed.{fold_in};
-ghost use Rattle.otel_model_stream.specs.Sets.{AttributeSet, allowed_part, set_of};
+ghost use Rattle.otel_model_stream.specs.Sets.{AttributeSet, set_of};
 ghost use Rattle.otel_model_stream.specs.Totals.{points_total};
 ghost use Rattle.otel_value_map.specs.Numbers.{is_placed, without_handles};
 ghost use Rattle.otel_value_map.specs.Slots.{HasForm, copies};
@@ -82,7 +82,7 @@ impl<A: Aggregator> BoundMap<A> {
         ensures room { self.new.room ≡ self.old.room }
         ensures ready { OnOk result (self.new.pending ≡ Some (canon attributes.now)) }
         ensures refused { OnErr result (self.new.pending ≡ None) }
-        ensures known { SucceedsIfKnown attributes.now (without_lists self.old.state) result }
+        ensures placed { IsTrue (is_placed (canon attributes.now) self.old.state.table.entries) → IsOk result }
         ensures only_memory { IsOkUnless result Fault.OutOfMemory }
     {
         self.map.prepare(attributes)
@@ -96,7 +96,7 @@ impl<A: Aggregator> BoundMap<A> {
         ensures room { self.new.room ≡ self.old.room }
         ensures ready { OnOk result (self.new.pending ≡ Some (set_of (Some allow.now) attributes.now)) }
         ensures refused { OnErr result (self.new.pending ≡ None) }
-        ensures known { SucceedsIfKnown (allowed_part (Some allow.now) attributes.now) (without_lists self.old.state) result }
+        ensures placed { IsTrue (is_placed (set_of (Some allow.now) attributes.now) self.old.state.table.entries) → IsOk result }
         ensures only_memory { IsOkUnless result Fault.OutOfMemory }
     {
         self.map.prepare_allowed(allow, attributes)

@@ -11,6 +11,3 @@ pub mod PlaceLemmas
 pub mod BoundLemmas
 pub mod FoldLaws
 pub mod WeightLemmas
-pub mod KeptLemmas
-pub mod RisingKeys
-pub mod Referenced

@@ -8,9 +8,10 @@ use Rattle.otel_common.specs.Equality.{set_eq}
 use Rattle.otel_common.specs.declared.attributes.KeyValue.{KeyValue}
 use Rattle.otel_common.proofs.CanonLaws.{canon-canon}
 use Rattle.otel_model_stream.specs.Sets.{AttributeSet, none_set}
-use Rattle.otel_model_stream.specs.Entries.{has}
+use Rattle.otel_model_stream.specs.Entries.{Entry, has}
+use Rattle.otel_model_stream.specs.Maps.{KnownMap, knows}
 use Rattle.otel_value_map.specs.Keyed.{Slotted, IsNew, IsSpelling}
-use Rattle.otel_value_map.specs.Numbers.{number_of, set_named, named_in, AreNumbered}
+use Rattle.otel_value_map.specs.Numbers.{number_of, set_named, named_in, is_placed, AreNumbered}
 use Rattle.otel_value_map.specs.Held.{IsPlan, IsSound, IsReady, leads, list_of}
 use Rattle.otel_value_map.specs.declared.pending.Pending.{Pending}
 use Rattle.otel_value_map.specs.declared.pending.Pending.TheVariants.{Nothing, At, New}
@@ -122,3 +123,11 @@ sound-same t n few room p table numbers given sound =
     anew Nothing s = tt
     anew (At k) s = s
     anew (New set list) s = record { new = s.new; absent = s.absent; spelling = s.spelling; admitted = s.admitted; ready = s.ready }
+
+-- a list that isn't known isn't empty
+pub unknown-some : (l : List KeyValue) (k : KnownMap) → knows l k ≡ false → set_eq l none_set ≡ false
+unknown-some l k e = (or-none (set_eq l none_set) (is_member set_eq k.given l) (has l k.map_state.table.entries) e).0
+
+-- where the set of a list that isn't empty has a place, it has an entry
+pub placed-has : (l : List KeyValue) (es : List Entry) → set_eq l none_set ≡ false → is_placed (canon l) es ≡ true → has (canon l) es ≡ true
+placed-has l es some placed = sym (ap (λ b. b || has (canon l) es) (some-canon l some)) ∙ placed

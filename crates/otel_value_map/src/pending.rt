@@ -1,19 +1,25 @@
 //! A prepared record or bind, and what is made for it in advance.
 
-ghost use Rattle.std.specs.Prelude.{◌≡◌, true, false, cond, None, Some, IfSome, IfOk, OnOk, IsOkUnless, is_some};
-ghost use Rattle.std.specs.Option.{IfNone};
+ghost use Rattle.std.specs.Prelude.{◌≡◌, true, false, cond, None, Some, IfSome, IfOk, IsOk, OnOk, IsOkUnless, IsTrue, is_some};
+ghost use Rattle.std.specs.Option.{IfNone, option_copied};
+ghost use Rattle.otel_common.specs.Canonical.{canon};
 ghost use Rattle.otel_common.specs.Equality.{set_eq};
-ghost use Rattle.otel_model_stream.specs.Sets.{over_set};
+ghost use Rattle.otel_model_stream.specs.Entries.{has};
+ghost use Rattle.otel_model_stream.specs.Sets.{allowed_part, over_set};
 ghost use Rattle.otel_value_map.specs.Slots.{kept_of, new_kept};
 ghost use Rattle.otel_value_map.specs.Held.{IsPlan, IsPlanAt, is_new, is_pending, leads};
 ghost use Rattle.otel_value_map.specs.declared.pending.Pending.TheVariants.{Nothing, At};
 
 use crate::aggregator::Aggregator;
-use crate::set_key::SetKey;
 use crate::sets::overflow_set;
 use crate::slots::Slot;
 use crate::table::Table;
+use otel_common::attributes::KeyValue;
 use otel_common::faults::Fault;
+use otel_common::keys::Key;
+use otel_sets::references::{few_references, many_references};
+use otel_sets::set_attributes::SetAttributes;
+use otel_sets::set_key::SetKey;
 use std::alloc::Global;
 use std::marker::Model;
 
@@ -151,43 +157,106 @@ pub fn led_to<A: Aggregator>(table: &Table<A>, list: &SetKey) -> Option<usize>
     table.find(list)
 }
 
-/// A copy of a set, as a key that owns it.
-fn kept(alloc: Global, set: &SetKey) -> Result<SetKey<'static>, Fault>
+/// A key that owns the set of another one.
+fn owned(alloc: Global, set: &SetKey) -> Result<SetKey<'static>, Fault>
     ensures copy { IfOk result (λ key. key ≡ set.now) }
     ensures only_memory { IsOkUnless result Fault.OutOfMemory }
 {
     Ok(SetKey::owned(set.share(alloc)?))
 }
 
-/// What a record is to do with a list that, as given, leads to no entry. `few` says whether the number of counted
-/// entries is below the limit. Looks the canonical form up if that is another list, by sorted references.
+/// What a record is to do with a list that, as given, leads to no entry and isn't canonical. `few` says whether the
+/// number of counted entries is below the limit. Looks the canonical form up, which is handed in too.
+fn plan_sorted<A: Aggregator>(
+    alloc: Global,
+    table: &Table<A>,
+    few: bool,
+    list: &SetKey,
+    sorted: &SetKey,
+) -> Result<Pending, Fault>
+    requires unled { leads list.now table.now ≡ false }
+    requires other { set_eq (canon list.now) list.now ≡ false }
+    requires sorted { sorted.now ≡ canon list.now }
+    ensures plan { IfOk result (λ plan. IsPlan table.now few list.now plan) }
+    ensures placed { IsTrue (has (canon list.now) table.now.table.entries) → IsOk result }
+    ensures only_memory { IsOkUnless result Fault.OutOfMemory }
+{
+    if let Some(number) = table.find_set(sorted) {
+        return Ok(Pending::At(number));
+    }
+    let set = owned(alloc, sorted)?;
+    if !few {
+        return Ok(Pending::New(set, None));
+    }
+    let key = owned(alloc, list)?;
+    Ok(Pending::New(set, Some(key)))
+}
+
+/// Does what `plan` does where there are too many keys for sorting without memory. If memory for sorting is refused, the
+/// canonical form is looked up without being made, in quadratic time.
+fn plan_many<A: Aggregator>(
+    alloc: Global,
+    table: &Table<A>,
+    few: bool,
+    list: &SetKey,
+    allow: Option<&[Key]>,
+    attributes: &[KeyValue],
+) -> Result<Pending, Fault>
+    requires list { list.now ≡ allowed_part (option_copied allow) attributes.now }
+    requires unled { leads list.now table.now ≡ false }
+    requires other { set_eq (canon list.now) list.now ≡ false }
+    ensures plan { IfOk result (λ plan. IsPlan table.now few list.now plan) }
+    ensures placed { IsTrue (has (canon list.now) table.now.table.entries) → IsOk result }
+    ensures only_memory { IsOkUnless result Fault.OutOfMemory }
+{
+    match many_references(alloc, allow, attributes) {
+        Ok(references) => {
+            let sorted = SetAttributes::referenced(references.as_slice());
+            plan_sorted(alloc, table, few, list, &SetKey::held(&sorted))
+        }
+        Err(fault) => {
+            let sorted = SetAttributes::canonical(allow, attributes);
+            match table.find_set(&SetKey::held(&sorted)) {
+                Some(number) => Ok(Pending::At(number)),
+                None => Err(fault),
+            }
+        }
+    }
+}
+
+/// What a record is to do with a list that, as given, leads to no entry: with what is kept of these attributes. `few`
+/// says whether the number of counted entries is below the limit.
+///
+/// Looks the canonical form up if that is another list, by references that are sorted. For up to 16 keys this takes no
+/// memory.
 #[inline(never)]
 pub fn plan<A: Aggregator>(
     alloc: Global,
     table: &Table<A>,
     few: bool,
     list: &SetKey,
+    allow: Option<&[Key]>,
+    attributes: &[KeyValue],
 ) -> Result<Pending, Fault>
-    requires { leads list.now table.now ≡ false }
+    requires list { list.now ≡ allowed_part (option_copied allow) attributes.now }
+    requires unled { leads list.now table.now ≡ false }
     ensures plan { IfOk result (λ plan. IsPlan table.now few list.now plan) }
+    ensures placed { IsTrue (has (canon list.now) table.now.table.entries) → IsOk result }
     ensures only_memory { IsOkUnless result Fault.OutOfMemory }
 {
     if list.is_canonical() {
         // Tells the prover that the set has no number.
         table.told_numbers();
-        let own = kept(alloc, list)?;
+        let own = owned(alloc, list)?;
         return Ok(Pending::New(own, None));
     }
-    let sorted = list.canonical(alloc)?;
-    if let Some(number) = table.find_set(&sorted) {
-        return Ok(Pending::At(number));
+    match few_references(allow, attributes) {
+        Some(references) => {
+            let sorted = SetAttributes::referenced(references.as_slice());
+            plan_sorted(alloc, table, few, list, &SetKey::held(&sorted))
+        }
+        None => plan_many(alloc, table, few, list, allow, attributes),
     }
-    let set = kept(alloc, &sorted)?;
-    if !few {
-        return Ok(Pending::New(set, None));
-    }
-    let key = kept(alloc, list)?;
-    Ok(Pending::New(set, Some(key)))
 }
 
 /// Makes an aggregator in advance, unless there is one already.

@@ -19,12 +19,12 @@ ghost use Rattle.otel_value_map.specs.Slots.{HasForm, look_in, kept_of, forgotte
 
 use crate::aggregator::Aggregator;
 use crate::hashing::SetHashBuilder;
-use crate::set_key::SetKey;
 use crate::slots::{Slot, evict, fill, hold, release, touch};
 use indexmap::IndexMap;
 use otel_common::attributes::KeyValue;
 use otel_common::faults::Fault;
 use otel_common::lists::SharedItems;
+use otel_sets::set_key::SetKey;
 use slab::Slab;
 use std::alloc::{AllocError, Global};
 use std::marker::Model;

@@ -1,7 +1,7 @@
 //! A bounded map from sets of attributes to aggregators.
 
-ghost use Rattle.std.specs.Prelude.{◌≡◌, ◌<◌, ◌-◌, ◌+◌, ◌*◌, ◌≤◌, ◌^◌, ◌++◌, [], true, false, is_some, length, None, Some, IsSome, OnOk, OnErr, IfOk, IsOkUnless, IsTrue, ℕ};
-ghost use Rattle.std.specs.Option.{option_map};
+ghost use Rattle.std.specs.Prelude.{◌≡◌, ◌<◌, ◌-◌, ◌+◌, ◌*◌, ◌≤◌, ◌^◌, ◌++◌, [], true, false, is_some, length, None, Some, IsSome, OnOk, OnErr, IfOk, IsOk, IsOkUnless, IsTrue, ℕ};
+ghost use Rattle.std.specs.Option.{option_copied, option_map};
 ghost use Rattle.otel_common.specs.Canonical.{canon};
 ghost use Rattle.otel_model_stream.specs.Entries.{entry_for, points, number_counted};
 ghost use Rattle.otel_model_stream.specs.Maps.{new_map, with_place, measured_map, measured_list, bound_list, bound_map, bound_to, updated_bound, unbound_map, evicted_map, evicted_known, drained_map, readonly_points, resetting_points, draining_points, knows, keys, given_left, is_admitted, SucceedsIfKnown};
@@ -11,14 +11,13 @@ ghost use Rattle.otel_model_stream.specs.Folds.{wrap};
 ghost use Rattle.otel_model_stream.specs.Sets.{AttributeSet, allowed_part, set_of};
 ghost use Rattle.otel_model_stream.specs.Totals.{points_total};
 ghost use Rattle.otel_value_map.specs.Held.{known_of};
-ghost use Rattle.otel_value_map.specs.Numbers.{number_of, without_handles, AreHandlesFew, AreNamed, AreNumbered, spelling_of, KeepNumbers, KeepLeft};
+ghost use Rattle.otel_value_map.specs.Numbers.{number_of, without_handles, AreHandlesFew, AreNamed, AreNumbered, spelling_of, is_placed, KeepNumbers, KeepLeft};
 ghost use Rattle.otel_value_map.specs.Slots.{HasForm, copies};
 
 use crate::aggregator::Aggregator;
 use crate::hashing::SetHashBuilder;
 use crate::pending::{Pending, Prepared, led_to, make_key, make_unused, plan, take_slot};
 use crate::saved::Saved;
-use crate::set_key::SetKey;
 use crate::sets::overflow_set;
 use crate::slots::Slot;
 use crate::table::Table;
@@ -26,6 +25,8 @@ use otel_common::attributes::KeyValue;
 use otel_common::faults::Fault;
 use otel_common::keys::Key;
 use otel_common::lists::SharedItems;
+use otel_sets::set_attributes::SetAttributes;
+use otel_sets::set_key::SetKey;
 use std::alloc::Global;
 use std::marker::Model;
 
@@ -110,9 +111,16 @@ impl<A: Aggregator> ValueMap<A> {
         })
     }
 
-    /// Prepares a record or a bind for the canonical form of a list, in place of one that was prepared before.
+    /// Prepares a record or a bind for the canonical form of a list, in place of one that was prepared before. The list
+    /// is what is kept of the attributes.
     #[inline(always)]
-    fn prepare_list(&mut self, list: &SetKey) -> Result<(), Fault>
+    fn prepare_list(
+        &mut self,
+        list: &SetKey,
+        allow: Option<&[Key]>,
+        attributes: &[KeyValue],
+    ) -> Result<(), Fault>
+        requires { list.now ≡ allowed_part (option_copied allow) attributes.now }
         ensures same { self.new.state ≡ self.old.state }
         ensures numbers { self.new.numbers ≡ self.old.numbers }
         ensures given { self.new.given ≡ self.old.given }
@@ -120,30 +128,38 @@ impl<A: Aggregator> ValueMap<A> {
         ensures spelling { OnOk result (self.new.spelling ≡ spelling_of list.now self.old.state) }
         ensures refused { OnErr result (self.new.pending ≡ None) }
         ensures known { SucceedsIfKnown list.now (known_of self.old) result }
+        ensures placed { IsTrue (is_placed (canon list.now) self.old.state.table.entries) → IsOk result }
         ensures only_memory { IsOkUnless result Fault.OutOfMemory }
     {
         if let Some(number) = led_to(&self.table, list) {
             self.pending.put_at(number);
             return Ok(());
         }
-        self.prepare_unknown(list)
+        self.prepare_unknown(list, allow, attributes)
     }
 
-    /// Prepares a record or a bind for the canonical form of a list that, as given, leads to no entry, in place of one
-    /// that was prepared before.
+    /// Does what `prepare_list` does with a list that, as given, leads to no entry.
     #[inline(never)]
-    fn prepare_unknown(&mut self, list: &SetKey) -> Result<(), Fault>
-        requires { knows list.now (known_of self.old) ≡ false }
+    fn prepare_unknown(
+        &mut self,
+        list: &SetKey,
+        allow: Option<&[Key]>,
+        attributes: &[KeyValue],
+    ) -> Result<(), Fault>
+        requires list { list.now ≡ allowed_part (option_copied allow) attributes.now }
+        requires unknown { knows list.now (known_of self.old) ≡ false }
         ensures same { self.new.state ≡ self.old.state }
         ensures numbers { self.new.numbers ≡ self.old.numbers }
         ensures given { self.new.given ≡ self.old.given }
         ensures ready { OnOk result (self.new.pending ≡ Some (canon list.now)) }
         ensures spelling { OnOk result (self.new.spelling ≡ spelling_of list.now self.old.state) }
         ensures refused { OnErr result (self.new.pending ≡ None) }
+        ensures placed { IsTrue (is_placed (canon list.now) self.old.state.table.entries) → IsOk result }
         ensures only_memory { IsOkUnless result Fault.OutOfMemory }
     {
         self.pending.give_up();
-        let plan = plan(self.alloc, &self.table, self.count < self.limit, list)?;
+        let is_few = self.count < self.limit;
+        let plan = plan(self.alloc, &self.table, is_few, list, allow, attributes)?;
         if !plan.is_new() {
             self.pending.put(plan);
             return Ok(());
@@ -206,7 +222,9 @@ impl<A: Aggregator> ValueMap<A> {
     /// This is the first of two phases: a record for several maps is prepared in all of them and then taken in by all.
     /// It looks the attributes up as given. If they lead to an entry, as its set or as the list that admitted it, that
     /// is all, and it takes no memory; the same holds if there are no attributes. Otherwise it sorts references to them
-    /// and looks these up, unless the keys rise as given; attributes are copied only for a set without an entry.
+    /// and looks these up, unless the keys rise as given; attributes are copied only for a set without an entry. Up to 16
+    /// keys are sorted without memory. More are sorted with memory; if it is refused, a set that has an entry is still
+    /// found, in quadratic time.
     pub fn prepare(&mut self, attributes: &[KeyValue]) -> Result<(), Fault>
         ensures same { self.new.state ≡ self.old.state }
         ensures numbers { self.new.numbers ≡ self.old.numbers }
@@ -215,20 +233,20 @@ impl<A: Aggregator> ValueMap<A> {
         ensures spelling { OnOk result (self.new.spelling ≡ spelling_of attributes.now self.old.state) }
         ensures refused { OnErr result (self.new.pending ≡ None) }
         ensures known { SucceedsIfKnown attributes.now (known_of self.old) result }
+        ensures placed { IsTrue (is_placed (canon attributes.now) self.old.state.table.entries) → IsOk result }
         ensures only_memory { IsOkUnless result Fault.OutOfMemory }
     {
         if attributes.is_empty() {
             self.pending.put_at(self.table.none());
             return Ok(());
         }
-        self.prepare_list(&SetKey::given(attributes))
+        self.prepare_list(&SetKey::given(attributes), None, attributes)
     }
 
     /// Prepares a record or a bind, as `prepare` does, for those of the attributes whose key is in the allow-list
     /// (Metrics SDK, "View").
     ///
-    /// It looks up what is kept without copying it. It takes no memory if what is kept leads to an entry in the order
-    /// given, or if nothing is kept. Otherwise it sorts references to what is kept and looks these up.
+    /// It looks up what is kept without copying it, as given and otherwise by sorted references.
     #[inline(never)]
     pub fn prepare_allowed(&mut self, allow: &[Key], attributes: &[KeyValue]) -> Result<(), Fault>
         ensures same { self.new.state ≡ self.old.state }
@@ -238,9 +256,11 @@ impl<A: Aggregator> ValueMap<A> {
         ensures spelling { OnOk result (self.new.spelling ≡ spelling_of (allowed_part (Some allow.now) attributes.now) self.old.state) }
         ensures refused { OnErr result (self.new.pending ≡ None) }
         ensures known { SucceedsIfKnown (allowed_part (Some allow.now) attributes.now) (known_of self.old) result }
+        ensures placed { IsTrue (is_placed (set_of (Some allow.now) attributes.now) self.old.state.table.entries) → IsOk result }
         ensures only_memory { IsOkUnless result Fault.OutOfMemory }
     {
-        self.prepare_list(&SetKey::allowed(allow, attributes))
+        let kept = SetAttributes::kept(Some(allow), attributes);
+        self.prepare_list(&SetKey::held(&kept), Some(allow), attributes)
     }
 
     /// Prepares a record at the entry with this number, in place of one that was prepared before. Looks nothing up and
@@ -287,9 +307,8 @@ impl<A: Aggregator> ValueMap<A> {
         self.table.touch(entry, value);
     }
 
-    /// Takes in a record for the canonical form of the attributes. Takes no memory without attributes, or if they lead
-    /// to an entry as given. If it admits their set, the attributes and their canonical form lead to that set's entry
-    /// from then on.
+    /// Takes in a record for the canonical form of the attributes. Takes memory where `prepare` does. If it admits their
+    /// set, the attributes and their canonical form lead to that set's entry from then on.
     pub fn measure(
         &mut self,
         value: A::PreComputedValue,
@@ -301,6 +320,7 @@ impl<A: Aggregator> ValueMap<A> {
         ensures err { OnErr result (known_of self.new ≡ known_of self.old) }
         ensures spent { self.new.pending ≡ None }
         ensures known { SucceedsIfKnown attributes.now (known_of self.old) result }
+        ensures placed { IsTrue (is_placed (canon attributes.now) self.old.state.table.entries) → IsOk result }
         ensures only_memory { IsOkUnless result Fault.OutOfMemory }
     {
         self.prepare(attributes)?;
@@ -336,6 +356,7 @@ impl<A: Aggregator> ValueMap<A> {
         ensures err { OnErr result (known_of self.new ≡ known_of self.old) }
         ensures spent { self.new.pending ≡ None }
         ensures known { SucceedsIfKnown attributes.now (known_of self.old) result }
+        ensures placed { IsTrue (is_placed (canon attributes.now) self.old.state.table.entries) → IsOk result }
         ensures only_memory { IsOkUnless result Fault.OutOfMemory }
     {
         self.prepare(attributes)?;

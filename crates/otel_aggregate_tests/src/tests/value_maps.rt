@@ -3,7 +3,7 @@
 use otel_common::attributes::{KeyValue, Value};
 use otel_common::faults::Fault;
 use otel_common::keys::Key;
-use otel_value_map::sets::allowed_attributes;
+use otel_sets::set_attributes::{SetAttributes, copies_of};
 use std::alloc::Global;
 use std::test::Fail;
 
@@ -21,7 +21,8 @@ fn attributes(alloc: Global, set: Set) -> Result<Vec<KeyValue>, Fault> {
 /// Whether an allow-list of this one key leaves `left` of `set`.
 fn leaves(alloc: Global, key: &str, set: Set, left: Set) -> Result<bool, Fault> {
     let given = attributes(alloc, set)?;
-    let allowed = allowed_attributes(alloc, &[Key::new(alloc, key)?], &given)?;
+    let keys = [Key::new(alloc, key)?];
+    let allowed = copies_of(alloc, SetAttributes::kept(Some(&keys), &given))?;
     Ok(allowed == attributes(alloc, left)?)
 }
 

@@ -1,13 +1,11 @@
-use Rattle.std.proofs.Common.{◌≡◌, ◌∙◌, ap, sym, subst, true, false, cond, None, Some, Bool, rules}
+use Rattle.std.proofs.Common.{◌≡◌, ◌∙◌, ap, sym, true, false, true≢false, None}
 use Rattle.std.specs.Map.{lookup}
 use Rattle.otel_common.specs.Canonical.{canon}
 use Rattle.otel_common.specs.Equality.{set_eq}
 use Rattle.otel_model_stream.specs.Sets.{AttributeSet}
 use Rattle.otel_model_stream.specs.Entries.{has}
-use Rattle.otel_value_map.specs.Held.{IsPlan}
-use Rattle.otel_value_map.specs.declared.pending.Pending.TheVariants.{New}
 use Rattle.otel_value_map.proofs.KeyedLemmas.{same_set}
-use Rattle.otel_value_map.proofs.PlanLemmas.{plan-own, plan-past, plan-admitted, unlisted, unnumbered}
+use Rattle.otel_value_map.proofs.PlanLemmas.{plan-own, unlisted, unnumbered}
 use Rattle.otel_value_map.proofs.pending.plan.Goals as goal
 
 pub returns-then-is_canonical-clause-plan : goal.returns-then-is_canonical-clause-plan
@@ -17,31 +15,15 @@ returns-then-is_canonical-clause-plan g c =
     let own : set_eq (canon l) l ≡ true = sym c.is_canonical.ensures ∙ c.if-is_canonical.true in
     let same : canon l ≡ l = same_set (canon l) l own in
     let set : c.in_ok-own.own ≡ canon l = c.in_ok-own.ensures.copy ∙ sym same in
-    let absent : lookup (set_eq (canon l)) t.numbers.sets ≡ None = ap (λ (s : AttributeSet). lookup (set_eq s) t.numbers.sets) same ∙ unnumbered t l c.requires c.told_numbers.ensures.placed in
-    let away : has (canon l) t.table.entries ≡ false = ap (λ (s : AttributeSet). has s t.table.entries) same ∙ unlisted t l c.requires in
-    plan-own t l c.requires absent away c.args.few c.in_ok-own.own set own
+    let absent : lookup (set_eq (canon l)) t.numbers.sets ≡ None = ap (λ (s : AttributeSet). lookup (set_eq s) t.numbers.sets) same ∙ unnumbered t l c.requires.unled c.told_numbers.ensures.placed in
+    let away : has (canon l) t.table.entries ≡ false = ap (λ (s : AttributeSet). has s t.table.entries) same ∙ unlisted t l c.requires.unled in
+    plan-own t l c.requires.unled absent away c.args.few c.in_ok-own.own set own
 
-pub returns-then-not-few-clause-plan : goal.returns-then-not-few-clause-plan
-returns-then-not-few-clause-plan g c =
+-- a canonical list that leads to no entry is the set of none
+pub returns-in_err-own-clause-placed : goal.returns-in_err-own-clause-placed
+returns-in_err-own-clause-placed g c placed =
     let t = c.args.table.now in
     let l = c.args.list.now in
-    let sorted : c.in_ok-sorted.sorted ≡ canon l = c.in_ok-sorted.ensures.canonical in
-    let set : c.in_ok-set.set ≡ canon l = c.in_ok-set.ensures.copy ∙ sorted in
-    let absent : lookup (set_eq (canon l)) t.numbers.sets ≡ None = ap (λ (s : AttributeSet). lookup (set_eq s) t.numbers.sets) (sym sorted) ∙ sym c.in_default.ensures.number in
-    let away : has (canon l) t.table.entries ≡ false = ap (λ (s : AttributeSet). has s t.table.entries) (sym sorted) ∙ sym c.in_default.ensures.placed in
-    let past : c.args.few ≡ false = search rules in
-    subst (λ (b : Bool). IsPlan t b l (New c.in_ok-set.set None)) (sym past) (plan-past t l c.requires absent away c.in_ok-set.set set)
-
-pub returns-clause-plan : goal.returns-clause-plan
-returns-clause-plan g c =
-    let t = c.args.table.now in
-    let l = c.args.list.now in
-    let sorted : c.in_ok-sorted.sorted ≡ canon l = c.in_ok-sorted.ensures.canonical in
-    let set : c.in_ok-set.set ≡ canon l = c.in_ok-set.ensures.copy ∙ sorted in
-    let absent : lookup (set_eq (canon l)) t.numbers.sets ≡ None = ap (λ (s : AttributeSet). lookup (set_eq s) t.numbers.sets) (sym sorted) ∙ sym c.in_default.ensures.number in
-    let away : has (canon l) t.table.entries ≡ false = ap (λ (s : AttributeSet). has s t.table.entries) (sym sorted) ∙ sym c.in_default.ensures.placed in
-    let below : c.args.few ≡ true = search rules in
-    let other : set_eq c.in_ok-set.set l ≡ false = ap (λ (s : AttributeSet). set_eq s l) set ∙ sym c.is_canonical.ensures ∙ c.if-is_canonical.false in
-    let key : c.in_ok-key.key ≡ l = c.in_ok-key.ensures.copy in
-    subst (λ (b : Bool). IsPlan t b l (New c.in_ok-set.set (Some c.in_ok-key.key))) (sym below)
-    (plan-admitted t l c.requires absent away c.in_ok-set.set (Some c.in_ok-key.key) set (ap Some key ∙ sym (ap (λ (b : Bool). cond b None (Some l)) other)))
+    let same : canon l ≡ l = same_set (canon l) l (sym c.is_canonical.ensures ∙ c.if-is_canonical.true) in
+    let away : has (canon l) t.table.entries ≡ false = ap (λ (s : AttributeSet). has s t.table.entries) same ∙ unlisted t l c.requires.unled in
+    absurd (true≢false (sym placed ∙ away))

@@ -1,0 +1,5 @@
+pub mod KeptLemmas
+pub mod RisingKeys
+pub mod Referenced
+pub mod Cursors
+pub mod Placing

@@ -1,0 +1,178 @@
+//! The keys of a table of sets.
+
+ghost use Rattle.std.specs.Prelude.{◌≡◌, ◌==◌, IfSome, IfOk, IsOkUnless, length};
+ghost use Rattle.std.specs.List.{flat_map};
+ghost use Rattle.std.specs.Cmp.{partial_equiv_from_equiv};
+ghost use Rattle.std.specs.Cmp.Lexicographic.{lists_equiv};
+ghost use Rattle.std.specs.Hash.{same_Alike};
+ghost use Rattle.otel_common.specs.Canonical.{canon};
+ghost use Rattle.otel_common.specs.Equality.{set_eq, set_eq-Decides, key_value_eq_equiv};
+ghost use Rattle.otel_common.specs.Hashes.{key_value_writes};
+ghost use Rattle.otel_sets.specs.Keys.{held_in};
+
+use crate::set_attributes::{
+    SetAttributes, copies_of, hash_attributes, is_canonical, same_attributes,
+};
+use otel_common::attributes::KeyValue;
+use otel_common::faults::Fault;
+use otel_common::lists::SharedItems;
+use std::alloc::Global;
+use std::hash::{Hash, Hasher};
+use std::marker::Model;
+
+/// How a key holds its set.
+#[derive(Drop)]
+pub enum Form<'a> {
+    /// It owns the set, perhaps beside others.
+    Owned(SharedItems<KeyValue>),
+    /// It borrows the attributes, exactly as given.
+    Given(&'a [KeyValue]),
+    /// It borrows attributes that are held in another way.
+    Held(&'a SetAttributes<'a>),
+}
+
+/// A key of a table of sets. In a table it owns its set; for a look-up it borrows attributes, so that they need no
+/// copy.
+#[derive(Drop)]
+pub struct SetKey<'a> {
+    form: Form<'a>,
+}
+
+impl<'a> Model for SetKey<'a> {
+    ghost use Rattle.otel_model_stream.specs.Sets.{AttributeSet};
+    ghost use Rattle.otel_sets.specs.Keys.{set_in};
+
+    ghost Value = { AttributeSet };
+
+    ghost view = { λ k. set_in k.form };
+}
+
+/// Whether the same attributes, in the same order, stand in two lists.
+#[inline]
+fn same_lists(attributes: &[KeyValue], others: &[KeyValue]) -> bool
+    ensures { result ≡ set_eq attributes.now others.now }
+{
+    if attributes.len() != others.len() {
+        return false;
+    }
+    for at in 0..attributes.len() {
+        if attributes[at] != others[at] {
+            return false;
+        }
+    }
+    true
+}
+
+impl<'a> SetKey<'a> {
+    /// Makes a key that owns this set.
+    pub fn owned(set: SharedItems<KeyValue>) -> SetKey<'a>
+        ensures { result ≡ set }
+    {
+        SetKey {
+            form: Form::Owned(set),
+        }
+    }
+
+    /// Makes a key that borrows these attributes, exactly as given.
+    #[inline]
+    pub fn given(attributes: &'a [KeyValue]) -> SetKey<'a>
+        ensures { result ≡ attributes.now }
+    {
+        SetKey {
+            form: Form::Given(attributes),
+        }
+    }
+
+    /// Makes a key of the attributes that are held here, which it borrows.
+    pub fn held(attributes: &'a SetAttributes<'a>) -> SetKey<'a>
+        ensures { result ≡ held_in attributes.now }
+    {
+        SetKey {
+            form: Form::Held(attributes),
+        }
+    }
+
+    /// The set as a list, if it stands as one.
+    #[inline]
+    fn whole(&self) -> Option<&[KeyValue]>
+        ensures { IfSome result (λ set. set.now ≡ self.now) }
+    {
+        match &self.form {
+            Form::Owned(set) => Some(set.as_slice()),
+            Form::Given(attributes) => Some(*attributes),
+            Form::Held(_) => None,
+        }
+    }
+
+    /// The attributes of the set.
+    fn attributes(&self) -> SetAttributes<'_>
+        ensures { held_in result ≡ self.now }
+    {
+        match &self.form {
+            Form::Owned(set) => SetAttributes::kept(None, set.as_slice()),
+            Form::Given(attributes) => SetAttributes::kept(None, *attributes),
+            Form::Held(attributes) => **attributes,
+        }
+    }
+
+    /// Whether the set is empty.
+    #[inline]
+    pub fn is_empty(&self) -> bool
+        ensures { result ≡ (length self.now == 0) }
+    {
+        match self.whole() {
+            Some(attributes) => attributes.is_empty(),
+            None => self.attributes().is_empty(),
+        }
+    }
+
+    /// Whether the set is its own canonical form: whether its keys strictly rise.
+    pub fn is_canonical(&self) -> bool
+        ensures { result ≡ set_eq (canon self.now) self.now }
+    {
+        is_canonical(self.attributes())
+    }
+
+    /// The set: another owner of it if the key owns one, without a copy and without memory; otherwise a copy.
+    pub fn share(&self, alloc: Global) -> Result<SharedItems<KeyValue>, Fault>
+        ensures set { IfOk result (λ set. set ≡ self.now) }
+        ensures only_memory { IsOkUnless result Fault.OutOfMemory }
+    {
+        if let Form::Owned(set) = &self.form {
+            return Ok(set.share()?);
+        }
+        Ok(SharedItems::new(copies_of(alloc, self.attributes())?)?)
+    }
+}
+
+impl<'a> PartialEq for SetKey<'a> {
+    ghost eq = { set_eq };
+
+    ghost laws = { partial_equiv_from_equiv (lists_equiv key_value_eq_equiv) };
+
+    #[inline]
+    fn eq(&self, other: &SetKey<'a>) -> bool {
+        match (self.whole(), other.whole()) {
+            (Some(attributes), Some(others)) => same_lists(attributes, others),
+            _ => same_attributes(self.attributes(), other.attributes()),
+        }
+    }
+}
+
+impl<'a> Eq for SetKey<'a> {
+    ghost laws = { lists_equiv key_value_eq_equiv };
+}
+
+impl<'a> Hash for SetKey<'a> {
+    ghost hash_input = { flat_map key_value_writes };
+
+    ghost respects_eq = { (same_Alike (flat_map key_value_writes) set_eq-Decides).fed };
+
+    #[inline]
+    fn hash<H: Hasher>(&self, state: &mut H) {
+        match self.whole() {
+            Some(attributes) => KeyValue::hash_slice(attributes, state),
+            None => hash_attributes(self.attributes(), state),
+        }
+    }
+}
