@@ -3,7 +3,7 @@
 use Rattle.std.specs.Prelude.{ℕ, Bool, true, false, not, ◌&&◌, cond, List, [], ◌∷◌, ◌++◌, Option, None, Some, is_none}
 use Rattle.otel_common.specs.declared.attributes.KeyValue.{KeyValue}
 use Rattle.otel_model_stream.specs.Sets.{AttributeSet, AllowList, allowed_part, set_of}
-use Rattle.otel_model_stream.specs.Folds.{Aggregate, Sum, LastValue, Histogram, Amount, empty_of, sample_of}
+use Rattle.otel_model_stream.specs.Folds.{Aggregate, Amount, empty_of, sample_of}
 use Rattle.otel_model_stream.specs.Entries.{Point, points}
 use Rattle.otel_model_stream.specs.Events.{Handles, held_by, without}
 use Rattle.otel_model_stream.specs.Maps.{MapState, new_map, measured_map, bound_map, bound_to, updated_bound, unbound_map, evicted_map, without_lists, knows}
@@ -15,18 +15,6 @@ pub record StreamState : Type 0 where
   pub allow : AllowList
   pub resets : Bool
   pub start : ℕ
-
--- whether an aggregate keeps the least and the greatest value; only a histogram may
-abbrev pub keeps_min_max : Aggregate → Bool
-keeps_min_max Sum = false
-keeps_min_max LastValue = false
-keeps_min_max (Histogram bounds has_min_max has_sum) = has_min_max
-
--- whether an aggregate is a histogram that keeps a sum
-abbrev pub keeps_sum : Aggregate → Bool
-keeps_sum Sum = false
-keeps_sum LastValue = false
-keeps_sum (Histogram bounds has_min_max has_sum) = has_sum
 
 -- a stream without records, with this limit, made at this moment
 abbrev pub new_stream : Aggregate → Bool → AllowList → Bool → ℕ → ℕ → StreamState

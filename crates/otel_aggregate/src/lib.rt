@@ -1,5 +1,5 @@
-//! Aggregates of records by set of attributes: streams over a map; sums, observed sums, last values and histograms,
-//! which are such streams; and streams of any of these.
+//! Aggregates of records by set of attributes: streams over a map, which sums, last values and histograms are; observed
+//! sums, over two maps; and streams of any of these.
 #![tactic(auto)]
 
 pub mod any;
@@ -10,6 +10,6 @@ mod making;
 pub mod precomputed_sum;
 pub mod saved;
 pub mod settings;
-mod shows;
-mod stream;
+pub mod shows;
+pub mod stream;
 pub mod sum;

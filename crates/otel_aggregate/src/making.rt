@@ -34,10 +34,10 @@ pub fn new_sum(
     ensures only_memory { IsOkUnless result Fault.OutOfMemory }
 {
     if is_signed {
-        let made = Sum::new(alloc, hasher, temporality, allow, limit, now, is_monotonic)?;
+        let made = Sum::new(alloc, hasher, is_monotonic, temporality, allow, limit, now)?;
         Ok(Inner::SumI64(made))
     } else {
-        let made = Sum::new(alloc, hasher, temporality, allow, limit, now, is_monotonic)?;
+        let made = Sum::new(alloc, hasher, is_monotonic, temporality, allow, limit, now)?;
         Ok(Inner::SumU64(made))
     }
 }
@@ -95,10 +95,10 @@ pub fn new_last_value(
     ensures only_memory { IsOkUnless result Fault.OutOfMemory }
 {
     if is_signed {
-        let made = LastValue::new(alloc, hasher, temporality, allow, limit, now)?;
+        let made = LastValue::new(alloc, hasher, (), temporality, allow, limit, now)?;
         Ok(Inner::LastValueI64(made))
     } else {
-        let made = LastValue::new(alloc, hasher, temporality, allow, limit, now)?;
+        let made = LastValue::new(alloc, hasher, (), temporality, allow, limit, now)?;
         Ok(Inner::LastValueU64(made))
     }
 }
@@ -118,30 +118,10 @@ pub fn new_histogram(
     ensures only_memory { IsOkUnless result Fault.OutOfMemory }
 {
     if is_signed {
-        let made = Histogram::new(
-            alloc,
-            hasher,
-            temporality,
-            allow,
-            limit,
-            now,
-            settings.bounds,
-            settings.has_min_max,
-            settings.has_sum,
-        )?;
+        let made = Histogram::new(alloc, hasher, settings, temporality, allow, limit, now)?;
         Ok(Inner::HistogramI64(made))
     } else {
-        let made = Histogram::new(
-            alloc,
-            hasher,
-            temporality,
-            allow,
-            limit,
-            now,
-            settings.bounds,
-            settings.has_min_max,
-            settings.has_sum,
-        )?;
+        let made = Histogram::new(alloc, hasher, settings, temporality, allow, limit, now)?;
         Ok(Inner::HistogramU64(made))
     }
 }
@@ -151,13 +131,25 @@ pub fn told_form(inner: &Inner)
     ensures { form_of (any_of inner.now).state.aggregate ≡ form_in inner.now }
 {
     match inner {
-        Inner::SumU64(stream) => stream.told_aggregate(),
-        Inner::SumI64(stream) => stream.told_aggregate(),
+        Inner::SumU64(stream) => {
+            let _ = stream.settings();
+        }
+        Inner::SumI64(stream) => {
+            let _ = stream.settings();
+        }
         Inner::PrecomputedSumU64(stream) => stream.told_aggregate(),
         Inner::PrecomputedSumI64(stream) => stream.told_aggregate(),
-        Inner::LastValueU64(stream) => stream.told_aggregate(),
-        Inner::LastValueI64(stream) => stream.told_aggregate(),
-        Inner::HistogramU64(stream) => stream.told_aggregate(),
-        Inner::HistogramI64(stream) => stream.told_aggregate(),
+        Inner::LastValueU64(stream) => {
+            let _ = stream.settings();
+        }
+        Inner::LastValueI64(stream) => {
+            let _ = stream.settings();
+        }
+        Inner::HistogramU64(stream) => {
+            let _ = stream.settings();
+        }
+        Inner::HistogramI64(stream) => {
+            let _ = stream.settings();
+        }
     }
 }

@@ -38,7 +38,7 @@ fn is_delta(temporality: Temporality) -> bool
 }
 
 /// The temporality of a stream's points, given whether it resets at each collection.
-pub fn shown_temporality(resets: bool) -> Temporality
+pub(crate) fn shown_temporality(resets: bool) -> Temporality
     ensures { result ≡ cond resets shown.Delta shown.Cumulative }
 {
     if resets {
@@ -80,7 +80,11 @@ impl<A: Shows> Model for Stream<A> {
 }
 
 impl<A: Shows> Stream<A> {
-    /// Makes a stream without records at the moment `start`, in nanoseconds since 1970.
+    /// Makes a stream without records at the moment `start`, in nanoseconds since 1970. `temporality` is the reader's
+    /// answer: with `Delta` the stream starts again at each collection; with any other it goes on from `start`. Any
+    /// limit is accepted; with 0, every set but the empty one goes to the overflow point.
+    ///
+    /// Sets are hashed with `hasher`, which has no visible effect.
     pub fn new(
         alloc: Global,
         hasher: SetHashBuilder,
@@ -251,14 +255,15 @@ impl<A: Shows> Stream<A> {
 
     /// Every set that has an entry, and the empty set if it was updated, with copies of their aggregators. Shares the
     /// sets.
-    pub fn every_set(&self, alloc: Global) -> Result<Vec<(SharedItems<KeyValue>, A)>, Fault>
+    pub(crate) fn every_set(&self, alloc: Global) -> Result<Vec<(SharedItems<KeyValue>, A)>, Fault>
         ensures points { IfOk result (λ given. copies A.meaning given.items ≡ draining_points self.now.state.map_state) }
         ensures only_memory { IsOkUnless result Fault.OutOfMemory }
     {
         self.map.points(alloc, true)
     }
 
-    /// What the points of a collection made now would add up to, modulo 2^64.
+    /// What the points of a collection made now would add up to, modulo 2^64: the 64 bits of the values of a sum, the
+    /// number of records in a histogram, and 0 for last values.
     pub fn total(&self) -> u64
         ensures { result ≡ wrap (points_total (points_now self.now.state)) }
     {
@@ -267,14 +272,14 @@ impl<A: Shows> Stream<A> {
 
     /// What the points of every set that has an entry, and of the empty set if it was updated, would add up to, modulo
     /// 2^64.
-    pub fn total_of_every(&self) -> u64
+    pub(crate) fn total_of_every(&self) -> u64
         ensures { result ≡ wrap (points_total (draining_points self.now.state.map_state)) }
     {
         self.map.total(true)
     }
 
     /// The settings that all its sets share.
-    pub fn settings(&self) -> &A::Settings
+    pub(crate) fn settings(&self) -> &A::Settings
         ensures { self.now.state.aggregate ≡ A.aggregate result.now }
     {
         &self.settings
@@ -302,7 +307,7 @@ impl<A: Shows> Stream<A> {
     }
 
     /// The moment from which its records count, in nanoseconds since 1970.
-    pub fn start(&self) -> u64
+    pub(crate) fn start(&self) -> u64
         ensures { result ≡ self.now.state.start }
     {
         self.start
@@ -310,7 +315,7 @@ impl<A: Shows> Stream<A> {
 
     /// Forgets all records, and all entries but that of the empty set. No handle may be live. A prepared record is
     /// given up.
-    pub fn drain(&mut self)
+    pub(crate) fn drain(&mut self)
         requires { self.old.live ≡ [] }
         ensures state { self.new.state ≡ record self.old.state { map_state = drained_map self.old.state.map_state } }
         ensures live { self.new.live ≡ [] }
@@ -352,7 +357,7 @@ impl<A: Shows> Stream<A> {
 
     /// Moves its records into a map, whose own are forgotten, and starts again without any at the moment `now`, in
     /// nanoseconds since 1970. No handle may be live in either. The two maps are swapped; nothing is copied.
-    pub fn drain_into(&mut self, kept: &mut BoundMap<A>, now: u64)
+    pub(crate) fn drain_into(&mut self, kept: &mut BoundMap<A>, now: u64)
         requires unheld { self.old.live ≡ [] }
         requires kept_unheld { kept.old.live ≡ [] }
         ensures kept { kept.new.state ≡ self.old.state.map_state }

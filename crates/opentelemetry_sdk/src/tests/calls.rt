@@ -47,11 +47,11 @@ fn points_by_value(rt: HostRuntime) -> Result<(), Fail> {
     let mut sum = Sum::new(
         rt.alloc(),
         SetHashBuilder::default(),
+        true,
         Temporality::Cumulative,
         None,
         2000,
         100,
-        true,
     )?;
     measure_values(rt.alloc(), &mut sum)?;
     measure_values(rt.alloc(), &mut sum)?;

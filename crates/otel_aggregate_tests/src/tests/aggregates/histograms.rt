@@ -2,6 +2,7 @@
 
 use super::{B, NONE, Set, attributes};
 use otel_aggregate::histogram::Histogram;
+use otel_aggregate::settings::HistogramSettings;
 use otel_common::faults::Fault;
 use otel_common::lists::{Items, SharedItems};
 use otel_common::metrics::Temporality;
@@ -38,16 +39,19 @@ fn made<T: Number + Drop>(
     bounds: Bounds,
     is_whole: bool,
 ) -> Result<Histogram<T>, Fault> {
+    let settings = HistogramSettings {
+        bounds,
+        has_min_max: is_whole,
+        has_sum: is_whole,
+    };
     Histogram::new(
         alloc,
         SetHashBuilder::default(),
+        settings,
         temporality,
         None,
         10,
         100,
-        bounds,
-        is_whole,
-        is_whole,
     )
 }
 

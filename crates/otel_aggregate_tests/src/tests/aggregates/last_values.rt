@@ -40,7 +40,15 @@ pub fn are_last_values<T: Copy + Drop + PartialEq>(
 
 /// Makes last values with a limit of 10, at 100.
 fn made<T: Number + Drop>(alloc: Global, temporality: Temporality) -> Result<LastValue<T>, Fault> {
-    LastValue::new(alloc, SetHashBuilder::default(), temporality, None, 10, 100)
+    LastValue::new(
+        alloc,
+        SetHashBuilder::default(),
+        (),
+        temporality,
+        None,
+        10,
+        100,
+    )
 }
 
 fn measure<T: Number + Drop>(
@@ -140,6 +148,7 @@ fn bind_writes_through_bound_handle(rt: HostRuntime) -> Result<(), Fail> {
     let mut gauge: LastValue<u64> = LastValue::new(
         rt.alloc(),
         SetHashBuilder::default(),
+        (),
         Temporality::Cumulative,
         None,
         100,
@@ -165,6 +174,7 @@ fn bound_handle_drop_decrements_bound_count(rt: HostRuntime) -> Result<(), Fail>
     let mut gauge: LastValue<u64> = LastValue::new(
         rt.alloc(),
         SetHashBuilder::default(),
+        (),
         Temporality::Delta,
         None,
         100,

@@ -176,11 +176,11 @@ fn made<T: Number + Drop>(alloc: Global, kind: Kind, limit: usize) -> Result<Sum
     Ok(Sum::new(
         alloc,
         SetHashBuilder::default(),
+        kind.is_monotonic,
         kind.temporality,
         allow,
         limit,
         100,
-        kind.is_monotonic,
     )?)
 }
 
