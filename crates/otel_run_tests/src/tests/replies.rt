@@ -195,6 +195,14 @@ fn push_points<T: NumberType + Display>(
     Ok(())
 }
 
+/// Writes these counts, each after a space.
+fn write_buckets(text: &mut String, buckets: Iter<'_, u64>) -> Result<(), Fail> {
+    for count in buckets {
+        write!(text, " {count}")?;
+    }
+    Ok(())
+}
+
 /// Adds a text for each point of a histogram: this start, then its moments, attributes, count and buckets.
 fn push_spreads(
     alloc: Global,
@@ -207,9 +215,7 @@ fn push_spreads(
         write!(text, "{} {} ", histogram.start_time(), histogram.time())?;
         write_attributes(&mut text, point.attributes())?;
         write!(text, " {}", point.count())?;
-        for bucket in point.bucket_counts() {
-            write!(text, " {bucket}")?;
-        }
+        write_buckets(&mut text, point.bucket_counts())?;
         points.push(text)?;
     }
     Ok(())
@@ -367,28 +373,24 @@ fn provider_with(alloc: Global, readers: Readers<'_>) -> Result<SdkMeterProvider
     }
 }
 
-/// The texts of a provider's replies, each followed by a semicolon.
-pub fn outcome_at(
-    alloc: Global,
-    provider: &mut SdkMeterProvider,
-    calls: &[Call],
-) -> Result<String, Fail> {
-    let mut outcome = String::new(alloc);
-    for reply in provider.run(alloc, calls)? {
-        write!(outcome, "{};", text_of(alloc, &reply)?.as_str())?;
+/// The texts of replies, each followed by a semicolon.
+pub fn texts_of(alloc: Global, replies: Vec<Reply>) -> Result<String, Fail> {
+    let mut texts = String::new(alloc);
+    for reply in replies {
+        write!(texts, "{};", text_of(alloc, &reply)?.as_str())?;
     }
-    Ok(outcome)
+    Ok(texts)
 }
 
-/// The same of a new provider with these readers.
+/// The texts of the replies of a new provider with these readers.
 pub fn outcome_of(
     alloc: Global,
     readers: Readers<'_>,
     steps: &[(Step<'_>, &str)],
 ) -> Result<String, Fail> {
     let calls = calls_of(alloc, steps)?;
-    let mut provider = provider_with(alloc, readers)?;
-    outcome_at(alloc, &mut provider, calls.as_slice())
+    let replies = provider_with(alloc, readers)?.run(alloc, calls.as_slice())?;
+    texts_of(alloc, replies)
 }
 
 /// Asserts that the steps have the outcome of a run with ample memory. If they have one of the outcomes in which memory

@@ -4,7 +4,7 @@ use super::replies::Readers::{Bounded, Of};
 use super::replies::Step::{Bind, Build, Collect, Meter, Record, RecordBound};
 use super::replies::{
     Step, assert_outcomes, assert_replies, assert_replies_at, builder_of, call_of, calls_of,
-    outcome_at, outcome_of, points_of, provider_of,
+    outcome_of, points_of, provider_of, texts_of,
 };
 use opentelemetry_sdk::metrics::Temporality;
 use opentelemetry_sdk::metrics::provider::NumberValue::{I64, U64};
@@ -275,9 +275,9 @@ fn refused_bounds(rt: HostRuntime) -> Result<(), Fail> {
 /// The replies of a new provider with a delta reader whose sets are hashed from this seed.
 fn seeded(alloc: Global, seed: u64, steps: &[(Step<'_>, &str)]) -> Result<String, Fail> {
     let calls = calls_of(alloc, steps)?;
-    let builder = builder_of(alloc, &[Temporality::Delta])?;
-    let mut provider = builder.with_hash_seed(seed).build()?;
-    outcome_at(alloc, &mut provider, calls.as_slice())
+    let builder = builder_of(alloc, &[Temporality::Delta])?.with_hash_seed(seed);
+    let replies = builder.build()?.run(alloc, calls.as_slice())?;
+    texts_of(alloc, replies)
 }
 
 /// No reply depends on the seed of the hashes.
