@@ -2,11 +2,12 @@
 -- "MetricReader").
 use Rattle.std.specs.Prelude.{ℕ, Bool, true, false, not, ◌&&◌, cond, List, [], ◌∷◌, ◌++◌, Option, None, Some, is_none}
 use Rattle.otel_common.specs.declared.attributes.KeyValue.{KeyValue}
-use Rattle.otel_model_stream.specs.Sets.{AttributeSet, AllowList, allowed_part, set_of}
+use Rattle.otel_model_stream.specs.Sets.{AttributeSet, AllowList, set_of}
 use Rattle.otel_model_stream.specs.Folds.{Aggregate, Amount, empty_of, sample_of}
 use Rattle.otel_model_stream.specs.Entries.{Point, points}
 use Rattle.otel_model_stream.specs.Events.{Handles, held_by, without}
-use Rattle.otel_model_stream.specs.Maps.{MapState, new_map, measured_map, bound_map, bound_to, updated_bound, unbound_map, evicted_map, without_lists, knows}
+use Rattle.otel_model_stream.specs.Maps.{MapState, new_map, measured_map, bound_map, bound_to, updated_bound, unbound_map, evicted_map}
+use Rattle.otel_value_map.specs.Numbers.{is_placed}
 
 pub record StreamState : Type 0 where
   pub map_state : MapState
@@ -34,9 +35,9 @@ pub record HeldStream : Type 0 where
   pub pending : Option AttributeSet
   pub room : Bool
 
--- whether the allowed part of these attributes is empty or, in the order given, the set of an entry
+-- whether the set of these attributes has an entry; the empty one always has
 abbrev pub is_known : AllowList → List KeyValue → MapState → Bool
-is_known allow l m = knows (allowed_part allow l) (without_lists m)
+is_known allow l m = is_placed (set_of allow l) m.table.entries
 
 -- after a record of an amount under a set
 abbrev pub recorded_set : AttributeSet → Amount → StreamState → StreamState

@@ -114,9 +114,9 @@ impl<A: Shows> Stream<A> {
     /// unchanged.
     ///
     /// This is the first of two phases: a record for several streams is prepared in all of them and then taken in by
-    /// all. What is kept of the attributes is looked up without a copy. This takes no memory if nothing is kept, or if
-    /// what is kept is in the given order the set of an entry, sorted by key and with no key twice. If what is kept
-    /// leads to no entry as given, references to it are sorted and looked up.
+    /// all. What is kept of the attributes is looked up without a copy, as given and otherwise by sorted references. A
+    /// set that has an entry is never refused for want of memory, and takes none in the order that first brought it or
+    /// with up to 16 keys.
     pub fn prepare(&mut self, attributes: &[KeyValue]) -> Result<(), Fault>
         ensures same { self.new.state ≡ self.old.state }
         ensures live { self.new.live ≡ self.old.live }

@@ -1,4 +1,4 @@
--- Calls that take no memory, though others of their kind may.
+-- Calls that are never refused for lack of memory, though others of their kind may be.
 use Rattle.std.specs.Prelude.{◌≡◌, ℕ, Bool, true, List}
 use Rattle.std.specs.List.{list_all}
 use Rattle.otel_common.specs.declared.attributes.KeyValue.{KeyValue}
@@ -9,8 +9,8 @@ use Rattle.otel_core.specs.States.{IsNamed}
 use Rattle.otel_core.specs.declared.calls.Reply.{Reply}
 use Rattle.otel_core.specs.declared.calls.Reply.TheVariants as reply
 
--- whether at each reader each stream that the instrument feeds knows the attributes: the part that it allows is empty
--- or, in the order given, the set of an entry
+-- whether at each reader each stream that the instrument feeds knows the attributes: their set has an entry there, or is
+-- the empty one
 abbrev pub is_known : ℕ → List KeyValue → State → Bool
 is_known n l st = list_all (is_known_at n l) st.readers
 

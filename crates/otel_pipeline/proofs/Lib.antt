@@ -20,3 +20,4 @@ pub mod ViewLemmas
 pub mod Writes
 pub mod Handles
 pub mod Known
+pub mod NoAttributes

@@ -1,18 +1,18 @@
--- Attributes that take no memory to record.
+-- Attributes whose sets have entries, so that a record of them is never refused for lack of memory.
 use Rattle.std.specs.Prelude.{◌≡◌, ℕ, Bool, true, ◌&&◌, ◌||◌, List, [], Option, None, Some, slice_get}
 use Rattle.std.specs.List.{list_any, list_all}
 use Rattle.otel_common.specs.Equality.{set_eq}
 use Rattle.otel_common.specs.declared.attributes.KeyValue.{KeyValue}
 use Rattle.otel_model_stream.specs.Entries.{has}
-use Rattle.otel_model_stream.specs.Sets.{none_set, allowed_part}
+use Rattle.otel_model_stream.specs.Sets.{none_set, set_of}
 use Rattle.otel_model.specs.Calls.{or_else}
 use Rattle.otel_model.specs.Demands.{Identity, identity_eq}
 use Rattle.otel_model.specs.State.{Stream, ReaderPart}
 use Rattle.otel_pipeline.specs.Streams.{Held}
 
--- whether the stream knows the attributes: the part that it allows is empty or, in the order given, the set of an entry
+-- whether the stream knows the attributes: their set has an entry, or is the empty one
 abbrev pub is_known_to : List KeyValue → Stream → Bool
-is_known_to l q = set_eq (allowed_part q.demand.allow l) none_set || has (allowed_part q.demand.allow l) q.machine.table.entries
+is_known_to l q = set_eq (set_of q.demand.allow l) none_set || has (set_of q.demand.allow l) q.machine.table.entries
 
 -- whether there is a stream with this identity that knows them
 abbrev pub is_known_by : List KeyValue → List Stream → Identity → Bool

@@ -150,7 +150,7 @@ impl Pipeline {
     /// Prepares a record with these attributes in the streams that the instrument feeds. What the reader has stays
     /// unchanged.
     ///
-    /// Looks the attributes up in each of these streams; `AnyAggregate::prepare` tells when that takes no memory.
+    /// Looks the attributes up in each of these streams; `AnyAggregate::prepare` tells when that takes memory.
     #[inline(always)]
     pub fn prepare(&mut self, instrument: usize, attributes: &[KeyValue]) -> Result<(), Fault>
         ensures same { part_of self.new ≡ part_of self.old }

@@ -264,10 +264,11 @@ impl<P: Parts> Provider<P> {
     ///   looks up the identity. It is made at all readers or at none.
     /// - `Record` looks up, in each stream that the instrument feeds, what the stream keeps of the attributes, in the
     ///   order given. One look-up is enough if that is sorted by key, has no key twice and has an entry; two are enough
-    ///   if it is in the order that first brought its set. Neither takes memory. Otherwise a copy is sorted and looked
-    ///   up, and a new set takes more memory. Without attributes there is no look-up, and the call is never refused for
-    ///   want of memory. A histogram finds the value's bucket by a binary search of its bounds. A record is made in all
-    ///   streams or in none.
+    ///   if it is in the order that first brought its set. Otherwise references to it are sorted and looked up. Up to 16
+    ///   keys are sorted without memory; a new set is copied. A set that has an entry is never refused for want of
+    ///   memory: if it has more keys and there is none for sorting them, it is found in quadratic time. Without
+    ///   attributes there is no look-up. A histogram finds the value's bucket by a binary search of its bounds. A record
+    ///   is made in all streams or in none.
     /// - `Bind` looks up the attributes in each stream as a record does, holds a place there, and takes memory for the
     ///   number of the handle in each stream and in the provider. It is made in all streams or in none.
     /// - `RecordBound` looks up only the handle, once in the provider and once in each stream that its instrument
@@ -286,8 +287,9 @@ impl<P: Parts> Provider<P> {
     ///   down all the same. After a shutdown they are refused, and ask no reader. They take no memory beyond what
     ///   readers take.
     ///
-    /// `known` says when a record with attributes takes no memory. `reached` says what becomes of the readers: a flush
-    /// and a shutdown ask them, any other call leaves them as they were.
+    /// `known` says that a record is never refused for want of memory if its attributes have an entry in each stream.
+    /// `reached` says what becomes of the readers: a flush and a shutdown ask them, any other call leaves them as they
+    /// were.
     pub fn step(&mut self, call: &Call) -> Reply
         ensures step { Step (views_of P.View.answer self.old) (state_of self.old) (call_of call.now) (reply_of result) (state_of self.new) }
         ensures known { IsKnown (state_of self.old) (call_of call.now) → HasMemory result }

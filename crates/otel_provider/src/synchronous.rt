@@ -70,8 +70,8 @@ pub type Histogram<T> = Synchronous<HistogramKind, T>;
 impl<K: Adds, T: NumberType> Synchronous<K, T> {
     /// Adds a value, in the instrument's unit, with attributes in any order, as `step` does with `Call::Record`.
     ///
-    /// Costs the same as that step, except that the attributes are borrowed. `known` says when a record with attributes
-    /// takes no memory.
+    /// Costs the same as that step, except that the attributes are borrowed. `known` says that it is never refused for
+    /// want of memory if the attributes have an entry in each stream.
     ///
     /// Refused with `UnknownInstrument` if the instrument belongs to a provider of another identity, before anything
     /// else is checked. If two providers of one identity mix up their instruments, the call is refused with

@@ -67,18 +67,20 @@ fn views(rt: HostRuntime) -> Result<(), Fail> {
     assert_prints(
         &rt,
         rt.alloc(),
-        b"# Views rename a stream, drop one, keep two attributes of five, and set a limit.\n\
+        b"# Views rename a stream, drop one, keep two attributes of five, set a limit, and change buckets.\n\
           reader cumulative\n\
           view requests name=shop.requests\n\
           view debug agg=drop\n\
           view orders keys=country,paid\n\
           view users limit=1\n\
+          view latency agg=hist:10,100,1000\n\
           go\n\
           meter shop\n\
           build 0 u64_counter requests 100\n\
           build 0 u64_counter debug 100\n\
           build 0 u64_counter orders 100\n\
           build 0 u64_counter users 100\n\
+          build 0 u64_histogram latency 100\n\
           record 0 u:1 -\n\
           record 1 u:1 -\n\
           record 2 u:1 cart=i:7,country=s:fr,item=s:pen,paid=b:true,user=i:1\n\
@@ -86,12 +88,15 @@ fn views(rt: HostRuntime) -> Result<(), Fail> {
           record 3 u:1 user=i:1\n\
           record 3 u:2 user=i:2\n\
           record 3 u:3 user=i:3\n\
+          record 4 u:7 -\n\
+          record 4 u:70 -\n\
           collect 0 200\n",
         "meter 0\n\
          instrument 0\n\
          instrument 1\n\
          instrument 2\n\
          instrument 3\n\
+         instrument 4\n\
          ok\n\
          ok\n\
          ok\n\
@@ -99,11 +104,14 @@ fn views(rt: HostRuntime) -> Result<(), Fail> {
          ok\n\
          ok\n\
          ok\n\
-         collected 4\n\
+         ok\n\
+         ok\n\
+         collected 5\n\
          point shop shop.requests sum cumulative monotonic 100 200 - 1\n\
          point shop orders sum cumulative monotonic 100 200 country=s:fr,paid=b:true 3\n\
          point shop users sum cumulative monotonic 100 200 user=i:1 1\n\
-         point shop users sum cumulative monotonic 100 200 otel.metric.overflow=b:true 5\n",
+         point shop users sum cumulative monotonic 100 200 otel.metric.overflow=b:true 5\n\
+         point shop latency histogram cumulative 100 200 - 2 77 7 70 1,1,0,0\n",
     )
 }
 

@@ -136,6 +136,60 @@ fn row_12(rt: HostRuntime) -> Result<(), Fail> {
     )
 }
 
+/// If all that can be demanded drops, a counter has its own stream if an answer doesn't fit it: one counter's stream
+/// drops, the other's identity was dropped before.
+#[test]
+fn own_stream_where_all_drop(rt: HostRuntime) -> Result<(), Fail> {
+    assert_prints(
+        &rt,
+        rt.alloc(),
+        b"reader cumulative\n\
+          view a name=x agg=drop\n\
+          view b name=X\n\
+          view * name=y agg=lastvalue\n\
+          go\n\
+          meter m\n\
+          build 0 u64_counter a 100\n\
+          build 0 u64_counter b 100\n\
+          record 0 u:1 -\n\
+          record 1 u:2 -\n\
+          collect 0 200\n",
+        "meter 0\n\
+         instrument 0\n\
+         instrument 1\n\
+         ok\n\
+         ok\n\
+         collected 2\n\
+         point m a sum cumulative monotonic 100 200 - 1\n\
+         point m b sum cumulative monotonic 100 200 - 2\n",
+    )
+}
+
+/// Two views give a counter the same stream: the keys and the limit of the first hold, and it counts once.
+#[test]
+fn first_decides(rt: HostRuntime) -> Result<(), Fail> {
+    assert_prints(
+        &rt,
+        rt.alloc(),
+        b"reader cumulative\n\
+          view c keys=a limit=1\n\
+          view c keys=b limit=2\n\
+          go\n\
+          meter m\n\
+          build 0 u64_counter c 100\n\
+          record 0 u:1 a=i:1,b=i:1\n\
+          record 0 u:2 a=i:2,b=i:1\n\
+          collect 0 200\n",
+        "meter 0\n\
+         instrument 0\n\
+         ok\n\
+         ok\n\
+         collected 2\n\
+         point m c sum cumulative monotonic 100 200 a=i:1 1\n\
+         point m c sum cumulative monotonic 100 200 otel.metric.overflow=b:true 2\n",
+    )
+}
+
 /// The empty set has a place apart from those that the limit counts.
 #[test]
 fn row_22(rt: HostRuntime) -> Result<(), Fail> {

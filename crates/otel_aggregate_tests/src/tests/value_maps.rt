@@ -35,3 +35,4 @@ fn an_allow_list_drops_other_keys(rt: HostRuntime) -> Result<(), Fail> {
 mod aggregators;
 mod maps;
 mod numbers;
+mod orders;

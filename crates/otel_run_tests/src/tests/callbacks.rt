@@ -154,7 +154,7 @@ fn counted<P: Parts>(
     collected_in_turn(alloc, provider, readers)
 }
 
-/// With the readers of row 51, of which the first drops observable counters, the callback runs in each collection.
+/// Of two delta readers the first drops observable counters; the callback runs in each collection, of either.
 #[test]
 fn row_51(rt: HostRuntime) -> Result<(), Fail> {
     let alloc = rt.alloc();

@@ -1,5 +1,6 @@
 //! Observable instruments, whose values come with the collections.
 
+use super::replies::Readers::Of;
 use super::replies::Step::{Collect, Make, Meter, Observe, Record, Shutdown};
 use super::replies::{Seen, assert_outcomes, assert_replies, assert_replies_at};
 use super::wanted::Data::{I64Gauge, I64Sum, U64Gauge, U64Sum};
@@ -84,7 +85,7 @@ fn refused_memory(rt: HostRuntime) -> Result<(), Fail> {
     assert_outcomes(
         &rt,
         rt.alloc(),
-        &[Delta],
+        Of(&[Delta]),
         steps.as_slice(),
         ample,
         refused.as_slice(),

@@ -2,12 +2,12 @@
 
 use opentelemetry_sdk::common::{InstrumentationScope, Items, Key, KeyValue, StringValue, Value};
 use opentelemetry_sdk::metrics::data::{
-    AggregatedMetrics, Metric, MetricData, ResourceMetrics, ScopeMetrics, Sum,
+    AggregatedMetrics, Histogram, Metric, MetricData, ResourceMetrics, ScopeMetrics, Sum,
 };
 use opentelemetry_sdk::metrics::meter::NumberType;
 use opentelemetry_sdk::metrics::provider::{Call, InstrumentSort, NumberValue, Observed, Reply};
 use opentelemetry_sdk::metrics::{
-    ManualReader, MeterProviderBuilder, SdkMeterProvider, Temporality,
+    Aggregation, InstrumentKind, ManualReader, MeterProviderBuilder, SdkMeterProvider, Temporality,
 };
 use std::alloc::Global;
 use std::fmt::Display;
@@ -30,6 +30,10 @@ pub enum Step<'a> {
     Make(InstrumentSort, &'a str, Option<&'a str>, Option<&'a [i64]>),
     /// A record of this value at this instrument, with these attributes.
     Record(usize, NumberValue, &'a [(&'a str, i64)]),
+    /// A handle at this instrument, with these attributes.
+    Bind(usize, &'a [(&'a str, i64)]),
+    /// A record of this value through this handle.
+    RecordBound(u64, NumberValue),
     /// A collection of this reader at this moment, for which nothing was observed.
     Collect(usize, u64),
     /// The same, with what was observed for it.
@@ -135,6 +139,14 @@ pub fn call_of(alloc: Global, step: &Step<'_>) -> Result<Call, Fail> {
             value: *value,
             attributes: Items::from(attributes(alloc, pairs)?),
         }),
+        Step::Bind(instrument, pairs) => Ok(Call::Bind {
+            instrument: *instrument,
+            attributes: Items::from(attributes(alloc, pairs)?),
+        }),
+        Step::RecordBound(handle, value) => Ok(Call::RecordBound {
+            handle: *handle,
+            value: *value,
+        }),
         Step::Collect(reader, now) => Ok(collection(alloc, *reader, *now)),
         Step::Observe(reader, now, seen) => Ok(Call::Collect {
             reader: *reader,
@@ -183,6 +195,32 @@ fn push_points<T: NumberType + Display>(
     Ok(())
 }
 
+/// Writes these counts, each after a space.
+fn write_buckets(text: &mut String, buckets: Iter<'_, u64>) -> Result<(), Fail> {
+    for count in buckets {
+        write!(text, " {count}")?;
+    }
+    Ok(())
+}
+
+/// Adds a text for each point of a histogram: this start, then its moments, attributes, count and buckets.
+fn push_spreads(
+    alloc: Global,
+    points: &mut Vec<String>,
+    start: &str,
+    histogram: &Histogram<u64>,
+) -> Result<(), Fail> {
+    for point in histogram.data_points() {
+        let mut text = String::from_str(alloc, start)?;
+        write!(text, "{} {} ", histogram.start_time(), histogram.time())?;
+        write_attributes(&mut text, point.attributes())?;
+        write!(text, " {}", point.count())?;
+        write_buckets(&mut text, point.bucket_counts())?;
+        points.push(text)?;
+    }
+    Ok(())
+}
+
 /// Adds a text for each point of a metric.
 fn push_metric(
     alloc: Global,
@@ -198,7 +236,10 @@ fn push_metric(
         AggregatedMetrics::I64(MetricData::Sum(sum)) => {
             push_points(alloc, points, start.as_str(), sum)
         }
-        _ => Err("no sum".into()),
+        AggregatedMetrics::U64(MetricData::Histogram(histogram)) => {
+            push_spreads(alloc, points, start.as_str(), histogram)
+        }
+        _ => Err("no sum and no histogram".into()),
     }
 }
 
@@ -255,16 +296,39 @@ pub fn provider_of(alloc: Global, readers: &[Temporality]) -> Result<SdkMeterPro
     Ok(builder_of(alloc, readers)?.build()?)
 }
 
+/// A new provider with a cumulative reader that wants counters as histograms with these bounds.
+fn provider_with_bounds(alloc: Global, bounds: &[i64]) -> Result<SdkMeterProvider, Fail> {
+    let aggregation = Aggregation::ExplicitBucketHistogram {
+        boundaries: Items::from(bounds.to_vec(alloc)?),
+        record_min_max: true,
+    };
+    let reader = ManualReader::builder()
+        .with_default_aggregation(InstrumentKind::Counter, aggregation)
+        .build();
+    let reader = Box::new(alloc, reader)?;
+    Ok(
+        SdkMeterProvider::builder(alloc)
+            .with_reader(reader)?
+            .build()?,
+    )
+}
+
+/// The calls that the steps stand for.
+pub fn calls_of(alloc: Global, steps: &[(Step<'_>, &str)]) -> Result<Vec<Call>, Fail> {
+    let mut calls = Vec::new(alloc);
+    for (step, _) in steps {
+        calls.push(call_of(alloc, step)?)?;
+    }
+    Ok(calls)
+}
+
 /// The replies of a new provider with these readers.
 fn replies_of(
     alloc: Global,
     readers: &[Temporality],
     steps: &[(Step<'_>, &str)],
 ) -> Result<Vec<Reply>, Fail> {
-    let mut calls = Vec::new(alloc);
-    for (step, _) in steps {
-        calls.push(call_of(alloc, step)?)?;
-    }
+    let calls = calls_of(alloc, steps)?;
     Ok(provider_of(alloc, readers)?.run(alloc, calls.as_slice())?)
 }
 
@@ -292,17 +356,41 @@ pub fn assert_replies_at(
     Ok(())
 }
 
-/// The texts of the replies of a new provider with these readers, each followed by a semicolon.
-fn outcome_of(
+/// The readers of a provider.
+#[derive(Clone, Copy)]
+pub enum Readers<'a> {
+    /// Readers of these temporalities.
+    Of(&'a [Temporality]),
+    /// A cumulative reader that wants counters as histograms with these bounds.
+    Bounded(&'a [i64]),
+}
+
+/// A new provider with these readers.
+fn provider_with(alloc: Global, readers: Readers<'_>) -> Result<SdkMeterProvider, Fail> {
+    match readers {
+        Readers::Of(temporalities) => provider_of(alloc, temporalities),
+        Readers::Bounded(bounds) => provider_with_bounds(alloc, bounds),
+    }
+}
+
+/// The texts of replies, each followed by a semicolon.
+pub fn texts_of(alloc: Global, replies: Vec<Reply>) -> Result<String, Fail> {
+    let mut texts = String::new(alloc);
+    for reply in replies {
+        write!(texts, "{};", text_of(alloc, &reply)?.as_str())?;
+    }
+    Ok(texts)
+}
+
+/// The texts of the replies of a new provider with these readers.
+pub fn outcome_of(
     alloc: Global,
-    readers: &[Temporality],
+    readers: Readers<'_>,
     steps: &[(Step<'_>, &str)],
 ) -> Result<String, Fail> {
-    let mut outcome = String::new(alloc);
-    for reply in replies_of(alloc, readers, steps)? {
-        write!(outcome, "{};", text_of(alloc, &reply)?.as_str())?;
-    }
-    Ok(outcome)
+    let calls = calls_of(alloc, steps)?;
+    let replies = provider_with(alloc, readers)?.run(alloc, calls.as_slice())?;
+    texts_of(alloc, replies)
 }
 
 /// Asserts that the steps have the outcome of a run with ample memory. If they have one of the outcomes in which memory
@@ -310,7 +398,7 @@ fn outcome_of(
 pub fn assert_outcomes(
     rt: &impl Abort,
     alloc: Global,
-    readers: &[Temporality],
+    readers: Readers<'_>,
     steps: &[(Step<'_>, &str)],
     ample: &str,
     refused: &[&str],

@@ -1,8 +1,10 @@
 //! Runs of a provider.
 
-use super::replies::Step::{Build, Collect, Meter, Record};
+use super::replies::Readers::{Bounded, Of};
+use super::replies::Step::{Bind, Build, Collect, Meter, Record, RecordBound};
 use super::replies::{
-    assert_outcomes, assert_replies, assert_replies_at, call_of, points_of, provider_of,
+    Step, assert_outcomes, assert_replies, assert_replies_at, builder_of, call_of, calls_of,
+    outcome_of, points_of, provider_of, texts_of,
 };
 use opentelemetry_sdk::metrics::Temporality;
 use opentelemetry_sdk::metrics::provider::NumberValue::{I64, U64};
@@ -81,7 +83,7 @@ fn row_17(rt: HostRuntime) -> Result<(), Fail> {
     assert_outcomes(
         &rt,
         rt.alloc(),
-        readers.as_slice(),
+        Of(readers.as_slice()),
         steps.as_slice(),
         ample,
         refused.as_slice(),
@@ -210,8 +212,8 @@ fn overflow(rt: HostRuntime) -> Result<(), Fail> {
     Ok(())
 }
 
-/// A call for which memory is refused has no effect, whichever call it is. Memory is refused by hand: `rt try --test
-/// --fail-alloc N`.
+/// A call for which memory is refused has no effect, whichever call it is; a record through a handle takes none. Memory
+/// is refused by hand: `rt try --test --fail-alloc N`.
 #[test]
 fn refused_memory(rt: HostRuntime) -> Result<(), Fail> {
     let steps = [
@@ -220,24 +222,81 @@ fn refused_memory(rt: HostRuntime) -> Result<(), Fail> {
         (Record(0, U64(1), &[("a", 1)]), "done"),
         (Record(0, U64(2), &[]), "done"),
         (Record(0, U64(4), &[("b", 1)]), "done"),
+        (Bind(0, &[("c", 1)]), "handle 0"),
+        (RecordBound(0, U64(8)), "done"),
         (Collect(0, 200), "collected"),
     ];
     let readers = [Temporality::Cumulative];
     let ample =
-        "meter 0;instrument 0;done;done;done;collected | app requests 100 200 - 2 | app requests 100 200 a=1 1 | app requests 100 200 b=1 4;";
+        "meter 0;instrument 0;done;done;done;handle 0;done;collected | app requests 100 200 - 2 | app requests 100 200 a=1 1 | app requests 100 200 b=1 4 | app requests 100 200 c=1 8;";
     let refused = [
-        "refused 1;refused 2;refused 3;refused 3;refused 3;collected;",
-        "meter 0;refused 1;refused 3;refused 3;refused 3;collected;",
-        "meter 0;instrument 0;refused 1;done;done;collected | app requests 100 200 - 2 | app requests 100 200 b=1 4;",
-        "meter 0;instrument 0;done;done;refused 1;collected | app requests 100 200 - 2 | app requests 100 200 a=1 1;",
-        "meter 0;instrument 0;done;done;done;refused 1;",
+        "refused 1;refused 2;refused 3;refused 3;refused 3;refused 3;refused 4;collected;",
+        "meter 0;refused 1;refused 3;refused 3;refused 3;refused 3;refused 4;collected;",
+        "meter 0;instrument 0;refused 1;done;done;handle 0;done;collected | app requests 100 200 - 2 | app requests 100 200 b=1 4 | app requests 100 200 c=1 8;",
+        "meter 0;instrument 0;done;done;refused 1;handle 0;done;collected | app requests 100 200 - 2 | app requests 100 200 a=1 1 | app requests 100 200 c=1 8;",
+        "meter 0;instrument 0;done;done;done;refused 1;refused 4;collected | app requests 100 200 - 2 | app requests 100 200 a=1 1 | app requests 100 200 b=1 4;",
+        "meter 0;instrument 0;done;done;done;handle 0;done;refused 1;",
     ];
     assert_outcomes(
         &rt,
         rt.alloc(),
-        readers.as_slice(),
+        Of(readers.as_slice()),
         steps.as_slice(),
         ample,
         refused.as_slice(),
     )
+}
+
+/// The same of a build that copies the bounds that a reader wants for counters.
+#[test]
+fn refused_bounds(rt: HostRuntime) -> Result<(), Fail> {
+    let steps = [
+        (Meter("app", None), "meter 0"),
+        (Build(Some(0), "requests"), "instrument 0"),
+        (Record(0, U64(11), &[]), "done"),
+        (Collect(0, 200), "collected"),
+    ];
+    let ample = "meter 0;instrument 0;done;collected | app requests 100 200 - 1 0 1;";
+    let refused = [
+        "refused 1;refused 2;refused 3;collected;",
+        "meter 0;refused 1;refused 3;collected;",
+        "meter 0;instrument 0;done;refused 1;",
+    ];
+    assert_outcomes(
+        &rt,
+        rt.alloc(),
+        Bounded(&[10]),
+        steps.as_slice(),
+        ample,
+        refused.as_slice(),
+    )
+}
+
+/// The replies of a new provider with a delta reader whose sets are hashed from this seed.
+fn seeded(alloc: Global, seed: u64, steps: &[(Step<'_>, &str)]) -> Result<String, Fail> {
+    let calls = calls_of(alloc, steps)?;
+    let builder = builder_of(alloc, &[Temporality::Delta])?.with_hash_seed(seed);
+    let replies = builder.build()?.run(alloc, calls.as_slice())?;
+    texts_of(alloc, replies)
+}
+
+/// No reply depends on the seed of the hashes.
+#[test]
+fn seeds(rt: HostRuntime) -> Result<(), Fail> {
+    let steps = [
+        (Meter("app", None), "meter 0"),
+        (Build(Some(0), "requests"), "instrument 0"),
+        (Record(0, U64(1), &[("b", 1), ("a", 2)]), "done"),
+        (Record(0, U64(2), &[("c", 1)]), "done"),
+        (Bind(0, &[("d", 1)]), "handle 0"),
+        (Record(0, U64(4), &[("a", 2), ("b", 1)]), "done"),
+        (RecordBound(0, U64(8)), "done"),
+        (Collect(0, 200), "collected"),
+    ];
+    let wanted =
+        "meter 0;instrument 0;done;done;handle 0;done;done;collected | app requests 100 200 a=2,b=1 5 | app requests 100 200 c=1 2 | app requests 100 200 d=1 8;";
+    let unseeded = outcome_of(rt.alloc(), Of(&[Temporality::Delta]), steps.as_slice())?;
+    assert_eq!(rt; unseeded.as_str(), wanted);
+    assert_eq!(rt; seeded(rt.alloc(), 7, steps.as_slice())?.as_str(), wanted);
+    Ok(())
 }

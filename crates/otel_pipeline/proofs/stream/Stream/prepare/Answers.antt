@@ -1,6 +1,11 @@
 use Rattle.std.proofs.Common.{◌≡◌, true, sym, subst}
 use Rattle.otel_aggregate.specs.Streams.{StreamState, is_known}
+use Rattle.otel_pipeline.proofs.NoAttributes.{none-known}
 use Rattle.otel_pipeline.proofs.stream.Stream.prepare.Goals as goal
+
+-- no attributes are known
+pub returns-clause-free : goal.returns-clause-free
+returns-clause-free c = λ empty. c.prepare.ensures.known (none-known c.self.inside.aggregate.state.allow c.args.attributes.now c.self.inside.aggregate.state.map_state empty)
 
 -- the aggregate is the one that the demand asks for
 pub returns-clause-known : goal.returns-clause-known

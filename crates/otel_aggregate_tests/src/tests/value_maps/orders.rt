@@ -1,0 +1,128 @@
+//! Sets that are found in any order of their attributes.
+
+use super::{Set, attributes};
+use otel_common::faults::Fault;
+use otel_sets::set_attributes::{SetAttributes, same_attributes};
+use otel_value_map::aggregator::Increment;
+use otel_value_map::hashing::SetHashBuilder;
+use otel_value_map::value_map::ValueMap;
+use std::alloc::Global;
+use std::test::Fail;
+
+/// Four attributes in the order of their keys.
+const FEW: Set = &[("a", 1), ("b", 2), ("c", 3), ("d", 4)];
+
+const FEW_TURNED: Set = &[("d", 4), ("c", 3), ("b", 2), ("a", 1)];
+
+/// The same in a third order, with a key that comes again with another value.
+const FEW_MIXED: Set = &[("c", 3), ("a", 1), ("d", 4), ("b", 2), ("a", 99)];
+
+/// More attributes than are sorted without memory, in the order of their keys.
+const MANY: Set = &[
+    ("a", 1),
+    ("b", 2),
+    ("c", 3),
+    ("d", 4),
+    ("e", 5),
+    ("f", 6),
+    ("g", 7),
+    ("h", 8),
+    ("i", 9),
+    ("j", 10),
+    ("k", 11),
+    ("l", 12),
+    ("m", 13),
+    ("n", 14),
+    ("o", 15),
+    ("p", 16),
+    ("q", 17),
+    ("r", 18),
+];
+
+const MANY_TURNED: Set = &[
+    ("r", 18),
+    ("q", 17),
+    ("p", 16),
+    ("o", 15),
+    ("n", 14),
+    ("m", 13),
+    ("l", 12),
+    ("k", 11),
+    ("j", 10),
+    ("i", 9),
+    ("h", 8),
+    ("g", 7),
+    ("f", 6),
+    ("e", 5),
+    ("d", 4),
+    ("c", 3),
+    ("b", 2),
+    ("a", 1),
+];
+
+/// The same in a third order, with a key that comes again with another value.
+const MANY_MIXED: Set = &[
+    ("j", 10),
+    ("k", 11),
+    ("l", 12),
+    ("m", 13),
+    ("n", 14),
+    ("o", 15),
+    ("p", 16),
+    ("q", 17),
+    ("r", 18),
+    ("a", 1),
+    ("b", 2),
+    ("c", 3),
+    ("d", 4),
+    ("e", 5),
+    ("f", 6),
+    ("g", 7),
+    ("h", 8),
+    ("i", 9),
+    ("c", 99),
+];
+
+/// Takes in a record for each of these lists, and returns whether all went to one entry.
+fn are_one(alloc: Global, first: Set, second: Set, third: Set) -> Result<bool, Fault> {
+    let mut map: ValueMap<Increment<u64>> = ValueMap::new(alloc, SetHashBuilder::default(), (), 9)?;
+    map.measure(1, &attributes(alloc, first)?)?;
+    map.measure(2, &attributes(alloc, second)?)?;
+    map.measure(4, &attributes(alloc, third)?)?;
+    Ok(map.count() == 1 && map.total(true) == 7)
+}
+
+/// Whether the canonical form of a list, as it is seen without being made, is this one.
+fn has_form(alloc: Global, list: Set, form: Set) -> Result<bool, Fault> {
+    let list = attributes(alloc, list)?;
+    let form = attributes(alloc, form)?;
+    Ok(same_attributes(
+        SetAttributes::canonical(None, &list),
+        SetAttributes::kept(None, &form),
+    ))
+}
+
+#[test]
+fn few_keys_are_found_in_any_order(rt: HostRuntime) -> Result<(), Fail> {
+    let alloc = rt.alloc();
+    assert!(rt; are_one(alloc, FEW, FEW_TURNED, FEW_MIXED)?);
+    assert!(rt; are_one(alloc, FEW_MIXED, FEW, FEW_TURNED)?);
+    Ok(())
+}
+
+#[test]
+fn many_keys_are_found_in_any_order(rt: HostRuntime) -> Result<(), Fail> {
+    let alloc = rt.alloc();
+    assert!(rt; are_one(alloc, MANY, MANY_TURNED, MANY_MIXED)?);
+    assert!(rt; are_one(alloc, MANY_MIXED, MANY, MANY_TURNED)?);
+    Ok(())
+}
+
+#[test]
+fn a_canonical_form_is_seen_without_being_made(rt: HostRuntime) -> Result<(), Fail> {
+    let alloc = rt.alloc();
+    assert!(rt; has_form(alloc, FEW_MIXED, FEW)?);
+    assert!(rt; has_form(alloc, MANY_MIXED, MANY)?);
+    assert!(rt; !has_form(alloc, MANY_MIXED, FEW)?);
+    Ok(())
+}
