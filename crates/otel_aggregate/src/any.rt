@@ -228,18 +228,18 @@ impl AnyAggregate {
 
     /// Carries out the prepared bind for a handle with this number, if a bind is prepared, room was made for the
     /// handle and no live handle has the number. This is the second phase; it takes no memory.
-    pub fn bind_ready(&mut self, handle: u64)
+    pub fn commit_bind(&mut self, handle: u64)
         ensures bound { self.new ≡ any_after_bind handle self.old }
     {
         match &mut self.inner {
-            Inner::SumU64(stream) => stream.bind_ready(handle),
-            Inner::SumI64(stream) => stream.bind_ready(handle),
+            Inner::SumU64(stream) => stream.commit_bind(handle),
+            Inner::SumI64(stream) => stream.commit_bind(handle),
             Inner::PrecomputedSumU64(_) => {}
             Inner::PrecomputedSumI64(_) => {}
-            Inner::LastValueU64(stream) => stream.bind_ready(handle),
-            Inner::LastValueI64(stream) => stream.bind_ready(handle),
-            Inner::HistogramU64(stream) => stream.bind_ready(handle),
-            Inner::HistogramI64(stream) => stream.bind_ready(handle),
+            Inner::LastValueU64(stream) => stream.commit_bind(handle),
+            Inner::LastValueI64(stream) => stream.commit_bind(handle),
+            Inner::HistogramU64(stream) => stream.commit_bind(handle),
+            Inner::HistogramI64(stream) => stream.commit_bind(handle),
         }
     }
 

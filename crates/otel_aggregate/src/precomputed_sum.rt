@@ -181,12 +181,12 @@ impl<T: Number + Drop> PrecomputedSum<T> {
     }
 
     /// Takes in the prepared observation. This is the second phase.
-    pub fn measure_ready(&mut self, value: T)
+    fn take_in(&mut self, value: T)
         requires { IsSome self.old.pending }
         ensures measured { (s : AttributeSet) → self.old.pending ≡ Some s → self.new.state ≡ observed_set s (record { bits = T.bits value; wide = T.wide value }) self.old.state }
         ensures spent { self.new.pending ≡ None }
     {
-        self.stream.measure_ready(value);
+        self.stream.take_in(value);
     }
 
     /// Takes in the prepared observation, if there is one, and returns whether there was.
@@ -206,7 +206,7 @@ impl<T: Number + Drop> PrecomputedSum<T> {
         ensures only_memory { IsOkUnless result Fault.OutOfMemory }
     {
         self.prepare(attributes)?;
-        self.measure_ready(value);
+        self.take_in(value);
         Ok(())
     }
 

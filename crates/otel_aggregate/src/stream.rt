@@ -140,7 +140,7 @@ impl<A: Shows> Stream<A> {
     }
 
     /// Takes in the prepared record. This is the second phase.
-    pub fn measure_ready(&mut self, value: A::Value)
+    pub(crate) fn take_in(&mut self, value: A::Value)
         requires { IsSome self.old.pending }
         ensures measured { (s : AttributeSet) → self.old.pending ≡ Some s → self.new.state ≡ recorded_set s (record { bits = A.Value.bits value; wide = A.Value.wide value }) self.old.state }
         ensures live { self.new.live ≡ self.old.live }
@@ -148,7 +148,7 @@ impl<A: Shows> Stream<A> {
         ensures spent { self.new.pending ≡ None }
     {
         let record = A::record(&self.settings, value);
-        self.map.measure_ready(record);
+        self.map.commit(record);
     }
 
     /// Takes in the prepared record, if there is one, and returns whether there was.
@@ -159,7 +159,7 @@ impl<A: Shows> Stream<A> {
         if !self.map.is_prepared() {
             return false;
         }
-        self.measure_ready(value);
+        self.take_in(value);
         true
     }
 
@@ -174,7 +174,7 @@ impl<A: Shows> Stream<A> {
         ensures only_memory { IsOkUnless result Fault.OutOfMemory }
     {
         self.prepare(attributes)?;
-        self.measure_ready(value);
+        self.take_in(value);
         Ok(())
     }
 
@@ -189,10 +189,10 @@ impl<A: Shows> Stream<A> {
 
     /// Carries out the prepared bind for a handle with this number, if a bind is prepared, room was made for the
     /// handle and no live handle has the number. This is the second phase; it takes no memory.
-    pub fn bind_ready(&mut self, handle: u64)
+    pub fn commit_bind(&mut self, handle: u64)
         ensures bound { self.new ≡ stream_after_bind handle self.old }
     {
-        self.map.bind_ready(handle);
+        self.map.commit_bind(handle);
     }
 
     /// Binds a handle with this number to these attributes, unless a live handle has the number (Metrics API,
@@ -206,7 +206,7 @@ impl<A: Shows> Stream<A> {
     {
         self.prepare(attributes)?;
         self.make_room()?;
-        self.bind_ready(handle);
+        self.commit_bind(handle);
         Ok(())
     }
 

@@ -6,9 +6,9 @@ ghost use Rattle.otel_common.specs.Canonical.{canon};
 ghost use Rattle.otel_model_stream.specs.Entries.{points};
 ghost use Rattle.otel_model_stream.specs.Events.{held_by};
 ghost use Rattle.otel_model_stream.specs.Folds.{wrap};
-ghost use Rattle.otel_model_stream.specs.Maps.{new_map, measured_map, evicted_map, drained_map, draining_points};
+ghost use Rattle.otel_model_stream.specs.Maps.{new_map, measured_map, evicted_map, drained_map, draining_points, without_lists, SucceedsIfKnown};
 ghost use Rattle.otel_model_stream.specs.Observed.{fold_in};
-ghost use Rattle.otel_model_stream.specs.Sets.{AttributeSet, set_of};
+ghost use Rattle.otel_model_stream.specs.Sets.{AttributeSet, allowed_part, set_of};
 ghost use Rattle.otel_model_stream.specs.Totals.{points_total};
 ghost use Rattle.otel_value_map.specs.Numbers.{is_placed, without_handles};
 ghost use Rattle.otel_value_map.specs.Slots.{HasForm, copies};
@@ -82,6 +82,7 @@ impl<A: Aggregator> BoundMap<A> {
         ensures room { self.new.room ≡ self.old.room }
         ensures ready { OnOk result (self.new.pending ≡ Some (canon attributes.now)) }
         ensures refused { OnErr result (self.new.pending ≡ None) }
+        ensures known { SucceedsIfKnown attributes.now (without_lists self.old.state) result }
         ensures placed { IsTrue (is_placed (canon attributes.now) self.old.state.table.entries) → IsOk result }
         ensures only_memory { IsOkUnless result Fault.OutOfMemory }
     {
@@ -96,6 +97,7 @@ impl<A: Aggregator> BoundMap<A> {
         ensures room { self.new.room ≡ self.old.room }
         ensures ready { OnOk result (self.new.pending ≡ Some (set_of (Some allow.now) attributes.now)) }
         ensures refused { OnErr result (self.new.pending ≡ None) }
+        ensures known { SucceedsIfKnown (allowed_part (Some allow.now) attributes.now) (without_lists self.old.state) result }
         ensures placed { IsTrue (is_placed (set_of (Some allow.now) attributes.now) self.old.state.table.entries) → IsOk result }
         ensures only_memory { IsOkUnless result Fault.OutOfMemory }
     {
@@ -140,21 +142,21 @@ impl<A: Aggregator> BoundMap<A> {
     }
 
     /// Takes in the prepared record. Looks nothing up for a set that has an entry.
-    pub fn measure_ready(&mut self, value: A::PreComputedValue)
+    pub fn commit(&mut self, value: A::PreComputedValue)
         requires { IsSome self.old.pending }
         ensures measured { (s : AttributeSet) → self.old.pending ≡ Some s → self.new.state ≡ measured_map s (A.sample value) self.old.state }
         ensures live { self.new.live ≡ self.old.live }
         ensures room { self.new.room ≡ self.old.room }
         ensures spent { self.new.pending ≡ None }
     {
-        self.map.measure_ready(value);
+        self.map.commit(value);
         // Tells the prover that the entries that kept their numbers are still named by them.
         self.map.told_numbers();
     }
 
     /// Carries out the prepared bind for a handle with this number, if a bind is prepared, room was made for the
     /// handle and no live handle has the number. Otherwise nothing changes. Takes no memory.
-    pub fn bind_ready(&mut self, handle: u64)
+    pub fn commit_bind(&mut self, handle: u64)
         ensures bound { self.new ≡ after_bind handle self.old }
     {
         if !self.room || !self.map.is_prepared() || number_in(&self.live, handle).is_some() {
@@ -162,7 +164,7 @@ impl<A: Aggregator> BoundMap<A> {
         }
         // Tells the prover that there are fewer than 2^63 handles.
         let _ = self.live.len();
-        let number = self.map.bind_ready();
+        let number = self.map.commit_bind();
         self.map.told_numbers();
         add(&mut self.live, handle, number);
         self.room = false;

@@ -97,11 +97,11 @@ fn prepare_bind_all(
 }
 
 /// Makes the prepared bind in the streams that an instrument feeds, at all readers.
-fn bind_all(pipelines: &mut [Pipeline], instrument: usize, handle: u64)
+fn commit_bind_all(pipelines: &mut [Pipeline], instrument: usize, handle: u64)
     ensures { map part_of pipelines.new ≡ map (part_after_bind instrument handle) pipelines.old }
 {
     for i in 0..pipelines.len() {
-        pipelines[i].bind(instrument, handle);
+        pipelines[i].commit_bind(instrument, handle);
     }
 }
 
@@ -195,7 +195,7 @@ pub(crate) fn bind_or_none(
     ensures only_memory { IsOkUnless result Fault.OutOfMemory }
 {
     prepare_bind_all(pipelines, instrument, attributes)?;
-    bind_all(pipelines, instrument, handle);
+    commit_bind_all(pipelines, instrument, handle);
     Ok(())
 }
 

@@ -61,12 +61,12 @@ pub(crate) fn prepare_bind_each(
 }
 
 /// Carries out the prepared bind in each of these streams, for this handle.
-pub(crate) fn bind_each(streams: &mut Vec<Stream>, feeds: &[usize], handle: u64)
+pub(crate) fn commit_bind_each(streams: &mut Vec<Stream>, feeds: &[usize], handle: u64)
     requires { AreNumbers streams.old.items feeds.now }
     ensures { streams.new.items ≡ bound_each handle feeds.now streams.old.items }
 {
     for k in feeds {
-        streams[*k].bind(handle);
+        streams[*k].commit_bind(handle);
     }
 }
 

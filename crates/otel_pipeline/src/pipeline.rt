@@ -13,7 +13,7 @@ ghost use Rattle.otel_pipeline.specs.Views.{views_answering};
 
 use crate::about::About;
 use crate::each_stream::{
-    bind_each, commit_each, prepare_bind_each, prepare_each, prepare_held_each, streams_fed,
+    commit_bind_each, commit_each, prepare_bind_each, prepare_each, prepare_held_each, streams_fed,
     unbind_each,
 };
 use crate::observing::collect_observed;
@@ -202,10 +202,10 @@ impl Pipeline {
     }
 
     /// Carries out the prepared bind in the streams that the instrument feeds, for this handle. Takes no memory.
-    pub fn bind(&mut self, instrument: usize, handle: u64)
+    pub fn commit_bind(&mut self, instrument: usize, handle: u64)
         ensures { part_of self.new ≡ part_after_bind instrument handle self.old }
     {
-        bind_each(
+        commit_bind_each(
             &mut self.streams,
             streams_fed(&self.feeds, instrument),
             handle,

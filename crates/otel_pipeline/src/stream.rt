@@ -153,11 +153,11 @@ impl Stream {
 
     /// Carries out the prepared bind, if there is one, for a handle with this number, unless the handle is live
     /// already.
-    pub(crate) fn bind(&mut self, handle: u64)
+    pub(crate) fn commit_bind(&mut self, handle: u64)
         ensures { self.new ≡ held_after_bind handle self.old }
     {
         if !is_observable(self.demand.identity.kind) {
-            self.aggregate.bind_ready(handle);
+            self.aggregate.commit_bind(handle);
         }
     }
 

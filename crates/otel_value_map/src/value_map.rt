@@ -296,7 +296,7 @@ impl<A: Aggregator> ValueMap<A> {
     }
 
     /// Takes in the prepared record. This is the second phase; it looks nothing up for a set that has an entry.
-    pub fn measure_ready(&mut self, value: A::PreComputedValue)
+    pub fn commit(&mut self, value: A::PreComputedValue)
         requires { IsSome self.old.pending }
         ensures measured { (s : AttributeSet) → self.old.pending ≡ Some s → self.new.state ≡ measured_map s (A.sample value) self.old.state }
         ensures numbers { KeepNumbers self.old.numbers self.new.numbers }
@@ -324,13 +324,13 @@ impl<A: Aggregator> ValueMap<A> {
         ensures only_memory { IsOkUnless result Fault.OutOfMemory }
     {
         self.prepare(attributes)?;
-        self.measure_ready(value);
+        self.commit(value);
         Ok(())
     }
 
     /// Carries out the prepared bind, and returns the number of the entry: that of the set, or the overflow entry.
     /// This is the second phase; it can't fail.
-    pub fn bind_ready(&mut self) -> usize
+    pub fn commit_bind(&mut self) -> usize
         requires prepared { IsSome self.old.pending }
         requires few { AreHandlesFew self.old.state.table }
         ensures bound { (s : AttributeSet) → self.old.pending ≡ Some s → self.new.state ≡ bound_map s self.old.state }
@@ -360,7 +360,7 @@ impl<A: Aggregator> ValueMap<A> {
         ensures only_memory { IsOkUnless result Fault.OutOfMemory }
     {
         self.prepare(attributes)?;
-        Ok(self.bind_ready())
+        Ok(self.commit_bind())
     }
 
     /// Takes in a record through a handle, by the number of its entry. Looks nothing up, takes no memory, and gives up

@@ -254,7 +254,7 @@ fn explicit_bucket_histogram_aggregation(rt: HostRuntime) -> Result<(), Fail> {
 fn take_in(histogram: &mut Histogram<i64>, value: i64) -> bool {
     let is_prepared = histogram.is_prepared();
     if is_prepared {
-        histogram.measure_ready(value);
+        histogram.commit(value);
     }
     is_prepared
 }

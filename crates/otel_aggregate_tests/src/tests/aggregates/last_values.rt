@@ -64,7 +64,7 @@ fn measure<T: Number + Drop>(
 fn take_in(gauge: &mut LastValue<i64>, value: i64) -> Result<(), Fault> {
     gauge.prepare(&[])?;
     if gauge.is_prepared() {
-        gauge.measure_ready(value);
+        gauge.commit(value);
     }
     Ok(())
 }

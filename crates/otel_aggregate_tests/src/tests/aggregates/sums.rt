@@ -105,7 +105,7 @@ fn prepare<T: Number + Drop>(alloc: Global, sum: &mut Sum<T>, set: Set) -> Resul
 fn take_in<T: Number + Drop>(sum: &mut Sum<T>, value: T) -> bool {
     let is_prepared = sum.is_prepared();
     if is_prepared {
-        sum.measure_ready(value);
+        sum.commit(value);
     }
     is_prepared
 }

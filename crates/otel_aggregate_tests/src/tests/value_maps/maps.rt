@@ -56,7 +56,7 @@ fn takes_in<T: Number + Drop>(
     map.prepare(&attributes(alloc, set)?)?;
     let is_prepared = map.is_prepared();
     if is_prepared {
-        map.measure_ready(value);
+        map.commit(value);
     }
     Ok(is_prepared)
 }

@@ -9,7 +9,7 @@ use Rattle.otel_core.proofs.each_pipeline.bind_or_none.Goals as goal
 pub returns-clause-ok : goal.returns-clause-ok
 returns-clause-ok c =
     let same = c.prepare_bind_all.ensures.same in
-    c.bind_all.ensures
+    c.commit_bind_all.ensures
     ∙ (all_bound c.args.handle c.args.instrument c.args.attributes.now c.prepare_bind_all.new.pipelines c.in_ok-prepare_bind_all.ensures.ready
     (subst (EachOf (FeedsSynchronous c.args.instrument)) (sym same) c.requires.synchronous) (subst (EachOf (IsNewAt c.args.handle)) (sym same) c.requires.new)
     ∙ ap (map (part_after_call c.args.handle (model.Call.Bind c.args.instrument c.args.attributes.now))) same)

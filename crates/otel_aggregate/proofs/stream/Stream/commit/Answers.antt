@@ -5,8 +5,8 @@ use Rattle.otel_aggregate.proofs.stream.Stream.commit.Goals as goal
 
 pub returns-clause-taken : goal.returns-clause-taken
 returns-clause-taken g c =
-    taken-some c.args.self.now c.measure_ready.new.self _ c.args.self.now.pending refl
-    (ap (λ (s : HeldStream). is_some s.pending) (sym c.self.view_is) ∙ (sym c.is_prepared.ensures ∙ c.if-not-is_prepared.false)) c.measure_ready.ensures.measured c.measure_ready.ensures.live c.measure_ready.ensures.room c.measure_ready.ensures.spent
+    taken-some c.args.self.now c.take_in.new.self _ c.args.self.now.pending refl
+    (ap (λ (s : HeldStream). is_some s.pending) (sym c.self.view_is) ∙ (sym c.is_prepared.ensures ∙ c.if-not-is_prepared.false)) c.take_in.ensures.measured c.take_in.ensures.live c.take_in.ensures.room c.take_in.ensures.spent
 
 pub returns-then-not-is_prepared-clause-taken : goal.returns-then-not-is_prepared-clause-taken
 returns-then-not-is_prepared-clause-taken g c =

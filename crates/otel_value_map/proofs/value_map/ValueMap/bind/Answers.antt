@@ -10,7 +10,7 @@ pub returns-clause-learned : goal.returns-clause-learned
 returns-clause-learned g c = λ admitted.
     let l = c.args.attributes.now in
     let ready = c.in_ok-prepare.ensures in
-    let state = c.bind_ready.ensures.bound (canon l) ready.ready ∙ ap (bound_map (canon l)) ready.same in
-    let given = c.bind_ready.ensures.given ∙ (λ i. ready.given i ++ ready.spelling i) in
-    let known : known_of c.bind_ready.new.self ≡ bound_list l (known_of c.args.self.now) = λ i. record { map_state = state i; given = given i } in
+    let state = c.commit_bind.ensures.bound (canon l) ready.ready ∙ ap (bound_map (canon l)) ready.same in
+    let given = c.commit_bind.ensures.given ∙ (λ i. ready.given i ++ ready.spelling i) in
+    let known : known_of c.commit_bind.new.self ≡ bound_list l (known_of c.args.self.now) = λ i. record { map_state = state i; given = given i } in
     subst (AreKnown l) (sym known) (known_bound l (known_of c.args.self.now) admitted)

@@ -11,7 +11,7 @@ returns-clause-learned g c = λ admitted.
     let l = c.args.attributes.now in
     let v = g.A.Aggregator.sample c.args.value in
     let ready = c.in_ok-prepare.ensures in
-    let state = c.measure_ready.ensures.measured (canon l) ready.ready ∙ ap (measured_map (canon l) v) ready.same in
-    let given = c.measure_ready.ensures.given ∙ (λ i. ready.given i ++ ready.spelling i) in
-    let known : known_of c.measure_ready.new.self ≡ measured_list l v (known_of c.args.self.now) = λ i. record { map_state = state i; given = given i } in
+    let state = c.commit.ensures.measured (canon l) ready.ready ∙ ap (measured_map (canon l) v) ready.same in
+    let given = c.commit.ensures.given ∙ (λ i. ready.given i ++ ready.spelling i) in
+    let known : known_of c.commit.new.self ≡ measured_list l v (known_of c.args.self.now) = λ i. record { map_state = state i; given = given i } in
     subst (AreKnown l) (sym known) (known_measured l v (known_of c.args.self.now) admitted)

@@ -6,25 +6,25 @@ use Rattle.otel_bound_map.specs.Handles.{HeldMap}
 use Rattle.otel_bound_map.specs.Links.{Link, AreHeld}
 use Rattle.otel_bound_map.proofs.LinkLemmas.{IsLinkedStill, still-kept, handles-still, linked-still}
 use Rattle.otel_bound_map.proofs.StepLemmas.{held-measured}
-use Rattle.otel_bound_map.proofs.bound_map.BoundMap.measure_ready.Goals as goal
+use Rattle.otel_bound_map.proofs.bound_map.BoundMap.commit.Goals as goal
 
 pub invariant_of-self : goal.invariant_of-self
 invariant_of-self g c =
     let old : Numbers = c.self.inside.map.numbers in
-    let new : Numbers = c.measure_ready.new.self.numbers in
+    let new : Numbers = c.commit.new.self.numbers in
     let links : List Link = c.self.inside.live.entries in
     let named = c.told_numbers.ensures.named in
-    let still : AllByRecursion (IsLinkedStill old new) links = still-kept old new c.measure_ready.ensures.numbers links c.self.invariant.0 in
+    let still : AllByRecursion (IsLinkedStill old new) links = still-kept old new c.commit.ensures.numbers links c.self.invariant.0 in
     let some : IsSome c.self.inside.map.pending = subst (λ (h : HeldMap). IsSome h.pending) (sym c.self.view_is) c.requires in (
       linked-still old new named links still,
-      subst (AreHeld c.measure_ready.new.self.state.table) (sym (handles-still old new named links still))
-          (held-measured c.self.inside.map.state c.measure_ready.new.self.state _ c.self.inside.map.pending (g.A.Aggregator.sample c.args.value) some c.measure_ready.ensures.measured c.self.invariant.1),
+      subst (AreHeld c.commit.new.self.state.table) (sym (handles-still old new named links still))
+          (held-measured c.self.inside.map.state c.commit.new.self.state _ c.self.inside.map.pending (g.A.Aggregator.sample c.args.value) some c.commit.ensures.measured c.self.invariant.1),
       c.self.invariant.2,
     )
 
 pub returns-clause-live : goal.returns-clause-live
 returns-clause-live g c =
     let old : Numbers = c.self.inside.map.numbers in
-    let new : Numbers = c.measure_ready.new.self.numbers in
+    let new : Numbers = c.commit.new.self.numbers in
     let links : List Link = c.self.inside.live.entries in
-    handles-still old new c.told_numbers.ensures.named links (still-kept old new c.measure_ready.ensures.numbers links c.self.invariant.0) ∙ ap (λ (h : HeldMap). h.live) c.self.view_is
+    handles-still old new c.told_numbers.ensures.named links (still-kept old new c.commit.ensures.numbers links c.self.invariant.0) ∙ ap (λ (h : HeldMap). h.live) c.self.view_is

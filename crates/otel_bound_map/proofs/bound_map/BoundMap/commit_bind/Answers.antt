@@ -7,8 +7,8 @@ use Rattle.otel_bound_map.specs.Handles.{HeldMap}
 use Rattle.otel_bound_map.specs.Links.{Link, handle_of, handles_of}
 use Rattle.otel_bound_map.proofs.HandleLemmas.{held-few}
 use Rattle.otel_bound_map.proofs.StepLemmas.{held-some, held-none, bound-prepared, bind-made, no_bind-room, no_bind-prepared, no_bind-live}
-use Rattle.otel_bound_map.proofs.bound_map.BoundMap.bind_ready.Goals as goal
-use Rattle.otel_bound_map.proofs.bound_map.BoundMap.bind_ready.Goals.{then-not-self-via-then-not-self, then-not-self-via-else-not-self+then-not-is_prepared, then-not-self-via-else-not-self+else-not-is_prepared+then-is_some}
+use Rattle.otel_bound_map.proofs.bound_map.BoundMap.commit_bind.Goals as goal
+use Rattle.otel_bound_map.proofs.bound_map.BoundMap.commit_bind.Goals.{then-not-self-via-then-not-self, then-not-self-via-else-not-self+then-not-is_prepared, then-not-self-via-else-not-self+else-not-is_prepared+then-is_some}
 
 pub returns-then-not-self : goal.returns-then-not-self
 returns-then-not-self g c =
@@ -22,8 +22,8 @@ returns-then-not-self g c =
           record { bound = no_bind-live m h (sym (ap (λ (x : HeldMap). is_some (held_by h x.live)) c.self.view_is) ∙ live) }
     ]
 
-pub bind_ready-number-requires-clause-few : goal.bind_ready-number-requires-clause-few
-bind_ready-number-requires-clause-few g c =
+pub commit_bind-number-requires-clause-few : goal.commit_bind-number-requires-clause-few
+commit_bind-number-requires-clause-few g c =
     let old : Numbers = c.self.inside.map.numbers in
     let links : List Link = c.self.inside.live.entries in
     held-few c.self.inside.map.state.table (handles_of old links) c.self.invariant.1 (omega (arith, length-map links (handle_of old), c.len.ensures.len, c.len.ensures.small))
@@ -31,7 +31,7 @@ bind_ready-number-requires-clause-few g c =
 pub invariant_of-self : goal.invariant_of-self
 invariant_of-self g c =
     let map = c.self.inside.map in
-    let now = c.bind_ready-number in
+    let now = c.commit_bind-number in
     let some : IsSome map.pending = sym c.is_prepared.ensures ∙ c.if-not-is_prepared.false in
     let made = bound-prepared map.numbers now.new.self.numbers map.state now.new.self.state c.self.inside.live.entries c.args.handle now.result c.self.invariant.0 c.self.invariant.1 now.ensures.numbers c.told_numbers.ensures.named c.told_numbers.ensures.placed
     map.pending c.add.new.links.entries some now.ensures.bound now.ensures.number c.add.ensures.links in
@@ -41,7 +41,7 @@ pub returns : goal.returns
 returns g c =
     let map = c.self.inside.map in
     let links : List Link = c.self.inside.live.entries in
-    let now = c.bind_ready-number in
+    let now = c.commit_bind-number in
     let m : HeldMap = record { state = map.state; live = handles_of map.numbers links; pending = map.pending; room = c.self.inside.room } in
     let some : IsSome map.pending = sym c.is_prepared.ensures ∙ c.if-not-is_prepared.false in
     let away = held-none map.numbers c.args.handle links c.number_in.result c.number_in.ensures (sym c.is_some.ensures ∙ c.if-is_some.false) in

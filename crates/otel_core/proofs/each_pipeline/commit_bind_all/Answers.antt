@@ -2,7 +2,7 @@ use Rattle.std.proofs.Common.{arith}
 use Rattle.otel_pipeline.specs.Handles.{part_after_bind}
 use Rattle.otel_pipeline.specs.Pipelines.{part_of}
 use Rattle.otel_pipeline.proofs.PipelinesLemmas.{done-none, done-more, done-all}
-use Rattle.otel_core.proofs.each_pipeline.bind_all.Goals as goal
+use Rattle.otel_core.proofs.each_pipeline.commit_bind_all.Goals as goal
 
 pub loop-i-init : goal.loop-i-init
 loop-i-init c = done-none part_of (part_after_bind c.args.instrument c.args.handle) c.args.pipelines.now

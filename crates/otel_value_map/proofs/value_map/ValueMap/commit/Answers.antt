@@ -2,7 +2,7 @@ use Rattle.std.proofs.Common.{◌≡◌, ◌∙◌, ap, sym, subst, None}
 use Rattle.otel_value_map.specs.Held.{Held, IsSound, pending_in}
 use Rattle.otel_value_map.specs.declared.pending.Pending.TheVariants.{Nothing}
 use Rattle.otel_value_map.proofs.PlaceLemmas.{nothing-left}
-use Rattle.otel_value_map.proofs.value_map.ValueMap.measure_ready.Goals as goal
+use Rattle.otel_value_map.proofs.value_map.ValueMap.commit.Goals as goal
 
 pub invariant_of-self : goal.invariant_of-self
 invariant_of-self g c =

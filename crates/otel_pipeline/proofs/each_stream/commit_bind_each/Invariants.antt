@@ -1,6 +1,6 @@
 use Rattle.std.proofs.Common.{◌≡◌, length, drop}
 use Rattle.otel_pipeline.specs.Handles.{bound_each}
-use Rattle.otel_pipeline.proofs.each_stream.bind_each.Given as goal
+use Rattle.otel_pipeline.proofs.each_stream.commit_bind_each.Given as goal
 
 -- what is left to bind leads to what all of it leads to, and no stream comes or goes
 abbrev pub invariant-loop-k : goal.invariant-loop-k

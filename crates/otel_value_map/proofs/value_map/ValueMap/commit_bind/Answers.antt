@@ -7,7 +7,7 @@ use Rattle.otel_value_map.specs.Numbers.{number_of, handles_at, AreHandlesFew}
 use Rattle.otel_value_map.specs.Held.{Held, IsSound, pending_in}
 use Rattle.otel_value_map.specs.declared.pending.Pending.TheVariants.{Nothing}
 use Rattle.otel_value_map.proofs.PlaceLemmas.{nothing-left, few-placed}
-use Rattle.otel_value_map.proofs.value_map.ValueMap.bind_ready.Goals as goal
+use Rattle.otel_value_map.proofs.value_map.ValueMap.commit_bind.Goals as goal
 
 pub invariant_of-self : goal.invariant_of-self
 invariant_of-self g c =
