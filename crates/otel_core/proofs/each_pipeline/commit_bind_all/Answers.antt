@@ -8,7 +8,7 @@ pub loop-i-init : goal.loop-i-init
 loop-i-init c = done-none part_of (part_after_bind c.args.instrument c.args.handle) c.args.pipelines.now
 
 pub loop-i-preserved : goal.loop-i-preserved
-loop-i-preserved c = done-more part_of (part_after_bind c.args.instrument c.args.handle) c.args.pipelines.now c.loop-i.pipelines c.loop-i.i c.index-pipelines-i.result c.bind.new.self (omega arith) c.bind.ensures c.loop-i.invariant
+loop-i-preserved c = done-more part_of (part_after_bind c.args.instrument c.args.handle) c.args.pipelines.now c.loop-i.pipelines c.loop-i.i c.index-pipelines-i.result c.commit_bind.new.self (omega arith) c.commit_bind.ensures c.loop-i.invariant
 
 pub returns : goal.returns
 returns c = done-all part_of (part_after_bind c.args.instrument c.args.handle) c.args.pipelines.now c.loop-i.pipelines c.loop-i.i (omega arith) c.loop-i.invariant
