@@ -102,7 +102,6 @@ fn shown_points<T: Number + Drop>(
 ///
 /// It has two maps, one for what is observed and one for what was reported. With `Delta` a collection swaps them, so
 /// that no value is copied to be kept.
-#[derive(Drop)]
 pub struct PrecomputedSum<T: Number + Drop> {
     stream: Stream<Assign<T>>,
     /// What the last collection reported; always empty in a stream that doesn't reset.
@@ -126,6 +125,17 @@ impl<T: Number + Drop> Model for PrecomputedSum<T> {
     } };
 
     ghost invariant = { λ s. (drained_map s.reported.state ≡ drained_map s.stream.state.map_state) × (s.stream.live ≡ []) × (s.reported.live ≡ []) };
+}
+
+impl<T: Number + Drop> Drop for PrecomputedSum<T> {
+    /// A function of its own, so that no proof about who lets one go looks into it.
+    fn drop(self) {
+        let PrecomputedSum {
+            stream: _stream,
+            reported: _reported,
+            is_monotonic: _,
+        } = self;
+    }
 }
 
 impl<T: Number + Drop> PrecomputedSum<T> {

@@ -49,7 +49,6 @@ pub(crate) fn shown_temporality(resets: bool) -> Temporality
 }
 
 /// The records of a stream, by set (Metrics SDK, "MetricReader").
-#[derive(Drop)]
 pub struct Stream<A: Shows> {
     settings: A::Settings,
     map: BoundMap<A>,
@@ -77,6 +76,19 @@ impl<A: Shows> Model for Stream<A> {
       pending = s.map.pending;
       room = s.map.room;
     } };
+}
+
+impl<A: Shows> Drop for Stream<A> {
+    /// A function of its own, so that no proof about who lets one go looks into it.
+    fn drop(self) {
+        let Stream {
+            settings: _settings,
+            map: _map,
+            allow: _allow,
+            resets: _,
+            start: _,
+        } = self;
+    }
 }
 
 impl<A: Shows> Stream<A> {

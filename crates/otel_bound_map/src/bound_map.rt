@@ -32,7 +32,6 @@ use std::marker::Model;
 ///
 /// An entry that a live handle holds stays at a resetting collection. A handle stays with its entry for good, even
 /// with the overflow entry once its set could have an entry of its own.
-#[derive(Drop)]
 pub struct BoundMap<A: Aggregator> {
     map: ValueMap<A>,
     live: Links,
@@ -54,6 +53,17 @@ impl<A: Aggregator> Model for BoundMap<A> {
     ghost invariant = { λ m. AllByRecursion (IsLinked m.map.numbers) m.live.entries
         × AreHeld m.map.state.table (handles_of m.map.numbers m.live.entries)
         × (IsTrue m.room → 0 < spare m.live) };
+}
+
+impl<A: Aggregator> Drop for BoundMap<A> {
+    /// A function of its own, so that no proof about who lets one go looks into it.
+    fn drop(self) {
+        let BoundMap {
+            map: _map,
+            live: _live,
+            room: _,
+        } = self;
+    }
 }
 
 impl<A: Aggregator> BoundMap<A> {

@@ -37,7 +37,6 @@ use std::alloc::Global;
 use std::marker::Model;
 
 /// What one reader answered, its streams in order of making, and, for each instrument, the streams that it feeds.
-#[derive(Drop)]
 pub struct Pipeline {
     pub(crate) alloc: Global,
     pub(crate) hasher: SetHashBuilder,
@@ -66,6 +65,21 @@ impl Model for Pipeline {
     } };
 
     ghost invariant = { λ p. (p.identities.keys ≡ stream_identities p.streams.items) × All (AreNumbers p.streams.items) p.feeds.items × AreAnswered p.answers p.streams.items };
+}
+
+impl Drop for Pipeline {
+    /// A function of its own, so that no proof about who lets one go looks into it.
+    fn drop(self) {
+        let Pipeline {
+            alloc: _,
+            hasher: _,
+            answers: _answers,
+            identities: _identities,
+            streams: _streams,
+            feeds: _feeds,
+            plan: _plan,
+        } = self;
+    }
 }
 
 impl Pipeline {

@@ -27,7 +27,6 @@ use std::alloc::Global;
 use std::marker::Model;
 
 /// A stream: what was demanded, and the records so far.
-#[derive(Drop)]
 pub(crate) struct Stream {
     demand: Demand,
     aggregate: AnyAggregate,
@@ -45,6 +44,18 @@ impl Model for Stream {
     ghost view = { λ s. held_of s.demand s.aggregate s.recorded s.exported };
 
     ghost invariant = { λ s. IsAsked s.demand s.aggregate };
+}
+
+impl Drop for Stream {
+    /// A function of its own, so that no proof about who lets one go looks into it.
+    fn drop(self) {
+        let Stream {
+            demand: _demand,
+            aggregate: _aggregate,
+            recorded: _,
+            exported: _,
+        } = self;
+    }
 }
 
 /// Whether an instrument of this kind is observable.
