@@ -55,6 +55,7 @@ use std::marker::Model;
 
 /// Whether the provider was shut down, its resource, identity, meters, instruments and live handles, and the streams of
 /// each reader.
+#[derive(Drop)]
 pub struct Core {
     alloc: Global,
     hasher: SetHashBuilder,
@@ -81,24 +82,6 @@ impl Model for Core {
     ghost view = { λ c. state_of c.shut c.resource c.identity c.meters.keys c.instruments.items c.handles.entries c.next c.pipelines.items };
 
     ghost invariant = { λ c. AreTyped c.instruments.items (map part_of c.pipelines.items) };
-}
-
-impl Drop for Core {
-    /// A function of its own, so that no proof about who lets one go looks into it.
-    fn drop(self) {
-        let Core {
-            alloc: _,
-            hasher: _,
-            shut: _,
-            resource: _resource,
-            identity: _,
-            meters: _meters,
-            instruments: _instruments,
-            pipelines: _pipelines,
-            handles: _handles,
-            next: _,
-        } = self;
-    }
 }
 
 /// Copies a scope.
