@@ -11,14 +11,12 @@ mod kinds;
 mod named;
 mod numbers;
 mod options;
-mod points;
+pub mod points;
 mod printing;
 mod readers;
 mod refusals;
 pub mod script;
 mod script_lines;
 mod streams;
-#[cfg(test)]
-mod tests;
 mod texts;
 mod views;

@@ -19,7 +19,7 @@ struct Heading<'a> {
     name: &'a str,
 }
 
-/// Prints the points of one metric.
+/// Prints the points of one metric of this scope, a line for each.
 pub fn write_metric<W: Write>(output: &mut W, scope: &str, metric: &Metric) -> io::Result<()> {
     let heading = Heading {
         scope,
@@ -166,7 +166,7 @@ fn temporality_word(temporality: Temporality) -> &'static str {
 }
 
 /// Counts the points of a collection.
-pub fn count_points(collected: &ResourceMetrics) -> usize {
+pub(crate) fn count_points(collected: &ResourceMetrics) -> usize {
     let mut count = 0usize;
     for scope in collected.scope_metrics() {
         count = count.saturating_add(count_scope(scope));

@@ -454,16 +454,16 @@ impl AnyAggregate {
     {
         // Tells the prover what is kept of each set, so that the saved entries can't be of another form.
         told_form(&self.inner);
-        match (&mut self.inner, saved.into_inner()) {
-            (Inner::SumU64(stream), SavedInner::SumU64(saved)) => stream.restore(saved),
-            (Inner::SumI64(stream), SavedInner::SumI64(saved)) => stream.restore(saved),
-            (Inner::PrecomputedSumU64(sum), SavedInner::LastValueU64(saved)) => sum.restore(saved),
-            (Inner::PrecomputedSumI64(sum), SavedInner::LastValueI64(saved)) => sum.restore(saved),
-            (Inner::LastValueU64(stream), SavedInner::LastValueU64(saved)) => stream.restore(saved),
-            (Inner::LastValueI64(stream), SavedInner::LastValueI64(saved)) => stream.restore(saved),
-            (Inner::HistogramU64(stream), SavedInner::HistogramU64(saved)) => stream.restore(saved),
-            (Inner::HistogramI64(stream), SavedInner::HistogramI64(saved)) => stream.restore(saved),
-            _ => {}
+        let saved = saved.into_inner();
+        match &mut self.inner {
+            Inner::SumU64(stream) => stream.restore(saved.into_sum_u64()),
+            Inner::SumI64(stream) => stream.restore(saved.into_sum_i64()),
+            Inner::PrecomputedSumU64(stream) => stream.restore(saved.into_last_value_u64()),
+            Inner::PrecomputedSumI64(stream) => stream.restore(saved.into_last_value_i64()),
+            Inner::LastValueU64(stream) => stream.restore(saved.into_last_value_u64()),
+            Inner::LastValueI64(stream) => stream.restore(saved.into_last_value_i64()),
+            Inner::HistogramU64(stream) => stream.restore(saved.into_histogram_u64()),
+            Inner::HistogramI64(stream) => stream.restore(saved.into_histogram_i64()),
         }
     }
 

@@ -20,7 +20,6 @@ pub enum SavedInner {
 }
 
 /// A stream's entries as they were when they were saved, to be put back into it.
-#[derive(Drop)]
 pub struct SavedAggregate {
     inner: SavedInner,
 }
@@ -32,6 +31,85 @@ impl Model for SavedAggregate {
     ghost Value = { HeldSaved };
 
     ghost view = { λ saved. saved_in saved.inner };
+}
+
+impl Drop for SavedAggregate {
+    /// A function of its own, so that no proof about who lets one go looks into it.
+    fn drop(self) {
+        let SavedAggregate { inner: _inner } = self;
+    }
+}
+
+impl SavedInner {
+    ghost use Rattle.std.specs.Prelude.{true, false};
+    ghost use Rattle.otel_aggregate.specs.Any.{Sums, LastValues, Spreads};
+    ghost use Rattle.otel_aggregate.specs.SavedInner.{saved_in, IsOf};
+
+    /// The entries of a sum of unsigned numbers.
+    pub(crate) fn into_sum_u64(self) -> Saved<Increment<u64>>
+        requires { IsOf false Sums self }
+        ensures { result ≡ (saved_in self).table }
+    {
+        match self {
+            SavedInner::SumU64(saved) => saved,
+            _ => unreachable!(),
+        }
+    }
+
+    /// The entries of a sum of signed numbers.
+    pub(crate) fn into_sum_i64(self) -> Saved<Increment<i64>>
+        requires { IsOf true Sums self }
+        ensures { result ≡ (saved_in self).table }
+    {
+        match self {
+            SavedInner::SumI64(saved) => saved,
+            _ => unreachable!(),
+        }
+    }
+
+    /// The entries of last values of unsigned numbers.
+    pub(crate) fn into_last_value_u64(self) -> Saved<Assign<u64>>
+        requires { IsOf false LastValues self }
+        ensures { result ≡ (saved_in self).table }
+    {
+        match self {
+            SavedInner::LastValueU64(saved) => saved,
+            _ => unreachable!(),
+        }
+    }
+
+    /// The entries of last values of signed numbers.
+    pub(crate) fn into_last_value_i64(self) -> Saved<Assign<i64>>
+        requires { IsOf true LastValues self }
+        ensures { result ≡ (saved_in self).table }
+    {
+        match self {
+            SavedInner::LastValueI64(saved) => saved,
+            _ => unreachable!(),
+        }
+    }
+
+    /// The entries of a histogram of unsigned numbers.
+    pub(crate) fn into_histogram_u64(self) -> Saved<Buckets<u64>>
+        requires { IsOf false Spreads self }
+        ensures { result ≡ (saved_in self).table }
+    {
+        match self {
+            SavedInner::HistogramU64(saved) => saved,
+            _ => unreachable!(),
+        }
+    }
+
+    /// The entries of a histogram of signed numbers.
+    pub(crate) fn into_histogram_i64(self) -> Saved<Buckets<i64>>
+        requires { IsOf true Spreads self }
+        ensures { result ≡ (saved_in self).table }
+    {
+        match self {
+            SavedInner::HistogramI64(saved) => saved,
+            _ => unreachable!(),
+        }
+    }
 }
 
 impl SavedAggregate {
@@ -48,6 +126,7 @@ impl SavedAggregate {
     pub(crate) fn into_inner(self) -> SavedInner
         ensures { saved_in result ≡ self }
     {
-        self.inner
+        let SavedAggregate { inner } = self;
+        inner
     }
 }

@@ -1,6 +1,6 @@
 //! Tests of the whole program, in memory.
 
-use crate::script::script;
+use metrics_script::script::script;
 use std::alloc::Global;
 use std::process::Abort;
 use std::test::Fail;

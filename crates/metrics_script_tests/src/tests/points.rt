@@ -1,6 +1,6 @@
 //! The lines of points, for each aggregation and number type.
 
-use crate::points::write_metric;
+use metrics_script::points::write_metric;
 use opentelemetry_sdk::common::{Items, Key, KeyValue, SharedItems, StringValue, Value};
 use opentelemetry_sdk::metrics::Temporality;
 use opentelemetry_sdk::metrics::data::{

@@ -1,7 +1,7 @@
 //! Readers and writers that fail.
 
 use super::assert_prints;
-use crate::script::script;
+use metrics_script::script::script;
 use std::alloc::Global;
 use std::io;
 use std::io::{ErrorKind, Read, Write};
