@@ -1,5 +1,5 @@
 -- The keys of a table, as sets.
-use Rattle.std.specs.Prelude.{◌≡◌, ℕ, ◌+◌, ◌<◌, ◌≤◌, Bool, true, false, List, [], ◌∷◌, map, filter, length, take, drop, Option, None, Some, Result, Ok, Err, ◌++◌}
+use Rattle.std.specs.Prelude.{ℕ, ◌+◌, ◌<◌, ◌≤◌, Bool, true, false, List, [], ◌∷◌, map, filter, take, drop, Option, None, Some, Result, Ok, Err, ◌++◌}
 use Rattle.std.specs.Borrow.{Bor}
 use Rattle.std.specs.Ordering.{is_lt, is_le}
 use Rattle.std.specs.List.{list_any}
@@ -10,7 +10,7 @@ use Rattle.otel_common.specs.declared.attributes.KeyValue.{KeyValue}
 use Rattle.otel_model_stream.specs.Sets.{AttributeSet, AllowList, allowed_part}
 use Rattle.otel_sets.specs.declared.set_attributes.SetAttributes.{SetAttributes}
 use Rattle.otel_sets.specs.declared.set_key.Form.{Form}
-use Rattle.otel_sets.specs.declared.set_key.Form.TheVariants.{Owned, Given, Held}
+use Rattle.otel_sets.specs.declared.set_key.Form.TheVariants.{Owned, Given, Referenced, Held}
 
 -- the attributes that references lead to
 abbrev pub shown : List (Bor KeyValue) → List KeyValue
@@ -48,6 +48,7 @@ held_in s = shown s.references.now ++ list_part s.by_key (option_copied s.last) 
 abbrev pub set_in : Form → AttributeSet
 set_in (Owned set) = set
 set_in (Given attributes) = attributes.now
+set_in (Referenced references) = shown references.now.slice.now
 set_in (Held attributes) = held_in attributes.now
 
 -- the first attribute, if there is one

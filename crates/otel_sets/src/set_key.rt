@@ -1,15 +1,16 @@
 //! The keys of a table of sets.
 
 ghost use Rattle.std.specs.Prelude.{◌≡◌, ◌==◌, IfSome, IfOk, IsOkUnless, length};
-ghost use Rattle.std.specs.List.{flat_map};
+ghost use Rattle.std.specs.List.{flat_map, fold};
 ghost use Rattle.std.specs.Cmp.{partial_equiv_from_equiv};
 ghost use Rattle.std.specs.Cmp.Lexicographic.{lists_equiv};
 ghost use Rattle.std.specs.Hash.{same_Alike};
 ghost use Rattle.otel_common.specs.Canonical.{canon};
 ghost use Rattle.otel_common.specs.Equality.{set_eq, set_eq-Decides, key_value_eq_equiv};
 ghost use Rattle.otel_common.specs.Hashes.{key_value_writes};
-ghost use Rattle.otel_sets.specs.Keys.{held_in};
+ghost use Rattle.otel_sets.specs.Keys.{held_in, shown};
 
+use crate::references::References;
 use crate::set_attributes::{
     SetAttributes, copies_of, hash_attributes, is_canonical, same_attributes,
 };
@@ -27,6 +28,8 @@ pub enum Form<'a> {
     Owned(SharedItems<KeyValue>),
     /// It borrows the attributes, exactly as given.
     Given(&'a [KeyValue]),
+    /// It borrows references to the attributes.
+    Referenced(&'a References<'a>),
     /// It borrows attributes that are held in another way.
     Held(&'a SetAttributes<'a>),
 }
@@ -63,6 +66,30 @@ fn same_lists(attributes: &[KeyValue], others: &[KeyValue]) -> bool
     true
 }
 
+/// Whether references lead to the attributes of a list, in its order.
+fn same_referenced(references: &[&KeyValue], attributes: &[KeyValue]) -> bool
+    ensures { result ≡ set_eq (shown references.now) attributes.now }
+{
+    if references.len() != attributes.len() {
+        return false;
+    }
+    for at in 0..references.len() {
+        if *references[at] != attributes[at] {
+            return false;
+        }
+    }
+    true
+}
+
+/// Feeds the hasher the attributes that references lead to.
+fn hash_references<H: Hasher>(references: &[&KeyValue], state: &mut H)
+    ensures { state.new ≡ fold H.write state.old (flat_map key_value_writes (shown references.now)) }
+{
+    for at in 0..references.len() {
+        references[at].hash(state);
+    }
+}
+
 impl<'a> SetKey<'a> {
     /// Makes a key that owns this set.
     pub fn owned(set: SharedItems<KeyValue>) -> SetKey<'a>
@@ -83,6 +110,16 @@ impl<'a> SetKey<'a> {
         }
     }
 
+    /// Makes a key of the attributes that these references lead to, which it borrows.
+    #[inline]
+    pub fn referenced(references: &'a References<'a>) -> SetKey<'a>
+        ensures { result ≡ shown references.now.slice.now }
+    {
+        SetKey {
+            form: Form::Referenced(references),
+        }
+    }
+
     /// Makes a key of the attributes that are held here, which it borrows.
     pub fn held(attributes: &'a SetAttributes<'a>) -> SetKey<'a>
         ensures { result ≡ held_in attributes.now }
@@ -100,6 +137,7 @@ impl<'a> SetKey<'a> {
         match &self.form {
             Form::Owned(set) => Some(set.as_slice()),
             Form::Given(attributes) => Some(*attributes),
+            Form::Referenced(_) => None,
             Form::Held(_) => None,
         }
     }
@@ -111,7 +149,19 @@ impl<'a> SetKey<'a> {
         match &self.form {
             Form::Owned(set) => SetAttributes::kept(None, set.as_slice()),
             Form::Given(attributes) => SetAttributes::kept(None, *attributes),
+            Form::Referenced(references) => SetAttributes::referenced(references.slice),
             Form::Held(attributes) => **attributes,
+        }
+    }
+
+    /// Whether the set has the attributes of a list, in its order.
+    #[inline]
+    fn is_list(&self, list: &[KeyValue]) -> bool
+        ensures { result ≡ set_eq self.now list.now }
+    {
+        match &self.form {
+            Form::Referenced(references) => same_referenced(references.slice, list),
+            _ => same_attributes(self.attributes(), SetAttributes::kept(None, list)),
         }
     }
 
@@ -120,9 +170,11 @@ impl<'a> SetKey<'a> {
     pub fn is_empty(&self) -> bool
         ensures { result ≡ (length self.now == 0) }
     {
-        match self.whole() {
-            Some(attributes) => attributes.is_empty(),
-            None => self.attributes().is_empty(),
+        match &self.form {
+            Form::Owned(set) => set.as_slice().is_empty(),
+            Form::Given(attributes) => attributes.is_empty(),
+            Form::Referenced(references) => references.slice.is_empty(),
+            Form::Held(attributes) => attributes.is_empty(),
         }
     }
 
@@ -154,7 +206,9 @@ impl<'a> PartialEq for SetKey<'a> {
     fn eq(&self, other: &SetKey<'a>) -> bool {
         match (self.whole(), other.whole()) {
             (Some(attributes), Some(others)) => same_lists(attributes, others),
-            _ => same_attributes(self.attributes(), other.attributes()),
+            (Some(attributes), None) => other.is_list(attributes),
+            (None, Some(others)) => self.is_list(others),
+            (None, None) => same_attributes(self.attributes(), other.attributes()),
         }
     }
 }
@@ -170,9 +224,11 @@ impl<'a> Hash for SetKey<'a> {
 
     #[inline]
     fn hash<H: Hasher>(&self, state: &mut H) {
-        match self.whole() {
-            Some(attributes) => KeyValue::hash_slice(attributes, state),
-            None => hash_attributes(self.attributes(), state),
+        match &self.form {
+            Form::Owned(set) => KeyValue::hash_slice(set.as_slice(), state),
+            Form::Given(attributes) => KeyValue::hash_slice(*attributes, state),
+            Form::Referenced(references) => hash_references(references.slice, state),
+            Form::Held(attributes) => hash_attributes(**attributes, state),
         }
     }
 }

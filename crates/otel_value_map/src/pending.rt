@@ -17,7 +17,7 @@ use crate::table::Table;
 use otel_common::attributes::KeyValue;
 use otel_common::faults::Fault;
 use otel_common::keys::Key;
-use otel_sets::references::{few_references, many_references};
+use otel_sets::references::{References, few_references, many_references};
 use otel_sets::set_attributes::SetAttributes;
 use otel_sets::set_key::SetKey;
 use std::alloc::Global;
@@ -211,8 +211,10 @@ fn plan_many<A: Aggregator>(
 {
     match many_references(alloc, allow, attributes) {
         Ok(references) => {
-            let sorted = SetAttributes::referenced(references.as_slice());
-            plan_sorted(alloc, table, few, list, &SetKey::held(&sorted))
+            let sorted = References {
+                slice: references.as_slice(),
+            };
+            plan_sorted(alloc, table, few, list, &SetKey::referenced(&sorted))
         }
         Err(fault) => {
             let sorted = SetAttributes::canonical(allow, attributes);
@@ -252,8 +254,10 @@ pub fn plan<A: Aggregator>(
     }
     match few_references(allow, attributes) {
         Some(references) => {
-            let sorted = SetAttributes::referenced(references.as_slice());
-            plan_sorted(alloc, table, few, list, &SetKey::held(&sorted))
+            let sorted = References {
+                slice: references.as_slice(),
+            };
+            plan_sorted(alloc, table, few, list, &SetKey::referenced(&sorted))
         }
         None => plan_many(alloc, table, few, list, allow, attributes),
     }

@@ -25,6 +25,7 @@ use otel_common::attributes::KeyValue;
 use otel_common::faults::Fault;
 use otel_common::keys::Key;
 use otel_common::lists::SharedItems;
+use otel_sets::references::{References, kept_references};
 use otel_sets::set_attributes::SetAttributes;
 use otel_sets::set_key::SetKey;
 use std::alloc::Global;
@@ -262,9 +263,33 @@ impl<A: Aggregator> ValueMap<A> {
     /// Prepares a record or a bind, as `prepare` does, for those of the attributes whose key is in the allow-list
     /// (Metrics SDK, "View").
     ///
-    /// It looks up what is kept without copying it, as given and otherwise by sorted references.
+    /// It looks up what is kept without copying it, as given, by references to up to 16 attributes that it finds once,
+    /// and otherwise by sorted references.
     #[inline(never)]
     pub fn prepare_allowed(&mut self, allow: &[Key], attributes: &[KeyValue]) -> Result<(), Fault>
+        ensures same { self.new.state ≡ self.old.state }
+        ensures numbers { self.new.numbers ≡ self.old.numbers }
+        ensures given { self.new.given ≡ self.old.given }
+        ensures ready { OnOk result (self.new.pending ≡ Some (set_of (Some allow.now) attributes.now)) }
+        ensures spelling { OnOk result (self.new.spelling ≡ spelling_of (allowed_part (Some allow.now) attributes.now) self.old.state) }
+        ensures refused { OnErr result (self.new.pending ≡ None) }
+        ensures known { SucceedsIfKnown (allowed_part (Some allow.now) attributes.now) (known_of self.old) result }
+        ensures placed { IsTrue (is_placed (set_of (Some allow.now) attributes.now) self.old.state.table.entries) → IsOk result }
+        ensures only_memory { IsOkUnless result Fault.OutOfMemory }
+    {
+        if let Some(few) = kept_references(Some(allow), attributes) {
+            let kept = References {
+                slice: few.as_slice(),
+            };
+            return self.prepare_list(&SetKey::referenced(&kept), Some(allow), attributes);
+        }
+        self.prepare_many_allowed(allow, attributes)
+    }
+
+    /// Does what `prepare_allowed` does where too many attributes are kept for references without memory. Asks the
+    /// allow-list anew whenever it goes over them.
+    #[inline(never)]
+    fn prepare_many_allowed(&mut self, allow: &[Key], attributes: &[KeyValue]) -> Result<(), Fault>
         ensures same { self.new.state ≡ self.old.state }
         ensures numbers { self.new.numbers ≡ self.old.numbers }
         ensures given { self.new.given ≡ self.old.given }
