@@ -201,16 +201,21 @@ impl AnyAggregate {
         ensures taken { self.new ≡ any_after_commit value self.old }
         ensures told { result ≡ is_taken value self.old }
     {
-        match (&mut self.inner, value) {
-            (Inner::SumU64(stream), NumberValue::U64(value)) => stream.commit(value),
-            (Inner::SumI64(stream), NumberValue::I64(value)) => stream.commit(value),
-            (Inner::PrecomputedSumU64(stream), NumberValue::U64(value)) => stream.commit(value),
-            (Inner::PrecomputedSumI64(stream), NumberValue::I64(value)) => stream.commit(value),
-            (Inner::LastValueU64(stream), NumberValue::U64(value)) => stream.commit(value),
-            (Inner::LastValueI64(stream), NumberValue::I64(value)) => stream.commit(value),
-            (Inner::HistogramU64(stream), NumberValue::U64(value)) => stream.commit(value),
-            (Inner::HistogramI64(stream), NumberValue::I64(value)) => stream.commit(value),
-            _ => false,
+        match value {
+            NumberValue::U64(value) => match &mut self.inner {
+                Inner::SumU64(stream) => stream.commit(value),
+                Inner::PrecomputedSumU64(stream) => stream.commit(value),
+                Inner::LastValueU64(stream) => stream.commit(value),
+                Inner::HistogramU64(stream) => stream.commit(value),
+                _ => false,
+            },
+            NumberValue::I64(value) => match &mut self.inner {
+                Inner::SumI64(stream) => stream.commit(value),
+                Inner::PrecomputedSumI64(stream) => stream.commit(value),
+                Inner::LastValueI64(stream) => stream.commit(value),
+                Inner::HistogramI64(stream) => stream.commit(value),
+                _ => false,
+            },
         }
     }
 
@@ -281,22 +286,19 @@ impl AnyAggregate {
         ensures updated { self.new ≡ any_after_update handle value self.old }
         ensures told { result ≡ is_updated handle value self.old }
     {
-        match (&mut self.inner, value) {
-            (Inner::SumU64(stream), NumberValue::U64(value)) => stream.update_bound(handle, value),
-            (Inner::SumI64(stream), NumberValue::I64(value)) => stream.update_bound(handle, value),
-            (Inner::LastValueU64(stream), NumberValue::U64(value)) => stream.update_bound(
-                handle, value,
-            ),
-            (Inner::LastValueI64(stream), NumberValue::I64(value)) => stream.update_bound(
-                handle, value,
-            ),
-            (Inner::HistogramU64(stream), NumberValue::U64(value)) => stream.update_bound(
-                handle, value,
-            ),
-            (Inner::HistogramI64(stream), NumberValue::I64(value)) => stream.update_bound(
-                handle, value,
-            ),
-            _ => false,
+        match value {
+            NumberValue::U64(value) => match &mut self.inner {
+                Inner::SumU64(stream) => stream.update_bound(handle, value),
+                Inner::LastValueU64(stream) => stream.update_bound(handle, value),
+                Inner::HistogramU64(stream) => stream.update_bound(handle, value),
+                _ => false,
+            },
+            NumberValue::I64(value) => match &mut self.inner {
+                Inner::SumI64(stream) => stream.update_bound(handle, value),
+                Inner::LastValueI64(stream) => stream.update_bound(handle, value),
+                Inner::HistogramI64(stream) => stream.update_bound(handle, value),
+                _ => false,
+            },
         }
     }
 

@@ -250,20 +250,11 @@ fn explicit_bucket_histogram_aggregation(rt: HostRuntime) -> Result<(), Fail> {
     Ok(())
 }
 
-/// Takes in the prepared record, if there is one, and returns whether there was.
-fn take_in(histogram: &mut Histogram<i64>, value: i64) -> bool {
-    let is_prepared = histogram.is_prepared();
-    if is_prepared {
-        histogram.commit(value);
-    }
-    is_prepared
-}
-
 /// Whether a cumulative histogram without records takes in one in two phases.
 fn is_taken_in(histogram: &mut Histogram<i64>) -> Result<bool, Fault> {
     let is_still = !histogram.resets() && !histogram.is_prepared();
     histogram.prepare(&[])?;
-    let is_taken = take_in(histogram, -1) && !histogram.is_prepared();
+    let is_taken = histogram.commit(-1) && !histogram.is_prepared();
     Ok(is_still && is_taken && histogram.total() == 1)
 }
 

@@ -63,9 +63,7 @@ fn measure<T: Number + Drop>(
 /// Takes in a record without attributes in two phases.
 fn take_in(gauge: &mut LastValue<i64>, value: i64) -> Result<(), Fault> {
     gauge.prepare(&[])?;
-    if gauge.is_prepared() {
-        gauge.commit(value);
-    }
+    gauge.commit(value);
     Ok(())
 }
 

@@ -101,15 +101,6 @@ fn prepare<T: Number + Drop>(alloc: Global, sum: &mut Sum<T>, set: Set) -> Resul
     Ok(true)
 }
 
-/// Takes in the prepared record, if there is one, and returns whether there was.
-fn take_in<T: Number + Drop>(sum: &mut Sum<T>, value: T) -> bool {
-    let is_prepared = sum.is_prepared();
-    if is_prepared {
-        sum.commit(value);
-    }
-    is_prepared
-}
-
 fn bind(alloc: Global, sum: &mut Sum<u64>, handle: u64, set: Set) -> Result<bool, Fault> {
     sum.bind(handle, &attributes(alloc, set)?)?;
     Ok(true)
@@ -155,7 +146,7 @@ fn goes(alloc: Global, sum: &mut Sum<u64>, kind: Kind, step: &Step) -> Result<bo
     match step {
         Step::Record(set, value) => record(alloc, sum, *set, *value),
         Step::Prepare(set) => prepare(alloc, sum, *set),
-        Step::TakeIn(value) => Ok(take_in(sum, *value)),
+        Step::TakeIn(value) => Ok(sum.commit(*value)),
         Step::IsPrepared(want) => Ok(sum.is_prepared() == *want),
         Step::Total(want) => Ok(sum.total() == *want),
         Step::Bind(handle, set) => bind(alloc, sum, *handle, *set),
@@ -374,7 +365,7 @@ fn sum_aggregation(rt: HostRuntime) -> Result<(), Fail> {
 fn wraps_around(alloc: Global, sum: &mut Sum<i64>, kind: Kind) -> Result<bool, Fault> {
     let want = [(NONE, -9223372036854775808i64)];
     prepare(alloc, sum, NONE)?;
-    let is_taken = take_in(sum, 9223372036854775807) && record(alloc, sum, NONE, 1)?;
+    let is_taken = sum.commit(9223372036854775807) && record(alloc, sum, NONE, 1)?;
     let is_counted = sum.total() == 9223372036854775808 && !sum.resets();
     let is_shown = shows(alloc, sum, kind, (100, 200), &want)?;
     sum.finish(200);
