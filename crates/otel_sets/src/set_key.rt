@@ -154,14 +154,33 @@ impl<'a> SetKey<'a> {
         }
     }
 
-    /// Whether the set has the attributes of a list, in its order.
-    #[inline]
+    /// Whether the set has the attributes of a list, in its order. Out of line, as most look-ups compare two lists.
+    #[inline(never)]
     fn is_list(&self, list: &[KeyValue]) -> bool
         ensures { result ≡ set_eq self.now list.now }
     {
         match &self.form {
             Form::Referenced(references) => same_referenced(references.slice, list),
-            _ => same_attributes(self.attributes(), SetAttributes::kept(None, list)),
+            _ => self.is_same_held(&SetKey::given(list)),
+        }
+    }
+
+    /// Whether another key has the same set, by one attribute after another. Out of line, as few look-ups need it.
+    #[inline(never)]
+    fn is_same_held(&self, other: &SetKey) -> bool
+        ensures { result ≡ set_eq self.now other.now }
+    {
+        same_attributes(self.attributes(), other.attributes())
+    }
+
+    /// Feeds the hasher the attributes of a set that is no list. Out of line, as most look-ups hash a list.
+    #[inline(never)]
+    fn hash_apart<H: Hasher>(&self, state: &mut H)
+        ensures { state.new ≡ fold H.write state.old (flat_map key_value_writes self.now) }
+    {
+        match &self.form {
+            Form::Referenced(references) => hash_references(references.slice, state),
+            _ => hash_attributes(self.attributes(), state),
         }
     }
 
@@ -208,7 +227,7 @@ impl<'a> PartialEq for SetKey<'a> {
             (Some(attributes), Some(others)) => same_lists(attributes, others),
             (Some(attributes), None) => other.is_list(attributes),
             (None, Some(others)) => self.is_list(others),
-            (None, None) => same_attributes(self.attributes(), other.attributes()),
+            (None, None) => self.is_same_held(other),
         }
     }
 }
@@ -224,11 +243,9 @@ impl<'a> Hash for SetKey<'a> {
 
     #[inline]
     fn hash<H: Hasher>(&self, state: &mut H) {
-        match &self.form {
-            Form::Owned(set) => KeyValue::hash_slice(set.as_slice(), state),
-            Form::Given(attributes) => KeyValue::hash_slice(*attributes, state),
-            Form::Referenced(references) => hash_references(references.slice, state),
-            Form::Held(attributes) => hash_attributes(**attributes, state),
+        match self.whole() {
+            Some(attributes) => KeyValue::hash_slice(attributes, state),
+            None => self.hash_apart(state),
         }
     }
 }
