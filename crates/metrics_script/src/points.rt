@@ -19,7 +19,7 @@ struct Heading<'a> {
     name: &'a str,
 }
 
-/// Prints the points of one metric of this scope, a line for each.
+/// Prints the points of one metric of this scope, a line for each. The first error of `output` ends that, and is returned.
 pub fn write_metric<W: Write>(output: &mut W, scope: &str, metric: &Metric) -> io::Result<()> {
     let heading = Heading {
         scope,
