@@ -18,6 +18,14 @@ is_valid Sum = true
 is_valid LastValue = true
 is_valid (ExplicitBucketHistogram bounds m) = rises bounds
 
+-- the name of the variant
+abbrev pub aggregation_name : Aggregation → List ℕ
+aggregation_name Drop = codes "Drop"
+aggregation_name Default = codes "Default"
+aggregation_name Sum = codes "Sum"
+aggregation_name LastValue = codes "LastValue"
+aggregation_name (ExplicitBucketHistogram bounds m) = codes "ExplicitBucketHistogram"
+
 -- the text of the error for bounds that don't rise
 abbrev pub aggregation_bounds_fault_text : List ℕ
 aggregation_bounds_fault_text = codes "aggregation: explicit bucket histogram: non-monotonic boundaries"

@@ -42,9 +42,18 @@ pub enum Fault {
     /// A flush or a shutdown of a provider that was already shut down (Metrics SDK, "Shutdown").
     #[error("already shut down")]
     AlreadyShutdown,
-    /// No number is left for another handle: 2^64 - 1 handles were bound.
+    /// No number is left: 2^64 - 1 handles were bound, or 2^32 - 1 workers of a shared provider were opened.
     #[error("exhausted")]
     Exhausted,
+    /// No further record can be entered in the book of a shared provider: 2^64 - 1 records of workers were accepted.
+    #[error("ledger full")]
+    LedgerFull,
+    /// A record was handed to a shared provider itself. Only its workers may hand in records.
+    #[error("use a worker")]
+    UseWorker,
+    /// The workers handed back to a shared provider are not all that were opened at it.
+    #[error("workers missing")]
+    WorkersMissing,
     /// A reader could not do what it was asked.
     #[error("{0}")]
     InternalFailure(InternalFault),
@@ -78,6 +87,9 @@ impl Fault {
             Fault::InternalFailure(InternalFault::ReaderShutDown) => 9,
             Fault::InternalFailure(InternalFault::Readers { .. }) => 10,
             Fault::Exhausted => 11,
+            Fault::LedgerFull => 12,
+            Fault::UseWorker => 13,
+            Fault::WorkersMissing => 14,
         }
     }
 }

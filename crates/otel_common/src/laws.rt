@@ -55,9 +55,11 @@ pub fn resource_laws()
     equal_attributes();
 }
 
-/// Two temporalities are equal exactly if they are the same, and the default is cumulative.
+/// Two temporalities are equal exactly if they are the same, a copy of a temporality equals its source, and the default
+/// is cumulative.
 pub fn temporality_laws()
     ensures equal { (x y : Temporality) → Decides (⟦<Temporality as PartialEq>⟧.eq x y) (x ≡ y) }
+    ensures copy { (x y : Temporality) → ⟦<Temporality as Clone>⟧.is_clone x y → y ≡ x }
     ensures default { (x : Temporality) → ⟦<Temporality as Default>⟧.is_default x → x ≡ Cumulative }
 {}
 

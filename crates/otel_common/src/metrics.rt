@@ -1,7 +1,7 @@
 //! What all metrics share: temporality, aggregation, and errors of configuration.
 
-ghost use Rattle.std.specs.Prelude.{◌≡◌, IfErr, is_ok};
-ghost use Rattle.otel_common.specs.Aggregations.{is_valid, rises, aggregation_bounds_fault_text};
+ghost use Rattle.std.specs.Prelude.{◌≡◌, Some, IfErr, is_ok};
+ghost use Rattle.otel_common.specs.Aggregations.{is_valid, rises, aggregation_name, aggregation_bounds_fault_text};
 ghost use Rattle.otel_common.specs.Errors.{IsConfig};
 ghost use Rattle.otel_common.specs.Temporalities.{temporality_named};
 
@@ -99,6 +99,8 @@ fn rising_or_fault(bounds: &[i64]) -> Result<(), MetricError>
 
 /// Prints the name of the variant.
 impl Display for Aggregation {
+    ghost output = { λ aggregation. Some (aggregation_name aggregation) };
+
     fn fmt<W: Write>(&self, f: &mut Formatter<W>) -> fmt::Result {
         f.write_str(match self {
             Aggregation::Drop => "Drop",

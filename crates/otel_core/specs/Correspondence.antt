@@ -73,6 +73,9 @@ fault_of fault.WrongNumber = model.Fault.WrongNumber
 fault_of fault.WrongKind = model.Fault.WrongKind
 fault_of fault.AlreadyShutdown = model.Fault.AlreadyShutdown
 fault_of fault.Exhausted = model.Fault.Exhausted
+fault_of fault.LedgerFull = model.Fault.LedgerFull
+fault_of fault.UseWorker = model.Fault.UseWorker
+fault_of fault.WorkersMissing = model.Fault.WorkersMissing
 fault_of (fault.InternalFailure inner.ReaderShutDown) = model.Fault.ReaderShutDown
 fault_of (fault.InternalFailure (inner.Readers failed first)) = model.Fault.ReadersFailed failed first
 

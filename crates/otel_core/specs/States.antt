@@ -39,6 +39,9 @@ IsFault o fault.WrongNumber = o ≡ Some model.Fault.WrongNumber
 IsFault o fault.WrongKind = o ≡ Some model.Fault.WrongKind
 IsFault o fault.AlreadyShutdown = o ≡ Some model.Fault.AlreadyShutdown
 IsFault o fault.Exhausted = o ≡ Some model.Fault.Exhausted
+IsFault o fault.LedgerFull = ⊥
+IsFault o fault.UseWorker = ⊥
+IsFault o fault.WorkersMissing = ⊥
 IsFault o (fault.InternalFailure inner.ReaderShutDown) = o ≡ Some model.Fault.ReaderShutDown
 IsFault o (fault.InternalFailure (inner.Readers failed first)) = ⊥
 
@@ -56,6 +59,9 @@ IsNamed fault.WrongNumber = Unit {0}
 IsNamed fault.WrongKind = Unit {0}
 IsNamed fault.AlreadyShutdown = Unit {0}
 IsNamed fault.Exhausted = Unit {0}
+IsNamed fault.LedgerFull = Unit {0}
+IsNamed fault.UseWorker = Unit {0}
+IsNamed fault.WorkersMissing = Unit {0}
 IsNamed (fault.InternalFailure f) = Unit {0}
 
 -- ======== builds ========

@@ -1,10 +1,9 @@
 //! The state of a provider before its first call.
 
 ghost use Rattle.std.specs.Prelude.{◌≡◌, ◌++◌, ◌∷◌, [], IfOk, IsOkUnless};
-ghost use Rattle.otel_model.specs.Demands.{ReaderAnswers};
 ghost use Rattle.otel_model.specs.Machine.{new_state};
 ghost use Rattle.otel_model.specs.Resources.{empty_resource, merged_resource};
-ghost use Rattle.otel_stream.specs.Answers.{IsAnsweredBy};
+ghost use Rattle.otel_stream.specs.Answers.{answers_wanting};
 
 use crate::provider_core::Core;
 use otel_common::faults::Fault;
@@ -54,7 +53,7 @@ impl FreshCore {
 
     /// Adds a reader, which is asked what it wants. Its answers are kept.
     pub fn with_reader<R: MetricReader>(self, reader: &R) -> Result<FreshCore, Fault>
-        ensures reader { IfOk result (λ f. (answers : ReaderAnswers) × IsAnsweredBy (R.preference reader.now) (R.limit reader.now) (R.aggregation reader.now) answers × (f ≡ record { resource = self.resource; identity = self.identity; readers = self.readers ++ answers ∷ [] })) }
+        ensures reader { IfOk result (λ f. f ≡ record self { readers = self.readers ++ answers_wanting (R.preference reader.now) (R.limit reader.now) (R.aggregation reader.now) ∷ [] }) }
         ensures only_memory { IsOkUnless result Fault.OutOfMemory }
     {
         let FreshCore { core } = self;

@@ -7,7 +7,6 @@ ghost use Rattle.otel_callback.specs.declared.observation.Observed.{Observed};
 ghost use Rattle.otel_common.specs.declared.faults.Fault.{Fault};
 ghost use Rattle.otel_model.specs.Answered.{OfEachMetric, ShowsWindow, ShowsAll, HasFewPoints};
 ghost use Rattle.otel_model.specs.Calls as model;
-ghost use Rattle.otel_model.specs.Demands.{ReaderAnswers};
 ghost use Rattle.otel_model.specs.Laws.{HasStreamsOfBuilds, HasFeedsOfBuilds, HasPlacesOfHistories, HasCountedOfHistories, IsGivenCollections, IsAnsweredAsOnly, HasRecordedTotal, HasExportedTotal, HasPendingPoints, Conserves, HasAccepted, KeepsReaders};
 ghost use Rattle.otel_model.specs.Machine.{new_state};
 ghost use Rattle.otel_model.specs.Resources.{empty_resource, merged_resource};
@@ -21,7 +20,7 @@ ghost use Rattle.otel_core.specs.Correspondence.{call_of, reply_of, reply_to};
 ghost use Rattle.otel_core.specs.Known.{IsKnown, HasMemory};
 ghost use Rattle.otel_core.specs.Readers.{AreReached, ShutsDown, StepReaches, RunReaches};
 ghost use Rattle.otel_provider.specs.Typed.{collect_reply};
-ghost use Rattle.otel_stream.specs.Answers.{IsAnsweredBy};
+ghost use Rattle.otel_stream.specs.Answers.{answers_wanting};
 
 use crate::balanced::BalancedCore;
 use crate::parts::{Boxed, Parts};
@@ -114,7 +113,7 @@ impl<P: Parts> ProviderBuilder<P> {
     /// Refused only for want of memory; then the builder is dropped. Takes memory at most three times, and once for
     /// each histogram that the reader wants.
     pub fn with_reader(self, reader: P::Reader) -> Result<Self, Fault>
-        ensures answers { IfOk result (λ b. (answers : ReaderAnswers) × IsAnsweredBy (P.Reader.preference reader) (P.Reader.limit reader) (P.Reader.aggregation reader) answers × (answers_of_readers b ≡ answers_of_readers self ++ answers ∷ [])) }
+        ensures answers { IfOk result (λ b. answers_of_readers b ≡ answers_of_readers self ++ answers_wanting (P.Reader.preference reader) (P.Reader.limit reader) (P.Reader.aggregation reader) ∷ []) }
         ensures resource { IfOk result (λ b. resource_of b ≡ resource_of self) }
         ensures identity { IfOk result (λ b. identity_of_builder b ≡ identity_of_builder self) }
         ensures kept { IfOk result (λ b. builder_readers b ≡ builder_readers self ++ reader ∷ []) }

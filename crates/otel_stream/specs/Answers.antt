@@ -1,6 +1,5 @@
 -- What a reader answers for each kind of instrument (Metrics SDK, "MetricReader").
-use Rattle.std.specs.Prelude.{◌≡◌, ℕ, nat_eq, Bool, List, [], ◌∷◌, map, Option, Some, None, IfSome, slice_get}
-use Rattle.std.specs.List.{AllZip}
+use Rattle.std.specs.Prelude.{ℕ, nat_eq, Bool, List, [], ◌∷◌, map, Option, Some, None, slice_get}
 use Rattle.otel_common.specs.declared.metrics.Aggregation.{Aggregation}
 use Rattle.otel_common.specs.declared.metrics.Temporality.{Temporality}
 use Rattle.otel_common.specs.declared.metrics.Temporality.TheVariants.{Cumulative}
@@ -31,21 +30,21 @@ kinds = Counter ∷ UpDownCounter ∷ Histogram ∷ ObservableCounter ∷ Observ
 abbrev pub ReaderAnswers : Type 0
 ReaderAnswers = List Answer
 
--- an answer, for one kind, of a reader that wants these: it has that temporality, and a limit or an aggregation only if
--- it is that one
-abbrev pub IsAnswer : Temporality → Option ℕ → Option Aggregation → Answer → Type 0
-IsAnswer temporality limit aggregation answer =
-    (answer.temporality ≡ temporality)
-    × IfSome answer.limit (λ n. limit ≡ Some n)
-    × IfSome answer.aggregation (λ a. aggregation ≡ Some a)
+-- the answer, for a kind, of a reader that wants these for each kind
+abbrev pub answer_wanting : (InstrumentKind → Temporality) → (InstrumentKind → Option ℕ) → (InstrumentKind → Option Aggregation) → InstrumentKind → Answer
+answer_wanting temporality limit aggregation kind = record {
+  temporality = temporality kind;
+  limit = limit kind;
+  aggregation = aggregation kind;
+}
 
--- the answers of a reader that wants these: one for each kind, in the order of `kinds`
-abbrev pub IsAnsweredBy : (InstrumentKind → Temporality) → (InstrumentKind → Option ℕ) → (InstrumentKind → Option Aggregation) → ReaderAnswers → Type 0
-IsAnsweredBy temporality limit aggregation answers = AllZip (λ kind. IsAnswer (temporality kind) (limit kind) (aggregation kind)) kinds answers
+-- the answers of a reader that wants these
+abbrev pub answers_wanting : (InstrumentKind → Temporality) → (InstrumentKind → Option ℕ) → (InstrumentKind → Option Aggregation) → ReaderAnswers
+answers_wanting temporality limit aggregation = map (answer_wanting temporality limit aggregation) kinds
 
 -- the answers of a reader that wants this temporality for each kind, and never a limit or an aggregation
 abbrev pub answers_by : (InstrumentKind → Temporality) → ReaderAnswers
-answers_by temporality = map (λ kind. record { temporality = temporality kind; limit = None; aggregation = None }) kinds
+answers_by temporality = answers_wanting temporality (λ _. None) (λ _. None)
 
 -- the same for a reader with one temporality preference
 abbrev pub answers_preferring : Temporality → ReaderAnswers

@@ -1,7 +1,7 @@
 //! What a reader answers for each kind of instrument.
 
 ghost use Rattle.std.specs.Prelude.{◌≡◌, IfOk, IsOkUnless, option_copied};
-ghost use Rattle.otel_stream.specs.Answers.{kind_number, IsAnswer, IsAnsweredBy, answer_for};
+ghost use Rattle.otel_stream.specs.Answers.{kind_number, answer_wanting, answers_wanting, answer_for};
 
 use crate::instrument::InstrumentKind;
 use crate::limit::CardinalityLimit;
@@ -77,7 +77,7 @@ fn copy_of(aggregation: Option<&Aggregation>) -> Result<Option<Aggregation>, Fau
 
 /// Asks a reader for its answer for one kind. Takes memory for the bounds of a histogram.
 fn ask<R: MetricReader>(reader: &R, kind: InstrumentKind) -> Result<Answer, Fault>
-    ensures answer { IfOk result (λ a. IsAnswer (R.preference reader.now kind) (R.limit reader.now kind) (R.aggregation reader.now kind) a) }
+    ensures answer { IfOk result (λ a. a ≡ answer_wanting (R.preference reader.now) (R.limit reader.now) (R.aggregation reader.now) kind) }
     ensures only_memory { IsOkUnless result Fault.OutOfMemory }
 {
     let temporality = reader.temporality(kind);
@@ -95,7 +95,7 @@ impl Answers {
     /// memory for the list, and for the bounds of the histograms that the reader wants. Refused only for want of
     /// memory.
     pub fn of<R: MetricReader>(alloc: Global, reader: &R) -> Result<Answers, Fault>
-        ensures answers { IfOk result (λ a. IsAnsweredBy (R.preference reader.now) (R.limit reader.now) (R.aggregation reader.now) a) }
+        ensures answers { IfOk result (λ a. a ≡ answers_wanting (R.preference reader.now) (R.limit reader.now) (R.aggregation reader.now)) }
         ensures only_memory { IsOkUnless result Fault.OutOfMemory }
     {
         let answers = vec![in alloc;

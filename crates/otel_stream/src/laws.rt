@@ -9,7 +9,7 @@ ghost use Rattle.std.specs.Prelude.{◌≡◌, ◌↔◌, ℕ, Option, None, IfO
 ghost use Rattle.std.specs.Bool.{Decides};
 ghost use Rattle.otel_common.specs.declared.metrics.Aggregation.{Aggregation};
 ghost use Rattle.otel_common.specs.declared.metrics.Temporality.{Temporality};
-ghost use Rattle.otel_stream.specs.Answers.{ReaderAnswers, IsAnsweredBy, answers_by, answers_preferring};
+ghost use Rattle.otel_stream.specs.Answers.{answers_wanting, answers_by, answers_preferring};
 ghost use Rattle.otel_stream.specs.Boxes.{Becomes};
 ghost use Rattle.otel_stream.specs.Preferences.{temporality_preference};
 ghost use Rattle.otel_stream.specs.Requests.{Outcome};
@@ -76,6 +76,6 @@ fn wanted<R: MetricReader>(reader: &R, kind: InstrumentKind) -> Temporality
 /// The answers of a reader that wants no limits and no aggregations are those of its temporalities alone. So are those
 /// of a manual reader for which only the temporality was set.
 pub fn plain_answers()
-    ensures plain { (temporality : InstrumentKind → Temporality) (limit : InstrumentKind → Option ℕ) (aggregation : InstrumentKind → Option Aggregation) (answers : ReaderAnswers) → IsAnsweredBy temporality limit aggregation answers → ((kind : InstrumentKind) → limit kind ≡ None) → ((kind : InstrumentKind) → aggregation kind ≡ None) → answers ≡ answers_by temporality }
-    ensures manual { (temporality : Temporality) (answers : ReaderAnswers) → IsAnsweredBy (λ kind. temporality_preference kind temporality) (limit_of (temporality_alone temporality)) (aggregation_of (temporality_alone temporality)) answers → answers ≡ answers_preferring temporality }
+    ensures plain { (temporality : InstrumentKind → Temporality) (limit : InstrumentKind → Option ℕ) (aggregation : InstrumentKind → Option Aggregation) → ((kind : InstrumentKind) → limit kind ≡ None) → ((kind : InstrumentKind) → aggregation kind ≡ None) → answers_wanting temporality limit aggregation ≡ answers_by temporality }
+    ensures manual { (temporality : Temporality) → answers_wanting (λ kind. temporality_preference kind temporality) (limit_of (temporality_alone temporality)) (aggregation_of (temporality_alone temporality)) ≡ answers_preferring temporality }
 {}

@@ -1,6 +1,6 @@
 //! The reader that collects when its owner asks.
 
-ghost use Rattle.std.specs.Prelude.{◌≡◌, Ok, Some, false, IfSome, option_copied};
+ghost use Rattle.std.specs.Prelude.{◌≡◌, Ok, Some, false};
 ghost use Rattle.otel_common.specs.declared.metrics.Temporality.TheVariants.{Cumulative};
 ghost use Rattle.otel_stream.specs.Answers.{kind_eq};
 ghost use Rattle.otel_stream.specs.Preferences.{temporality_preference};
@@ -88,15 +88,11 @@ impl MetricReader for ManualReader {
         kind.temporality_preference(self.wants.temporality)
     }
 
-    fn cardinality_limit(&self, kind: InstrumentKind) -> Option<CardinalityLimit>
-        ensures { result ≡ limit_of self.now kind }
-    {
+    fn cardinality_limit(&self, kind: InstrumentKind) -> Option<CardinalityLimit> {
         *self.wants.limits.get(kind)
     }
 
-    fn default_aggregation(&self, kind: InstrumentKind) -> Option<&Aggregation>
-        ensures { option_copied result ≡ aggregation_of self.now kind }
-    {
+    fn default_aggregation(&self, kind: InstrumentKind) -> Option<&Aggregation> {
         self.wants.aggregations.get(kind).as_ref()
     }
 

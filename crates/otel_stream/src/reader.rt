@@ -1,7 +1,7 @@
 //! The interface of readers.
 
 ghost use Rattle.std.specs.Duration.{as_nanos};
-ghost use Rattle.std.specs.Prelude.{◌≡◌, ℕ, Option, Some, None, IfSome};
+ghost use Rattle.std.specs.Prelude.{◌≡◌, ℕ, Option, None, option_copied};
 ghost use Rattle.otel_common.specs.declared.metrics.Aggregation.{Aggregation};
 ghost use Rattle.otel_common.specs.declared.metrics.Temporality.{Temporality};
 ghost use Rattle.otel_stream.specs.Requests.{Outcome, default_timeout};
@@ -45,26 +45,16 @@ pub trait MetricReader: Drop + Send {
     /// The limit that the reader wants for a kind of instrument, or `None` to leave the limit to the provider (Metrics
     /// SDK, "Cardinality limits").
     ///
-    /// A reader that doesn't implement this method has no limits. One that does answers what it wants or `None`: a
-    /// provider asks it once for each kind, when the reader is handed in, and keeps the answer.
+    /// A reader that has no limits answers `None` for each kind, and needs no `limit`.
     fn cardinality_limit(&self, kind: InstrumentKind) -> Option<CardinalityLimit>
-        ensures { IfSome result (λ answered. limit self.now kind ≡ Some answered) }
-    {
-        let _ = kind;
-        None
-    }
+        ensures { result ≡ limit self.now kind };
 
     /// The aggregation that the reader wants for a kind of instrument, or `None` to leave the aggregation to the kind
-    /// (Metrics SDK, "MetricReader").
+    /// (Metrics SDK, "MetricReader"). A provider keeps a copy of it.
     ///
-    /// A reader that doesn't implement this method has no aggregations. One that does answers what it wants or `None`:
-    /// a provider asks it once for each kind, when the reader is handed in, and keeps a copy of the answer.
+    /// A reader that has no aggregations answers `None` for each kind, and needs no `aggregation`.
     fn default_aggregation(&self, kind: InstrumentKind) -> Option<&Aggregation>
-        ensures { IfSome result (λ answered. aggregation self.now kind ≡ Some answered.now) }
-    {
-        let _ = kind;
-        None
-    }
+        ensures { option_copied result ≡ aggregation self.now kind };
 
     /// Passes on what is pending (Metrics SDK, "ForceFlush"). A reader that fails answers a fault of its own, which a
     /// provider counts.

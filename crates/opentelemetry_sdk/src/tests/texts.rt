@@ -50,6 +50,9 @@ fn faults(rt: HostRuntime) -> Result<(), Fail> {
         (Fault::WrongKind, 7, "wrong instrument kind"),
         (Fault::UnknownHandle, 4, "unknown handle"),
         (Fault::Exhausted, 11, "exhausted"),
+        (Fault::LedgerFull, 12, "ledger full"),
+        (Fault::UseWorker, 13, "use a worker"),
+        (Fault::WorkersMissing, 14, "workers missing"),
         (Fault::AlreadyShutdown, 8, "already shut down"),
         (
             Fault::InternalFailure(InternalFault::ReaderShutDown),

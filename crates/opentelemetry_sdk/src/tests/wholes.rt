@@ -11,9 +11,9 @@ use crate::metrics::data::{
     AggregatedMetrics, Metric, MetricData, ResourceMetrics, ScopeMetrics, Sum, SumDataPoint,
 };
 use crate::metrics::provider::{Call, InstrumentSort, NumberValue, Reply};
-use crate::metrics::reader::MetricReader;
+use crate::metrics::reader::{CardinalityLimit, MetricReader};
 use crate::metrics::{
-    InstrumentKind, ManualReader, MeterProviderBuilder, SdkMeterProvider, Temporality,
+    Aggregation, InstrumentKind, ManualReader, MeterProviderBuilder, SdkMeterProvider, Temporality,
 };
 use crate::resource::Resource;
 use std::alloc::Global;
@@ -41,6 +41,16 @@ impl MetricReader for Choosy {
         } else {
             self.others
         }
+    }
+
+    fn cardinality_limit(&self, kind: InstrumentKind) -> Option<CardinalityLimit> {
+        let _ = kind;
+        None
+    }
+
+    fn default_aggregation(&self, kind: InstrumentKind) -> Option<&Aggregation> {
+        let _ = kind;
+        None
     }
 
     fn force_flush(&mut self) -> OTelSdkResult {

@@ -7,8 +7,10 @@ use super::replies::Step::{Build, Collect, Flush, Meter, Record, Shutdown};
 use super::replies::assert_replies;
 use opentelemetry_sdk::common::{Fault, InternalFault, OTelSdkResult};
 use opentelemetry_sdk::metrics::provider::NumberValue::U64;
-use opentelemetry_sdk::metrics::reader::MetricReader;
-use opentelemetry_sdk::metrics::{InstrumentKind, ManualReader, SdkMeterProvider, Temporality};
+use opentelemetry_sdk::metrics::reader::{CardinalityLimit, MetricReader};
+use opentelemetry_sdk::metrics::{
+    Aggregation, InstrumentKind, ManualReader, SdkMeterProvider, Temporality,
+};
 use std::test::Fail;
 use std::time::Duration;
 
@@ -26,6 +28,16 @@ impl MetricReader for Failing {
     fn temporality(&self, kind: InstrumentKind) -> Temporality {
         let _ = kind;
         Temporality::Cumulative
+    }
+
+    fn cardinality_limit(&self, kind: InstrumentKind) -> Option<CardinalityLimit> {
+        let _ = kind;
+        None
+    }
+
+    fn default_aggregation(&self, kind: InstrumentKind) -> Option<&Aggregation> {
+        let _ = kind;
+        None
     }
 
     fn force_flush(&mut self) -> OTelSdkResult {

@@ -1,7 +1,6 @@
 use Rattle.std.proofs.Common.{◌≡◌}
-use Rattle.std.specs.Prelude.{IfSome, Some}
 use Rattle.otel_stream.proofs.Boxes.{carried_at}
 use Rattle.otel_stream.proofs.boxed.BoxDynMetricReaderMetricReader.cardinality_limit.Goals as goal
 
 pub returns : goal.returns
-returns g c = carried_at (λ v a. IfSome c.cardinality_limit.result (λ answered. (goal.MetricReader-dyn g (v, a)).limit a c.args.kind ≡ Some answered)) _ _ c.as_ref.ensures.1 c.cardinality_limit.ensures
+returns g c = carried_at (λ v a. c.cardinality_limit.result ≡ (goal.MetricReader-dyn g (v, a)).limit a c.args.kind) _ _ c.as_ref.ensures.1 c.cardinality_limit.ensures
