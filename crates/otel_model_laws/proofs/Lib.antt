@@ -12,15 +12,3 @@ pub mod OfEvents
 pub mod Accepting
 pub mod Sharing
 pub mod Shows
-pub mod Rows
-pub mod RowsPlaces
-pub mod RowsSums
-pub mod RowsViews
-pub mod RowsEdges
-pub mod RowsChecks
-pub mod RowsResources
-pub mod RowsBooks
-pub mod RowsHeadings
-pub mod RowsKinds
-pub mod RowsIdentities
-pub mod RowsHandles

@@ -15,4 +15,3 @@ pub mod Weights
 pub mod Totals
 pub mod Conserved
 pub mod KnownLists
-pub mod Rows

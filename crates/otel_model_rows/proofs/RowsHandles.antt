@@ -5,7 +5,7 @@ use Rattle.otel_common.specs.Canonical.{canon}
 use Rattle.otel_model_stream.specs.Sets.{over_set}
 use Rattle.otel_model.specs.Calls.{Counter, UpDownCounter, Histogram, Gauge, Call, Build, Record, Bind, RecordBound, Unbind, Collect, WrongNumber, UnknownHandle, Reply}
 use Rattle.otel_model.specs.Demands.{nothing_said}
-use Rattle.otel_model_laws.proofs.Rows.{a, b, about, with_own_bounds, u64, i64, x1, y1, if_named, limited, limit_1, named, cumulative, delta, low_memory, AloneShows, Shows, replies, one, delta_sum, cumulative_sum, plain_sum, last_values, cumulative_histogram, spread, on, add}
+use Rattle.otel_model_rows.specs.Rows.{a, b, about, with_own_bounds, u64, i64, x1, y1, if_named, limited, limit_1, named, cumulative, delta, low_memory, AloneShows, Shows, replies, one, delta_sum, cumulative_sum, plain_sum, last_values, cumulative_histogram, spread, on, add}
 
 -- ======== places ========
 -- two handles of one set: it keeps its place while one of them is live

@@ -6,7 +6,7 @@ use Rattle.otel_common.specs.declared.attributes.KeyValue.{KeyValue}
 use Rattle.otel_model_stream.specs.Sets.{over_set}
 use Rattle.otel_model.specs.Calls.{Counter, ObservableCounter, ObservableGauge, Call, Bind, RecordBound, Collect}
 use Rattle.otel_model.specs.Demands.{Views, nothing_said}
-use Rattle.otel_model_laws.proofs.Rows.{Seen, a, about, u64, x1, y1, z1, pair, if_named, limited, limit_1, cumulative, delta, AloneShows, Shows, one, delta_sum, cumulative_sum, last_values, on, add, observe}
+use Rattle.otel_model_rows.specs.Rows.{Seen, a, about, u64, x1, y1, z1, pair, if_named, limited, limit_1, cumulative, delta, AloneShows, Shows, one, delta_sum, cumulative_sum, last_values, on, add, observe}
 
 abbrev limit_2 : Views
 limit_2 = if_named a (limited 2) ∷ []

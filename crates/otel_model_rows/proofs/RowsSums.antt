@@ -4,7 +4,7 @@ use Rattle.std.proofs.Common.{refl}
 use Rattle.otel_common.specs.Canonical.{canon}
 use Rattle.otel_model.specs.Calls.{Counter, UpDownCounter, Histogram, ObservableCounter, Gauge, ObservableGauge, About, Call, Meter, Build, Record, Bind, RecordBound, Unbind, Collect, Flush, Shutdown, UnknownHandle, WrongKind, WrongNumber, AlreadyShutdown, ReaderShutDown, UnknownReader, Reply}
 use Rattle.otel_model.specs.Demands.{ReaderAnswers, Cumulative, default_bounds}
-use Rattle.otel_model_laws.proofs.Rows.{Seen, SeenPoints, a, b, m, scope_named, about, with_own_bounds, u64, i64, x1, cumulative, delta, low_memory, Shows, HasMoments, replies, one, delta_sum, cumulative_sum, plain_sum, last_values, cumulative_histogram, plain_spread, spread, on, add, observe}
+use Rattle.otel_model_rows.specs.Rows.{Seen, SeenPoints, a, b, m, scope_named, about, with_own_bounds, u64, i64, x1, cumulative, delta, low_memory, Shows, HasMoments, replies, one, delta_sum, cumulative_sum, plain_sum, last_values, cumulative_histogram, plain_spread, spread, on, add, observe}
 
 -- one reader without views
 abbrev Shown : ReaderAnswers → List Call → List Seen → Type 0

@@ -5,7 +5,7 @@ use Rattle.otel_common.specs.Canonical.{canon}
 use Rattle.otel_model_stream.specs.Sets.{over_set}
 use Rattle.otel_model.specs.Calls.{Counter, UpDownCounter, Histogram, ObservableCounter, Call, Build, Record, Collect}
 use Rattle.otel_model.specs.Demands.{Aggregation, Drop, Default, Sum, LastValue, ExplicitBucketHistogram, Views, ReaderAnswers, own_demand}
-use Rattle.otel_model_laws.proofs.Rows.{Seen, a, b, m, about, with_own_bounds, u64, x1, y1, if_named, limited, named, aggregating, but_for, limit_of, default_of, cumulative, delta, AloneShows, Shows, one, delta_sum, cumulative_sum, plain_sum, cumulative_histogram, plain_spread, spread, on, add, observe}
+use Rattle.otel_model_rows.specs.Rows.{Seen, a, b, m, about, with_own_bounds, u64, x1, y1, if_named, limited, named, aggregating, but_for, limit_of, default_of, cumulative, delta, AloneShows, Shows, one, delta_sum, cumulative_sum, plain_sum, cumulative_histogram, plain_spread, spread, on, add, observe}
 
 -- one cumulative reader
 abbrev CumulativeShows : Views → List Call → List Seen → Type 0

@@ -8,7 +8,7 @@ use Rattle.otel_common.specs.declared.attributes.KeyValue.{KeyValue}
 use Rattle.otel_model_stream.specs.Sets.{over_set, set_of}
 use Rattle.otel_model.specs.Calls.{Text, kind_eq, Counter, Histogram, ObservableCounter, Gauge, About, Call, Meter, Build, Record, Collect}
 use Rattle.otel_model.specs.Demands.{Instrument, Views, nothing_said}
-use Rattle.otel_model_laws.proofs.Rows.{a, b, m, scope_named, about, with_own_bounds, u64, i64, x1, y1, pair, if_named, limited, named, cumulative, delta, AloneShows, one, delta_sum, cumulative_sum, last_values, cumulative_histogram, spread, on, add, observe}
+use Rattle.otel_model_rows.specs.Rows.{a, b, m, scope_named, about, with_own_bounds, u64, i64, x1, y1, pair, if_named, limited, named, cumulative, delta, AloneShows, one, delta_sum, cumulative_sum, last_values, cumulative_histogram, spread, on, add, observe}
 
 -- 1 at the first and 2 at the second of two instruments
 abbrev both : About → About → List Call

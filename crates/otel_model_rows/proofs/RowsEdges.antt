@@ -14,7 +14,7 @@ use Rattle.otel_model.specs.Machine.{new_instrument, new_state}
 use Rattle.otel_model.specs.Steps.{reply_of, after, Step}
 use Rattle.otel_model.specs.Only.{only}
 use Rattle.otel_model.specs.History.{made_calls}
-use Rattle.otel_model_laws.proofs.Rows.{a, m, about, with_own_bounds, u64, i64, x1, y1, pair, if_named, limited, named, aggregating, but_for, default_of, cumulative, delta, AloneShows, replies, one, delta_sum, cumulative_sum, last_values, cumulative_histogram, delta_histogram, spread, on, add, observe}
+use Rattle.otel_model_rows.specs.Rows.{a, m, about, with_own_bounds, u64, i64, x1, y1, pair, if_named, limited, named, aggregating, but_for, default_of, cumulative, delta, AloneShows, replies, one, delta_sum, cumulative_sum, last_values, cumulative_histogram, delta_histogram, spread, on, add, observe}
 
 -- ======== sets and places ========
 abbrev a_is : ℕ → List KeyValue

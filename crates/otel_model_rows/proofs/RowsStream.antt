@@ -1,64 +1,14 @@
--- Worked rows, computed on the windows and on the machine.
-use Rattle.std.proofs.Common.{◌≡◌, ℕ, ℤ, List, [], ◌∷◌, map, length, Bool, true, false, Option, Some, None, refl, replicate, ◌++◌, cond, sym, ap, ◌∙◌, true≢false}
-use Rattle.std.specs.Cmp.{Equal-is}
-use Rattle.std.specs.Ordering.{eq_by_cmp}
+-- Worked rows of one stream, computed on its windows and on its machine.
+use Rattle.std.proofs.Common.{◌≡◌, ℕ, List, [], ◌∷◌, length, Bool, true, false, Some, None, refl, replicate, ◌++◌}
 use Rattle.std.specs.Prelude.{codes, pos, negsuc}
-use Rattle.otel_common.specs.Canonical.{canon, key_cmp}
-use Rattle.otel_common.specs.Equality.{bytes_eq}
+use Rattle.otel_common.specs.Canonical.{canon}
 use Rattle.otel_common.specs.declared.attributes.KeyValue.{KeyValue}
 use Rattle.otel_common.specs.declared.attributes.Value.TheVariants as value
-use Rattle.otel_common.proofs.CanonLaws.{key_cmp-IsAntisymmetric, canon-unique}
-use Rattle.otel_model_stream.specs.Sets.{AttributeSet, none_set, over_set, allowed_part, set_of}
-use Rattle.otel_model_stream.specs.Folds.{Aggregate, Sum, LastValue, Histogram, Amount, Sample, Total, Last, Spreads, sample_of}
-use Rattle.otel_model_stream.specs.Events.{Event, Record, Bind, RecordBound, Unbind, Collect, Kind, Delta, Cumulative, Point}
+use Rattle.otel_model_stream.specs.Sets.{AttributeSet, none_set, over_set, set_of}
+use Rattle.otel_model_stream.specs.Folds.{Sum, LastValue, Histogram, Sample, Total, Last, Spreads, sample_of}
+use Rattle.otel_model_stream.specs.Events.{Event, Bind, RecordBound, Unbind, Collect, Delta, Cumulative}
 use Rattle.otel_model_stream.specs.Maps.{MapState, new_map, bound_map, bound_to, updated_bound, unbound_map, readonly_points, resetting_points, draining_points, evicted_map, KnownMap, without_lists, knows, keys, measured_list, bound_list, evicted_known, drained_known}
-use Rattle.otel_model_stream.specs.Machine.{begin, answers}
-use Rattle.otel_model_stream.specs.Windows.{opening, collections}
-
--- ======== sets, events and points used by the rows ========
-abbrev pair : List ℕ → ℕ → KeyValue
-pair key n = record { key = key; value = value.I64 (pos n) }
-
-abbrev x1 : AttributeSet
-x1 = pair (codes "x") 1 ∷ []
-
-abbrev y1 : AttributeSet
-y1 = pair (codes "y") 1 ∷ []
-
-abbrev z1 : AttributeSet
-z1 = pair (codes "z") 1 ∷ []
-
-abbrev k_v : AttributeSet
-k_v = record { key = codes "k"; value = value.String (codes "v") } ∷ []
-
-abbrev amount : ℕ → Amount
-amount n = record { bits = n; wide = pos n }
-
--- a measurement of this value, and measurements of these values without attributes
-abbrev add : AttributeSet → ℕ → Event
-add s n = Record s (amount n)
-
-abbrev values : List ℕ → List Event
-values ns = map (add none_set) ns
-
--- a point of a sum
-abbrev sum : AttributeSet → ℕ → Point
-sum s n = (s, Total n)
-
--- a point of a histogram with min and max
-abbrev spread : AttributeSet → (count total : ℕ) (least greatest : Option ℤ) (counts : List ℕ) → Point
-spread s count total least greatest counts =
-    (s, Spreads (record { has_min_max = true; has_sum = true; count = count; sum = total; least = least; greatest = greatest; counts = counts }))
-
-abbrev bounds : List ℕ → List ℤ
-bounds ns = map pos ns
-
-abbrev default_bounds : List ℤ
-default_bounds = bounds (0 ∷ 5 ∷ 10 ∷ 25 ∷ 50 ∷ 75 ∷ 100 ∷ 250 ∷ 500 ∷ 750 ∷ 1000 ∷ 2500 ∷ 5000 ∷ 7500 ∷ 10000 ∷ [])
-
--- both sides give these points, one list for each collection
-abbrev AreShown : Aggregate → Kind → ℕ → List Event → List (List Point) → Type 0
-AreShown σ kind limit events points = (collections σ kind limit opening events ≡ points) × (answers σ kind limit (begin σ) events ≡ points)
+use Rattle.otel_model_rows.specs.StreamRows.{pair, x1, y1, z1, k_v, amount, add, values, sum, spread, bounds, default_bounds, AreShown}
 
 -- ======== histograms ========
 pub row_1 : AreShown (Histogram (bounds (1 ∷ 3 ∷ 6 ∷ [])) true true) Cumulative 2000 (values (1 ∷ 2 ∷ 3 ∷ 4 ∷ 5 ∷ 6 ∷ 7 ∷ 8 ∷ 9 ∷ 10 ∷ []) ++ Collect ∷ [])
@@ -158,53 +108,33 @@ b n = pair (codes "b") n
 abbrev a2_b1 : AttributeSet
 a2_b1 = a 2 ∷ b 1 ∷ []
 
--- no key is both
-apart : (q : List ℕ) → eq_by_cmp key_cmp q (codes "a") ≡ true → eq_by_cmp key_cmp q (codes "b") ≡ true → ⊥
-apart q e f =
-    let at_a : q ≡ codes "a" = key_cmp-IsAntisymmetric q (codes "a") ((Equal-is (key_cmp q (codes "a"))).0 e) in
-    let at_b : q ≡ codes "b" = key_cmp-IsAntisymmetric q (codes "b") ((Equal-is (key_cmp q (codes "b"))).0 f) in
-    absurd (true≢false (ap (bytes_eq (codes "a")) (sym at_a ∙ at_b)))
-
-turned : {A : Type 0} (c d : Bool) (x y z : A) → (c ≡ true → d ≡ true → ⊥) → cond c x (cond d y z) ≡ cond d y (cond c x z)
-turned true true x y z h = absurd (h refl refl)
-turned true false x y z h = refl
-turned false d x y z h = refl
-
-doubled : {A : Type 0} (c : Bool) (x y z : A) → cond c x z ≡ cond c x (cond c y z)
-doubled true x y z = refl
-doubled false x y z = refl
-
 pub row_10_in_order : set_of None (a 2 ∷ b 1 ∷ []) ≡ a2_b1
-row_10_in_order = sym (canon-unique (a 2 ∷ b 1 ∷ []) a2_b1 tt (λ q. refl))
+unfolding canon
+row_10_in_order = refl
 
 pub row_10_turned : set_of None (b 1 ∷ a 2 ∷ []) ≡ a2_b1
-row_10_turned = sym (canon-unique (b 1 ∷ a 2 ∷ []) a2_b1 tt (λ q. turned (eq_by_cmp key_cmp q (codes "a")) (eq_by_cmp key_cmp q (codes "b")) _ _ _ (apart q)))
+unfolding canon
+row_10_turned = refl
 
 pub row_10_doubled : set_of None (a 2 ∷ a 9 ∷ b 1 ∷ []) ≡ a2_b1
-row_10_doubled = sym (canon-unique (a 2 ∷ a 9 ∷ b 1 ∷ []) a2_b1 tt (λ q. doubled (eq_by_cmp key_cmp q (codes "a")) _ _ _))
+unfolding canon
+row_10_doubled = refl
 
 abbrev three : AttributeSet → AttributeSet → AttributeSet → List Event
 three p q r = add p 1 ∷ add q 2 ∷ add r 4 ∷ Collect ∷ []
 
 pub row_10 : AreShown Sum Cumulative 2000 (three (set_of None (b 1 ∷ a 2 ∷ [])) (set_of None (a 2 ∷ b 1 ∷ [])) (set_of None (a 2 ∷ a 9 ∷ b 1 ∷ [])))
     ((sum a2_b1 7 ∷ []) ∷ [])
-row_10 = (
-  λ i. collections Sum Cumulative 2000 opening (three (row_10_turned i) (row_10_in_order i) (row_10_doubled i)),
-  λ i. answers Sum Cumulative 2000 (begin Sum) (three (row_10_turned i) (row_10_in_order i) (row_10_doubled i)),
-)
+unfolding canon
+row_10 = (refl, refl)
 
 -- an empty allow-list keeps nothing
-none_kept : (l : AttributeSet) → allowed_part (Some []) l ≡ [] → set_of (Some []) l ≡ none_set
-none_kept l e = ap canon e ∙ sym (canon-unique [] [] tt (λ q. refl))
-
 abbrev two : AttributeSet → AttributeSet → List Event
 two p q = add p 1 ∷ add q 2 ∷ Collect ∷ []
 
 pub row_24 : AreShown Sum Cumulative 2000 (two (set_of (Some []) x1) (set_of (Some []) y1)) ((sum none_set 3 ∷ []) ∷ [])
-row_24 = (
-  λ i. collections Sum Cumulative 2000 opening (two (none_kept x1 refl i) (none_kept y1 refl i)),
-  λ i. answers Sum Cumulative 2000 (begin Sum) (two (none_kept x1 refl i) (none_kept y1 refl i)),
-)
+unfolding canon
+row_24 = (refl, refl)
 
 -- ======== handles of a map ========
 -- a map of sums with room for one set

@@ -6,7 +6,7 @@ use Rattle.otel_common.specs.declared.attributes.KeyValue.{KeyValue}
 use Rattle.otel_model_stream.specs.Sets.{AttributeSet}
 use Rattle.otel_model.specs.Calls.{InstrumentKind, Counter, UpDownCounter, Histogram, ObservableCounter, ObservableUpDownCounter, Gauge, ObservableGauge, kind_number, About, Observed, Call, Meter, Build, Record, Bind, Collect, WrongKind, WrongNumber, Reply}
 use Rattle.otel_model.specs.Demands.{Temporality, Cumulative, Delta, Answer, ReaderAnswers, Aggregation, Drop, Default, Sum, LastValue, ExplicitBucketHistogram, Views, answers_by, answer_for, fits, kinds, kind_default}
-use Rattle.otel_model_laws.proofs.Rows.{SeenPoints, a, m, about, with_own_bounds, u64, i64, x1, y1, if_named, aggregating, cumulative, delta, low_memory, AloneShows, replies, one, delta_sum, cumulative_sum, plain_sum, last_values, cumulative_histogram, delta_histogram, plain_spread, spread, on, add, observe}
+use Rattle.otel_model_rows.specs.Rows.{SeenPoints, a, m, about, with_own_bounds, u64, i64, x1, y1, if_named, aggregating, cumulative, delta, low_memory, AloneShows, replies, one, delta_sum, cumulative_sum, plain_sum, last_values, cumulative_histogram, delta_histogram, plain_spread, spread, on, add, observe}
 
 -- counters, up-down counters, histograms, observable counters, observable up-down counters, gauges, observable gauges
 abbrev seven : List InstrumentKind

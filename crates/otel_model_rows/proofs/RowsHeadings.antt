@@ -16,7 +16,7 @@ use Rattle.otel_model.specs.Calls as calls
 use Rattle.otel_model.specs.Calls.{Text, About, Call, Meter, Build, Record, Collect}
 use Rattle.otel_model.specs.Demands.{ExplicitBucketHistogram, StreamSpec, Views, Cumulative, Delta, LowMemory, ReaderAnswers, answers_by, nothing_said}
 use Rattle.otel_model.specs.Resources.{Resource}
-use Rattle.otel_model_laws.proofs.Rows.{a, b, m, scope_named, about, with_own_bounds, u64, i64, x1, y1, pair, if_named, aggregating, cumulative, delta, low_memory, HasMoments, Gives, on, add, observe}
+use Rattle.otel_model_rows.specs.Rows.{a, b, m, scope_named, about, with_own_bounds, u64, i64, x1, y1, pair, if_named, aggregating, cumulative, delta, low_memory, HasMoments, Gives, on, add, observe}
 
 -- ======== what collections have ========
 abbrev product : Resource

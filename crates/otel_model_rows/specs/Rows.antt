@@ -1,4 +1,4 @@
--- What the worked rows are written in: instruments, values, sets, views and readers, and what is seen of collections.
+-- What the worked rows of a provider are written in: instruments, values, sets, views and readers, and what is seen of collections.
 use Rattle.std.specs.Prelude.{◌≡◌, ℕ, ℤ, pos, Bool, true, false, cond, List, [], ◌∷◌, ◌++◌, map, Option, Some, None}
 use Rattle.std.specs.Option.{option_map}
 use Rattle.otel_common.specs.Equality.{bytes_eq}

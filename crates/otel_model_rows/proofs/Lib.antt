@@ -1,0 +1,12 @@
+pub mod RowsStream
+pub mod RowsPlaces
+pub mod RowsSums
+pub mod RowsViews
+pub mod RowsEdges
+pub mod RowsChecks
+pub mod RowsResources
+pub mod RowsBooks
+pub mod RowsHeadings
+pub mod RowsKinds
+pub mod RowsIdentities
+pub mod RowsHandles

@@ -1,0 +1,2 @@
+pub mod StreamRows
+pub mod Rows
