@@ -12,6 +12,9 @@ pub mod OfEvents
 pub mod Accepting
 pub mod Sharing
 pub mod Shows
+pub mod Totals
+pub mod Meters
+pub mod Given
 pub mod Rows
 pub mod RowsPlaces
 pub mod RowsSums
@@ -24,3 +27,4 @@ pub mod RowsHeadings
 pub mod RowsKinds
 pub mod RowsIdentities
 pub mod RowsHandles
+pub mod RowsReplies
