@@ -69,7 +69,7 @@ answered_is views resource identity readers calls replies new run r answers at e
 
 -- ======== its metrics ========
 -- the metric that a stream gives after these calls, with these observations
-abbrev metric_at : Views → ReaderAnswers → ℕ → List Call → ℕ → List Observed → Demand → Metric
+abbrev pub metric_at : Views → ReaderAnswers → ℕ → List Call → ℕ → List Observed → Demand → Metric
 metric_at views answers r before now os d = metric answers now (start_of views answers r d before) (reported_of views answers r d before) d (points_with views answers r d before os)
 
 each_metric : (P : Demand → Metric → Type 0) (f : Demand → ScopedMetric) → ((d : Demand) → IsMetricOf P d (f d)) → (ds : List Demand) → AllZip (IsMetricOf P) ds (map f ds)
@@ -151,7 +151,7 @@ total_of true t m start now kind rs a xs = total_by signed_of (λ z. z) (cast_un
 undiffered : (answers : ReaderAnswers) (d : Demand) (before ps : List Point) → is_drained d ≡ false → differences answers d before ps ≡ ps
 undiffered answers d before ps e = ap (λ b. cond (b && is_delta answers d) (map (difference before) ps) ps) e
 
-window_metric : (views : Views) (answers : ReaderAnswers) (r : ℕ) (before : List Call) (now : ℕ) (os : List Observed) (d : Demand) → ShowsWindow views answers r before os d (metric_at views answers r before now os d)
+pub window_metric : (views : Views) (answers : ReaderAnswers) (r : ℕ) (before : List Call) (now : ℕ) (os : List Observed) (d : Demand) → ShowsWindow views answers r before os d (metric_at views answers r before now os d)
 window_metric views answers r before now os d e =
     ap (λ ps. content_total (of_points ps)) (undiffered answers d (reported_of views answers r d before) (points_with views answers r d before os) e)
     ∙ subst Claim (sym e) (total_of d.identity.signed (exported_temporality answers d) (is_monotonic_kind d.identity.kind) (start_of views answers r d before) now d.identity.kind records d.aggregation sets)

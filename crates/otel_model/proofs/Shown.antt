@@ -146,7 +146,7 @@ zero_plus n = omega arith
 kind_when : (answers : ReaderAnswers) (d : Demand) → is_drained d ≡ false → kind_of answers d ≡ cond (is_delta answers d) Delta Cumulative
 kind_when answers d e = ap (λ b. cond b Drained (cond (is_delta answers d) Delta Cumulative)) e
 
-conserved_in : (views : Views) (answers : ReaderAnswers) (r : ℕ) (d : Demand) (past : List Call) → is_drained d ≡ false
+pub conserved_in : (views : Views) (answers : ReaderAnswers) (r : ℕ) (d : Demand) (past : List Call) → is_drained d ≡ false
     → wrap (exported_in views answers r d past + points_total (window_points answers d (history views answers r d past))) ≡ wrap (recorded_in views answers r d past)
 conserved_in views answers r d past e =
     (λ i. wrap (cond (is_delta answers d) (sum_by points_total (shown_points_are views answers r d past i)) 0 + points_total (window_points answers d h)))

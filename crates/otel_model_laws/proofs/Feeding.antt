@@ -5,7 +5,7 @@ use Rattle.std.proofs.lemmas.Bool.{true≢false, false≢true}
 use Rattle.std.proofs.lemmas.List.{append-nil}
 use Rattle.otel_common.specs.declared.scopes.InstrumentationScope.{InstrumentationScope}
 use Rattle.otel_model.specs.Calls.{About, InstrumentKind}
-use Rattle.otel_model.specs.Demands.{Identity, identity_eq, Demand, Views, ReaderAnswers, instrument_of, StreamSpec, own_demand, add_answer, view_demands, is_compatible, needs_own, demands_with, demands_on, is_good, is_known, is_drop, has_identity, each_once, fed_identities}
+use Rattle.otel_model.specs.Demands.{Identity, identity_eq, Demand, Views, ReaderAnswers, instrument_of, StreamSpec, nothing_said, demand_of, own_demand, add_answer, view_demands, is_compatible, needs_own, demands_with, demands_on, is_good, is_known, is_drop, has_identity, each_once, fed_identities}
 use Rattle.otel_model.specs.State.{Stream, ReaderPart, LiveHandle}
 use Rattle.otel_model.specs.Sent.{is_fed}
 use Rattle.otel_model.specs.Machine.{new_stream, enter, part_after_demand}
@@ -95,16 +95,7 @@ fed_demanded dropped ds x e =
 abbrev OfKind : InstrumentKind → List Demand → Type 0
 OfKind k ds = EachOf (λ (d : Demand). d.identity.kind ≡ k) ds
 
-module _ (answers : ReaderAnswers) (scope : InstrumentationScope) (about : About) where
-  answered_kind : (o : Option StreamSpec) (ds : List Demand) → OfKind about.kind ds → OfKind about.kind (add_answer answers scope about o ds)
-  answered_kind None ds a = a
-  answered_kind (Some s) ds a = (refl, a)
-
-  view_kind : (views : Views) → OfKind about.kind (view_demands views answers scope about)
-  view_kind [] = tt
-  view_kind (view ∷ views) = answered_kind (view (instrument_of scope about)) (view_demands views answers scope about) (view_kind views)
-
-each_filter : {X : Type 0} (P : X → Type 0) (p : X → Bool) (xs : List X) → EachOf P xs → EachOf P (filter p xs)
+pub each_filter : {X : Type 0} (P : X → Type 0) (p : X → Bool) (xs : List X) → EachOf P xs → EachOf P (filter p xs)
 each_filter P p [] a = tt
 each_filter P p (x ∷ xs) a = go (p x) (each_filter P p xs a.1)
   where
@@ -112,18 +103,33 @@ each_filter P p (x ∷ xs) a = go (p x) (each_filter P p xs a.1)
     go true ih = (a.0, ih)
     go false ih = ih
 
-own_kind : (k : InstrumentKind) (ds : List Demand) (d : Demand) (b : Bool) → OfKind k ds → d.identity.kind ≡ k → OfKind k (ds ++ cond b (d ∷ []) [])
-own_kind k ds d true a e = each_push (λ (d : Demand). d.identity.kind ≡ k) ds d a e
-own_kind k ds d false a e = subst (OfKind k) (sym (append-nil ds)) a
+-- what holds of the demand of any answer of a view holds of each demand of a build
+module _ (P : Demand → Type 0) (answers : ReaderAnswers) (scope : InstrumentationScope) (about : About) (holds : (s : StreamSpec) → P (demand_of answers scope about s)) where
+  answered_each : (o : Option StreamSpec) (ds : List Demand) → EachOf P ds → EachOf P (add_answer answers scope about o ds)
+  answered_each None ds a = a
+  answered_each (Some s) ds a = (holds s, a)
+
+  view_each : (views : Views) → EachOf P (view_demands views answers scope about)
+  view_each [] = tt
+  view_each (view ∷ views) = answered_each (view (instrument_of scope about)) (view_demands views answers scope about) (view_each views)
+
+  own_each : (ds : List Demand) (b : Bool) → EachOf P ds → EachOf P (ds ++ cond b (own_demand answers scope about ∷ []) [])
+  own_each ds true a = each_push P ds (own_demand answers scope about) a (holds nothing_said)
+  own_each ds false a = subst (EachOf P) (sym (append-nil ds)) a
+
+  good_each : (dropped : List Demand → Identity → Bool) (views : Views) (b : Bool) → EachOf P (cond b (demands_with dropped views answers scope about) [])
+  good_each dropped views true = own_each (filter is_compatible (view_demands views answers scope about))
+      (needs_own (dropped (filter is_compatible (view_demands views answers scope about))) (view_demands views answers scope about))
+      (each_filter P is_compatible (view_demands views answers scope about) (view_each views))
+  good_each dropped views false = tt
+
+pub demands_each : (P : Demand → Type 0) (dropped : List Demand → Identity → Bool) (views : Views) (answers : ReaderAnswers) (scope : Option InstrumentationScope) (about : About)
+    → ((x : InstrumentationScope) → scope ≡ Some x → (s : StreamSpec) → P (demand_of answers x about s)) → EachOf P (demands_on dropped views answers scope about)
+demands_each P dropped views answers None about holds = tt
+demands_each P dropped views answers (Some x) about holds = good_each P answers x about (holds x refl) dropped views (is_good about)
 
 pub demands_kind : (dropped : List Demand → Identity → Bool) (views : Views) (answers : ReaderAnswers) (scope : Option InstrumentationScope) (about : About) → OfKind about.kind (demands_on dropped views answers scope about)
-demands_kind dropped views answers None about = tt
-demands_kind dropped views answers (Some scope) about = go (is_good about)
-  where
-    go : (b : Bool) → OfKind about.kind (cond b (demands_with dropped views answers scope about) [])
-    go true = own_kind about.kind (filter is_compatible (view_demands views answers scope about)) (own_demand answers scope about) (needs_own (dropped (filter is_compatible (view_demands views answers scope about))) (view_demands views answers scope about))
-        (each_filter (λ (d : Demand). d.identity.kind ≡ about.kind) is_compatible (view_demands views answers scope about) (view_kind answers scope about views)) refl
-    go false = tt
+demands_kind dropped views answers scope about = demands_each (λ (d : Demand). d.identity.kind ≡ about.kind) dropped views answers scope about (λ x e s. refl)
 
 pub known_kind : (k : InstrumentKind) (ds : List Demand) (x : Identity) → OfKind k ds → is_known ds x ≡ true → x.kind ≡ k
 known_kind k [] x a e = absurd (false≢true e)

@@ -12,3 +12,6 @@ pub mod OfEvents
 pub mod Accepting
 pub mod Sharing
 pub mod Shows
+pub mod Totals
+pub mod Meters
+pub mod Given

@@ -4,3 +4,4 @@ pub mod Lawful
 pub mod Books
 pub mod Shares
 pub mod Showing
+pub mod Given

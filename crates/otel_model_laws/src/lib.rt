@@ -5,6 +5,7 @@ ghost use Rattle.otel_model.specs.Laws.{AreFeedsApart, AreFeedsStreams, AreStrea
 ghost use Rattle.otel_model.specs.Resources.{GivenOneByOne, GivenValuesWin, MergesAreCanonical, OthersValuesWin, OwnValuesWin, UrlsMergeFromTheLeft, UrlsMergeFromTheRight};
 ghost use Rattle.otel_model_laws.specs.Books.{EachCallIsBooked, EachRunIsBooked};
 ghost use Rattle.otel_model_laws.specs.Builds.{AlikeFeedTheSame};
+ghost use Rattle.otel_model_laws.specs.Given.{AllIsGivenOrPending, EachGivesOrHolds};
 ghost use Rattle.otel_model_laws.specs.Lawful.{EachCallKeepsLawful, EachRunKeepsLawful, HandlesAreOfFeeds, IsLawfulAtFirst, LawfulBalances, NextIsUnheld, ObservableIsUnheld};
 ghost use Rattle.otel_model_laws.specs.Shares.{BookFollowsCalls, BookedOneByOne, SharesAddUp};
 ghost use Rattle.otel_model_laws.specs.Showing.{BindsByNumber, CollectsAfterObservations, HandlesByNumber, ObservationsByNumber, RecordsByNumber, UnheldRests};
@@ -46,6 +47,12 @@ pub fn gives()
 /// What a synchronous stream recorded is what the instruments that feed it accepted.
 pub fn accounts()
     ensures only { IsAccepted }
+{}
+
+/// Under each heading, what was recorded is what the reader was given in its replies and what is pending.
+pub fn hands_over()
+    ensures headings { AllIsGivenOrPending }
+    ensures streams { EachGivesOrHolds }
 {}
 
 /// A reader's streams have identities of their own, and an instrument feeds each of its streams once.

@@ -10,3 +10,4 @@ pub mod RowsHeadings
 pub mod RowsKinds
 pub mod RowsIdentities
 pub mod RowsHandles
+pub mod RowsReplies

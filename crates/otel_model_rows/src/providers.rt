@@ -1,6 +1,7 @@
 //! Rows of a whole provider, on its machine and read off the calls.
 
-ghost use Rattle.std.specs.Prelude.{◌≡◌, [], ◌∷◌, ◌++◌, map, Some};
+ghost use Rattle.std.specs.Prelude.{◌≡◌, ◌+◌, [], ◌∷◌, ◌++◌, map, Some};
+ghost use Rattle.otel_model_stream.specs.Folds.{wrap};
 ghost use Rattle.otel_model_stream.specs.Sets.{over_set};
 ghost use Rattle.otel_model.specs.Calls.{Counter, Gauge, ObservableCounter, UpDownCounter, Bind, Build, Collect, Record, RecordBound};
 ghost use Rattle.otel_model.specs.Demands.{Answer, Cumulative, Delta, Drop};
@@ -57,4 +58,9 @@ pub fn headings()
 pub fn edges()
     ensures bound_gauge { AloneShows [] cumulative (on (about Gauge a) (Bind 0 x1 ∷ Collect 0 200 [] ∷ []))
         (one a (last_values ((x1, 0) ∷ [])) ∷ []) }
+{}
+
+/// What was recorded, what a reader was given in its replies, and what is pending.
+pub fn replies()
+    ensures of_signed_wrapped { wrap 55340232221128654845 ≡ wrap (18446744073709551614 + 18446744073709551615) }
 {}

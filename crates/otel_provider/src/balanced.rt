@@ -8,7 +8,7 @@ ghost use Rattle.otel_model.specs.Machine.{new_state};
 ghost use Rattle.otel_model.specs.Refusals.{meter_refusal};
 ghost use Rattle.otel_model.specs.Sent.{has_scope};
 ghost use Rattle.otel_model.specs.Steps.{Step, Run};
-ghost use Rattle.otel_model_laws.specs.Lawful.{Balances};
+ghost use Rattle.otel_model_laws.specs.Lawful.{Balances, IsLawful};
 ghost use Rattle.otel_core.specs.Checks.{has_stream, collect_refusal};
 ghost use Rattle.otel_core.specs.Correspondence.{fault_of, call_of, reply_of, reply_to, kind_of, is_signed, number_of, observed_of};
 ghost use Rattle.otel_core.specs.Known.{is_known, IsKnown, HasMemory};
@@ -65,6 +65,12 @@ impl BalancedCore {
             core: fresh.into_core(),
         }
     }
+
+    /// Does nothing. The clauses say what holds before a call too.
+    pub(crate) fn balances(&self)
+        ensures balances { Balances self.now }
+        ensures lawful { IsLawful self.now }
+    {}
 
     /// Makes one call and returns its reply.
     pub(crate) fn step<V: View, R: MetricReader>(

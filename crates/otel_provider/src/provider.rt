@@ -11,7 +11,8 @@ ghost use Rattle.otel_model.specs.Laws.{HasStreamsOfBuilds, HasFeedsOfBuilds, Ha
 ghost use Rattle.otel_model.specs.Machine.{new_state};
 ghost use Rattle.otel_model.specs.Resources.{empty_resource, merged_resource};
 ghost use Rattle.otel_model.specs.Steps.{Step, Run, asks_readers};
-ghost use Rattle.otel_model_laws.specs.Lawful.{Balances};
+ghost use Rattle.otel_model_laws.specs.Given.{IsGivenOrPending};
+ghost use Rattle.otel_model_laws.specs.Lawful.{Balances, IsLawful};
 ghost use Rattle.otel_core.specs.Checks.{collect_refusal};
 ghost use Rattle.otel_provider.specs.Callbacks.{IsCollectionOf};
 ghost use Rattle.otel_provider.specs.Headline.{OfReaders, OfStreams, OfAnswers, InAnyOrder};
@@ -262,6 +263,15 @@ impl<P: Parts> Provider<P> {
         }
     }
 
+    /// Does nothing. Its clauses say that the streams of a provider balance, and that its state is lawful, whatever was
+    /// called before: also where it was handed in, and before it is called.
+    pub fn balances(&self)
+        ensures balances { Balances (state_of self.now) }
+        ensures lawful { IsLawful (state_of self.now) }
+    {
+        self.core.balances();
+    }
+
     /// Makes one call and returns its reply.
     ///
     /// A refused call changes nothing, except for a flush or a shutdown in which readers failed. `OutOfMemory` only
@@ -412,7 +422,9 @@ impl<P: Parts> Provider<P> {
     /// `run` says what is done, call by call, and `reached` what becomes of the readers; if no call asks them, they
     /// stay as they were (`unasked`). `order` says, for any provider, that with the attributes of a record in another
     /// order, where no key stands twice, the same replies and state are right. The clauses from `streams` on say, for a
-    /// provider as `build` gave it, what can be read off the calls and replies alone.
+    /// provider as `build` gave it, what can be read off the calls and replies alone. `given` is about what readers were
+    /// given: under each heading, which is a scope, a name, a description, a unit and a number type, what was recorded
+    /// is what the delta points of the answered collections add up to plus what the streams so headed hold.
     pub fn run(&mut self, alloc: Global, calls: &[Call]) -> Result<Vec<Reply>, Fault>
         ensures run { IfOk result (λ replies. Run (views_of P.View.answer self.old) (state_of self.old) (map call_of calls.now) (map reply_of replies.items) (state_of self.new)) }
         ensures unmade { OnErr result (state_of self.new ≡ state_of self.old) }
@@ -436,6 +448,7 @@ impl<P: Parts> Provider<P> {
         ensures exported { IfOk result (λ replies. OfStreams HasExportedTotal (views_of P.View.answer self.old) (state_of self.old) calls.now replies.items (state_of self.new)) }
         ensures pending { IfOk result (λ replies. OfStreams HasPendingPoints (views_of P.View.answer self.old) (state_of self.old) calls.now replies.items (state_of self.new)) }
         ensures conserved { IfOk result (λ replies. OfStreams Conserves (views_of P.View.answer self.old) (state_of self.old) calls.now replies.items (state_of self.new)) }
+        ensures given { IfOk result (λ replies. OfReaders IsGivenOrPending (views_of P.View.answer self.old) (state_of self.old) calls.now replies.items (state_of self.new)) }
         ensures accepted { IfOk result (λ replies. OfStreams HasAccepted (views_of P.View.answer self.old) (state_of self.old) calls.now replies.items (state_of self.new)) }
         ensures totals { IfOk result (λ replies. OfAnswers (OfEachMetric ShowsWindow) (views_of P.View.answer self.old) (state_of self.old) calls.now replies.items) }
         ensures all_shown { IfOk result (λ replies. OfAnswers (OfEachMetric ShowsAll) (views_of P.View.answer self.old) (state_of self.old) calls.now replies.items) }

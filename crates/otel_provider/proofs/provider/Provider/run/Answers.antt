@@ -12,8 +12,10 @@ use Rattle.otel_model.proofs.Answered.{few_answered_law, totals_answered_law, al
 use Rattle.otel_model.proofs.Shown.{recorded_law, exported_law, pending_law, conserved_law}
 use Rattle.otel_model.proofs.Single.{as_only}
 use Rattle.otel_model_laws.proofs.Booked.{accepted_law}
+use Rattle.otel_model_laws.proofs.Given.{given_law}
 use Rattle.otel_model.specs.Answered.{OfEachMetric, ShowsWindow, ShowsAll, HasFewPoints}
 use Rattle.otel_model.specs.Laws.{HasStreamsOfBuilds, HasFeedsOfBuilds, HasPlacesOfHistories, HasCountedOfHistories, IsGivenCollections, IsAnsweredAsOnly, HasRecordedTotal, HasExportedTotal, HasPendingPoints, Conserves, HasAccepted}
+use Rattle.otel_model_laws.specs.Given.{IsGivenOrPending}
 use Rattle.otel_core.specs.Correspondence.{call_of, reply_of}
 use Rattle.otel_provider.specs.Providers.{views_of}
 use Rattle.otel_core.specs.declared.calls.Reply.{Reply}
@@ -52,6 +54,9 @@ returns-clause-exported g c = IfOk-weaker c.run.result _ _ (λ replies is. of_st
 
 pub returns-clause-conserved : goal.returns-clause-conserved
 returns-clause-conserved g c = IfOk-weaker c.run.result _ _ (λ replies is. of_streams Conserves conserved_law (views_of g.P.View.View.answer c.args.self.now) c.args.self.now.core c.run.new.self c.args.calls.now replies.items is) (as-run g c)
+
+pub returns-clause-given : goal.returns-clause-given
+returns-clause-given g c = IfOk-weaker c.run.result _ _ (λ replies is. of_readers IsGivenOrPending given_law (views_of g.P.View.View.answer c.args.self.now) c.args.self.now.core c.run.new.self c.args.calls.now replies.items is) (as-run g c)
 
 pub returns-clause-accepted : goal.returns-clause-accepted
 returns-clause-accepted g c = IfOk-weaker c.run.result _ _ (λ replies is. of_streams HasAccepted accepted_law (views_of g.P.View.View.answer c.args.self.now) c.args.self.now.core c.run.new.self c.args.calls.now replies.items is) (as-run g c)
