@@ -1,6 +1,6 @@
 //! What a reader answers for each kind of instrument.
 
-ghost use Rattle.std.specs.Prelude.{◌≡◌, IfOk, IsOkUnless, option_copied};
+ghost use Rattle.std.specs.Prelude.{◌≡◌, ◌++◌, IfOk, OnOk, IsOkUnless, option_copied};
 ghost use Rattle.otel_stream.specs.Answers.{kind_number, answer_wanting, answers_wanting, answer_for};
 
 use crate::instrument::InstrumentKind;
@@ -12,6 +12,17 @@ use otel_common::lists::Items;
 use otel_common::metrics::{Aggregation, Temporality};
 use std::alloc::Global;
 use std::marker::Model;
+
+/// The kinds, in the order of the answers.
+const KINDS: [InstrumentKind; 7] = [
+    InstrumentKind::Counter,
+    InstrumentKind::UpDownCounter,
+    InstrumentKind::Histogram,
+    InstrumentKind::ObservableCounter,
+    InstrumentKind::ObservableUpDownCounter,
+    InstrumentKind::Gauge,
+    InstrumentKind::ObservableGauge,
+];
 
 /// What a reader answers for one kind of instrument (Metrics SDK, "MetricReader").
 #[derive(Clone, Debug, Drop)]
@@ -90,6 +101,17 @@ fn ask<R: MetricReader>(reader: &R, kind: InstrumentKind) -> Result<Answer, Faul
     })
 }
 
+/// Asks a reader for its answer for each kind, in order, and adds the answers.
+fn ask_each<R: MetricReader>(answers: &mut Vec<Answer>, reader: &R) -> Result<(), Fault>
+    ensures answers { OnOk result (answers.new.items ≡ answers.old.items ++ answers_wanting (R.preference reader.now) (R.limit reader.now) (R.aggregation reader.now)) }
+    ensures only_memory { IsOkUnless result Fault.OutOfMemory }
+{
+    for kind in &KINDS {
+        answers.push(ask(reader, *kind)?)?;
+    }
+    Ok(())
+}
+
 impl Answers {
     /// Asks a reader, once for each kind, for the temporality, the limit and the aggregation that it wants. Takes
     /// memory for the list, and for the bounds of the histograms that the reader wants. Refused only for want of
@@ -98,15 +120,8 @@ impl Answers {
         ensures answers { IfOk result (λ a. a ≡ answers_wanting (R.preference reader.now) (R.limit reader.now) (R.aggregation reader.now)) }
         ensures only_memory { IsOkUnless result Fault.OutOfMemory }
     {
-        let answers = vec![in alloc;
-            ask(reader, InstrumentKind::Counter)?,
-            ask(reader, InstrumentKind::UpDownCounter)?,
-            ask(reader, InstrumentKind::Histogram)?,
-            ask(reader, InstrumentKind::ObservableCounter)?,
-            ask(reader, InstrumentKind::ObservableUpDownCounter)?,
-            ask(reader, InstrumentKind::Gauge)?,
-            ask(reader, InstrumentKind::ObservableGauge)?,
-        ]?;
+        let mut answers = Vec::with_capacity(alloc, KINDS.len())?;
+        ask_each(&mut answers, reader)?;
         Ok(Answers {
             items: Items::from(answers),
         })
