@@ -11,7 +11,7 @@ use Rattle.otel_data.specs.declared.numbers.NumberValue.TheVariants as number
 use Rattle.otel_model_stream.specs.Sets.{AttributeSet, AllowList}
 use Rattle.otel_model_stream.specs.Folds.{Aggregate, Sum, LastValue, Histogram, Amount}
 use Rattle.otel_model_stream.specs.Entries.{Table, Point}
-use Rattle.otel_model_stream.specs.Events.{Handles, held_by}
+use Rattle.otel_model_stream.specs.Events.{Handles}
 use Rattle.otel_model_stream.specs.Maps.{draining_points}
 use Rattle.otel_model_stream.specs.Data.{natural_of, signed_of}
 use Rattle.otel_value_map.specs.Numbers.{without_handles}
