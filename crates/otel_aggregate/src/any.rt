@@ -7,7 +7,7 @@ ghost use Rattle.otel_model_stream.specs.Sets.{AttributeSet, set_of};
 ghost use Rattle.otel_model_stream.specs.Folds.{wrap};
 ghost use Rattle.otel_model_stream.specs.Totals.{points_total};
 ghost use Rattle.otel_value_map.specs.Numbers.{is_placed, without_handles};
-ghost use Rattle.otel_aggregate.specs.Any.{aggregate_of, is_monotonic_of, drains_of, any_after_commit, is_taken, any_with_room, any_after_bind, any_after_update, is_updated, any_after_unbind, metrics_now, any_points, any_after_collection, saved_of, IsLike, with_saved};
+ghost use Rattle.otel_aggregate.specs.Any.{aggregate_of, is_monotonic_of, drains_of, any_after_commit, is_taken, any_with_room, any_after_bind, any_after_unbind, metrics_now, any_points, any_after_collection, saved_of, IsLike, with_saved};
 ghost use Rattle.otel_aggregate.specs.Streams.{new_stream, is_known};
 
 use crate::histogram::Histogram;
@@ -129,22 +129,6 @@ impl AnyAggregate {
             }
         };
         Ok(AnyAggregate { inner })
-    }
-
-    /// Whether its numbers are signed.
-    pub fn is_signed(&self) -> bool
-        ensures { result ≡ self.now.is_signed }
-    {
-        match &self.inner {
-            Inner::SumU64(_) => false,
-            Inner::SumI64(_) => true,
-            Inner::PrecomputedSumU64(_) => false,
-            Inner::PrecomputedSumI64(_) => true,
-            Inner::LastValueU64(_) => false,
-            Inner::LastValueI64(_) => true,
-            Inner::HistogramU64(_) => false,
-            Inner::HistogramI64(_) => true,
-        }
     }
 
     /// Prepares a record with these attributes, in place of one that was prepared before. What the stream shows stays
@@ -279,29 +263,6 @@ impl AnyAggregate {
         }
     }
 
-    /// Takes in a record through a handle, if it is live and the value has the stream's number type, and returns
-    /// whether it did. Looks up nothing but the handle, and takes no memory. Gives up what was prepared, except in
-    /// observed sums, which have no handles, or if the value has another type.
-    pub fn update_bound(&mut self, handle: u64, value: NumberValue) -> bool
-        ensures updated { self.new ≡ any_after_update handle value self.old }
-        ensures told { result ≡ is_updated handle value self.old }
-    {
-        match value {
-            NumberValue::U64(value) => match &mut self.inner {
-                Inner::SumU64(stream) => stream.update_bound(handle, value),
-                Inner::LastValueU64(stream) => stream.update_bound(handle, value),
-                Inner::HistogramU64(stream) => stream.update_bound(handle, value),
-                _ => false,
-            },
-            NumberValue::I64(value) => match &mut self.inner {
-                Inner::SumI64(stream) => stream.update_bound(handle, value),
-                Inner::LastValueI64(stream) => stream.update_bound(handle, value),
-                Inner::HistogramI64(stream) => stream.update_bound(handle, value),
-                _ => false,
-            },
-        }
-    }
-
     /// Ends a handle, if it is live. Takes no memory, and goes over the handles made after it. Gives up what was
     /// prepared, except in observed sums, which have no handles.
     pub fn unbind(&mut self, handle: u64)
@@ -391,22 +352,6 @@ impl AnyAggregate {
             Inner::LastValueI64(stream) => stream.resets(),
             Inner::HistogramU64(stream) => stream.resets(),
             Inner::HistogramI64(stream) => stream.resets(),
-        }
-    }
-
-    /// Whether each collection empties the stream, as it does for observed sums.
-    pub fn drains(&self) -> bool
-        ensures { result ≡ self.now.drains }
-    {
-        match &self.inner {
-            Inner::SumU64(_) => false,
-            Inner::SumI64(_) => false,
-            Inner::PrecomputedSumU64(_) => true,
-            Inner::PrecomputedSumI64(_) => true,
-            Inner::LastValueU64(_) => false,
-            Inner::LastValueI64(_) => false,
-            Inner::HistogramU64(_) => false,
-            Inner::HistogramI64(_) => false,
         }
     }
 

@@ -438,6 +438,7 @@ impl Core {
         scope: &InstrumentationScope,
     ) -> Result<Option<usize>, Fault>
         ensures ok { IfOk result (λ n. (views : Views) → IsMade views self.old (model.Call.Meter scope.now) (model.Reply.Meter n) self.new) }
+        ensures shut { self.old.shared.shut ≡ true → IfOk result (λ n. n ≡ None) }
         ensures err { OnErr result (self.new ≡ self.old) }
         ensures known { has_scope scope.now self.old.shared.meters ≡ true → IsOk result }
         ensures only_memory { IsOkUnless result Fault.OutOfMemory }

@@ -150,6 +150,7 @@ impl BalancedCore {
     /// Returns the number of the meter of a scope, adding one if there is none; after a shutdown there is no meter.
     pub(crate) fn meter(&mut self, scope: &InstrumentationScope) -> Result<Option<usize>, Fault>
         ensures step { (views : Views) → Step views self.old (model.Call.Meter scope.now) (reply_from (λ n. model.Reply.Meter n) result) self.new }
+        ensures shut { self.old.shared.shut ≡ true → IfOk result (λ n. n ≡ None) }
         ensures known { has_scope scope.now self.old.shared.meters ≡ true → IsOk result }
         ensures balances { Balances self.new }
         ensures readers { KeepsReaders self.old self.new }

@@ -9,7 +9,7 @@ ghost use Rattle.otel_model.specs.Steps.{Step};
 ghost use Rattle.otel_model_laws.specs.Lawful.{Balances};
 ghost use Rattle.otel_core.specs.Correspondence.{about};
 ghost use Rattle.otel_provider.specs.Providers.{state_of, views_of, provider_readers, provider_views, callbacks_of};
-ghost use Rattle.otel_provider.specs.Typed.{IsMeterOf, named_scope, meter_of, about_of, meter_observed, about_observed, builder_callbacks, meter_reply};
+ghost use Rattle.otel_provider.specs.Typed.{IsMeterOf, meter_number, named_scope, meter_of, about_of, meter_observed, about_observed, builder_callbacks, meter_reply};
 ghost use Rattle.otel_core.specs.declared.sorts.InstrumentSort.{InstrumentSort};
 
 use crate::async_builders::AsyncInstrumentBuilder;
@@ -141,10 +141,11 @@ impl<P: Parts> Provider<P> {
     /// one meter.
     ///
     /// Looks up the scope. A new one is copied and added; a known one takes no memory. Refused only for want of memory;
-    /// then nothing changes.
+    /// then nothing changes. A provider that was shut down gives a meter without a number (`shut`), and adds none.
     pub fn meter_with_scope(&mut self, scope: InstrumentationScope) -> Result<Meter, Fault>
         ensures step { Step (views_of P.View.answer self.old) (state_of self.old) (model.Call.Meter scope) (meter_reply result) (state_of self.new) }
         ensures own { IfOk result (λ m. IsMeterOf m self.new) }
+        ensures shut { (state_of self.old).shared.shut ≡ true → IfOk result (λ m. meter_number m ≡ None) }
         ensures known { has_scope scope (state_of self.old).shared.meters ≡ true → IsOk result }
         ensures balances { Balances (state_of self.new) }
         ensures readers { KeepsReaders (state_of self.old) (state_of self.new) }
@@ -168,6 +169,7 @@ impl<P: Parts> Provider<P> {
     pub fn meter(&mut self, name: &str) -> Result<Meter, Fault>
         ensures step { Step (views_of P.View.answer self.old) (state_of self.old) (model.Call.Meter (named_scope name.now)) (meter_reply result) (state_of self.new) }
         ensures own { IfOk result (λ m. IsMeterOf m self.new) }
+        ensures shut { (state_of self.old).shared.shut ≡ true → IfOk result (λ m. meter_number m ≡ None) }
         ensures balances { Balances (state_of self.new) }
         ensures readers { KeepsReaders (state_of self.old) (state_of self.new) }
         ensures kept { provider_readers self.new ≡ provider_readers self.old }
