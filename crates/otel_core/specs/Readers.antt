@@ -5,7 +5,7 @@ use Rattle.otel_model.specs.Calls.{Call, Reply, Meter, Build, Record, Bind, Reco
 use Rattle.otel_stream.specs.Requests.{Outcome, AllAsked, default_timeout}
 use Rattle.otel_core.specs.Correspondence.{reply_to}
 
--- a flush or a shutdown: each reader was asked, once and in order; or none, if the provider was already shut down
+-- a flush or a shutdown: each reader was asked exactly once; or none, if the provider was already shut down
 abbrev pub AreReached : {R : Type 0} → (R → R → Outcome → Type 0) → Bool → List R → List R → Outcome → Type 0
 AreReached does true before after outcome = (outcome ≡ Err AlreadyShutdown) × (after ≡ before)
 AreReached does false before after outcome = AllAsked does before after outcome

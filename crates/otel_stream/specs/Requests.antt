@@ -17,7 +17,7 @@ abbrev pub default_timeout : ℕ
 default_timeout = 5 * 1_000_000_000
 
 -- ======== many readers ========
--- each reader was asked once, in order, and these are their answers
+-- each reader was asked once, and these are their answers, one for each
 abbrev pub EachAsked : {R : Type 0} → (R → R → Outcome → Type 0) → List R → List R → List Outcome → Type 0
 EachAsked P [] [] [] = Unit {0}
 EachAsked P (a ∷ before) (b ∷ after) (answer ∷ answers) = P a b answer × EachAsked P before after answers
