@@ -3,12 +3,13 @@
 ghost use Rattle.std.specs.Prelude.{◌≡◌, Ok, true, not, is_ok};
 ghost use Rattle.otel_common.specs.declared.metrics.Temporality.TheVariants.{Cumulative};
 
-use crate::each_reader::{flush_all, shut_all};
-use crate::instrument::InstrumentKind;
-use crate::manual_reader::ManualReader;
-use crate::reader::MetricReader;
 use otel_common::faults::{Fault, InternalFault, OTelSdkResult};
-use otel_common::metrics::Temporality;
+use otel_common::metrics::{Aggregation, Temporality};
+use otel_stream::each_reader::{flush_all, shut_all};
+use otel_stream::instrument::InstrumentKind;
+use otel_stream::limit::CardinalityLimit;
+use otel_stream::manual_reader::ManualReader;
+use otel_stream::reader::MetricReader;
 use std::test::Fail;
 use std::time::Duration;
 
@@ -28,6 +29,16 @@ impl MetricReader for Once {
     fn temporality(&self, kind: InstrumentKind) -> Temporality {
         let _ = kind;
         Temporality::Cumulative
+    }
+
+    fn cardinality_limit(&self, kind: InstrumentKind) -> Option<CardinalityLimit> {
+        let _ = kind;
+        None
+    }
+
+    fn default_aggregation(&self, kind: InstrumentKind) -> Option<&Aggregation> {
+        let _ = kind;
+        None
     }
 
     fn force_flush(&mut self) -> OTelSdkResult {

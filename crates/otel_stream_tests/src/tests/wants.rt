@@ -3,16 +3,16 @@
 ghost use Rattle.std.specs.Prelude.{◌≡◌, Ok};
 ghost use Rattle.otel_common.specs.declared.metrics.Temporality.TheVariants.{Delta};
 
-use super::{DELTA, KINDS, prefers};
-use crate::answers::Answers;
-use crate::instrument::InstrumentKind;
-use crate::laws::{boxed_reader, plain_answers};
-use crate::limit::CardinalityLimit;
-use crate::manual_reader::ManualReader;
-use crate::reader::MetricReader;
+use super::readers::{DELTA, KINDS, prefers};
 use otel_common::faults::OTelSdkResult;
 use otel_common::lists::Items;
 use otel_common::metrics::{Aggregation, Temporality};
+use otel_stream::answers::Answers;
+use otel_stream::instrument::InstrumentKind;
+use otel_stream::laws::{boxed_reader, plain_answers};
+use otel_stream::limit::CardinalityLimit;
+use otel_stream::manual_reader::ManualReader;
+use otel_stream::reader::MetricReader;
 use std::alloc::Global;
 use std::test::Fail;
 use std::time::Duration;
@@ -31,6 +31,16 @@ impl MetricReader for Old {
     fn temporality(&self, kind: InstrumentKind) -> Temporality {
         let _ = kind;
         Temporality::Delta
+    }
+
+    fn cardinality_limit(&self, kind: InstrumentKind) -> Option<CardinalityLimit> {
+        let _ = kind;
+        None
+    }
+
+    fn default_aggregation(&self, kind: InstrumentKind) -> Option<&Aggregation> {
+        let _ = kind;
+        None
     }
 
     fn force_flush(&mut self) -> OTelSdkResult {
@@ -53,8 +63,14 @@ const NO_AGGREGATIONS: [&str; 7] = ["-", "-", "-", "-", "-", "-", "-"];
 
 const SOME_AGGREGATIONS: [&str; 7] = ["D", "-", "H", "-", "-", "-", "-"];
 
+/// A limit and an aggregation for each kind, no two alike.
+const EACH_LIMIT: [usize; 7] = [1, 2, 3, 4, 5, 6, 7];
+
+const EACH_AGGREGATION: [&str; 7] = ["D", "A", "S", "L", "H", "M", "B"];
+
 /// A letter for an aggregation: D for drop, A for default, S for sum, L for last value, H for a histogram with the
-/// bounds 10 and 20 and without minimum and maximum, `-` for none, `?` for another histogram.
+/// bounds 10 and 20, M for the same with minimum and maximum, B for a histogram without bounds, `-` for none, `?` for
+/// another histogram.
 fn letter_of(aggregation: Option<&Aggregation>) -> &'static str {
     match aggregation {
         None => "-",
@@ -73,7 +89,9 @@ fn letter_of(aggregation: Option<&Aggregation>) -> &'static str {
 
 fn letter_of_histogram(bounds: &[i64], has_min_max: bool) -> &'static str {
     match bounds {
-        [10, 20] if !has_min_max => "H",
+        [10, 20] if has_min_max => "M",
+        [10, 20] => "H",
+        [] if !has_min_max => "B",
         _ => "?",
     }
 }
@@ -135,17 +153,21 @@ fn built(limits: [CardinalityLimit; 3], histogram: Aggregation) -> ManualReader 
         .build()
 }
 
+/// A histogram with these bounds.
+fn histogram(bounds: Vec<i64>, has_min_max: bool) -> Aggregation {
+    Aggregation::ExplicitBucketHistogram {
+        boundaries: Items::from(bounds),
+        record_min_max: has_min_max,
+    }
+}
+
 fn reader(alloc: Global) -> Result<ManualReader, Fail> {
     let limits = [
         CardinalityLimit::new(5)?,
         CardinalityLimit::new(7)?,
         CardinalityLimit::new(6)?,
     ];
-    let histogram = Aggregation::ExplicitBucketHistogram {
-        boundaries: Items::from(vec![in alloc; 10i64, 20]?),
-        record_min_max: false,
-    };
-    Ok(built(limits, histogram))
+    Ok(built(limits, histogram(vec![in alloc; 10, 20]?, false)))
 }
 
 /// Whether a reader, or a box of it, wants what was given last.
@@ -167,6 +189,37 @@ fn boxed_wants_all(reader: &Box<dyn MetricReader>) -> bool {
 fn readers_want_what_was_given_last(rt: HostRuntime) -> Result<(), Fail> {
     assert!(rt; wants_nothing(&ManualReader::default()));
     assert!(rt; wants_all(&reader(rt.alloc())?));
+    Ok(())
+}
+
+/// A reader with a limit and an aggregation of its own for each kind.
+fn reader_for_each(alloc: Global) -> Result<ManualReader, Fail> {
+    let aggregations = [
+        Aggregation::Drop,
+        Aggregation::Default,
+        Aggregation::Sum,
+        Aggregation::LastValue,
+        histogram(vec![in alloc; 10, 20]?, false),
+        histogram(vec![in alloc; 10, 20]?, true),
+        histogram(Vec::new(alloc), false),
+    ];
+    let mut builder = ManualReader::builder();
+    for (kind, aggregation) in KINDS.iter().zip(aggregations) {
+        builder = builder.with_default_aggregation(*kind, aggregation);
+    }
+    for (kind, limit) in KINDS.iter().zip(EACH_LIMIT.iter()) {
+        builder = builder.with_cardinality_limit(*kind, CardinalityLimit::new(*limit)?);
+    }
+    Ok(builder.build())
+}
+
+#[test]
+fn each_kind_has_its_own(rt: HostRuntime) -> Result<(), Fail> {
+    let reader = reader_for_each(rt.alloc())?;
+    assert!(rt; limits(&reader, EACH_LIMIT) && aggregates(&reader, EACH_AGGREGATION));
+    let answers = Answers::of(rt.alloc(), &reader)?;
+    assert!(rt; answered_limits(&answers, EACH_LIMIT));
+    assert!(rt; answered_aggregations(&answers, EACH_AGGREGATION));
     Ok(())
 }
 
