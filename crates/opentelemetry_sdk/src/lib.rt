@@ -42,6 +42,3 @@ pub mod metrics;
 
 pub use otel_common::resource::Resource;
 pub use otel_common::{common, resource};
-
-#[cfg(test)]
-mod tests;

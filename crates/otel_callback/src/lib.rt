@@ -7,5 +7,3 @@ pub mod laws;
 pub mod no_callback;
 pub mod observation;
 pub mod registered;
-#[cfg(test)]
-mod tests;

@@ -14,5 +14,3 @@ pub mod histograms;
 pub mod numbers;
 pub mod points;
 pub mod sums;
-#[cfg(test)]
-mod tests;

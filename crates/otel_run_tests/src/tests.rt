@@ -2,10 +2,11 @@
 
 mod callbacks;
 mod handles;
-mod kinds;
-mod observed;
-mod replies;
-mod runs;
+mod resources;
+mod shown;
 mod shutdowns;
+mod support;
+mod texts;
 mod typed;
-mod wanted;
+mod vectors;
+mod wholes;

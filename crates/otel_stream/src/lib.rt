@@ -15,8 +15,6 @@ pub mod reader;
 pub mod stream;
 pub mod stream_fault;
 pub mod stream_spec;
-#[cfg(test)]
-mod tests;
 pub mod units;
 pub mod view;
 mod wants;

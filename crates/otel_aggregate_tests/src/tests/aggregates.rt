@@ -88,3 +88,4 @@ mod histograms;
 mod last_values;
 mod precomputed_sums;
 mod sums;
+mod values;

@@ -2,14 +2,15 @@
 
 ghost use Rattle.std.specs.Prelude.{◌≡◌, true, IfOk};
 
-use super::replies::{provider_of, text_of};
+use super::shown::collected;
+use super::support::provider;
 use opentelemetry_sdk::common::{Fault, Items, Key, KeyValue, Value};
-use opentelemetry_sdk::metrics::Temporality::{Cumulative, Delta};
+use opentelemetry_sdk::metrics::Temporality::Delta;
 use opentelemetry_sdk::metrics::callback::{Observation, ObserveI64, ObserveU64};
-use opentelemetry_sdk::metrics::data::ResourceMetrics;
-use opentelemetry_sdk::metrics::provider::{Parts, Provider, Reply};
+use opentelemetry_sdk::metrics::provider::{Parts, Provider};
 use opentelemetry_sdk::metrics::{Aggregation, InstrumentKind, ManualReader, SdkMeterProvider};
 use std::alloc::Global;
+use std::process::Abort;
 use std::test::Fail;
 
 /// The attributes `k=1`.
@@ -82,21 +83,7 @@ impl ObserveI64 for FailsFirst {
     }
 }
 
-/// What a reader collects at a moment, with the provider's callbacks, or the fault.
-fn collected<P: Parts>(
-    alloc: Global,
-    provider: &mut Provider<P>,
-    reader: usize,
-    now: u64,
-) -> Result<String, Fail> {
-    let mut metrics = ResourceMetrics::default(alloc);
-    match provider.collect(reader, now, &mut metrics) {
-        Ok(()) => text_of(alloc, &Reply::Collected(metrics)),
-        Err(fault) => text_of(alloc, &Reply::Refused(fault)),
-    }
-}
-
-/// The same for these readers in turn, one after the other, from the moment 200 on.
+/// What these readers collect in turn, one after the other, from the moment 200 on.
 fn collected_in_turn<P: Parts>(
     alloc: Global,
     provider: &mut Provider<P>,
@@ -106,7 +93,7 @@ fn collected_in_turn<P: Parts>(
     let mut now: u64 = 200;
     for reader in readers {
         let text = collected(alloc, provider, *reader, now)?;
-        write!(all, "{};", text.as_str())?;
+        all.push_str(text.as_str())?;
         now = now.saturating_add(100);
     }
     Ok(all)
@@ -143,52 +130,85 @@ fn hold<P: Parts>(
     Ok(())
 }
 
-/// What these readers collect from one counter with this callback.
-fn counted<P: Parts>(
+/// Asserts what these readers collect from one counter with this callback.
+fn assert_counted<P: Parts>(
+    rt: &impl Abort,
     alloc: Global,
     provider: &mut Provider<P>,
     readers: &[usize],
     callback: P::ObserveU64,
-) -> Result<String, Fail> {
+    lines: &str,
+) -> Result<(), Fail> {
     count(alloc, provider, "seen", callback)?;
-    collected_in_turn(alloc, provider, readers)
+    assert_eq!(rt;
+        collected_in_turn(alloc, provider, readers)?.as_str(),
+        lines
+    );
+    Ok(())
+}
+
+/// A provider with two delta readers, of which the first drops observable counters.
+fn dropping(alloc: Global) -> Result<SdkMeterProvider, Fail> {
+    let first = ManualReader::builder()
+        .with_temporality(Delta)
+        .with_default_aggregation(InstrumentKind::ObservableCounter, Aggregation::Drop)
+        .build();
+    let first = Box::new(alloc, first)?;
+    let second = ManualReader::builder().with_temporality(Delta).build();
+    let second = Box::new(alloc, second)?;
+    let builder = SdkMeterProvider::builder(alloc).with_reader(first)?;
+    Ok(builder.with_reader(second)?.build()?)
 }
 
 /// Of two delta readers the first drops observable counters; the callback runs in each collection, of either.
 #[test]
 fn row_51(rt: HostRuntime) -> Result<(), Fail> {
     let alloc = rt.alloc();
-    let dropping = ManualReader::builder()
-        .with_temporality(Delta)
-        .with_default_aggregation(InstrumentKind::ObservableCounter, Aggregation::Drop)
-        .build();
-    let dropping = Box::new(alloc, dropping)?;
-    let delta = ManualReader::builder().with_temporality(Delta).build();
-    let delta = Box::new(alloc, delta)?;
     let callback = Box::new(alloc, InTurn::new(alloc, [7, 9, 12]))?;
-    let mut provider = SdkMeterProvider::builder(alloc)
-        .with_reader(dropping)?
-        .with_reader(delta)?
-        .build()?;
-    assert_eq!(rt;
-        counted(alloc, &mut provider, &[0, 1, 1], callback)?.as_str(),
-        "collected;collected | app seen 100 300 k=1 9;collected | app seen 300 400 k=1 3;"
-    );
-    Ok(())
+    let mut provider = dropping(alloc)?;
+    assert_counted(
+        &rt,
+        alloc,
+        &mut provider,
+        &[0, 1, 1],
+        callback,
+        "resource None attributes=0\n\
+         resource None attributes=0\n\
+         scope app None None []\n\
+         metric seen ()  u64 sum Delta monotonic=true 100 300\n\
+         [k=1,] 9 exemplars=0\n\
+         resource None attributes=0\n\
+         scope app None None []\n\
+         metric seen ()  u64 sum Delta monotonic=true 300 400\n\
+         [k=1,] 3 exemplars=0\n",
+    )
 }
 
-/// What two collections of three instruments with these callbacks give.
-fn collected_of_three<P: Parts>(
+/// Asserts what two collections of three instruments with these callbacks give: the first is refused.
+fn assert_of_three<P: Parts>(
+    rt: &impl Abort,
     alloc: Global,
     provider: &mut Provider<P>,
     first: P::ObserveU64,
     middle: P::ObserveI64,
     last: P::ObserveU64,
-) -> Result<String, Fail> {
+) -> Result<(), Fail> {
     count(alloc, provider, "first", first)?;
     hold(alloc, provider, middle)?;
     count(alloc, provider, "last", last)?;
-    collected_in_turn(alloc, provider, &[0, 0])
+    assert_eq!(rt;
+        collected_in_turn(alloc, provider, &[0, 0])?.as_str(),
+        "refused 7\n\
+         resource None attributes=0\n\
+         scope app None None []\n\
+         metric first ()  u64 sum Cumulative monotonic=true 100 300\n\
+         [k=1,] 2 exemplars=0\n\
+         metric middle ()  i64 sum Cumulative monotonic=false 110 300\n\
+         [k=1,] -5 exemplars=0\n\
+         metric last ()  u64 sum Cumulative monotonic=true 100 300\n\
+         [k=1,] 4 exemplars=0\n"
+    );
+    Ok(())
 }
 
 /// Callbacks run in the order in which their instruments were built, up to the first that fails; those before it have
@@ -199,21 +219,18 @@ fn callback_refuses(rt: HostRuntime) -> Result<(), Fail> {
     let first = Box::new(alloc, InTurn::new(alloc, [1, 2, 3]))?;
     let middle = Box::new(alloc, FailsFirst::new(alloc))?;
     let last = Box::new(alloc, InTurn::new(alloc, [4, 5, 6]))?;
-    let mut provider = provider_of(alloc, &[Cumulative])?;
-    assert_eq!(rt;
-        collected_of_three(alloc, &mut provider, first, middle, last)?.as_str(),
-        "refused 7;collected | app first 100 300 k=1 2 | app middle 110 300 k=1 -5 | app last 100 300 k=1 4;"
-    );
-    Ok(())
+    let mut provider = provider(alloc)?;
+    assert_of_three(&rt, alloc, &mut provider, first, middle, last)
 }
 
-/// What is collected from one counter with two callbacks.
-fn collected_of_two<P: Parts>(
+/// Asserts what is collected from one counter with two callbacks.
+fn assert_of_two<P: Parts>(
+    rt: &impl Abort,
     alloc: Global,
     provider: &mut Provider<P>,
     early: P::ObserveU64,
     late: P::ObserveU64,
-) -> Result<String, Fail> {
+) -> Result<(), Fail> {
     let name = String::from_str(alloc, "load")?;
     let description = String::from_str(alloc, "how much")?;
     let unit = String::from_str(alloc, "1")?;
@@ -225,7 +242,14 @@ fn collected_of_two<P: Parts>(
         .with_callback(early)?
         .with_callback(late)?
         .build(provider, 100)?;
-    collected(alloc, provider, 0, 200)
+    assert_eq!(rt;
+        collected(alloc, provider, 0, 200)?.as_str(),
+        "resource None attributes=0\n\
+         scope app None None []\n\
+         metric load (how much) 1 u64 sum Cumulative monotonic=true 100 200\n\
+         [k=1,] 8 exemplars=0\n"
+    );
+    Ok(())
 }
 
 /// If two callbacks of one counter observe the same set of attributes, the later one counts.
@@ -234,30 +258,27 @@ fn callbacks_in_order(rt: HostRuntime) -> Result<(), Fail> {
     let alloc = rt.alloc();
     let early = Box::new(alloc, InTurn::new(alloc, [1, 2, 3]))?;
     let late = Box::new(alloc, InTurn::new(alloc, [8, 9, 10]))?;
-    let mut provider = provider_of(alloc, &[Cumulative])?;
-    assert_eq!(rt;
-        collected_of_two(alloc, &mut provider, early, late)?.as_str(),
-        "collected | app load 100 200 k=1 8"
-    );
-    Ok(())
+    let mut provider = provider(alloc)?;
+    assert_of_two(&rt, alloc, &mut provider, early, late)
 }
 
-/// The answers for a reader that doesn't exist, and after a shutdown.
-fn refused<P: Parts>(
+/// Asserts the answers for a reader that doesn't exist, and after a shutdown.
+fn assert_refused<P: Parts>(
+    rt: &impl Abort,
     alloc: Global,
     provider: &mut Provider<P>,
     callback: P::ObserveI64,
-) -> Result<String, Fail> {
+) -> Result<(), Fail> {
     let name = String::from_str(alloc, "heat")?;
     let meter = provider.meter("app")?;
     meter
         .i64_observable_gauge(name)
         .with_callback(callback)?
         .build(provider, 100)?;
-    let unknown = collected(alloc, provider, 1, 200)?;
+    assert_eq!(rt; collected(alloc, provider, 1, 200)?.as_str(), "refused 5\n");
     provider.shutdown()?;
-    let shut = collected(alloc, provider, 0, 300)?;
-    Ok(format!(in alloc; "{};{}", unknown.as_str(), shut.as_str())?)
+    assert_eq!(rt; collected(alloc, provider, 0, 300)?.as_str(), "refused 9\n");
+    Ok(())
 }
 
 /// In these cases no callback runs: this one would answer another fault.
@@ -265,10 +286,6 @@ fn refused<P: Parts>(
 fn callbacks_do_not_run(rt: HostRuntime) -> Result<(), Fail> {
     let alloc = rt.alloc();
     let callback = Box::new(alloc, FailsFirst::new(alloc))?;
-    let mut provider = provider_of(alloc, &[Cumulative])?;
-    assert_eq!(rt;
-        refused(alloc, &mut provider, callback)?.as_str(),
-        "refused 5;refused 9"
-    );
-    Ok(())
+    let mut provider = provider(alloc)?;
+    assert_refused(&rt, alloc, &mut provider, callback)
 }

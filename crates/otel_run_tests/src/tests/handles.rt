@@ -1,18 +1,17 @@
 //! Bound handles as values.
 
-use super::replies::provider_of;
-use super::typed::wanted;
+use super::shown::collected;
+use super::support::provider;
+use super::typed::COLLECTED;
 use opentelemetry_sdk::common::Fault;
-use opentelemetry_sdk::metrics::SdkMeterProvider;
-use opentelemetry_sdk::metrics::Temporality::Cumulative;
-use opentelemetry_sdk::metrics::data::ResourceMetrics;
 use opentelemetry_sdk::metrics::meter::{Bound, Meter, NumberType, Synchronous};
 use opentelemetry_sdk::metrics::provider::{Parts, Provider};
 use std::alloc::Global;
+use std::process::Abort;
 use std::test::Fail;
 
 /// Ends a handle. Returns the fault's number if that is refused, otherwise 0.
-fn ended<T, P: Parts>(handle: Bound<T>, provider: &mut Provider<P>) -> u8 {
+pub fn ended<T, P: Parts>(handle: Bound<T>, provider: &mut Provider<P>) -> u8 {
     match handle.unbind(provider) {
         Ok(()) => 0,
         Err((handle, fault)) => {
@@ -68,51 +67,23 @@ fn spread<P: Parts>(alloc: Global, provider: &mut Provider<P>, meter: Meter) -> 
     hand(provider, size, 13)
 }
 
-/// What a provider's first reader collects at 200, as text, after each instrument has had a handle.
-fn collected<P: Parts>(alloc: Global, provider: &mut Provider<P>) -> Result<String, Fail> {
+/// Asserts what a provider's first reader collects after each instrument has had a handle.
+fn assert_collected<P: Parts>(
+    rt: &impl Abort,
+    alloc: Global,
+    provider: &mut Provider<P>,
+) -> Result<(), Fail> {
     let meter = provider.meter("app")?;
     add(alloc, provider, meter)?;
     gauge(alloc, provider, meter)?;
     spread(alloc, provider, meter)?;
-    let mut metrics = ResourceMetrics::default(alloc);
-    provider.collect(0, 200, &mut metrics)?;
-    Ok(format!(in alloc; "{metrics:?}")?)
+    assert_eq!(rt; collected(alloc, provider, 0, 200)?.as_str(), COLLECTED);
+    Ok(())
 }
 
 /// Each instrument collects the same through handles as by records.
 #[test]
 fn through_handles(rt: HostRuntime) -> Result<(), Fail> {
-    let wanted = wanted(rt.alloc())?;
-    let mut provider = provider_of(rt.alloc(), &[Cumulative])?;
-    assert_eq!(rt; collected(rt.alloc(), &mut provider)?, wanted);
-    Ok(())
-}
-
-/// The fault numbers when another provider is asked to end a handle, and then its own.
-fn ended_twice<P: Parts>(
-    alloc: Global,
-    own: &mut Provider<P>,
-    other: &mut Provider<P>,
-) -> Result<[u8; 2], Fault> {
-    let name = String::from_str(alloc, "hits")?;
-    let hits = own.meter("app")?.u64_counter(name).build(own, 100)?;
-    let handle = hits.bind(own, &[])?;
-    match handle.unbind(other) {
-        Ok(()) => Ok([0, 0]),
-        Err((handle, fault)) => Ok([fault.number(), ended(handle, own)]),
-    }
-}
-
-/// A handle that another provider refuses is given back.
-#[test]
-fn row_28(rt: HostRuntime) -> Result<(), Fail> {
-    let mut own = SdkMeterProvider::builder(rt.alloc())
-        .with_identity(1)
-        .build()?;
-    let mut other = SdkMeterProvider::builder(rt.alloc())
-        .with_identity(2)
-        .with_hash_seed(7)
-        .build()?;
-    assert_eq!(rt; ended_twice(rt.alloc(), &mut own, &mut other)?, [4, 0]);
-    Ok(())
+    let mut provider = provider(rt.alloc())?;
+    assert_collected(&rt, rt.alloc(), &mut provider)
 }

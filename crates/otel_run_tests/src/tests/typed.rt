@@ -1,15 +1,13 @@
 //! Meters and instruments as values.
 
-use super::replies::provider_of;
-use super::wanted::Data::{I64Gauge, I64Sum, U64Gauge, U64Histogram, U64Sum};
-use super::wanted::{Spread, Wanted, collection_of};
+use super::shown::collected;
+use super::support::provider;
 use opentelemetry_sdk::common::Fault;
 use opentelemetry_sdk::metrics::SdkMeterProvider;
-use opentelemetry_sdk::metrics::Temporality::Cumulative;
-use opentelemetry_sdk::metrics::data::ResourceMetrics;
 use opentelemetry_sdk::metrics::meter::Meter;
 use opentelemetry_sdk::metrics::provider::{Parts, Provider};
 use std::alloc::Global;
+use std::process::Abort;
 use std::test::Fail;
 
 /// Makes both instruments that add, and adds values.
@@ -46,45 +44,39 @@ fn spread<P: Parts>(alloc: Global, provider: &mut Provider<P>, meter: Meter) -> 
     size.record(provider, 13, &[])
 }
 
-/// What a provider's first reader collects at 200, as text, after each instrument has been used.
-fn collected<P: Parts>(alloc: Global, provider: &mut Provider<P>) -> Result<String, Fail> {
+/// What the instruments below collect at 200, as text.
+pub const COLLECTED: &str = "resource None attributes=0\n\
+     scope app None None []\n\
+     metric hits ()  u64 sum Cumulative monotonic=true 100 200\n\
+     [] 5 exemplars=0\n\
+     metric open () 1 i64 sum Cumulative monotonic=false 110 200\n\
+     [] -7 exemplars=0\n\
+     metric load ()  u64 gauge Some(120) 200\n\
+     [] 9 exemplars=0\n\
+     metric heat ()  i64 gauge Some(130) 200\n\
+     [] -11 exemplars=0\n\
+     metric size ()  u64 histogram Cumulative 140 200\n\
+     [] 1 13 Some(13) Some(13) bounds=10, counts=0,1, exemplars=0\n";
+
+/// Asserts what a provider's first reader collects after each instrument has been used.
+fn assert_collected<P: Parts>(
+    rt: &impl Abort,
+    alloc: Global,
+    provider: &mut Provider<P>,
+) -> Result<(), Fail> {
     let meter = provider.meter("app")?;
     add(alloc, provider, meter)?;
     gauge(alloc, provider, meter)?;
     spread(alloc, provider, meter)?;
-    let mut metrics = ResourceMetrics::default(alloc);
-    provider.collect(0, 200, &mut metrics)?;
-    Ok(format!(in alloc; "{metrics:?}")?)
-}
-
-/// The wanted collection, as text.
-pub(super) fn wanted(alloc: Global) -> Result<String, Fail> {
-    let size = Spread {
-        bounds: &[10],
-        buckets: &[0, 1],
-        count: 1,
-        sum: 13,
-        min: 13,
-        max: 13,
-    };
-    let wanted = [
-        Wanted("hits", "", 100, 200, U64Sum(Cumulative, 5)),
-        Wanted("open", "1", 110, 200, I64Sum(Cumulative, -7)),
-        Wanted("load", "", 120, 200, U64Gauge(9)),
-        Wanted("heat", "", 130, 200, I64Gauge(-11)),
-        Wanted("size", "", 140, 200, U64Histogram(Cumulative, size)),
-    ];
-    let wanted = collection_of(alloc, wanted.as_slice())?;
-    Ok(format!(in alloc; "{wanted:?}")?)
+    assert_eq!(rt; collected(alloc, provider, 0, 200)?.as_str(), COLLECTED);
+    Ok(())
 }
 
 /// Uses each builder and each instrument once.
 #[test]
 fn typed(rt: HostRuntime) -> Result<(), Fail> {
-    let wanted = wanted(rt.alloc())?;
-    let mut provider = provider_of(rt.alloc(), &[Cumulative])?;
-    assert_eq!(rt; collected(rt.alloc(), &mut provider)?, wanted);
-    Ok(())
+    let mut provider = provider(rt.alloc())?;
+    assert_collected(&rt, rt.alloc(), &mut provider)
 }
 
 /// The number of the fault, or 0 if there is none.
@@ -116,10 +108,10 @@ fn faults<P: Parts>(
 /// A provider of another identity has no such meter and no such instrument.
 #[test]
 fn foreign(rt: HostRuntime) -> Result<(), Fail> {
-    let mut own = SdkMeterProvider::builder(rt.alloc())
-        .with_identity(1)
-        .build()?;
     let mut other = SdkMeterProvider::default(rt.alloc());
-    assert_eq!(rt; faults(rt.alloc(), &mut own, &mut other)?, [0, 3, 2]);
+    let builder = SdkMeterProvider::builder(rt.alloc()).with_identity(1);
+    let mut own = builder.build()?;
+    let faults = faults(rt.alloc(), &mut own, &mut other);
+    assert_eq!(rt; faults.ok(), Some([0, 3, 2]));
     Ok(())
 }

@@ -3,13 +3,13 @@
 ghost use Rattle.std.specs.Prelude.{◌≡◌, Ok, true, not, is_ok};
 ghost use Rattle.otel_common.specs.declared.metrics.Temporality.TheVariants.{Cumulative};
 
-use crate::each_reader::{flush_all, shut_all};
-use crate::instrument::InstrumentKind;
-use crate::limit::CardinalityLimit;
-use crate::manual_reader::ManualReader;
-use crate::reader::MetricReader;
 use otel_common::faults::{Fault, InternalFault, OTelSdkResult};
 use otel_common::metrics::{Aggregation, Temporality};
+use otel_stream::each_reader::{flush_all, shut_all};
+use otel_stream::instrument::InstrumentKind;
+use otel_stream::limit::CardinalityLimit;
+use otel_stream::manual_reader::ManualReader;
+use otel_stream::reader::MetricReader;
 use std::test::Fail;
 use std::time::Duration;
 

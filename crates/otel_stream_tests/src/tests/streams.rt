@@ -1,11 +1,11 @@
 //! Which settings of streams are refused, and with which text.
 
-use crate::stream::{Stream, StreamBuilder};
-use crate::stream_fault::StreamFault;
 use otel_common::faults::Fault;
 use otel_common::keys::Key;
 use otel_common::lists::Items;
 use otel_common::metrics::Aggregation;
+use otel_stream::stream::{Stream, StreamBuilder};
+use otel_stream::stream_fault::StreamFault;
 use std::alloc::Global;
 use std::test::Fail;
 

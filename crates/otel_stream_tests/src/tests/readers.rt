@@ -1,21 +1,16 @@
-//! Tests the texts, which no contract states, and each preference once.
+//! The texts of readers, which no contract states, and each preference once.
 
-mod asked;
-mod instruments;
-mod streams;
-mod wants;
-
-use crate::instrument::InstrumentKind;
-use crate::laws::{boxed_manual_reader, kind_laws};
-use crate::manual_reader::{ManualReader, ManualReaderBuilder};
-use crate::reader::MetricReader;
 use otel_common::metrics::Temporality;
+use otel_stream::instrument::InstrumentKind;
+use otel_stream::laws::{boxed_manual_reader, kind_laws};
+use otel_stream::manual_reader::{ManualReader, ManualReaderBuilder};
+use otel_stream::reader::MetricReader;
 use std::alloc::Global;
 use std::fmt::Debug;
 use std::test::Fail;
 
 /// The seven kinds.
-const KINDS: [InstrumentKind; 7] = [
+pub const KINDS: [InstrumentKind; 7] = [
     InstrumentKind::Counter,
     InstrumentKind::UpDownCounter,
     InstrumentKind::Histogram,
@@ -35,7 +30,7 @@ fn letter_of(temporality: Temporality) -> &'static str {
 }
 
 /// Whether a reader wants these temporalities for the seven kinds, one letter for each.
-fn prefers<R: MetricReader>(reader: &R, letters: [&str; 7]) -> bool {
+pub fn prefers<R: MetricReader>(reader: &R, letters: [&str; 7]) -> bool {
     let mut does = true;
     for (kind, letter) in KINDS.iter().zip(letters.iter()) {
         does = does && letter_of(reader.temporality(*kind)) == *letter;
@@ -45,7 +40,7 @@ fn prefers<R: MetricReader>(reader: &R, letters: [&str; 7]) -> bool {
 
 const CUMULATIVE: [&str; 7] = ["C", "C", "C", "C", "C", "C", "C"];
 
-const DELTA: [&str; 7] = ["D", "C", "D", "D", "C", "D", "D"];
+pub const DELTA: [&str; 7] = ["D", "C", "D", "D", "C", "D", "D"];
 
 const LOW_MEMORY: [&str; 7] = ["D", "C", "D", "C", "C", "C", "C"];
 
@@ -113,5 +108,15 @@ fn kinds_are_equal_to_themselves(rt: HostRuntime) -> Result<(), Fail> {
     let kind = InstrumentKind::ObservableCounter;
     assert!(rt; kind == kind.clone()?);
     assert!(rt; kind != InstrumentKind::Counter);
+    Ok(())
+}
+
+/// Readers are cumulative by default, in a box and outside of it.
+#[test]
+fn manual_reader(rt: HostRuntime) -> Result<(), Fail> {
+    let boxed: Box<dyn MetricReader> = Box::new(rt.alloc(), ManualReader::default())?;
+    assert!(rt; prefers(&boxed, CUMULATIVE));
+    assert!(rt; prefers(&ManualReader::default(), CUMULATIVE));
+    assert_eq!(rt; Temporality::default(), Temporality::Cumulative);
     Ok(())
 }

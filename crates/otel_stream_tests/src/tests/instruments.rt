@@ -2,17 +2,17 @@
 
 ghost use Rattle.std.specs.Prelude.{◌≡◌};
 
-use crate::compatible::is_aggregator_compatible;
-use crate::instrument::{Instrument, InstrumentKind};
-use crate::laws::{boxed_view, equal_instruments};
-use crate::stream::Stream;
-use crate::view::View;
 use otel_common::faults::Fault;
 use otel_common::laws::equal_aggregations;
 use otel_common::lists::Items;
 use otel_common::metrics::{Aggregation, MetricError};
 use otel_common::scopes::InstrumentationScope;
 use otel_common::strings::StringValue;
+use otel_stream::compatible::is_aggregator_compatible;
+use otel_stream::instrument::{Instrument, InstrumentKind};
+use otel_stream::laws::{boxed_view, equal_instruments};
+use otel_stream::stream::Stream;
+use otel_stream::view::View;
 use std::alloc::Global;
 use std::test::Fail;
 

@@ -1,13 +1,5 @@
 //! Tests each getter, copy and comparison once.
 
-use crate::aggregated::{AggregatedMetrics, MetricData};
-use crate::collections::{Metric, ResourceMetrics, ScopeMetrics};
-use crate::copies::{copied_collection, copied_points, equal_points, equal_signed_points};
-use crate::exemplars::Exemplar;
-use crate::gauges::Gauge;
-use crate::histograms::Histogram;
-use crate::points::{GaugeDataPoint, HistogramDataPoint, SumDataPoint};
-use crate::sums::Sum;
 use otel_common::attributes::{KeyValue, Value};
 use otel_common::faults::Fault;
 use otel_common::keys::Key;
@@ -16,6 +8,14 @@ use otel_common::metrics::Temporality;
 use otel_common::resource::Resource;
 use otel_common::scopes::InstrumentationScope;
 use otel_common::strings::StringValue;
+use otel_data::aggregated::{AggregatedMetrics, MetricData};
+use otel_data::collections::{Metric, ResourceMetrics, ScopeMetrics};
+use otel_data::copies::{copied_collection, copied_points, equal_points, equal_signed_points};
+use otel_data::exemplars::Exemplar;
+use otel_data::gauges::Gauge;
+use otel_data::histograms::Histogram;
+use otel_data::points::{GaugeDataPoint, HistogramDataPoint, SumDataPoint};
+use otel_data::sums::Sum;
 use std::alloc::Global;
 use std::test::Fail;
 

@@ -1,12 +1,54 @@
-//! Functions of attributes, scopes and readers.
+//! Keys, values, canonical sets and scopes.
 
-use super::support::{attributes, text, values};
-use crate::common::{InstrumentationScope, Key, KeyValue, StringValue, canonical};
-use crate::metrics::internal::{SetHashBuilder, Sum};
-use crate::metrics::reader::MetricReader;
-use crate::metrics::{InstrumentKind, ManualReader, Temporality};
+use otel_common::attributes::{Array, KeyValue, Value};
+use otel_common::canonical::canonical;
+use otel_common::keys::Key;
+use otel_common::lists::Items;
+use otel_common::scopes::InstrumentationScope;
+use otel_common::strings::StringValue;
 use std::alloc::Global;
 use std::test::Fail;
+
+/// A text as a value.
+fn text(alloc: Global, text: &str) -> Result<StringValue, Fail> {
+    Ok(StringValue::new(alloc, text)?)
+}
+
+/// Arrays of all kinds, no two of them equal.
+fn arrays(alloc: Global) -> Result<[Array; 4], Fail> {
+    let texts = vec![in alloc; text(alloc, "1")?]?;
+    let truths = [true].to_vec(alloc)?;
+    let numbers = [1].to_vec(alloc)?;
+    Ok([
+        Array::Bool(Items::from(truths)),
+        Array::I64(Items::from(numbers)),
+        Array::String(Items::from(texts)),
+        Array::I64(Items::from(Vec::new(alloc))),
+    ])
+}
+
+/// Values of all kinds, no two of them equal.
+fn values(alloc: Global) -> Result<Vec<Value>, Fail> {
+    let mut values = Vec::new(alloc);
+    values.push(Value::Bool(true))?;
+    values.push(Value::Bool(false))?;
+    values.push(Value::I64(1))?;
+    values.push(Value::I64(0))?;
+    values.push(Value::String(text(alloc, "1")?))?;
+    for array in arrays(alloc)? {
+        values.push(Value::Array(array))?;
+    }
+    Ok(values)
+}
+
+/// Attributes with these keys and values.
+fn attributes(alloc: Global, pairs: &[(&str, i64)]) -> Result<Vec<KeyValue>, Fail> {
+    let mut attributes = Vec::new(alloc);
+    for (key, value) in pairs {
+        attributes.push(KeyValue::new(Key::new(alloc, key)?, Value::I64(*value)))?;
+    }
+    Ok(attributes)
+}
 
 #[test]
 fn keys(rt: HostRuntime) -> Result<(), Fail> {
@@ -28,37 +70,6 @@ fn equal_values(rt: HostRuntime) -> Result<(), Fail> {
     for (value, next) in values.iter().zip(values.iter().skip(1)) {
         assert_eq!(rt; value.clone()?, *value);
         assert_ne!(rt; *value, *next);
-    }
-    Ok(())
-}
-
-/// Adds 1 for each of the values, with the value as that of an attribute.
-fn measure_values(alloc: Global, sum: &mut Sum<u64>) -> Result<(), Fail> {
-    for value in values(alloc)? {
-        let set = KeyValue::new(Key::new(alloc, "key")?, value);
-        sum.measure(1, &[set])?;
-    }
-    Ok(())
-}
-
-/// Records whose attributes have equal values share a point, whatever the kind of the values.
-#[test]
-fn points_by_value(rt: HostRuntime) -> Result<(), Fail> {
-    let mut sum = Sum::new(
-        rt.alloc(),
-        SetHashBuilder::default(),
-        true,
-        Temporality::Cumulative,
-        None,
-        2000,
-        100,
-    )?;
-    measure_values(rt.alloc(), &mut sum)?;
-    measure_values(rt.alloc(), &mut sum)?;
-    let collected = sum.collect(rt.alloc(), 200)?;
-    assert_eq!(rt; collected.data_points().len(), 9);
-    for point in collected.data_points() {
-        assert_eq!(rt; point.value(), 2);
     }
     Ok(())
 }
@@ -106,35 +117,5 @@ fn empty_scope(rt: HostRuntime) -> Result<(), Fail> {
     assert_eq!(rt; empty.attributes().len(), 0);
     let built = InstrumentationScope::builder(rt.alloc(), String::new(rt.alloc())).build()?;
     assert_eq!(rt; built, empty);
-    Ok(())
-}
-
-/// A reader's answer, asked through the trait bound.
-fn answer_of<R: MetricReader>(reader: &R, kind: InstrumentKind) -> Temporality {
-    reader.temporality(kind)
-}
-
-#[test]
-fn manual_reader(rt: HostRuntime) -> Result<(), Fail> {
-    let boxed: Box<dyn MetricReader> = Box::new(rt.alloc(), ManualReader::default())?;
-    for kind in [
-        InstrumentKind::Counter,
-        InstrumentKind::UpDownCounter,
-        InstrumentKind::Histogram,
-        InstrumentKind::ObservableCounter,
-        InstrumentKind::ObservableUpDownCounter,
-        InstrumentKind::Gauge,
-        InstrumentKind::ObservableGauge,
-    ] {
-        assert_eq!(rt;
-            answer_of(&boxed, kind),
-            Temporality::Cumulative,
-            "of {kind:?}"
-        );
-        assert_eq!(rt;
-            answer_of(&ManualReader::default(), kind),
-            Temporality::default()
-        );
-    }
     Ok(())
 }

@@ -3,16 +3,16 @@
 ghost use Rattle.std.specs.Prelude.{◌≡◌, Ok};
 ghost use Rattle.otel_common.specs.declared.metrics.Temporality.TheVariants.{Delta};
 
-use super::{DELTA, KINDS, prefers};
-use crate::answers::Answers;
-use crate::instrument::InstrumentKind;
-use crate::laws::{boxed_reader, plain_answers};
-use crate::limit::CardinalityLimit;
-use crate::manual_reader::ManualReader;
-use crate::reader::MetricReader;
+use super::readers::{DELTA, KINDS, prefers};
 use otel_common::faults::OTelSdkResult;
 use otel_common::lists::Items;
 use otel_common::metrics::{Aggregation, Temporality};
+use otel_stream::answers::Answers;
+use otel_stream::instrument::InstrumentKind;
+use otel_stream::laws::{boxed_reader, plain_answers};
+use otel_stream::limit::CardinalityLimit;
+use otel_stream::manual_reader::ManualReader;
+use otel_stream::reader::MetricReader;
 use std::alloc::Global;
 use std::test::Fail;
 use std::time::Duration;

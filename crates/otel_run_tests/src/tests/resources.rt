@@ -1,18 +1,17 @@
 //! Merges of resources, their builders, and the resource of a collection.
 
 use super::support::{collection, text};
-use crate::common::{Key, KeyValue, Value};
-use crate::metrics::data::ResourceMetrics;
-use crate::metrics::provider::Reply;
-use crate::metrics::{ManualReader, SdkMeterProvider};
-use crate::resource::{Resource, ResourceBuilder};
+use opentelemetry_sdk::common::{Key, KeyValue, Value};
+use opentelemetry_sdk::metrics::provider::Reply;
+use opentelemetry_sdk::metrics::{ManualReader, SdkMeterProvider};
+use opentelemetry_sdk::resource::{Resource, ResourceBuilder};
 use std::alloc::Global;
 use std::fmt::Write;
 use std::process::Abort;
 use std::test::Fail;
 
 /// Attributes whose values are texts, and a schema URL; the empty URL stands for none.
-type Parts<'a> = (&'a [(&'a str, &'a str)], &'a str);
+pub type Parts<'a> = (&'a [(&'a str, &'a str)], &'a str);
 
 fn list(alloc: Global, pairs: &[(&str, &str)]) -> Result<Vec<KeyValue>, Fail> {
     let mut list = Vec::new(alloc);
@@ -47,7 +46,7 @@ fn shown(alloc: Global, resource: &Resource) -> Result<String, Fail> {
     Ok(shown)
 }
 
-fn assert_merged(
+pub fn assert_merged(
     rt: &impl Abort,
     alloc: Global,
     one: Parts<'_>,
@@ -70,20 +69,6 @@ fn merge_resource_key_value_pairs(rt: HostRuntime) -> Result<(), Fail> {
         (other, ""),
         "a=a-value b=b-value c=c-value d= -",
     )
-}
-
-#[test]
-fn row_20(rt: HostRuntime) -> Result<(), Fail> {
-    let one: &[(&str, &str)] = &[("a", ""), ("b", "b-value"), ("d", "d-value")];
-    let other: &[(&str, &str)] = &[("a", "a-value"), ("c", "c-value"), ("d", "")];
-    for (own, given, wanted) in [
-        ("u1", "u2", "a=a-value b=b-value c=c-value d= -"),
-        ("", "u2", "a=a-value b=b-value c=c-value d= u2"),
-        ("u1", "", "a=a-value b=b-value c=c-value d= u1"),
-    ] {
-        assert_merged(&rt, rt.alloc(), (one, own), (other, given), wanted)?;
-    }
-    Ok(())
 }
 
 #[test]
@@ -166,27 +151,30 @@ fn builder_with_schema_url(rt: HostRuntime) -> Result<(), Fail> {
     Ok(())
 }
 
-/// A collection of a provider whose resource is a service of this name.
-fn collected(alloc: Global, name: &str) -> Result<ResourceMetrics, Fail> {
+/// A provider whose resource is a service of this name.
+fn service(alloc: Global, name: &str) -> Result<SdkMeterProvider, Fail> {
     let reader = Box::new(alloc, ManualReader::default())?;
     let name = Value::String(text(alloc, name)?);
     let service = Resource::builder_empty(alloc).with_service_name(name)?;
-    let mut provider = SdkMeterProvider::builder(alloc)
-        .with_resource(service.build())?
-        .with_reader(reader)?
-        .build()?;
-    match provider.step(&collection(alloc, 0, 200)) {
-        Reply::Collected(collected) => Ok(collected),
-        _ => Err("no collection".into()),
-    }
+    let builder = SdkMeterProvider::builder(alloc).with_resource(service.build())?;
+    Ok(builder.with_reader(reader)?.build()?)
+}
+
+/// Asserts that the resource of a collection has one attribute, with this key and value.
+fn assert_of(rt: &impl Abort, reply: &Reply, key: &Key, value: Value) -> Result<(), Fail> {
+    let Reply::Collected(collected) = reply else {
+        return Err("no collection".into());
+    };
+    assert_eq!(rt; collected.resource().get(key)?, Some(value));
+    assert_eq!(rt; collected.resource().len(), 1);
+    Ok(())
 }
 
 #[test]
 fn test_meter_provider_resource(rt: HostRuntime) -> Result<(), Fail> {
-    let collected = collected(rt.alloc(), "test_service")?;
     let key = Key::new(rt.alloc(), "service.name")?;
     let wanted = Value::String(text(rt.alloc(), "test_service")?);
-    assert_eq!(rt; collected.resource().get(&key)?, Some(wanted));
-    assert_eq!(rt; collected.resource().len(), 1);
-    Ok(())
+    let mut provider = service(rt.alloc(), "test_service")?;
+    let reply = provider.step(&collection(rt.alloc(), 0, 200));
+    assert_of(&rt, &reply, &key, wanted)
 }

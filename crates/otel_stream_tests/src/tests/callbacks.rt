@@ -2,9 +2,9 @@
 
 ghost use Rattle.std.specs.Prelude.{◌≡◌, ◌+◌, ℕ, IfOk};
 
-use crate::callback::{ObserveI64, ObserveU64};
-use crate::observation::{Observation, Observed};
-use crate::registered::{Callback, Registered, run_callbacks};
+use otel_callback::callback::{ObserveI64, ObserveU64};
+use otel_callback::observation::{Observation, Observed};
+use otel_callback::registered::{Callback, Registered, run_callbacks};
 use otel_common::faults::Fault;
 use otel_common::lists::Items;
 use otel_data::numbers::NumberValue;

@@ -1,7 +1,0 @@
-//! Tests that span the crates.
-
-mod calls;
-mod resources;
-mod support;
-mod texts;
-mod wholes;

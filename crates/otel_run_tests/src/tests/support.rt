@@ -1,0 +1,37 @@
+//! Texts, attributes and providers that several tests use.
+
+use opentelemetry_sdk::common::{Items, Key, KeyValue, StringValue, Value};
+use opentelemetry_sdk::metrics::provider::Call;
+use opentelemetry_sdk::metrics::{ManualReader, SdkMeterProvider};
+use std::alloc::Global;
+use std::test::Fail;
+
+/// A text as a value.
+pub fn text(alloc: Global, text: &str) -> Result<StringValue, Fail> {
+    Ok(StringValue::new(alloc, text)?)
+}
+
+/// Attributes with these keys and values.
+pub fn attributes(alloc: Global, pairs: &[(&str, i64)]) -> Result<Vec<KeyValue>, Fail> {
+    let mut attributes = Vec::new(alloc);
+    for (key, value) in pairs {
+        attributes.push(KeyValue::new(Key::new(alloc, key)?, Value::I64(*value)))?;
+    }
+    Ok(attributes)
+}
+
+/// A provider with a cumulative reader.
+pub fn provider(alloc: Global) -> Result<SdkMeterProvider, Fail> {
+    let reader = Box::new(alloc, ManualReader::default())?;
+    let builder = SdkMeterProvider::builder(alloc).with_reader(reader)?;
+    Ok(builder.build()?)
+}
+
+/// A collection of this reader at this moment, for which nothing was observed.
+pub fn collection(alloc: Global, reader: usize, now: u64) -> Call {
+    Call::Collect {
+        reader,
+        now,
+        observations: Items::from(Vec::new(alloc)),
+    }
+}

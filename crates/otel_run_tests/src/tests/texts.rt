@@ -1,0 +1,80 @@
+//! Which units and bounds are good, and the texts of the others.
+
+use opentelemetry_sdk::metrics::MetricError;
+use opentelemetry_sdk::metrics::meter::{validate_bucket_boundaries, validate_instrument_unit};
+use std::alloc::Global;
+use std::process::Abort;
+use std::test::Fail;
+
+const UNIT_LENGTH: &str = "unit must be less than 64 characters";
+
+const UNIT_CHARACTER: &str = "characters in unit must be ASCII";
+
+const BOUNDS: &str = "Bucket boundaries must be sorted and non-duplicate";
+
+/// Asserts what a check of a setting answers: `Ok`, or the error with this text.
+pub fn assert_answer(
+    rt: &impl Abort,
+    alloc: Global,
+    setting: &str,
+    answer: Result<(), MetricError>,
+    wanted: &str,
+) -> Result<(), Fail> {
+    match answer {
+        Ok(()) => assert_eq!(rt; "Ok", wanted, "of {setting}"),
+        Err(error) => {
+            let given = format!(in alloc; "{error}")?;
+            let wanted = format!(in alloc; "Invalid instrument configuration: {wanted}")?;
+            assert_eq!(rt; given, wanted, "of {setting}");
+        }
+    }
+    Ok(())
+}
+
+/// Units, each with the answer of its check.
+#[test]
+fn units(rt: HostRuntime) -> Result<(), Fail> {
+    let alloc = rt.alloc();
+    let longest = "0".repeat(alloc, 63)?;
+    let too_long = "0".repeat(alloc, 64)?;
+    assert!(rt; validate_instrument_unit(None).is_ok());
+    for (unit, answer) in [
+        ("", "Ok"),
+        ("kb", "Ok"),
+        ("Kb/sec", "Ok"),
+        ("%", "Ok"),
+        (longest.as_str(), "Ok"),
+        (too_long.as_str(), UNIT_LENGTH),
+        ("utf8char锈", UNIT_CHARACTER),
+    ] {
+        assert_answer(
+            &rt,
+            alloc,
+            unit,
+            validate_instrument_unit(Some(unit)),
+            answer,
+        )?;
+    }
+    Ok(())
+}
+
+/// Bounds, each with the answer of its check.
+#[test]
+fn bounds(rt: HostRuntime) -> Result<(), Fail> {
+    let none: &[i64] = &[];
+    for (bounds, answer) in [
+        (none, "Ok"),
+        (&[1, 2], "Ok"),
+        (&[2, 1], BOUNDS),
+        (&[1, 1], BOUNDS),
+    ] {
+        assert_answer(
+            &rt,
+            rt.alloc(),
+            "bounds",
+            validate_bucket_boundaries(bounds),
+            answer,
+        )?;
+    }
+    Ok(())
+}
