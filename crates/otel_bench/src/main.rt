@@ -3,8 +3,8 @@
 //! The only argument says how many calls are counted. Standard input has three scripts as `metrics_run` takes them, with
 //! a line `---` between each two. The first says which readers and views the provider has, and what is done once. The
 //! calls of the second are made before each counted call; it may have none. Those of the third are counted: they are
-//! made in turn, starting over after the last. Before the third script may come a line `typed add`: then a counter as a
-//! value takes in its first record each time.
+//! made in turn, starting over after the last. If a line `typed add` comes before the third script, a counter as a value
+//! adds 1 instead, with the attributes of the script's first record.
 //!
 //! How many of the counted calls were carried out is printed. After a further `---` come three scripts more, for another
 //! provider.
@@ -20,7 +20,7 @@ use opentelemetry_sdk::metrics::provider::{Call, Parts, Provider};
 use scripts::{calls_of, provider_of};
 use std::alloc::Global;
 use std::{env, io};
-use typed::adds;
+use typed::count_typed;
 
 /// Makes the calls of this script, of which this many are counted, each after the calls between. Returns how many of the
 /// counted ones were carried out.
@@ -43,9 +43,8 @@ fn count<P: Parts>(
     counted: &str,
     times: u64,
 ) -> Result<u64, Error> {
-    if let Some(records) = counted.strip_prefix("typed add\n") {
-        let records = calls_of(alloc, records)?;
-        return adds(alloc, provider, records.as_slice(), times);
+    if let Some(typed) = counted.strip_prefix("typed ") {
+        return count_typed(alloc, provider, typed, times);
     }
     let between = calls_of(alloc, between)?;
     count_steps(alloc, provider, between.as_slice(), counted, times)

@@ -2,7 +2,8 @@
 
 ghost use Rattle.std.specs.Prelude.{◌≤◌};
 
-use anyhow::Error;
+use crate::scripts::calls_of;
+use anyhow::{Error, bail};
 use opentelemetry_sdk::common::KeyValue;
 use opentelemetry_sdk::metrics::meter::Counter;
 use opentelemetry_sdk::metrics::provider::{Call, Parts, Provider};
@@ -28,6 +29,33 @@ fn counted_adds<P: Parts>(
     made
 }
 
+/// Adds 1 this many times at the counter `instrument` of the meter `meter`. Returns how many of these calls succeeded.
+fn adds<P: Parts>(
+    alloc: Global,
+    provider: &mut Provider<P>,
+    attributes: &[KeyValue],
+    times: u64,
+) -> Result<u64, Error> {
+    let meter = provider.meter("meter")?;
+    let name = String::from_str(alloc, "instrument")?;
+    let counter = meter.u64_counter(name).build(provider, 100)?;
+    Ok(counted_adds(provider, counter, attributes, times))
+}
+
+/// Makes this many calls of an instrument as a value, which have this name. Returns how many of them succeeded.
+fn calls_named<P: Parts>(
+    alloc: Global,
+    provider: &mut Provider<P>,
+    name: &str,
+    attributes: &[KeyValue],
+    times: u64,
+) -> Result<u64, Error> {
+    match name {
+        "add" => adds(alloc, provider, attributes, times),
+        _ => bail!("{name} is no call"),
+    }
+}
+
 /// The attributes of the first of these calls, if it is a record.
 fn attributes_of(calls: &[Call]) -> &[KeyValue] {
     match calls {
@@ -36,16 +64,23 @@ fn attributes_of(calls: &[Call]) -> &[KeyValue] {
     }
 }
 
-/// Adds 1 this many times at the counter `instrument` of the meter `meter`, with the attributes of the first of these
-/// calls. Returns how many of these calls succeeded.
-pub fn adds<P: Parts>(
+/// Makes this many calls of an instrument as a value. The text is the name of the call and, after a line's end, a script
+/// whose first record has the attributes. Returns how many of them succeeded.
+pub fn count_typed<P: Parts>(
     alloc: Global,
     provider: &mut Provider<P>,
-    calls: &[Call],
+    text: &str,
     times: u64,
 ) -> Result<u64, Error> {
-    let meter = provider.meter("meter")?;
-    let name = String::from_str(alloc, "instrument")?;
-    let counter = meter.u64_counter(name).build(provider, 100)?;
-    Ok(counted_adds(provider, counter, attributes_of(calls), times))
+    let Some((name, script)) = text.split_once('\n') else {
+        bail!("a script is missing");
+    };
+    let calls = calls_of(alloc, script)?;
+    calls_named(
+        alloc,
+        provider,
+        name,
+        attributes_of(calls.as_slice()),
+        times,
+    )
 }
