@@ -19,4 +19,4 @@ pub mod script;
 pub mod script_lines;
 mod streams;
 mod texts;
-mod views;
+pub mod views;

@@ -2,7 +2,6 @@
 
 ghost use Rattle.std.specs.Prelude.{◌≤◌};
 
-use crate::plans::Plan;
 use opentelemetry_sdk::metrics::provider::{Call, Parts, Provider, Reply};
 
 /// Whether a call was carried out.
@@ -11,7 +10,7 @@ fn is_made(reply: &Reply) -> bool {
 }
 
 /// Makes calls that are not counted.
-fn prepare<P: Parts>(provider: &mut Provider<P>, calls: &[Call]) {
+pub fn prepare<P: Parts>(provider: &mut Provider<P>, calls: &[Call]) {
     for call in calls {
         let _ = provider.step(call);
     }
@@ -41,9 +40,17 @@ fn counted_calls<P: Parts>(provider: &mut Provider<P>, calls: &[Call], times: u6
     made
 }
 
-/// Makes this many counted calls, each after calls that are not counted. Returns how many of the counted ones were
-/// carried out.
-fn counted_rounds<P: Parts>(
+/// The calls that follow the first of these, or all calls if none follows.
+fn following<'a>(calls: &'a [Call], all: &'a [Call]) -> &'a [Call] {
+    match calls {
+        [_, next @ ..] if !next.is_empty() => next,
+        _ => all,
+    }
+}
+
+/// Makes this many counted calls, each after the calls between, which are not counted. Returns how many of the counted
+/// ones were carried out.
+pub fn counted_rounds<P: Parts>(
     provider: &mut Provider<P>,
     between: &[Call],
     calls: &[Call],
@@ -51,26 +58,15 @@ fn counted_rounds<P: Parts>(
 ) -> u64
     ensures { result ≤ times }
 {
+    if between.is_empty() {
+        return counted_calls(provider, calls, times);
+    }
     let mut made: u64 = 0;
+    let mut rest = calls;
     for _ in 0..times {
         prepare(provider, between);
-        made += counted_calls(provider, calls, 1);
+        made += counted_calls(provider, rest, 1);
+        rest = following(rest, calls);
     }
     made
-}
-
-/// Makes the calls of a plan, of which this many are counted. Returns how many of the counted ones were carried out.
-pub fn calls_of_plan<P: Parts>(provider: &mut Provider<P>, plan: &Plan, times: u64) -> u64
-    ensures { result ≤ times }
-{
-    prepare(provider, plan.before.as_slice());
-    if plan.between.is_empty() {
-        return counted_calls(provider, plan.counted.as_slice(), times);
-    }
-    counted_rounds(
-        provider,
-        plan.between.as_slice(),
-        plan.counted.as_slice(),
-        times,
-    )
 }

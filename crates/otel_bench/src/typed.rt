@@ -1,11 +1,12 @@
-//! Records at a counter as a value.
+//! Records at instruments as values.
 
 ghost use Rattle.std.specs.Prelude.{◌≤◌};
 
-use crate::attributes::sorted_set;
-use opentelemetry_sdk::common::{Fault, KeyValue};
+use crate::scripts::calls_of;
+use anyhow::{Error, bail};
+use opentelemetry_sdk::common::KeyValue;
 use opentelemetry_sdk::metrics::meter::Counter;
-use opentelemetry_sdk::metrics::provider::{Parts, Provider};
+use opentelemetry_sdk::metrics::provider::{Call, Parts, Provider};
 use std::alloc::Global;
 
 /// Adds 1 this many times, and returns how many of these calls succeeded. `measure.sh` counts the instructions of this
@@ -28,20 +29,58 @@ fn counted_adds<P: Parts>(
     made
 }
 
-/// Adds 1 this many times at a counter, with one set of this many attributes sorted by key, for which 1 was added
-/// before. Returns how many of these calls succeeded.
-pub fn adds_of_known<P: Parts>(
+/// Adds 1 this many times at the counter `instrument` of the meter `meter`. Returns how many of these calls succeeded.
+fn adds<P: Parts>(
     alloc: Global,
     provider: &mut Provider<P>,
-    attributes: usize,
+    attributes: &[KeyValue],
     times: u64,
-) -> Result<u64, Fault> {
-    let attributes = sorted_set(alloc, attributes)?;
+) -> Result<u64, Error> {
+    let meter = provider.meter("meter")?;
     let name = String::from_str(alloc, "instrument")?;
-    let counter = provider
-        .meter("meter")?
-        .u64_counter(name)
-        .build(provider, 100)?;
-    counter.add(provider, 1, attributes.as_slice())?;
-    Ok(counted_adds(provider, counter, attributes.as_slice(), times))
+    let counter = meter.u64_counter(name).build(provider, 100)?;
+    Ok(counted_adds(provider, counter, attributes, times))
+}
+
+/// Makes this many calls of an instrument as a value, which have this name. Returns how many of them succeeded.
+fn calls_named<P: Parts>(
+    alloc: Global,
+    provider: &mut Provider<P>,
+    name: &str,
+    attributes: &[KeyValue],
+    times: u64,
+) -> Result<u64, Error> {
+    match name {
+        "add" => adds(alloc, provider, attributes, times),
+        _ => bail!("{name} is no call"),
+    }
+}
+
+/// The attributes of the first of these calls, if it is a record.
+fn attributes_of(calls: &[Call]) -> &[KeyValue] {
+    match calls {
+        [Call::Record { attributes, .. }, ..] => attributes.as_slice(),
+        _ => &[],
+    }
+}
+
+/// Makes this many calls of an instrument as a value. The text is the name of the call and, after a line's end, a script
+/// whose first record has the attributes. Returns how many of them succeeded.
+pub fn count_typed<P: Parts>(
+    alloc: Global,
+    provider: &mut Provider<P>,
+    text: &str,
+    times: u64,
+) -> Result<u64, Error> {
+    let Some((name, script)) = text.split_once('\n') else {
+        bail!("a script is missing");
+    };
+    let calls = calls_of(alloc, script)?;
+    calls_named(
+        alloc,
+        provider,
+        name,
+        attributes_of(calls.as_slice()),
+        times,
+    )
 }

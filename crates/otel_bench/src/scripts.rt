@@ -1,0 +1,76 @@
+//! Scripts, and the provider that a script asks for.
+
+use crate::counted::prepare;
+use anyhow::Error;
+use metrics_script::script_lines::{Script, script_of};
+use metrics_script::views::NamedView;
+use opentelemetry_sdk::common::Fault;
+use opentelemetry_sdk::metrics::ManualReader;
+use opentelemetry_sdk::metrics::callback::NoCallback;
+use opentelemetry_sdk::metrics::provider::{Call, Parts, Provider, ProviderBuilder};
+use std::alloc::Global;
+
+/// Views and readers of one type each, without boxes.
+pub struct Plain;
+
+impl Parts for Plain {
+    type View = NamedView;
+
+    type Reader = ManualReader;
+
+    type ObserveU64 = NoCallback;
+
+    type ObserveI64 = NoCallback;
+}
+
+/// Reads the calls of a script.
+pub fn calls_of(alloc: Global, script: &str) -> Result<Vec<Call>, Error> {
+    let Script { calls, .. } = script_of(alloc, script.as_bytes())?;
+    Ok(calls)
+}
+
+/// Returns the builder with these readers.
+fn with_readers(
+    builder: ProviderBuilder<Plain>,
+    readers: Vec<ManualReader>,
+) -> Result<ProviderBuilder<Plain>, Fault> {
+    let mut builder = builder;
+    for reader in readers {
+        builder = builder.with_reader(reader)?;
+    }
+    Ok(builder)
+}
+
+/// Returns the builder with these views.
+fn with_views(
+    builder: ProviderBuilder<Plain>,
+    views: Vec<NamedView>,
+) -> Result<ProviderBuilder<Plain>, Fault> {
+    let mut builder = builder;
+    for view in views {
+        builder = builder.with_view(view)?;
+    }
+    Ok(builder)
+}
+
+/// Makes a provider with these readers and views.
+fn provider_with(
+    alloc: Global,
+    readers: Vec<ManualReader>,
+    views: Vec<NamedView>,
+) -> Result<Provider<Plain>, Fault> {
+    let builder = with_readers(Provider::builder(alloc), readers)?;
+    with_views(builder, views)?.build()
+}
+
+/// Makes the provider of a script, on which the script's calls are made.
+pub fn provider_of(alloc: Global, script: &str) -> Result<Provider<Plain>, Error> {
+    let Script {
+        readers,
+        views,
+        calls,
+    } = script_of(alloc, script.as_bytes())?;
+    let mut provider = provider_with(alloc, readers, views)?;
+    prepare(&mut provider, calls.as_slice());
+    Ok(provider)
+}
