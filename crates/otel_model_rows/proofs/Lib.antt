@@ -10,3 +10,9 @@ pub mod RowsHeadings
 pub mod RowsKinds
 pub mod RowsIdentities
 pub mod RowsHandles
+pub mod RowsSettings
+pub mod RowsRefusals
+pub mod RowsSteps
+pub mod RowsFolds
+pub mod RowsTables
+pub mod RowsStates
