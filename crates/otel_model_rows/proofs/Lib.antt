@@ -11,3 +11,9 @@ pub mod RowsKinds
 pub mod RowsIdentities
 pub mod RowsHandles
 pub mod RowsReplies
+pub mod RowsSettings
+pub mod RowsRefusals
+pub mod RowsSteps
+pub mod RowsFolds
+pub mod RowsTables
+pub mod RowsStates

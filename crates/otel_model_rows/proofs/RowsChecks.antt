@@ -1,9 +1,43 @@
 -- Worked rows on names, units, bounds and settings of streams.
-use Rattle.std.specs.Prelude.{◌≡◌, ℕ, ℤ, pos, true, false, List, [], ◌∷◌, ◌++◌, replicate, Option, Some, None, codes}
+use Rattle.std.specs.Prelude.{◌≡◌, ℕ, ℤ, pos, Bool, true, false, List, [], ◌∷◌, ◌++◌, map, replicate, Option, Some, None, codes}
 use Rattle.std.proofs.Common.{refl}
-use Rattle.otel_model.specs.Checks.{name_fault, Empty, Long, BadStart, BadCharacter, unit_fault, UnitFault, NotAscii, rises, StreamFault, UnitLength, UnitInvalidChar, LimitZero, LimitMax, Boundaries, stream_fault}
+use Rattle.otel_model.specs.Calls.{ascii_lowercase}
+use Rattle.otel_model.specs.Checks.{is_within, is_letter, is_digit, is_name_byte, starts_badly, NameFault, name_fault, name_fault_text, is_good_name, Empty, Long, BadStart, BadCharacter, is_ascii, unit_fault, optional_unit_fault, is_good_unit, unit_fault_text, UnitFault, NotAscii, rises, bounds_fault_text, stream_bounds_fault_text, aggregation_bounds_fault_text, incompatible_text, StreamFault, UnitLength, UnitInvalidChar, LimitZero, LimitMax, Boundaries, stream_fault, stream_fault_text}
+use Rattle.otel_model_rows.specs.Rows.{up_from, bytes}
+
+-- ======== characters ========
+-- both ends are included
+pub within : map (is_within 3 5) (up_from 8 0) ≡ false ∷ false ∷ false ∷ true ∷ true ∷ true ∷ false ∷ false ∷ []
+within = refl
+
+-- of all bytes `A` to `Z` and `a` to `z`
+pub letters : map is_letter bytes ≡ replicate 65 false ++ (replicate 26 true ++ (replicate 6 false ++ (replicate 26 true ++ replicate 133 false)))
+letters = refl
+
+-- `0` to `9`
+pub digits : map is_digit bytes ≡ replicate 48 false ++ (replicate 10 true ++ replicate 198 false)
+digits = refl
+
+-- `-`, `.`, `/` and the digits, which follow each other, the letters, and `_`
+pub name_bytes : map is_name_byte bytes ≡ replicate 45 false ++ (replicate 13 true ++ (replicate 7 false ++ (replicate 26 true ++ (replicate 4 false ++ (true ∷ false ∷ (replicate 26 true ++ replicate 133 false))))))
+name_bytes = refl
+
+-- only `A` to `Z` are changed, each to its lower case
+pub lowered : ascii_lowercase bytes ≡ up_from 65 0 ++ (up_from 26 97 ++ up_from 165 91)
+lowered = refl
+
+-- bytes up to 127
+pub ascii : map (λ b. is_ascii (b ∷ [])) bytes ≡ replicate 128 true ++ replicate 128 false
+ascii = refl
 
 -- ======== names ========
+-- a name of one byte: good, or with the fault of its first byte
+pub one_byte : map (λ b. starts_badly (b ∷ [])) bytes ≡ replicate 65 true ++ (replicate 26 false ++ (replicate 6 true ++ (replicate 26 false ++ replicate 133 true)))
+one_byte = refl
+
+pub nothing_starts : starts_badly [] ≡ false
+nothing_starts = refl
+
 pub row_16 : name_fault [] ≡ Some Empty
 row_16 = refl
 
@@ -30,6 +64,31 @@ good_underscore = refl
 
 pub good_dots : name_fault (codes "allow.dots.ok") ≡ None
 good_dots = refl
+
+pub good_dash : name_fault (codes "z-0Z") ≡ None
+good_dash = refl
+
+-- the last character counts too
+pub bad_end : name_fault (codes "a$") ≡ Some BadCharacter
+bad_end = refl
+
+-- the first fault counts: the length, the first letter, the others
+pub long_first : name_fault (replicate 256 36) ≡ Some Long
+long_first = refl
+
+pub start_next : name_fault (codes "0$") ≡ Some BadStart
+start_next = refl
+
+pub good_names : map is_good_name (codes "a" ∷ [] ∷ replicate 256 97 ∷ codes "0" ∷ codes "a$" ∷ []) ≡ true ∷ false ∷ false ∷ false ∷ false ∷ []
+good_names = refl
+
+pub name_texts : map name_fault_text (Empty ∷ Long ∷ BadStart ∷ BadCharacter ∷ [])
+    ≡ codes "name must be non-empty"
+    ∷ codes "name must be less than 256 characters"
+    ∷ codes "name must start with an alphabetic character"
+    ∷ codes "characters in name must be ASCII and belong to the alphanumeric characters, '_', '.', '-' and '/'"
+    ∷ []
+name_texts = refl
 
 -- a character of three bytes
 pub bad_character : name_fault (117 ∷ 233 ∷ 148 ∷ 136 ∷ []) ≡ Some BadCharacter
@@ -60,7 +119,27 @@ percent_unit = refl
 pub empty_unit : unit_fault [] ≡ None
 empty_unit = refl
 
+-- no unit is a good one
+pub optional_units : map optional_unit_fault (None ∷ Some (codes "s") ∷ Some (233 ∷ []) ∷ []) ≡ None ∷ None ∷ Some NotAscii ∷ []
+optional_units = refl
+
+pub good_units : map is_good_unit ([] ∷ codes "s" ∷ (233 ∷ []) ∷ replicate 64 115 ∷ []) ≡ true ∷ true ∷ false ∷ false ∷ []
+good_units = refl
+
+pub unit_texts : map unit_fault_text (UnitFault.Long ∷ NotAscii ∷ []) ≡ codes "unit must be less than 64 characters" ∷ codes "characters in unit must be ASCII" ∷ []
+unit_texts = refl
+
 -- ======== bounds ========
+pub bounds_texts : bounds_fault_text ∷ stream_bounds_fault_text ∷ aggregation_bounds_fault_text ∷ []
+    ≡ codes "Bucket boundaries must be sorted and non-duplicate"
+    ∷ codes "Bucket boundaries must be sorted and not contain any duplicates"
+    ∷ codes "aggregation: explicit bucket histogram: non-monotonic boundaries"
+    ∷ []
+bounds_texts = refl
+
+pub no_bounds : map rises ([] ∷ (pos 1 ∷ []) ∷ []) ≡ true ∷ true ∷ []
+no_bounds = refl
+
 pub rising : rises (pos 1 ∷ pos 2 ∷ pos 5 ∷ []) ≡ true
 rising = refl
 
@@ -134,6 +213,18 @@ stream_doubled = refl
 
 pub stream_without_bounds : bounded [] ≡ None
 stream_without_bounds = refl
+
+pub stream_texts : map stream_fault_text (UnitLength ∷ UnitInvalidChar ∷ LimitZero ∷ LimitMax ∷ Boundaries ∷ [])
+    ≡ codes "unit must be less than 64 characters"
+    ∷ codes "characters in unit must be ASCII"
+    ∷ codes "Cardinality limit must be greater than 0"
+    ∷ codes "Cardinality limit must be less than usize::MAX"
+    ∷ codes "Bucket boundaries must be sorted and not contain any duplicates"
+    ∷ []
+stream_texts = refl
+
+pub incompatible : incompatible_text ≡ codes "incompatible aggregation"
+incompatible = refl
 
 -- nothing is set, and all is set
 pub nothing_set : stream_fault None None None ≡ None

@@ -1,5 +1,5 @@
 -- What the worked rows of a provider are written in: instruments, values, sets, views and readers, and what is seen of collections.
-use Rattle.std.specs.Prelude.{◌≡◌, ℕ, ℤ, pos, Bool, true, false, cond, List, [], ◌∷◌, ◌++◌, map, Option, Some, None}
+use Rattle.std.specs.Prelude.{◌≡◌, ℕ, zero, suc, ◌+◌, ℤ, pos, Bool, true, false, cond, List, [], ◌∷◌, ◌++◌, map, Option, Some, None}
 use Rattle.std.specs.Option.{option_map}
 use Rattle.otel_common.specs.Equality.{bytes_eq}
 use Rattle.otel_common.specs.declared.attributes.KeyValue.{KeyValue}
@@ -45,6 +45,15 @@ u64 n = record { signed = false; amount = record { bits = n; wide = pos n } }
 
 abbrev pub i64 : ℕ → ℤ → Number
 i64 bits wide = record { signed = true; amount = record { bits = bits; wide = wide } }
+
+-- this many numbers in a row, from the second one on
+abbrev pub up_from : ℕ → ℕ → List ℕ
+up_from zero n = []
+up_from (suc k) n = n ∷ up_from k (n + 1)
+
+-- all bytes
+abbrev pub bytes : List ℕ
+bytes = up_from 256 0
 
 -- ======== sets ========
 abbrev pub is_1 : ℕ → List KeyValue
