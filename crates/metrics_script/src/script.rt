@@ -35,11 +35,18 @@ fn run_script<R: Read + Drop, W: Write + Drop>(
     output: W,
 ) -> Result<(), Failure> {
     let bytes = read_all(alloc, input)?;
+    let replies = replies_to(alloc, bytes.as_slice())?;
+    write_replies(alloc, output, replies.as_slice())
+}
+
+/// Makes the calls of a script on a new provider with the script's readers and views, and returns the replies. All lines
+/// are checked before any call is made.
+pub fn replies_to(alloc: Global, script: &[u8]) -> Result<Vec<Reply>, Failure> {
     let Script {
         readers,
         views,
         calls,
-    } = script_of(alloc, bytes.as_slice())?;
+    } = script_of(alloc, script)?;
     let mut builder = SdkMeterProvider::builder(alloc);
     for reader in readers {
         builder = builder.with_reader(Box::new(alloc, reader)?)?;
@@ -48,8 +55,7 @@ fn run_script<R: Read + Drop, W: Write + Drop>(
         builder = builder.with_view(Box::new(alloc, view)?)?;
     }
     let mut provider = builder.build()?;
-    let replies = provider.run(alloc, calls.as_slice())?;
-    write_replies(alloc, output, replies.as_slice())
+    Ok(provider.run(alloc, calls.as_slice())?)
 }
 
 /// Reads all that the reader has.

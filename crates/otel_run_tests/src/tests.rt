@@ -3,6 +3,7 @@
 mod callbacks;
 mod handles;
 mod resources;
+mod seeds;
 mod shown;
 mod shutdowns;
 mod support;

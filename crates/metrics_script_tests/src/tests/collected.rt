@@ -1,35 +1,14 @@
 //! What a script collects but doesn't print: scopes, and of each metric the number type, the description, the unit and the
 //! bounds.
 
-use metrics_script::script_lines::{Script, script_of};
+use metrics_script::script::replies_to;
 use opentelemetry_sdk::metrics::data::{
     AggregatedMetrics, Metric, MetricData, ResourceMetrics, ScopeMetrics,
 };
 use opentelemetry_sdk::metrics::provider::Reply;
-use opentelemetry_sdk::metrics::{MeterProviderBuilder, SdkMeterProvider};
 use std::alloc::Global;
 use std::process::Abort;
 use std::test::Fail;
-
-/// The replies to a script of the provider that this builder builds, once it has the script's readers and views.
-pub fn replies_of(
-    alloc: Global,
-    mut builder: MeterProviderBuilder,
-    input: &[u8],
-) -> Result<Vec<Reply>, Fail> {
-    let Script {
-        readers,
-        views,
-        calls,
-    } = script_of(alloc, input)?;
-    for reader in readers {
-        builder = builder.with_reader(Box::new(alloc, reader)?)?;
-    }
-    for view in views {
-        builder = builder.with_view(Box::new(alloc, view)?)?;
-    }
-    Ok(builder.build()?.run(alloc, calls.as_slice())?)
-}
 
 /// The number of points.
 fn points_of<T>(data: &MetricData<T>) -> usize {
@@ -132,7 +111,7 @@ pub fn assert_collects(
     input: &[u8],
     lines: &str,
 ) -> Result<(), Fail> {
-    let replies = replies_of(alloc, SdkMeterProvider::builder(alloc), input)?;
+    let replies = replies_to(alloc, input)?;
     let mut text = String::new(alloc);
     for reply in replies.as_slice() {
         if let Reply::Collected(collected) = reply {
@@ -158,7 +137,7 @@ fn is_full(scope: &ScopeMetrics) -> bool {
 
 /// Asserts that no collection of the script has a scope without metrics or a metric without points.
 pub fn assert_is_full(rt: &impl Abort, alloc: Global, input: &[u8]) -> Result<(), Fail> {
-    let replies = replies_of(alloc, SdkMeterProvider::builder(alloc), input)?;
+    let replies = replies_to(alloc, input)?;
     for reply in replies.as_slice() {
         if let Reply::Collected(collected) = reply {
             assert!(rt; collected.scope_metrics().all(is_full));

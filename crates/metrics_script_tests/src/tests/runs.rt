@@ -1,9 +1,8 @@
-//! Calls one after another: what refused calls change, instruments that ignore their records, shared streams, order, limits,
-//! refused memory and seeds.
+//! Calls one after another: what refused calls change, instruments that ignore their records, shared streams, order, limits
+//! and refused memory.
 
-use super::collected::{assert_is_full, replies_of};
+use super::collected::assert_is_full;
 use super::{assert_prints, assert_prints_or};
-use opentelemetry_sdk::metrics::{MeterProviderBuilder, SdkMeterProvider};
 use std::alloc::Global;
 use std::test::Fail;
 
@@ -304,44 +303,4 @@ fn refused_bounds(rt: HostRuntime) -> Result<(), Fail> {
              refused 1 out of memory\n",
         ],
     )
-}
-
-/// The replies to a script, as text.
-fn replies(alloc: Global, builder: MeterProviderBuilder, script: &[u8]) -> Result<String, Fail> {
-    let replies = replies_of(alloc, builder, script)?;
-    Ok(format!(in alloc; "{replies:?}")?)
-}
-
-/// No reply depends on the seed of the hashes.
-#[test]
-fn seeds(rt: HostRuntime) -> Result<(), Fail> {
-    let script = b"reader delta\n\
-          go\n\
-          meter app\n\
-          build 0 u64_counter requests 100\n\
-          record 0 u:1 b=i:1,a=i:2\n\
-          record 0 u:2 c=i:1\n\
-          bind 0 d=i:1\n\
-          record 0 u:4 a=i:2,b=i:1\n\
-          recordbound 0 u:8\n\
-          collect 0 200\n";
-    let printed = "meter 0\n\
-         instrument 0\n\
-         ok\n\
-         ok\n\
-         handle 0\n\
-         ok\n\
-         ok\n\
-         collected 3\n\
-         point app requests sum delta monotonic 100 200 a=i:2,b=i:1 5\n\
-         point app requests sum delta monotonic 100 200 c=i:1 2\n\
-         point app requests sum delta monotonic 100 200 d=i:1 8\n";
-    assert_prints(&rt, rt.alloc(), script, printed)?;
-    let unseeded = SdkMeterProvider::builder(rt.alloc());
-    let seeded = SdkMeterProvider::builder(rt.alloc()).with_hash_seed(7);
-    assert_eq!(rt;
-        replies(rt.alloc(), seeded, script)?,
-        replies(rt.alloc(), unseeded, script)?
-    );
-    Ok(())
 }

@@ -98,7 +98,7 @@ fn long_scope(alloc: Global) -> Result<InstrumentationScope, Fail> {
 }
 
 /// A scope with only a name.
-fn short_scope(alloc: Global) -> Result<InstrumentationScope, Fail> {
+pub fn short_scope(alloc: Global) -> Result<InstrumentationScope, Fail> {
     let name = String::from_str(alloc, "app")?;
     Ok(InstrumentationScope::builder(alloc, name).build()?)
 }
@@ -127,7 +127,7 @@ fn bytes(alloc: Global) -> Result<Call, Fail> {
 }
 
 /// The build of a counter.
-fn counter(
+pub fn counter(
     meter: usize,
     name: StringValue,
     description: Option<StringValue>,
@@ -146,7 +146,7 @@ fn counter(
 }
 
 /// A record of a value at an instrument.
-fn record(instrument: usize, value: u64, attributes: Vec<KeyValue>) -> Call {
+pub fn record(instrument: usize, value: u64, attributes: Vec<KeyValue>) -> Call {
     Call::Record {
         instrument,
         value: NumberValue::U64(value),

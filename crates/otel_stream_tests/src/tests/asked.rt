@@ -10,6 +10,7 @@ use otel_stream::instrument::InstrumentKind;
 use otel_stream::limit::CardinalityLimit;
 use otel_stream::manual_reader::ManualReader;
 use otel_stream::reader::MetricReader;
+use std::alloc::Global;
 use std::test::Fail;
 use std::time::Duration;
 
@@ -73,12 +74,17 @@ fn can_flush_once(readers: &mut [Box<dyn MetricReader>]) -> bool {
         && shut_all(readers).is_ok()
 }
 
+/// A manual reader and two that can flush once, in boxes.
+fn boxes(alloc: Global) -> Result<[Box<dyn MetricReader>; 3], Fail> {
+    let first: Box<dyn MetricReader> = Box::new(alloc, ManualReader::default())?;
+    let second: Box<dyn MetricReader> = Box::new(alloc, Once { has_flushed: false })?;
+    let third: Box<dyn MetricReader> = Box::new(alloc, Once { has_flushed: false })?;
+    Ok([first, second, third])
+}
+
 #[test]
 fn boxes_hold_what_a_flush_left(rt: HostRuntime) -> Result<(), Fail> {
-    let mut readers: Vec<Box<dyn MetricReader>> = Vec::new(rt.alloc());
-    readers.push(Box::new(rt.alloc(), ManualReader::default())?)?;
-    readers.push(Box::new(rt.alloc(), Once { has_flushed: false })?)?;
-    readers.push(Box::new(rt.alloc(), Once { has_flushed: false })?)?;
+    let mut readers = boxes(rt.alloc())?;
     assert!(rt; can_flush_once(&mut readers));
     Ok(())
 }

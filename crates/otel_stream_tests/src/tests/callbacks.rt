@@ -55,98 +55,100 @@ impl ObserveI64 for Below {
     }
 }
 
-/// The callbacks of the tests: one that observes -1 twice, between two that count their runs.
-fn three(
-    alloc: Global,
-    first: Box<dyn ObserveU64>,
-    last: Box<dyn ObserveU64>,
-    fails: bool,
-) -> Result<Vec<Registered<Box<dyn ObserveU64>, Below>>, Fault> {
+/// The callbacks of the tests.
+type Callbacks = [Registered<Box<dyn ObserveU64>, Below>; 3];
+
+/// Three callbacks: one that observes -1 twice, between two that count their runs, the first of them from 7.
+fn three(alloc: Global, fails: bool) -> Result<Callbacks, Fail> {
+    let first: Box<dyn ObserveU64> = Box::new(alloc, Counting { alloc, runs: 7 })?;
+    let last: Box<dyn ObserveU64> = Box::new(alloc, Counting { alloc, runs: 0 })?;
     let below = Below { alloc, fails };
-    let callbacks = vec![in alloc;
+    Ok([
         Registered {
             instrument: 4,
-            callback: Callback::U64(first)
+            callback: Callback::U64(first),
         },
         Registered {
             instrument: 3,
-            callback: Callback::I64(below)
+            callback: Callback::I64(below),
         },
         Registered {
             instrument: 2,
-            callback: Callback::U64(last)
+            callback: Callback::U64(last),
         },
-    ]?;
-    Ok(callbacks)
+    ])
 }
 
-/// Asserts that these instruments were observed, with these values.
-fn assert_observed(rt: &impl Abort, observed: &[Observed], wanted: &[(usize, NumberValue)]) {
-    assert_eq!(rt; observed.len(), wanted.len());
-    for (one, (instrument, value)) in observed.iter().zip(wanted.iter()) {
-        assert_eq!(rt; one.instrument, *instrument);
-        assert_eq!(rt; one.value, *value);
+/// What was observed, as text: each instrument with the value.
+fn shown(alloc: Global, observed: &[Observed]) -> Result<String, Fail> {
+    let mut text = String::new(alloc);
+    for one in observed {
+        let instrument = one.instrument;
+        match one.value {
+            NumberValue::U64(value) => write!(text, "{instrument} u:{value};")?,
+            NumberValue::I64(value) => write!(text, "{instrument} i:{value};")?,
+        }
     }
+    Ok(text)
+}
+
+/// Asserts what the callbacks observe in a run.
+fn assert_observes(
+    rt: &impl Abort,
+    alloc: Global,
+    callbacks: &mut Callbacks,
+    wanted: &str,
+) -> Result<(), Fail> {
+    let observed = run_callbacks(alloc, callbacks)?;
+    assert_eq!(rt; shown(alloc, observed.as_slice())?.as_str(), wanted);
+    Ok(())
+}
+
+/// Asserts what the callbacks observe in two runs.
+fn assert_observes_twice(
+    rt: &impl Abort,
+    alloc: Global,
+    callbacks: &mut Callbacks,
+) -> Result<(), Fail> {
+    assert_observes(rt, alloc, callbacks, "4 u:7;3 i:-1;3 i:-1;2 u:0;")?;
+    assert_observes(rt, alloc, callbacks, "4 u:8;3 i:-1;3 i:-1;2 u:1;")
 }
 
 /// Each callback runs once in each run, in order, and keeps the changes that it made to itself.
 #[test]
 fn callbacks_run_in_order(rt: HostRuntime) -> Result<(), Fail> {
-    let alloc = rt.alloc();
-    let first = Box::new(alloc, Counting { alloc, runs: 7 })?;
-    let last = Box::new(alloc, Counting { alloc, runs: 0 })?;
-    let mut callbacks = three(alloc, first, last, false)?;
-    let below = NumberValue::I64(-1);
-    let first = run_callbacks(alloc, &mut callbacks)?;
-    assert_observed(
-        &rt,
-        &first,
-        &[
-            (4, NumberValue::U64(7)),
-            (3, below),
-            (3, below),
-            (2, NumberValue::U64(0)),
-        ],
-    );
-    let second = run_callbacks(alloc, &mut callbacks)?;
-    assert_observed(
-        &rt,
-        &second,
-        &[
-            (4, NumberValue::U64(8)),
-            (3, below),
-            (3, below),
-            (2, NumberValue::U64(1)),
-        ],
-    );
-    Ok(())
+    let mut callbacks = three(rt.alloc(), false)?;
+    assert_observes_twice(&rt, rt.alloc(), &mut callbacks)
 }
 
-/// No callback runs after a fault.
-#[test]
-fn callbacks_after_a_fault(rt: HostRuntime) -> Result<(), Fail> {
-    let alloc = rt.alloc();
-    let first = Box::new(alloc, Counting { alloc, runs: 7 })?;
-    let last = Box::new(alloc, Counting { alloc, runs: 0 })?;
-    let mut callbacks = three(alloc, first, last, true)?;
-    let refused = run_callbacks(alloc, &mut callbacks);
-    assert!(rt; matches!(refused, Err(Fault::WrongNumber)));
+/// Whether a run is refused with the fault of the second callback.
+fn is_refused(alloc: Global, callbacks: &mut Callbacks) -> bool {
+    matches!(run_callbacks(alloc, callbacks), Err(Fault::WrongNumber))
+}
+
+/// Lets no callback fail from now on.
+fn mend(callbacks: &mut Callbacks) {
     for registered in callbacks.iter_mut() {
         if let Callback::I64(below) = &mut registered.callback {
             below.fails = false;
         }
     }
-    let next = run_callbacks(alloc, &mut callbacks)?;
-    let below = NumberValue::I64(-1);
-    assert_observed(
-        &rt,
-        &next,
-        &[
-            (4, NumberValue::U64(8)),
-            (3, below),
-            (3, below),
-            (2, NumberValue::U64(0)),
-        ],
-    );
-    Ok(())
+}
+
+/// Asserts that a run is refused, and what the next one observes if no callback fails.
+fn assert_refused_once(
+    rt: &impl Abort,
+    alloc: Global,
+    callbacks: &mut Callbacks,
+) -> Result<(), Fail> {
+    assert!(rt; is_refused(alloc, callbacks));
+    mend(callbacks);
+    assert_observes(rt, alloc, callbacks, "4 u:8;3 i:-1;3 i:-1;2 u:0;")
+}
+
+/// No callback runs after a fault.
+#[test]
+fn callbacks_after_a_fault(rt: HostRuntime) -> Result<(), Fail> {
+    let mut callbacks = three(rt.alloc(), true)?;
+    assert_refused_once(&rt, rt.alloc(), &mut callbacks)
 }

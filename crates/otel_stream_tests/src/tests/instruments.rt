@@ -2,6 +2,7 @@
 
 ghost use Rattle.std.specs.Prelude.{◌≡◌};
 
+use super::texts::prints;
 use otel_common::faults::Fault;
 use otel_common::laws::equal_aggregations;
 use otel_common::lists::Items;
@@ -52,8 +53,9 @@ fn is_hits(instrument: &Instrument) -> bool {
 }
 
 /// Whether an instrument equals its copy, but not its copy without the description.
-fn is_equal_by_parts(instrument: &Instrument, nothing: StringValue) -> Result<bool, Fault> {
+fn is_equal_by_parts(alloc: Global, instrument: &Instrument) -> Result<bool, Fault> {
     equal_instruments();
+    let nothing = StringValue::new(alloc, "")?;
     let mut other = instrument.clone()?;
     let is_equal = *instrument == other;
     other.description = nothing;
@@ -62,10 +64,9 @@ fn is_equal_by_parts(instrument: &Instrument, nothing: StringValue) -> Result<bo
 
 #[test]
 fn instruments_have_their_parts(rt: HostRuntime) -> Result<(), Fail> {
-    let nothing = StringValue::new(rt.alloc(), "")?;
     let instrument = hits(rt.alloc())?;
     assert!(rt; is_hits(&instrument));
-    assert!(rt; is_equal_by_parts(&instrument, nothing).unwrap_or(false));
+    assert!(rt; is_equal_by_parts(rt.alloc(), &instrument).unwrap_or(false));
     Ok(())
 }
 
@@ -82,36 +83,35 @@ fn boxed_limits(view: &Box<dyn View>, instrument: &Instrument, limit: usize) -> 
     limits(view, instrument, limit)
 }
 
+/// A view in a box that gives the limit 7.
+fn boxed(alloc: Global) -> Result<Box<dyn View>, Fail> {
+    let stream = Stream::builder().with_cardinality_limit(7).build()?;
+    Ok(Box::new(alloc, Limiting { stream })?)
+}
+
 #[test]
 fn boxes_answer_what_is_in_them(rt: HostRuntime) -> Result<(), Fail> {
+    let boxed = boxed(rt.alloc())?;
     let instrument = hits(rt.alloc())?;
-    let stream = Stream::builder().with_cardinality_limit(7).build()?;
-    let boxed: Box<dyn View> = Box::new(rt.alloc(), Limiting { stream })?;
     assert!(rt; boxed_limits(&boxed, &instrument, 7));
     Ok(())
 }
 
 /// Whether an answer is an error with this text.
-fn is_refused(alloc: Global, answer: Result<(), MetricError>, text: &str) -> Result<bool, Fail> {
+fn is_refused(alloc: Global, answer: Result<(), MetricError>, text: &str) -> bool {
     match answer {
-        Ok(()) => Ok(false),
-        Err(error) => Ok(format!(in alloc; "{error}")?.as_str() == text),
+        Ok(()) => false,
+        Err(error) => prints(alloc, &error, text),
     }
 }
 
 #[test]
-fn aggregations_fit_kinds(rt: HostRuntime) -> Result<(), Fail> {
+fn aggregations_fit_kinds(rt: HostRuntime) {
     let fits = is_aggregator_compatible(InstrumentKind::Counter, &Aggregation::Sum);
     assert!(rt; fits.is_ok());
     let answer = is_aggregator_compatible(InstrumentKind::Gauge, &Aggregation::Sum);
-    assert!(rt;
-        is_refused(
-            rt.alloc(),
-            answer,
-            "Metrics error: incompatible aggregation"
-        )?
-    );
-    Ok(())
+    let text = "Metrics error: incompatible aggregation";
+    assert!(rt; is_refused(rt.alloc(), answer, text));
 }
 
 fn histogram(alloc: Global, bounds: &[i64]) -> Result<Aggregation, Fault> {
@@ -122,20 +122,28 @@ fn histogram(alloc: Global, bounds: &[i64]) -> Result<Aggregation, Fault> {
 }
 
 /// Whether a histogram with these bounds is valid.
-fn is_valid(alloc: Global, bounds: &[i64]) -> Result<bool, Fault> {
-    Ok(histogram(alloc, bounds)?.validate().is_ok())
+fn is_valid(alloc: Global, bounds: &[i64]) -> bool {
+    match histogram(alloc, bounds) {
+        Ok(histogram) => histogram.validate().is_ok(),
+        Err(_) => false,
+    }
+}
+
+/// Whether a histogram with these bounds is refused with this text.
+fn is_invalid(alloc: Global, bounds: &[i64], text: &str) -> bool {
+    match histogram(alloc, bounds) {
+        Ok(histogram) => is_refused(alloc, histogram.validate(), text),
+        Err(_) => false,
+    }
 }
 
 #[test]
-fn validate_aggregation(rt: HostRuntime) -> Result<(), Fail> {
+fn validate_aggregation(rt: HostRuntime) {
     let alloc = rt.alloc();
     assert!(rt; Aggregation::Default.validate().is_ok());
-    assert!(rt; is_valid(alloc, &[0])?);
-    assert!(rt; is_valid(alloc, &[0, 2, 4, 8])?);
-    let answer = histogram(alloc, &[2, 0, 4, 8])?.validate();
+    assert!(rt; is_valid(alloc, &[0]) && is_valid(alloc, &[0, 2, 4, 8]));
     let text = "Config error aggregation: explicit bucket histogram: non-monotonic boundaries";
-    assert!(rt; is_refused(alloc, answer, text)?);
-    Ok(())
+    assert!(rt; is_invalid(alloc, &[2, 0, 4, 8], text));
 }
 
 /// Whether an aggregation equals its copy.
@@ -147,18 +155,22 @@ fn is_copied(aggregation: &Aggregation) -> bool {
     }
 }
 
-fn is_named(alloc: Global, aggregation: Aggregation, name: &str) -> Result<bool, Fail> {
-    Ok(is_copied(&aggregation) && format!(in alloc; "{aggregation}")?.as_str() == name)
+fn is_named(alloc: Global, aggregation: Aggregation, name: &str) -> bool {
+    is_copied(&aggregation) && prints(alloc, &aggregation, name)
+}
+
+/// Whether aggregations without bounds equal their copies and show their names.
+fn are_named(alloc: Global) -> bool {
+    is_named(alloc, Aggregation::Drop, "Drop")
+        && is_named(alloc, Aggregation::Default, "Default")
+        && is_named(alloc, Aggregation::Sum, "Sum")
+        && is_named(alloc, Aggregation::LastValue, "LastValue")
 }
 
 #[test]
 fn aggregations_show_their_names(rt: HostRuntime) -> Result<(), Fail> {
-    let alloc = rt.alloc();
-    assert!(rt; is_named(alloc, Aggregation::Drop, "Drop")?);
-    assert!(rt; is_named(alloc, Aggregation::Default, "Default")?);
-    assert!(rt; is_named(alloc, Aggregation::Sum, "Sum")?);
-    assert!(rt; is_named(alloc, Aggregation::LastValue, "LastValue")?);
-    let histogram = histogram(alloc, &[1])?;
-    assert!(rt; is_named(alloc, histogram, "ExplicitBucketHistogram")?);
+    assert!(rt; are_named(rt.alloc()));
+    let histogram = histogram(rt.alloc(), &[1])?;
+    assert!(rt; is_named(rt.alloc(), histogram, "ExplicitBucketHistogram"));
     Ok(())
 }

@@ -10,7 +10,7 @@ use std::fmt::Debug;
 use std::test::Fail;
 
 /// The seven kinds.
-pub const KINDS: [InstrumentKind; 7] = [
+const KINDS: [InstrumentKind; 7] = [
     InstrumentKind::Counter,
     InstrumentKind::UpDownCounter,
     InstrumentKind::Histogram,
@@ -59,39 +59,31 @@ fn shows<T: Debug>(alloc: Global, value: &T, text: &str) -> bool {
     }
 }
 
-/// Whether readers and their builders show their names.
-fn show_their_names(alloc: Global) -> bool {
-    shows(alloc, &ManualReader::default(), "ManualReader")
-        && shows(
-            alloc,
-            &ManualReaderBuilder::default(),
-            "ManualReaderBuilder",
-        )
+/// Whether a reader and its builder show their names.
+fn show_their_names(alloc: Global, builder: ManualReaderBuilder) -> bool {
+    let is_builder = shows(alloc, &builder, "ManualReaderBuilder");
+    let reader = builder.build();
+    is_builder && shows(alloc, &reader, "ManualReader")
 }
 
 #[test]
 fn readers_show_their_names(rt: HostRuntime) {
-    assert!(rt; show_their_names(rt.alloc()));
+    assert!(rt; show_their_names(rt.alloc(), ManualReaderBuilder::default()));
 }
 
-/// Whether readers are cumulative by default.
-fn defaults_are_cumulative() -> bool {
-    prefers(&ManualReader::default(), CUMULATIVE)
-        && prefers(&ManualReaderBuilder::default().build(), CUMULATIVE)
-        && prefers(&ManualReaderBuilder::new().build(), CUMULATIVE)
-}
-
-/// Whether readers of each temporality want what it prefers for each kind.
-fn have_their_preferences() -> bool {
-    prefers(&reader_of(Temporality::Cumulative), CUMULATIVE)
-        && prefers(&reader_of(Temporality::Delta), DELTA)
-        && prefers(&reader_of(Temporality::LowMemory), LOW_MEMORY)
+/// Whether this reader wants these temporalities.
+fn is_preferring(reader: ManualReader, letters: [&str; 7]) -> bool {
+    prefers(&reader, letters)
 }
 
 #[test]
 fn readers_have_their_preferences(rt: HostRuntime) {
-    assert!(rt; defaults_are_cumulative());
-    assert!(rt; have_their_preferences());
+    assert!(rt; is_preferring(ManualReader::default(), CUMULATIVE));
+    assert!(rt; is_preferring(ManualReaderBuilder::default().build(), CUMULATIVE));
+    assert!(rt; is_preferring(ManualReaderBuilder::new().build(), CUMULATIVE));
+    assert!(rt; is_preferring(reader_of(Temporality::Cumulative), CUMULATIVE));
+    assert!(rt; is_preferring(reader_of(Temporality::Delta), DELTA));
+    assert!(rt; is_preferring(reader_of(Temporality::LowMemory), LOW_MEMORY));
 }
 
 #[test]
@@ -102,21 +94,26 @@ fn boxes_want_what_is_in_them(rt: HostRuntime) -> Result<(), Fail> {
     Ok(())
 }
 
+/// Readers are cumulative by default, in a box too.
 #[test]
-fn kinds_are_equal_to_themselves(rt: HostRuntime) -> Result<(), Fail> {
-    kind_laws();
-    let kind = InstrumentKind::ObservableCounter;
-    assert!(rt; kind == kind.clone()?);
-    assert!(rt; kind != InstrumentKind::Counter);
+fn manual_reader(rt: HostRuntime) -> Result<(), Fail> {
+    assert_eq!(rt; Temporality::default(), Temporality::Cumulative);
+    let boxed: Box<dyn MetricReader> = Box::new(rt.alloc(), ManualReader::default())?;
+    assert!(rt; prefers(&boxed, CUMULATIVE));
     Ok(())
 }
 
-/// Readers are cumulative by default, in a box and outside of it.
+/// Whether a kind equals its copy, and no other kind.
+fn is_equal_to_itself(kind: InstrumentKind, other: InstrumentKind) -> bool {
+    kind_laws();
+    match kind.clone() {
+        Ok(copy) => kind == copy && kind != other,
+        Err(_) => false,
+    }
+}
+
 #[test]
-fn manual_reader(rt: HostRuntime) -> Result<(), Fail> {
-    let boxed: Box<dyn MetricReader> = Box::new(rt.alloc(), ManualReader::default())?;
-    assert!(rt; prefers(&boxed, CUMULATIVE));
-    assert!(rt; prefers(&ManualReader::default(), CUMULATIVE));
-    assert_eq!(rt; Temporality::default(), Temporality::Cumulative);
-    Ok(())
+fn kinds_are_equal_to_themselves(rt: HostRuntime) {
+    let kind = InstrumentKind::ObservableCounter;
+    assert!(rt; is_equal_to_itself(kind, InstrumentKind::Counter));
 }

@@ -3,7 +3,7 @@
 ghost use Rattle.std.specs.Prelude.{◌≡◌, Ok};
 ghost use Rattle.otel_common.specs.declared.metrics.Temporality.TheVariants.{Delta};
 
-use super::readers::{DELTA, KINDS, prefers};
+use super::readers::{DELTA, prefers};
 use otel_common::faults::OTelSdkResult;
 use otel_common::lists::Items;
 use otel_common::metrics::{Aggregation, Temporality};
@@ -53,20 +53,39 @@ impl MetricReader for Old {
     }
 }
 
-/// The limits for the seven kinds, 0 for none.
-const NO_LIMITS: [usize; 7] = [0, 0, 0, 0, 0, 0, 0];
+/// What is wanted for a kind: a limit, 0 for none, and an aggregation, as a letter that `letter_of` returns.
+type Want = (InstrumentKind, usize, &'static str);
 
-const SOME_LIMITS: [usize; 7] = [6, 0, 0, 0, 0, 7, 0];
+const NOTHING: [Want; 7] = [
+    (InstrumentKind::Counter, 0, "-"),
+    (InstrumentKind::UpDownCounter, 0, "-"),
+    (InstrumentKind::Histogram, 0, "-"),
+    (InstrumentKind::ObservableCounter, 0, "-"),
+    (InstrumentKind::ObservableUpDownCounter, 0, "-"),
+    (InstrumentKind::Gauge, 0, "-"),
+    (InstrumentKind::ObservableGauge, 0, "-"),
+];
 
-/// The aggregations for the seven kinds, one letter for each, as `letter_of` returns them.
-const NO_AGGREGATIONS: [&str; 7] = ["-", "-", "-", "-", "-", "-", "-"];
-
-const SOME_AGGREGATIONS: [&str; 7] = ["D", "-", "H", "-", "-", "-", "-"];
+const SOME: [Want; 7] = [
+    (InstrumentKind::Counter, 6, "D"),
+    (InstrumentKind::UpDownCounter, 0, "-"),
+    (InstrumentKind::Histogram, 0, "H"),
+    (InstrumentKind::ObservableCounter, 0, "-"),
+    (InstrumentKind::ObservableUpDownCounter, 0, "-"),
+    (InstrumentKind::Gauge, 7, "-"),
+    (InstrumentKind::ObservableGauge, 0, "-"),
+];
 
 /// A limit and an aggregation for each kind, no two alike.
-const EACH_LIMIT: [usize; 7] = [1, 2, 3, 4, 5, 6, 7];
-
-const EACH_AGGREGATION: [&str; 7] = ["D", "A", "S", "L", "H", "M", "B"];
+const EACH: [Want; 7] = [
+    (InstrumentKind::Counter, 1, "D"),
+    (InstrumentKind::UpDownCounter, 2, "A"),
+    (InstrumentKind::Histogram, 3, "S"),
+    (InstrumentKind::ObservableCounter, 4, "L"),
+    (InstrumentKind::ObservableUpDownCounter, 5, "H"),
+    (InstrumentKind::Gauge, 6, "M"),
+    (InstrumentKind::ObservableGauge, 7, "B"),
+];
 
 /// A letter for an aggregation: D for drop, A for default, S for sum, L for last value, H for a histogram with the
 /// bounds 10 and 20, M for the same with minimum and maximum, B for a histogram without bounds, `-` for none, `?` for
@@ -104,40 +123,34 @@ fn number_of(limit: Option<CardinalityLimit>) -> usize {
     }
 }
 
-/// Whether a reader wants these limits.
-fn limits<R: MetricReader>(reader: &R, numbers: [usize; 7]) -> bool {
+/// Whether a reader wants these limits and aggregations.
+fn wants<R: MetricReader>(reader: &R, wanted: &[Want]) -> bool {
     let mut does = true;
-    for (kind, number) in KINDS.iter().zip(numbers.iter()) {
-        does = does && number_of(reader.cardinality_limit(*kind)) == *number;
+    for (kind, number, letter) in wanted {
+        does = does
+            && number_of(reader.cardinality_limit(*kind)) == *number
+            && letter_of(reader.default_aggregation(*kind)) == *letter;
     }
     does
 }
 
-/// Whether a reader wants these aggregations.
-fn aggregates<R: MetricReader>(reader: &R, letters: [&str; 7]) -> bool {
+/// Whether a reader answered these limits and aggregations.
+fn answered(answers: &Answers, wanted: &[Want]) -> bool {
     let mut does = true;
-    for (kind, letter) in KINDS.iter().zip(letters.iter()) {
-        does = does && letter_of(reader.default_aggregation(*kind)) == *letter;
+    for (kind, number, letter) in wanted {
+        does = does
+            && answers.limit(*kind).unwrap_or(0) == *number
+            && letter_of(answers.aggregation(*kind)) == *letter;
     }
     does
 }
 
-/// Whether a reader answered these limits.
-fn answered_limits(answers: &Answers, numbers: [usize; 7]) -> bool {
-    let mut does = true;
-    for (kind, number) in KINDS.iter().zip(numbers.iter()) {
-        does = does && answers.limit(*kind).unwrap_or(0) == *number;
-    }
-    does
-}
-
-/// Whether a reader answered these aggregations.
-fn answered_aggregations(answers: &Answers, letters: [&str; 7]) -> bool {
-    let mut does = true;
-    for (kind, letter) in KINDS.iter().zip(letters.iter()) {
-        does = does && letter_of(answers.aggregation(*kind)) == *letter;
-    }
-    does
+/// A histogram with the bounds 10 and 20.
+fn histogram(alloc: Global, has_min_max: bool) -> Result<Aggregation, Fail> {
+    Ok(Aggregation::ExplicitBucketHistogram {
+        boundaries: Items::from(vec![in alloc; 10, 20]?),
+        record_min_max: has_min_max,
+    })
 }
 
 /// A reader with limits for two kinds, one of them given twice, and the same for aggregations.
@@ -153,113 +166,133 @@ fn built(limits: [CardinalityLimit; 3], histogram: Aggregation) -> ManualReader 
         .build()
 }
 
-/// A histogram with these bounds.
-fn histogram(bounds: Vec<i64>, has_min_max: bool) -> Aggregation {
-    Aggregation::ExplicitBucketHistogram {
-        boundaries: Items::from(bounds),
-        record_min_max: has_min_max,
-    }
-}
-
 fn reader(alloc: Global) -> Result<ManualReader, Fail> {
     let limits = [
         CardinalityLimit::new(5)?,
         CardinalityLimit::new(7)?,
         CardinalityLimit::new(6)?,
     ];
-    Ok(built(limits, histogram(vec![in alloc; 10, 20]?, false)))
+    Ok(built(limits, histogram(alloc, false)?))
 }
 
 /// Whether a reader, or a box of it, wants what was given last.
-fn wants_all<R: MetricReader>(reader: &R) -> bool {
-    prefers(reader, DELTA) && limits(reader, SOME_LIMITS) && aggregates(reader, SOME_AGGREGATIONS)
+fn wants_some<R: MetricReader>(reader: &R) -> bool {
+    prefers(reader, DELTA) && wants(reader, &SOME)
 }
 
-/// Whether a reader, or a box of it, wants no limits and no aggregations.
-fn wants_nothing<R: MetricReader>(reader: &R) -> bool {
-    limits(reader, NO_LIMITS) && aggregates(reader, NO_AGGREGATIONS)
-}
-
-fn boxed_wants_all(reader: &Box<dyn MetricReader>) -> bool {
-    boxed_reader(reader);
-    wants_all(reader)
+/// Whether a reader wants neither limits nor aggregations.
+fn wants_nothing(reader: ManualReader) -> bool {
+    wants(&reader, &NOTHING)
 }
 
 #[test]
 fn readers_want_what_was_given_last(rt: HostRuntime) -> Result<(), Fail> {
-    assert!(rt; wants_nothing(&ManualReader::default()));
-    assert!(rt; wants_all(&reader(rt.alloc())?));
+    assert!(rt; wants_nothing(ManualReader::default()));
+    let reader = reader(rt.alloc())?;
+    assert!(rt; wants_some(&reader));
     Ok(())
 }
 
-/// A reader with a limit and an aggregation of its own for each kind.
+/// A reader with a limit and an aggregation of its own for each kind, of which three are these histograms.
+fn built_for_each(
+    limits: [CardinalityLimit; 7],
+    first: Aggregation,
+    second: Aggregation,
+    third: Aggregation,
+) -> ManualReader {
+    ManualReader::builder()
+        .with_default_aggregation(InstrumentKind::Counter, Aggregation::Drop)
+        .with_default_aggregation(InstrumentKind::UpDownCounter, Aggregation::Default)
+        .with_default_aggregation(InstrumentKind::Histogram, Aggregation::Sum)
+        .with_default_aggregation(InstrumentKind::ObservableCounter, Aggregation::LastValue)
+        .with_default_aggregation(InstrumentKind::ObservableUpDownCounter, first)
+        .with_default_aggregation(InstrumentKind::Gauge, second)
+        .with_default_aggregation(InstrumentKind::ObservableGauge, third)
+        .with_cardinality_limit(InstrumentKind::Counter, limits[0])
+        .with_cardinality_limit(InstrumentKind::UpDownCounter, limits[1])
+        .with_cardinality_limit(InstrumentKind::Histogram, limits[2])
+        .with_cardinality_limit(InstrumentKind::ObservableCounter, limits[3])
+        .with_cardinality_limit(InstrumentKind::ObservableUpDownCounter, limits[4])
+        .with_cardinality_limit(InstrumentKind::Gauge, limits[5])
+        .with_cardinality_limit(InstrumentKind::ObservableGauge, limits[6])
+        .build()
+}
+
 fn reader_for_each(alloc: Global) -> Result<ManualReader, Fail> {
-    let aggregations = [
-        Aggregation::Drop,
-        Aggregation::Default,
-        Aggregation::Sum,
-        Aggregation::LastValue,
-        histogram(vec![in alloc; 10, 20]?, false),
-        histogram(vec![in alloc; 10, 20]?, true),
-        histogram(Vec::new(alloc), false),
+    let limits = [
+        CardinalityLimit::new(1)?,
+        CardinalityLimit::new(2)?,
+        CardinalityLimit::new(3)?,
+        CardinalityLimit::new(4)?,
+        CardinalityLimit::new(5)?,
+        CardinalityLimit::new(6)?,
+        CardinalityLimit::new(7)?,
     ];
-    let mut builder = ManualReader::builder();
-    for (kind, aggregation) in KINDS.iter().zip(aggregations) {
-        builder = builder.with_default_aggregation(*kind, aggregation);
+    let plain = histogram(alloc, false)?;
+    let full = histogram(alloc, true)?;
+    let bare = Aggregation::ExplicitBucketHistogram {
+        boundaries: Items::from(Vec::new(alloc)),
+        record_min_max: false,
+    };
+    Ok(built_for_each(limits, plain, full, bare))
+}
+
+/// Whether a reader wants something else for each kind, and answers it.
+fn answers_each(alloc: Global, reader: &ManualReader) -> bool {
+    match Answers::of(alloc, reader) {
+        Ok(answers) => wants(reader, &EACH) && answered(&answers, &EACH),
+        Err(_) => false,
     }
-    for (kind, limit) in KINDS.iter().zip(EACH_LIMIT.iter()) {
-        builder = builder.with_cardinality_limit(*kind, CardinalityLimit::new(*limit)?);
-    }
-    Ok(builder.build())
 }
 
 #[test]
 fn each_kind_has_its_own(rt: HostRuntime) -> Result<(), Fail> {
     let reader = reader_for_each(rt.alloc())?;
-    assert!(rt; limits(&reader, EACH_LIMIT) && aggregates(&reader, EACH_AGGREGATION));
-    let answers = Answers::of(rt.alloc(), &reader)?;
-    assert!(rt; answered_limits(&answers, EACH_LIMIT));
-    assert!(rt; answered_aggregations(&answers, EACH_AGGREGATION));
+    assert!(rt; answers_each(rt.alloc(), &reader));
     Ok(())
 }
 
-/// Whether a boxed reader wants what the reader in the box wants.
-fn is_kept_in_a_box(alloc: Global) -> Result<bool, Fail> {
-    let boxed: Box<dyn MetricReader> = Box::new(alloc, reader(alloc)?)?;
-    Ok(boxed_wants_all(&boxed))
+/// The reader in a box.
+fn boxed(alloc: Global) -> Result<Box<dyn MetricReader>, Fail> {
+    let reader = reader(alloc)?;
+    Ok(Box::new(alloc, reader)?)
+}
+
+fn boxed_wants_some(reader: &Box<dyn MetricReader>) -> bool {
+    boxed_reader(reader);
+    wants_some(reader)
 }
 
 #[test]
 fn boxes_have_the_limits_of_what_is_in_them(rt: HostRuntime) -> Result<(), Fail> {
-    assert!(rt; is_kept_in_a_box(rt.alloc())?);
+    let boxed = boxed(rt.alloc())?;
+    assert!(rt; boxed_wants_some(&boxed));
     Ok(())
 }
 
-/// Whether a reader answered `Delta` for gauges, and these limits and aggregations.
-fn answered(answers: &Answers, numbers: [usize; 7], letters: [&str; 7]) -> bool {
-    answers.temporality(InstrumentKind::Gauge) == Temporality::Delta
-        && answered_limits(answers, numbers)
-        && answered_aggregations(answers, letters)
-}
-
-fn answers_of_a_box(alloc: Global, boxed: Box<dyn MetricReader>) -> Result<Answers, Fail> {
-    Ok(Answers::of(alloc, &boxed)?)
+/// Whether a box answered `Delta` for gauges, and these limits and aggregations.
+fn box_answers(alloc: Global, boxed: &Box<dyn MetricReader>, wanted: &[Want]) -> bool {
+    match Answers::of(alloc, boxed) {
+        Ok(answers) => {
+            answers.temporality(InstrumentKind::Gauge) == Temporality::Delta
+                && answered(&answers, wanted)
+        }
+        Err(_) => false,
+    }
 }
 
 #[test]
 fn answers_are_kept(rt: HostRuntime) -> Result<(), Fail> {
-    let boxed: Box<dyn MetricReader> = Box::new(rt.alloc(), reader(rt.alloc())?)?;
-    let answers = answers_of_a_box(rt.alloc(), boxed)?;
-    assert!(rt; answered(&answers, SOME_LIMITS, SOME_AGGREGATIONS));
+    let boxed = boxed(rt.alloc())?;
+    assert!(rt; box_answers(rt.alloc(), &boxed, &SOME));
     Ok(())
 }
 
 #[test]
 fn readers_without_limits_answer_none(rt: HostRuntime) -> Result<(), Fail> {
     plain_answers();
-    assert!(rt; wants_nothing(&Old));
+    assert!(rt; wants(&Old, &NOTHING));
     let boxed: Box<dyn MetricReader> = Box::new(rt.alloc(), Old)?;
-    let answers = answers_of_a_box(rt.alloc(), boxed)?;
-    assert!(rt; answered(&answers, NO_LIMITS, NO_AGGREGATIONS));
+    assert!(rt; box_answers(rt.alloc(), &boxed, &NOTHING));
     Ok(())
 }
