@@ -117,6 +117,56 @@ fn has_form(alloc: Global, list: Set, form: Set) -> Result<bool, Fault> {
     ))
 }
 
+/// Two attributes from the last key to the first, and in the order of their keys.
+const B_THEN_A: Set = &[("b", 1), ("a", 2)];
+
+const A_THEN_B: Set = &[("a", 2), ("b", 1)];
+
+/// Whether the map knows both orders of the two attributes as given, or neither.
+fn knows_both(
+    alloc: Global,
+    map: &ValueMap<Increment<u64>>,
+    is_known: bool,
+) -> Result<bool, Fault> {
+    let given = attributes(alloc, B_THEN_A)?;
+    let sorted = attributes(alloc, A_THEN_B)?;
+    Ok(map.knows(&given) == is_known && map.knows(&sorted) == is_known)
+}
+
+/// Whether the map gives this many points at a collection that resets it, and then has this many keys and entries.
+fn collects(
+    alloc: Global,
+    map: &mut ValueMap<Increment<u64>>,
+    points: usize,
+    keys: usize,
+    entries: usize,
+) -> Result<bool, Fault> {
+    let given = map.collect_and_reset(alloc)?.len();
+    Ok(given == points && map.keys() == keys && map.count() == entries)
+}
+
+/// Whether a set that came unsorted is known in both orders until it is evicted, and in neither from then on.
+fn both_orders_go(alloc: Global, map: &mut ValueMap<Increment<u64>>) -> Result<bool, Fault> {
+    record(alloc, map, B_THEN_A, 1)?;
+    let were_there = map.keys() == 2 && map.count() == 1 && knows_both(alloc, map, true)?;
+    let stay = collects(alloc, map, 1, 2, 1)? && knows_both(alloc, map, true)?;
+    let go = collects(alloc, map, 0, 0, 0)? && knows_both(alloc, map, false)?;
+    Ok(were_there && stay && go)
+}
+
+#[test]
+fn stale_entry_evicts_both_unsorted_and_sorted_keys(rt: HostRuntime) -> Result<(), Fail> {
+    let alloc = rt.alloc();
+    let mut map: ValueMap<Increment<u64>> = ValueMap::new(
+        alloc,
+        SetHashBuilder::default(),
+        (),
+        10,
+    )?;
+    assert!(rt; both_orders_go(alloc, &mut map).unwrap_or(false));
+    Ok(())
+}
+
 #[test]
 fn few_keys_are_found_in_any_order(rt: HostRuntime) -> Result<(), Fail> {
     let alloc = rt.alloc();
