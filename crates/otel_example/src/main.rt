@@ -1,6 +1,7 @@
 //! A shop counts its requests: how a program uses the library.
 #![tactic(auto)]
 
+mod balances;
 mod calls;
 mod counted;
 mod first;
@@ -11,6 +12,7 @@ mod stand;
 mod views;
 
 use anyhow::Error;
+use balances::count_any;
 use counted::count_batch;
 use first::{Waiting, provider_of_service, serve_two, watch_queue};
 use opentelemetry_sdk::common::Fault;
@@ -100,13 +102,14 @@ fn with_views(rt: &impl Print, alloc: Global) -> Result<(), Error> {
     print_day(rt, alloc, &mut provider)
 }
 
-/// Makes a counter, and counts two batches of requests.
+/// Makes a counter, and counts two batches of requests, and an empty one.
 fn count_two<P: Parts>(alloc: Global, provider: &mut Provider<P>) -> Result<(), Fault> {
     let name = String::from_str(alloc, "requests")?;
     let meter = provider.meter("shop")?;
     let requests = meter.u64_counter(name).build(provider, 100)?;
     count_batch(provider, requests, 40, &[])?;
-    count_batch(provider, requests, 2, &[])
+    count_batch(provider, requests, 2, &[])?;
+    count_any(provider, requests, 0)
 }
 
 /// Counts two batches, and prints how many requests there were.

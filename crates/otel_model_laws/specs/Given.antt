@@ -51,7 +51,7 @@ abbrev pub stream_heading : Demand → Heading
 stream_heading d = record { scope = d.identity.scope; name = d.spelling; description = d.identity.description; unit = d.identity.unit; signed = d.identity.signed }
 
 -- ======== given ========
--- whether points show only what came after the collection before
+-- whether points show only what came after the collection before; those of a gauge do not
 abbrev pub is_delta_data : {T : Type 0} → MetricData T → Bool
 is_delta_data (MetricData.Gauge gauge) = false
 is_delta_data (MetricData.Sum sum) = resets sum.temporality
@@ -76,8 +76,8 @@ abbrev pub total_given : ℕ → List Call → List Reply → Heading → ℕ
 total_given r calls replies h = sum_by (given_under h) (given_collections r calls replies)
 
 -- ======== recorded, pending ========
--- the demands of the streams with this heading, read off the builds among these calls. There are several only where
--- instruments differ in nothing but their kind
+-- the demands of the streams with this heading, read off the builds among these calls. There is more than one only if
+-- their identities differ in nothing but the kind
 abbrev pub demanded_under : Views → ReaderAnswers → List Call → Heading → List Demand
 demanded_under views answers calls h = filter (λ (d : Demand). heading_eq (stream_heading d) h) (streams_of views answers (builds_in calls))
 

@@ -9,7 +9,7 @@ use Rattle.otel_data.specs.declared.collections.ScopeMetrics.{ScopeMetrics}
 use Rattle.otel_data.specs.declared.points.SumDataPoint.{SumDataPoint}
 use Rattle.otel_model_stream.specs.Folds.{wrap}
 use Rattle.otel_model.specs.Calls as calls
-use Rattle.otel_model.specs.Calls.{Text, About, Call, Build, Record, Collect, Reply}
+use Rattle.otel_model.specs.Calls.{Text, About, Call, Build, Record, Collect, OutOfMemory, Reply}
 use Rattle.otel_model.specs.Demands.{Sum, Views, ReaderAnswers, Temporality, Cumulative, Delta, answers_by}
 use Rattle.otel_model.specs.History.{made_calls}
 use Rattle.otel_model.specs.Machine.{new_part, new_state}
@@ -108,6 +108,21 @@ of_signed = refl
 pub of_signed_wrapped : wrap 55340232221128654845 ≡ wrap (18446744073709551614 + 18446744073709551615)
 of_signed_wrapped = refl
 
+-- ======== two readers ========
+abbrev shared : List Call
+shared = on (about calls.Counter a) (add 3 x1 ∷ Collect 0 200 [] ∷ add 4 x1 ∷ Collect 1 300 [] ∷ [])
+
+abbrev given_to : ℕ → ℕ
+given_to r = total_given r shared (replies [] (delta ∷ delta ∷ []) shared) (heading a)
+
+pub of_first_reader : given_to 0 ≡ 3
+unfolding canon
+of_first_reader = refl
+
+pub of_second_reader : given_to 1 ≡ 7
+unfolding canon
+of_second_reader = refl
+
 -- ======== two streams under one heading ========
 abbrev twice : List Call
 twice = on (about calls.Counter a) (Build (Some 0) (about calls.Histogram a) 100 ∷ add 3 x1 ∷ Record 1 (u64 4) x1 ∷ Collect 0 200 [] ∷ add 5 x1 ∷ [])
@@ -167,3 +182,9 @@ misnamed = refl
 pub not_given : with_collection (showing a Cumulative (3 ∷ 4 ∷ [])) ≡ (12, 0, 5)
 unfolding canon
 not_given = refl
+
+-- nor if what is answered as refused is recorded all the same
+pub refused_record : accounts_by [] delta (heading a) counted (Reply.Meter (Some 0) ∷ Reply.Instrument 0 ∷ Reply.Refused OutOfMemory ∷ Reply.Done ∷ Reply.Collected (record { resource = empty_resource; scope_metrics = showing a Delta (3 ∷ 4 ∷ []) }) ∷ Reply.Done ∷ [])
+    ≡ (9, 7, 5)
+unfolding canon
+refused_record = refl

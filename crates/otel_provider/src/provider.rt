@@ -422,9 +422,10 @@ impl<P: Parts> Provider<P> {
     /// `run` says what is done, call by call, and `reached` what becomes of the readers; if no call asks them, they
     /// stay as they were (`unasked`). `order` says, for any provider, that with the attributes of a record in another
     /// order, where no key stands twice, the same replies and state are right. The clauses from `streams` on say, for a
-    /// provider as `build` gave it, what can be read off the calls and replies alone. `given` is about what readers were
-    /// given: under each heading, which is a scope, a name, a description, a unit and a number type, what was recorded
-    /// is what the delta points of the answered collections add up to plus what the streams so headed hold.
+    /// provider as `build` gave it, what can be read off the calls and replies alone. `given` adds up the replies
+    /// themselves: under each heading, which is a scope, a name, a description, a unit and a number type, unless an
+    /// observed sum has it, what was recorded is what the delta points of the collections that the reader was given add
+    /// up to, plus what the streams with this heading hold.
     pub fn run(&mut self, alloc: Global, calls: &[Call]) -> Result<Vec<Reply>, Fault>
         ensures run { IfOk result (λ replies. Run (views_of P.View.answer self.old) (state_of self.old) (map call_of calls.now) (map reply_of replies.items) (state_of self.new)) }
         ensures unmade { OnErr result (state_of self.new ≡ state_of self.old) }
