@@ -1,5 +1,5 @@
 -- What counts of handles, and places for their sets, are kept by.
-use Rattle.std.proofs.Common.{◌≡◌, ℕ, ◌+◌, ◌^◌, ◌<◌, ◌≤◌, Bool, true, false, cond, ◌||◌, List, [], ◌∷◌, ◌++◌, map, filter, length, Some, refl, sym, ap, subst, ◌∙◌, nat_lt, true≢false, arith}
+use Rattle.std.proofs.Common.{◌-◌, ◌≡◌, ℕ, ◌+◌, ◌^◌, ◌<◌, ◌≤◌, Bool, true, false, cond, ◌||◌, List, [], ◌∷◌, ◌++◌, map, filter, length, Some, refl, sym, ap, subst, ◌∙◌, nat_lt, true≢false, arith}
 use Rattle.std.specs.Prelude.{◌==◌}
 use Rattle.std.specs.List.{AllByRecursion}
 use Rattle.std.proofs.lemmas.List.Folds.{list_any-append}
@@ -10,7 +10,7 @@ use Rattle.otel_model_stream.specs.Sets.{AttributeSet, none_set, over_set}
 use Rattle.otel_model_stream.specs.Folds.{Fold, Sample}
 use Rattle.otel_model_stream.specs.Events.{Handles, held_by, without}
 use Rattle.otel_model_stream.specs.Entries.{Entry, Table, new_entry, is_of, has, number_counted, place, on, write, take_handle, drop_handle, reset, at_entry, stays, evicted_table}
-use Rattle.otel_value_map.specs.Numbers.{is_placed, handles_in, AreHandlesFew, entry_without_handles, without_handles}
+use Rattle.otel_value_map.specs.Numbers.{is_placed, handles_in, handles_at, entry_without_handles, without_handles}
 use Rattle.otel_value_map.proofs.KeyedLemmas.{same_set, set_eq-self, set_eq-flip}
 use Rattle.otel_bound_map.specs.Links.{handles_at_set, IsCounted, AreHeld}
 
@@ -58,8 +58,8 @@ few-counted x hs (e ∷ es) h = by (is_of x e) (few-counted x hs es h.1)
     by true ih = omega (arith, h.0, count_by-le-length (λ (p : ℕ × AttributeSet). set_eq p.1 e.set) hs)
     by false ih = ih
 
-pub held-few : (t : Table) (hs : Handles) → AreHeld t hs → length hs < 2 ^ 63 → AreHandlesFew t
-held-few t hs held few = λ x. omega (arith, few-counted x hs (t.none ∷ t.entries) (held.none, held.entries))
+pub held-few : (t : Table) (hs : Handles) → AreHeld t hs → length hs < 2 ^ 63 → (x : AttributeSet) → handles_at x t < 2 ^ 64 - 1
+held-few t hs held few x = omega (arith, few-counted x hs (t.none ∷ t.entries) (held.none, held.entries))
 
 -- ======== no handles ========
 unheld-entries : (es : List Entry) → AllByRecursion (IsCounted []) es → map entry_without_handles es ≡ es

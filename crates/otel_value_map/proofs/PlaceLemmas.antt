@@ -1,6 +1,7 @@
 -- Where a record's entry is, once its set has a place.
 use Rattle.std.proofs.Common.{ℕ, ◌+◌, ◌-◌, ◌^◌, ◌<◌, ◌≡◌, List, [], ◌∷◌, ◌++◌, nat_lt, Bool, true, false, cond, ◌||◌, Option, Some, None, refl, ap, arith, subst, sym, ◌∙◌}
 use Rattle.std.specs.Map.{lookup, keys_of}
+use Rattle.std.proofs.lemmas.Bool.{or_parts}
 use Rattle.std.proofs.lemmas.List.Folds.{list_any-append}
 use Rattle.std.proofs.lemmas.List.{map-append}
 use Rattle.otel_common.specs.Equality.{set_eq}
@@ -8,14 +9,14 @@ use Rattle.otel_common.specs.declared.attributes.KeyValue.{KeyValue}
 use Rattle.otel_model_stream.specs.Folds.{Fold}
 use Rattle.otel_model_stream.specs.Sets.{AttributeSet, none_set, over_set}
 use Rattle.otel_model_stream.specs.Entries.{Entry, Table, new_entry, is_of, has, number_counted, entries_with_place, entry_for, place}
-use Rattle.otel_model_stream.specs.Maps.{MapState, with_place}
+use Rattle.otel_model_stream.specs.Maps.{MapState, with_place, bound_to}
 use Rattle.otel_value_map.specs.Slots.{Keyed}
 use Rattle.otel_value_map.specs.Keyed.{Slotted, IsNew, with_spelling}
-use Rattle.otel_value_map.specs.Numbers.{Numbers, number_of, KeepNumbers, is_placed, set_named, handles_in, AreHandlesFew}
-use Rattle.otel_value_map.specs.Held.{IsSound, IsReady, list_of, pending_in}
+use Rattle.otel_value_map.specs.Numbers.{Numbers, number_of, KeepNumbers, is_placed, set_named, handles_in, handles_at}
+use Rattle.otel_value_map.specs.Held.{IsSound, IsReady, list_of, pending_in, is_new, is_pending}
 use Rattle.otel_value_map.specs.declared.pending.Pending.{Pending}
 use Rattle.otel_value_map.specs.declared.pending.Pending.TheVariants.{Nothing, At, New}
-use Rattle.otel_value_map.proofs.KeyedLemmas.{same_set, set_eq-self}
+use Rattle.otel_value_map.proofs.KeyedLemmas.{same_set, set_eq-self, set_eq-flip}
 use Rattle.otel_value_map.proofs.AddLemmas.{lookup-pushed, numbers-pushed}
 use Rattle.otel_value_map.proofs.TableLemmas.{counted_cons}
 
@@ -97,6 +98,14 @@ new-prepared t few room p set list sound is = subst (IsSound t few room) (sym is
 pub new-set : (ns : Numbers) (p : Pending) (set s : AttributeSet) (list : Option (List KeyValue)) → New set list ≡ p → pending_in ns p ≡ Some s → set ≡ s
 new-set ns p set s list is e = let both : Some set ≡ Some s = ap (pending_in ns) is ∙ e in cc
 
+-- which is the set that is prepared, if that has no entry
+pub new-there : (t : Slotted) (few room : Bool) (p : Pending) (s : AttributeSet) → IsSound t few room p → is_new p ≡ is_pending p → pending_in t.numbers p ≡ Some s → (set_eq s none_set ≡ false) × (has s t.table.entries ≡ false)
+new-there t few room Nothing s sound is e = absurd (cc)
+new-there t few room (At n) s sound is e = absurd (cc)
+new-there t few room (New set list) s sound is e =
+    let same : set ≡ s = cc in
+    (subst (λ x. set_eq x none_set ≡ false) same sound.new.some, subst (λ x. has x t.table.entries ≡ false) same sound.absent)
+
 -- nothing is prepared
 pub nothing-prepared : (ns : Numbers) (p : Pending) (s : AttributeSet) {C : Type 0} → Nothing ≡ p → pending_in ns p ≡ Some s → C
 nothing-prepared ns p s is e = let none : None ≡ Some s = ap (pending_in ns) is ∙ e in absurd (cc)
@@ -138,8 +147,8 @@ few-push x (r ∷ rs) e n some none h = by (is_of x r) h (few-push x rs e n some
     by false h ih = ih h
 
 -- a place for a set adds no handle
-pub few-placed : (limit : ℕ) (empty : Fold) (s : AttributeSet) (t : Table) → AreHandlesFew t → AreHandlesFew (place limit empty s t)
-few-placed limit empty s t few = λ x. first x (is_of x t.none) (few x)
+pub few-placed : (limit : ℕ) (empty : Fold) (s : AttributeSet) (t : Table) (x : AttributeSet) → handles_at x t < 2 ^ 64 - 1 → handles_at x (place limit empty s t) < 2 ^ 64 - 1
+few-placed limit empty s t x few = first x (is_of x t.none) few
   where
     pushed : (x : AttributeSet) (k : AttributeSet) (b : Bool) → handles_in x t.entries < 2 ^ 64 - 1 → handles_in x (t.entries ++ new_entry empty k b ∷ []) < 2 ^ 64 - 1
     pushed x k b h = few-push x t.entries (new_entry empty k b) (2 ^ 64 - 1) (omega arith) refl h
@@ -155,3 +164,17 @@ few-placed limit empty s t few = λ x. first x (is_of x t.none) (few x)
     first : (x : AttributeSet) (b : Bool) → cond b t.none.handles (handles_in x t.entries) < 2 ^ 64 - 1 → cond b t.none.handles (handles_in x (entries_with_place limit empty s t.entries)) < 2 ^ 64 - 1
     first x true h = h
     first x false h = rest x (set_eq s none_set) (has s t.entries) (nat_lt (number_counted t.entries) limit) (has over_set t.entries) h
+
+-- a set without an entry has no handles
+handles-away : (x : AttributeSet) (es : List Entry) → has x es ≡ false → handles_in x es ≡ 0
+handles-away x [] e = refl
+handles-away x (r ∷ rs) e = let q = or_parts (is_of x r) (has x rs) e in (λ i. cond (q.0 i) r.handles (handles_in x rs)) ∙ handles-away x rs q.1
+
+pub no_handles : (x : AttributeSet) (t : Table) → t.none.set ≡ none_set → set_eq x none_set ≡ false → has x t.entries ≡ false → handles_at x t ≡ 0
+no_handles x t is some away =
+    ap (λ k. cond (set_eq k x) t.none.handles (handles_in x t.entries)) is
+    ∙ (ap (λ b. cond b t.none.handles (handles_in x t.entries)) (set_eq-flip none_set x ∙ some) ∙ handles-away x t.entries away)
+
+-- the entry that a bind uses
+pub bound-by : (m : MapState) (s : AttributeSet) (after : List Entry) (used : AttributeSet) → Placing m.limit m.empty s m.table.entries after used → bound_to s m ≡ used
+bound-by m s after used p = ap (entry_for s) (sym p.state) ∙ p.goal

@@ -1,8 +1,9 @@
 -- A change in one slot is a change of one entry.
 use Rattle.std.proofs.Common.{ℕ, ◌+◌, ◌≡◌, Bool, true, false, cond, List, [], ◌∷◌, Option, Some, None, is_some, map, refl, sym, ap, subst, ◌∙◌, nat_eq, true≢false, arith}
-use Rattle.std.specs.List.{AllByRecursion, IsDistinct}
+use Rattle.std.specs.List.{AllByRecursion, IsDistinct, list_any}
 use Rattle.std.specs.Map.{lookup, keys_of, values_of}
 use Rattle.std.specs.Option.{option_map}
+use Rattle.std.proofs.lemmas.Bool.{or_parts}
 use Rattle.std.proofs.lemmas.Bool.Decides.{nat_tests}
 use Rattle.std.proofs.lemmas.Map.Keys.{IsDistinct-head, IsDistinct-tail}
 use Rattle.otel_common.specs.Equality.{set_eq}
@@ -10,7 +11,7 @@ use Rattle.otel_model_stream.specs.Sets.{AttributeSet, none_set}
 use Rattle.otel_model_stream.specs.Entries.{Entry, on, is_of, at_entry, number_counted}
 use Rattle.otel_value_map.specs.Slots.{Kept, Look, SameLook, Keyed, at_slot, entry_of, entry_at, table_at}
 use Rattle.otel_value_map.specs.Keyed.{Fits, IsKept, is_lasting, is_counted}
-use Rattle.otel_value_map.specs.Numbers.{number_of}
+use Rattle.otel_value_map.specs.Numbers.{number_of, is_number}
 use Rattle.otel_value_map.proofs.TableLemmas.{counted_cons}
 use Rattle.otel_value_map.proofs.KeyedLemmas.{same_set, set_eq-flip, same_number, entry-set, lookup-away, entries-same, fits-as}
 
@@ -117,6 +118,16 @@ module _ (f : Kept → Kept) (g : Entry → Entry) (as_entry : (s : AttributeSet
             none = (ap (entry_of none_set) (elsewhere none back) ∙ ap (λ b. cond b (g (entry_at look (none_set, none))) (entry_at look (none_set, none))) (sym miss)) i;
             entries = rest i;
           }
+
+  -- no change where no entry has the number
+  pub table-untouched : (none : ℕ) (es : List Keyed) → is_number n (record { none = none; sets = es }) ≡ false → table_at other none es ≡ table_at look none es
+  table-untouched none es e =
+      let q = or_parts (nat_eq n none) (list_any (λ (k : Keyed). nat_eq n k.1) es) e in
+      λ i. record { none = ap (entry_of none_set) (elsewhere none q.0) i; entries = entries-same look other n es (apart es q.1) elsewhere i }
+    where
+      apart : (es : List Keyed) → list_any (λ (k : Keyed). nat_eq n k.1) es ≡ false → AllByRecursion (λ y. nat_eq n y ≡ false) (values_of es)
+      apart [] h = tt
+      apart (k ∷ ks) h = let q = or_parts (nat_eq n k.1) (list_any (λ (k : Keyed). nat_eq n k.1) ks) h in (q.0, apart ks q.1)
 
   -- what is counted stays
   pub counted-touched : (es : List Keyed) → number_counted (map (entry_at other) es) ≡ number_counted (map (entry_at look) es)

@@ -3,3 +3,4 @@ pub mod Held
 pub mod Keyed
 pub mod Numbers
 pub mod Slots
+pub mod Faults

@@ -1,5 +1,6 @@
 -- The numbers by which handles name entries, and the keys of a map.
-use Rattle.std.specs.Prelude.{◌≡◌, ℕ, ◌<◌, ◌-◌, ◌^◌, nat_eq, ◌&&◌, ◌||◌, not, cond, Bool, true, false, List, [], ◌∷◌, map, Option, Some, is_some}
+use Rattle.std.specs.Prelude.{◌≡◌, ℕ, nat_eq, ◌&&◌, ◌||◌, not, cond, Bool, true, false, List, [], ◌∷◌, map, Option, Some, is_some}
+use Rattle.std.specs.List.{list_any}
 use Rattle.std.specs.Map.{lookup}
 use Rattle.otel_common.specs.Canonical.{canon}
 use Rattle.otel_common.specs.Equality.{set_eq}
@@ -26,6 +27,10 @@ named_in n (e ∷ es) = cond (nat_eq n e.1) e.0 (named_in n es)
 -- the set that this number names; the empty one if it names no other
 abbrev pub set_named : ℕ → Numbers → AttributeSet
 set_named n ns = cond (nat_eq n ns.none) none_set (named_in n ns.sets)
+
+-- whether an entry has this number
+abbrev pub is_number : ℕ → Numbers → Bool
+is_number n ns = nat_eq n ns.none || list_any (λ (e : AttributeSet × ℕ). nat_eq n e.1) ns.sets
 
 -- each set that has a number keeps it
 abbrev pub KeepNumbers : Numbers → Numbers → Type 0
@@ -72,7 +77,3 @@ entry_without_handles e = record e { handles = 0 }
 -- a table, without its live handles
 abbrev pub without_handles : Table → Table
 without_handles t = record { none = entry_without_handles t.none; entries = map entry_without_handles t.entries }
-
--- every entry has so few live handles that one more can be counted in 64 bits
-abbrev pub AreHandlesFew : Table → Type 0
-AreHandlesFew t = (s : AttributeSet) → handles_at s t < 2 ^ 64 - 1

@@ -85,6 +85,15 @@ impl Prepared {
         self.number.is_some() || self.added.is_some()
     }
 
+    /// The number of the entry that a record or bind is prepared for, if that is one for a set that has an entry.
+    #[inline(always)]
+    pub fn number(&self) -> Option<usize>
+        ensures at { IfSome result (λ n. self.now ≡ At n) }
+        ensures other { IfNone result (is_new self.now ≡ is_pending self.now) }
+    {
+        self.number
+    }
+
     /// Takes out the number of the entry that a record or bind is prepared for, if that is one for a set that has an
     /// entry.
     #[inline(always)]

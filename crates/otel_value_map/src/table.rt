@@ -14,7 +14,7 @@ ghost use Rattle.otel_model_stream.specs.Totals.{points_total};
 ghost use Rattle.otel_model_stream.specs.Entries.{point_of_entry, new_entry, has, write, take_handle, drop_handle, at_entry, new_table, evicted_table, drained_table, points, number_counted};
 ghost use Rattle.std.specs.List.{AllByRecursion};
 ghost use Rattle.otel_value_map.specs.Keyed.{Fits, found, IsNew, IsSpelling, with_spelling};
-ghost use Rattle.otel_value_map.specs.Numbers.{number_of, handles_at, entry_without_handles, without_handles, AreNamed, AreNumbered, KeepLeft, IsNumberOf};
+ghost use Rattle.otel_value_map.specs.Numbers.{number_of, handles_at, entry_without_handles, without_handles, AreNamed, AreNumbered, KeepLeft, IsNumberOf, is_number};
 ghost use Rattle.otel_value_map.specs.Slots.{HasForm, look_in, kept_of, forgotten, entry_of, entry_at, copies};
 
 use crate::aggregator::Aggregator;
@@ -353,6 +353,7 @@ impl<A: Aggregator> Table<A> {
     /// Takes a record into the entry with this number, without a look-up.
     pub fn touch(&mut self, number: usize, value: A::PreComputedValue)
         ensures table { (s : AttributeSet) → number_of s self.old.numbers ≡ Some number → self.new.table ≡ at_entry s (write (A.sample value)) self.old.table }
+        ensures unknown { is_number number self.old.numbers ≡ false → self.new.table ≡ self.old.table }
         ensures counted { number_counted self.new.table.entries ≡ number_counted self.old.table.entries }
         ensures numbers { self.new.numbers ≡ self.old.numbers }
         ensures given { self.new.given ≡ self.old.given }
@@ -363,6 +364,7 @@ impl<A: Aggregator> Table<A> {
     /// Takes a live handle away from the entry with this number.
     pub fn release(&mut self, number: usize)
         ensures table { (s : AttributeSet) → number_of s self.old.numbers ≡ Some number → self.new.table ≡ at_entry s drop_handle self.old.table }
+        ensures unknown { is_number number self.old.numbers ≡ false → self.new.table ≡ self.old.table }
         ensures counted { number_counted self.new.table.entries ≡ number_counted self.old.table.entries }
         ensures numbers { self.new.numbers ≡ self.old.numbers }
         ensures given { self.new.given ≡ self.old.given }
@@ -405,6 +407,16 @@ impl<A: Aggregator> Table<A> {
             add_key(&mut self.given, list, number);
         }
         number
+    }
+
+    /// How many live handles the entry with this number has.
+    pub fn handles(&self, number: usize) -> u64
+        ensures { (s : AttributeSet) → number_of s self.now.numbers ≡ Some number → result ≡ handles_at s self.now.table }
+    {
+        match self.slots.get(number) {
+            Some(slot) => slot.handles,
+            None => 0,
+        }
     }
 
     /// Adds a live handle to the entry with this number.

@@ -1,6 +1,6 @@
 //! A bounded map from sets of attributes to aggregators.
 
-ghost use Rattle.std.specs.Prelude.{◌≡◌, ◌<◌, ◌-◌, ◌+◌, ◌*◌, ◌≤◌, ◌^◌, ◌++◌, [], true, false, is_some, length, None, Some, IsSome, OnOk, OnErr, IfOk, IsOk, IsOkUnless, IsTrue, ℕ};
+ghost use Rattle.std.specs.Prelude.{◌≡◌, ◌<◌, ◌-◌, ◌+◌, ◌*◌, ◌≤◌, ◌^◌, ◌++◌, [], true, false, is_some, length, None, Some, IsSome, OnOk, OnErr, IfOk, IsOk, IfErr, IsOkUnless, IsTrue, ℕ};
 ghost use Rattle.std.specs.Option.{option_copied, option_map};
 ghost use Rattle.otel_common.specs.Canonical.{canon};
 ghost use Rattle.otel_model_stream.specs.Entries.{entry_for, points, number_counted};
@@ -11,7 +11,8 @@ ghost use Rattle.otel_model_stream.specs.Folds.{wrap};
 ghost use Rattle.otel_model_stream.specs.Sets.{AttributeSet, allowed_part, set_of};
 ghost use Rattle.otel_model_stream.specs.Totals.{points_total};
 ghost use Rattle.otel_value_map.specs.Held.{known_of};
-ghost use Rattle.otel_value_map.specs.Numbers.{number_of, without_handles, AreHandlesFew, AreNamed, AreNumbered, spelling_of, is_placed, KeepNumbers, KeepLeft};
+ghost use Rattle.otel_value_map.specs.Faults.{IsBindFault};
+ghost use Rattle.otel_value_map.specs.Numbers.{number_of, is_number, without_handles, handles_at, AreNamed, AreNumbered, spelling_of, is_placed, KeepNumbers, KeepLeft};
 ghost use Rattle.otel_value_map.specs.Slots.{HasForm, copies};
 
 use crate::aggregator::Aggregator;
@@ -373,7 +374,7 @@ impl<A: Aggregator> ValueMap<A> {
     /// This is the second phase; it can't fail.
     pub fn commit_bind(&mut self) -> usize
         requires prepared { IsSome self.old.pending }
-        requires few { AreHandlesFew self.old.state.table }
+        requires few { (s : AttributeSet) → self.old.pending ≡ Some s → handles_at (bound_to s self.old.state) self.old.state.table < 2 ^ 64 - 1 }
         ensures bound { (s : AttributeSet) → self.old.pending ≡ Some s → self.new.state ≡ bound_map s self.old.state }
         ensures number { (s : AttributeSet) → self.old.pending ≡ Some s → number_of (bound_to s self.old.state) self.new.numbers ≡ Some result }
         ensures numbers { KeepNumbers self.old.numbers self.new.numbers }
@@ -385,29 +386,53 @@ impl<A: Aggregator> ValueMap<A> {
         number
     }
 
+    /// How many live handles the entry has that the prepared bind uses; none if the entry is still to be made.
+    fn handles_there(&self) -> u64
+        ensures { (s : AttributeSet) → self.now.pending ≡ Some s → result ≡ handles_at (bound_to s self.now.state) self.now.state.table }
+    {
+        if let Some(number) = self.pending.number() {
+            return self.table.handles(number);
+        }
+        // Tells the prover that the first entry is the empty set's.
+        self.table.told_form();
+        if self.limit > self.count {
+            return 0;
+        }
+        match self.table.find_set(&self.overflow) {
+            Some(number) => self.table.handles(number),
+            None => 0,
+        }
+    }
+
     /// Binds a handle to the entry for the canonical form of the attributes, and returns the entry's number. The
     /// handle stays with that entry for life. Takes memory as a record of the attributes does, and makes them lead to
     /// an entry as that does.
+    ///
+    /// Refused for want of memory, or as exhausted if the entry has 2^64 - 1 live handles, and then nothing changes.
     pub fn bind(&mut self, attributes: &[KeyValue]) -> Result<usize, Fault>
-        requires { AreHandlesFew self.old.state.table }
         ensures ok { OnOk result (known_of self.new ≡ bound_list attributes.now (known_of self.old)) }
         ensures learned { OnOk result (IsTrue (is_admitted (canon attributes.now) self.old.state) → AreKnown attributes.now (known_of self.new)) }
         ensures number { IfOk result (λ n. number_of (bound_to (canon attributes.now) self.old.state) self.new.numbers ≡ Some n) }
         ensures numbers { KeepNumbers self.old.numbers self.new.numbers }
         ensures err { OnErr result (known_of self.new ≡ known_of self.old) }
         ensures spent { self.new.pending ≡ None }
-        ensures known { SucceedsIfKnown attributes.now (known_of self.old) result }
-        ensures placed { IsTrue (is_placed (canon attributes.now) self.old.state.table.entries) → IsOk result }
-        ensures only_memory { IsOkUnless result Fault.OutOfMemory }
+        ensures known { handles_at (bound_to (canon attributes.now) self.old.state) self.old.state.table < 2 ^ 64 - 1 → SucceedsIfKnown attributes.now (known_of self.old) result }
+        ensures placed { handles_at (bound_to (canon attributes.now) self.old.state) self.old.state.table < 2 ^ 64 - 1 → IsTrue (is_placed (canon attributes.now) self.old.state.table.entries) → IsOk result }
+        ensures refused { IfErr result (IsBindFault (handles_at (bound_to (canon attributes.now) self.old.state) self.old.state.table)) }
     {
         self.prepare(attributes)?;
+        if self.handles_there() == u64::MAX {
+            self.give_up();
+            return Err(Fault::Exhausted);
+        }
         Ok(self.commit_bind())
     }
 
-    /// Takes in a record through a handle, by the number of its entry. Looks nothing up, takes no memory, and gives up
-    /// what was prepared.
+    /// Takes in a record through a handle, by the number of its entry; does nothing if no entry has the number. Looks
+    /// nothing up, takes no memory, and gives up what was prepared.
     pub fn update_bound(&mut self, number: usize, value: A::PreComputedValue)
         ensures updated { (s : AttributeSet) → number_of s self.old.numbers ≡ Some number → self.new.state ≡ updated_bound s (A.sample value) self.old.state }
+        ensures unknown { is_number number self.old.numbers ≡ false → self.new.state ≡ self.old.state }
         ensures numbers { self.new.numbers ≡ self.old.numbers }
         ensures given { self.new.given ≡ self.old.given }
         ensures spent { self.new.pending ≡ None }
@@ -416,9 +441,11 @@ impl<A: Aggregator> ValueMap<A> {
         self.table.touch(number, value);
     }
 
-    /// Ends a handle, by the number of its entry. Takes no memory, and gives up what was prepared.
+    /// Ends a handle, by the number of its entry; does nothing if no entry has the number. Takes no memory, and gives up
+    /// what was prepared.
     pub fn unbind(&mut self, number: usize)
         ensures unbound { (s : AttributeSet) → number_of s self.old.numbers ≡ Some number → self.new.state ≡ unbound_map s self.old.state }
+        ensures unknown { is_number number self.old.numbers ≡ false → self.new.state ≡ self.old.state }
         ensures numbers { self.new.numbers ≡ self.old.numbers }
         ensures given { self.new.given ≡ self.old.given }
         ensures spent { self.new.pending ≡ None }

@@ -2,6 +2,7 @@ use Rattle.std.proofs.Common.{◌∙◌, List, ℕ, is_some, ap, sym, true≢fal
 use Rattle.std.specs.Prelude.{IsSome}
 use Rattle.std.proofs.lemmas.List.{length-map}
 use Rattle.otel_model_stream.specs.Events.{held_by}
+use Rattle.otel_model_stream.specs.Maps.{bound_to}
 use Rattle.otel_value_map.specs.Numbers.{Numbers}
 use Rattle.otel_bound_map.specs.Handles.{HeldMap}
 use Rattle.otel_bound_map.specs.Links.{Link, handle_of, handles_of}
@@ -26,7 +27,7 @@ pub commit_bind-number-requires-clause-few : goal.commit_bind-number-requires-cl
 commit_bind-number-requires-clause-few g c =
     let old : Numbers = c.self.inside.map.numbers in
     let links : List Link = c.self.inside.live.entries in
-    held-few c.self.inside.map.state.table (handles_of old links) c.self.invariant.1 (omega (arith, length-map links (handle_of old), c.len.ensures.len, c.len.ensures.small))
+    λ s e. held-few c.self.inside.map.state.table (handles_of old links) c.self.invariant.1 (omega (arith, length-map links (handle_of old), c.len.ensures.len, c.len.ensures.small)) (bound_to s c.self.inside.map.state)
 
 pub invariant_of-self : goal.invariant_of-self
 invariant_of-self g c =

@@ -1,7 +1,7 @@
 use Rattle.std.proofs.Common.{◌≡◌, ◌∙◌, List, Some, None, is_some, true, ap, sym, subst}
 use Rattle.std.specs.List.{AllByRecursion}
 use Rattle.otel_model_stream.specs.Sets.{AttributeSet}
-use Rattle.otel_model_stream.specs.Events.{Handles, held_by}
+use Rattle.otel_model_stream.specs.Events.{held_by}
 use Rattle.otel_model_stream.specs.Maps.{MapState}
 use Rattle.otel_value_map.specs.Numbers.{Numbers, number_of, set_named, is_placed}
 use Rattle.otel_bound_map.specs.Handles.{HeldMap}

@@ -2,8 +2,8 @@ use Rattle.std.proofs.Common.{refl, ap, ◌∙◌}
 use Rattle.otel_model_stream.specs.Entries.{write, at_entry}
 use Rattle.otel_value_map.specs.Keyed.{Slotted}
 use Rattle.otel_value_map.specs.Slots.{written}
-use Rattle.otel_value_map.specs.Numbers.{number_of}
-use Rattle.otel_value_map.proofs.TouchLemmas.{kept-touched, table-touched, counted-touched}
+use Rattle.otel_value_map.specs.Numbers.{number_of, is_number}
+use Rattle.otel_value_map.proofs.TouchLemmas.{kept-touched, table-touched, table-untouched, counted-touched}
 use Rattle.otel_value_map.proofs.table.Table.touch.Goals as goal
 
 pub invariant_of-self : goal.invariant_of-self
@@ -22,3 +22,10 @@ pub returns-clause-counted : goal.returns-clause-counted
 returns-clause-counted g c =
     let v = g.A.Aggregator.sample c.args.value in
     rw (← c.self.view_is) (counted-touched (written v) (write v) (λ s k. refl) (λ k. refl) (λ k. refl) _ _ c.args.number c.touch.ensures.look c.self.inside.sets.entries)
+
+pub returns-clause-unknown : goal.returns-clause-unknown
+returns-clause-unknown g c = λ e.
+    let v = g.A.Aggregator.sample c.args.value in
+    table-untouched (written v) (write v) (λ s k. refl) (λ k. refl) (λ k. refl) _ _ c.args.number c.touch.ensures.look c.self.inside.none c.self.inside.sets.entries
+    (ap (λ (t : Slotted). is_number c.args.number t.numbers) c.self.view_is ∙ e)
+    ∙ ap (λ (t : Slotted). t.table) c.self.view_is

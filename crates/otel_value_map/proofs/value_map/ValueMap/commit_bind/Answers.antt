@@ -2,8 +2,8 @@ use Rattle.std.proofs.Common.{◌≡◌, ◌∙◌, ◌<◌, ◌-◌, ◌^◌, a
 use Rattle.std.specs.Prelude.{IsSome}
 use Rattle.otel_model_stream.specs.Sets.{AttributeSet}
 use Rattle.otel_model_stream.specs.Entries.{entry_for}
-use Rattle.otel_model_stream.specs.Maps.{MapState}
-use Rattle.otel_value_map.specs.Numbers.{number_of, handles_at, AreHandlesFew}
+use Rattle.otel_model_stream.specs.Maps.{MapState, bound_to}
+use Rattle.otel_value_map.specs.Numbers.{number_of, handles_at}
 use Rattle.otel_value_map.specs.Held.{Held, IsSound, pending_in}
 use Rattle.otel_value_map.specs.declared.pending.Pending.TheVariants.{Nothing}
 use Rattle.otel_value_map.proofs.PlaceLemmas.{nothing-left, few-placed}
@@ -21,9 +21,12 @@ hold-requires g c =
       | None ↦ λ none some. absurd (true≢false (sym some))
       | Some s ↦ λ is some.
           let x : AttributeSet = entry_for s c.place-number.new.self.state.table.entries in
-          let few : AreHandlesFew c.place-number.new.self.state.table = subst (λ (m : MapState). AreHandlesFew m.table) (sym (c.place-number.ensures.state s is)) (few-placed c.args.self.now.state.limit c.args.self.now.state.empty s c.args.self.now.state.table c.requires.few) in (
+          let was : MapState = c.args.self.now.state in
+          let used : x ≡ bound_to s was = ap (λ (m : MapState). entry_for s m.table.entries) (c.place-number.ensures.state s is) in
+          let before : handles_at x was.table < 2 ^ 64 - 1 = subst (λ (y : AttributeSet). handles_at y was.table < 2 ^ 64 - 1) (sym used) (c.requires.few s is) in
+          let few : handles_at x c.place-number.new.self.state.table < 2 ^ 64 - 1 = subst (λ (m : MapState). handles_at x m.table < 2 ^ 64 - 1) (sym (c.place-number.ensures.state s is)) (few-placed was.limit was.empty s was.table x before) in (
             x,
             ap (λ (h : Held). number_of x h.numbers) c.self.view_is ∙ c.place-number.ensures.number s is,
-            subst (λ (h : Held). handles_at x h.state.table < 2 ^ 64 - 1) (sym c.self.view_is) (few x),
+            subst (λ (h : Held). handles_at x h.state.table < 2 ^ 64 - 1) (sym c.self.view_is) few,
           )
     ] refl c.requires.prepared
