@@ -16,7 +16,7 @@ mod printing;
 mod readers;
 mod refusals;
 pub mod script;
-mod script_lines;
+pub mod script_lines;
 mod streams;
 mod texts;
 pub mod views;
