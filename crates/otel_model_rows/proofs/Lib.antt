@@ -16,3 +16,6 @@ pub mod RowsSteps
 pub mod RowsFolds
 pub mod RowsTables
 pub mod RowsStates
+pub mod RowsDemands
+pub mod RowsHistories
+pub mod RowsWindows
