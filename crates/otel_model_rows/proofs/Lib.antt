@@ -19,3 +19,6 @@ pub mod RowsStates
 pub mod RowsDemands
 pub mod RowsHistories
 pub mod RowsWindows
+pub mod RowsCollections
+pub mod RowsLaws
+pub mod RowsStreamLaws

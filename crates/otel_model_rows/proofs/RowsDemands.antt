@@ -1,11 +1,10 @@
 -- Worked rows on demands: identities, fates, which demands a build makes, and what an instrument feeds.
-use Rattle.std.specs.Prelude.{◌≡◌, ℕ, ℤ, pos, Bool, true, false, List, [], ◌∷◌, ◌++◌, map, Option, Some, None, codes}
+use Rattle.std.specs.Prelude.{◌≡◌, ℕ, ℤ, pos, true, false, List, [], ◌∷◌, ◌++◌, map, Option, Some, None, codes}
 use Rattle.std.proofs.Common.{refl}
 use Rattle.otel_common.specs.Canonical.{canon}
-use Rattle.otel_common.specs.declared.scopes.InstrumentationScope.{InstrumentationScope}
-use Rattle.otel_model.specs.Calls.{Counter, UpDownCounter, Histogram, Gauge, About, Call, Build, Record, Collect}
+use Rattle.otel_model.specs.Calls.{Counter, Histogram, Gauge, About, Call, Build, Record, Collect}
 use Rattle.otel_model.specs.Demands.{Aggregation, Drop, Default, Sum, LastValue, ExplicitBucketHistogram, Identity, Demand, StreamSpec, Views, ReaderAnswers, identity_eq, is_drop, default_limit, default_bounds, demand_of, own_demand, add_answer, view_demands, is_compatible, fate_of, is_drop_fate, is_dropped, is_known, is_empty, needs_own, demands_with, are_good_bounds, is_good, demands_on, has_identity, each_once, fed_identities, nothing_said}
-use Rattle.otel_model_rows.specs.Rows.{a, b, m, scope_named, about, with_own_bounds, u64, if_named, limited, named, aggregating, but_for, limit_of, cumulative, delta, AloneShows, one, cumulative_sum, on, add}
+use Rattle.otel_model_rows.specs.Rows.{a, b, m, scope_named, about, u64, if_named, named, aggregating, but_for, limit_of, cumulative, AloneShows, one, cumulative_sum, on, add}
 
 -- ======== identities ========
 abbrev counter : Identity

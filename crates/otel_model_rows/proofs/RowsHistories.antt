@@ -1,22 +1,20 @@
 -- Worked rows on what is read off the calls: meters, builds, streams, histories, windows, moments, collections, totals.
-use Rattle.std.specs.Prelude.{◌≡◌, ℕ, ◌+◌, ℤ, pos, Bool, true, false, List, [], ◌∷◌, ◌++◌, map, length, Option, Some, None, codes}
+use Rattle.std.specs.Prelude.{◌≡◌, ℕ, ◌+◌, true, false, List, [], ◌∷◌, ◌++◌, map, length, Some, None, codes}
 use Rattle.std.proofs.Common.{refl}
 use Rattle.otel_common.specs.Canonical.{canon}
-use Rattle.otel_common.specs.declared.attributes.KeyValue.{KeyValue}
 use Rattle.otel_common.specs.declared.scopes.InstrumentationScope.{InstrumentationScope}
 use Rattle.otel_data.specs.declared.collections.ResourceMetrics.{ResourceMetrics}
 use Rattle.otel_model_stream.specs.Sets.{over_set}
-use Rattle.otel_model_stream.specs.Events as events
 use Rattle.otel_model_stream.specs.Events.{Event, Point}
 use Rattle.otel_model_stream.specs.Folds.{Total, Last}
 use Rattle.otel_model_stream.specs.Windows.{Window, opening}
-use Rattle.otel_model.specs.Calls.{Counter, ObservableCounter, Histogram, Gauge, About, Observed, Call, Meter, Build, Record, Bind, RecordBound, Unbind, Collect, Flush, Shutdown, UnknownReader, WrongNumber, Reply}
+use Rattle.otel_model.specs.Calls.{Counter, ObservableCounter, About, Call, Meter, Build, Record, Bind, RecordBound, Unbind, Collect, Flush, Shutdown, UnknownReader, Reply}
 use Rattle.otel_model.specs.Demands.{Aggregation, Drop, LastValue, Identity, Demand, Views, own_demand}
 use Rattle.otel_model.specs.History.{gather, is_shut, binds_in, scope_asked, new_scope, meters_in, Built, build_in, builds_in, demands_after, demands_of, new_demand, firsts, streams_of, feeds_of, demands_by, feeds_by, is_demanded, events_at, history, window_of, window_after, window_points, points_with, shown_by, shown_at, shown_points, last_or, moment_at, start_of, reported_of, collection_of, made_by, collections_of, shown_in, collected_by, given_collections}
 use Rattle.otel_model.specs.Resources.{empty_resource}
 use Rattle.otel_model.specs.Sent.{has_scope, scope_of, is_fed, set_for, observed_events, sent_events}
 use Rattle.otel_model.specs.Totals.{exported_in, recorded_in}
-use Rattle.otel_model_rows.specs.Rows.{a, b, m, scope_named, about, u64, i64, x1, y1, pair, if_named, named, limited, aggregating, limit_1, cumulative, delta, moments, seen, one, cumulative_sum, delta_sum, add, observe}
+use Rattle.otel_model_rows.specs.Rows.{a, b, m, scope_named, about, u64, x1, y1, if_named, named, aggregating, limit_1, cumulative, delta, moments, seen, one, delta_sum, observe}
 
 -- ======== lists ========
 -- each number with how many come before it

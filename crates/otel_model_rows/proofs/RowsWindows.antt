@@ -1,10 +1,10 @@
 -- Worked rows on the windows of one stream: which sets have a place, where measurements go, and what the next one starts
 -- with.
-use Rattle.std.specs.Prelude.{◌≡◌, ℕ, Bool, true, false, List, [], ◌∷◌, ◌++◌, map, Option, Some, None}
+use Rattle.std.specs.Prelude.{◌≡◌, Bool, true, false, List, [], ◌∷◌, ◌++◌, map, Some, None}
 use Rattle.std.proofs.Common.{refl}
-use Rattle.otel_model_stream.specs.Sets.{AttributeSet, none_set, over_set}
-use Rattle.otel_model_stream.specs.Folds.{Amount, Sum, LastValue, Total, Last}
-use Rattle.otel_model_stream.specs.Events.{Event, Record, Bind, RecordBound, Unbind, Collect, Delta, Cumulative, Drained, Handles}
+use Rattle.otel_model_stream.specs.Sets.{AttributeSet, over_set}
+use Rattle.otel_model_stream.specs.Folds.{Amount, Sum, LastValue, Last}
+use Rattle.otel_model_stream.specs.Events.{Event, Bind, RecordBound, Unbind, Collect, Delta, Cumulative, Drained}
 use Rattle.otel_model_stream.specs.Windows.{Start, Window, is_in, mentions, newcomers, sets_that_count, room, admitted_sets, is_left_over, overflows, places, uncounted_now, goal, live_handles, by_handle, records, places_of, uncounted_of, goal_of, live_of, records_of, is_hit, is_held, values_of, point, shown_places, points_of, first, next, cut, opening, more, window, collections}
 use Rattle.otel_model_rows.specs.StreamRows.{x1, y1, z1, k_v, amount, add, sum, AreShown}
 
