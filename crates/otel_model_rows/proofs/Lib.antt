@@ -17,3 +17,9 @@ pub mod RowsSteps
 pub mod RowsFolds
 pub mod RowsTables
 pub mod RowsStates
+pub mod RowsDemands
+pub mod RowsHistories
+pub mod RowsWindows
+pub mod RowsCollections
+pub mod RowsLaws
+pub mod RowsStreamLaws

@@ -1,8 +1,8 @@
 -- Worked rows on names, units, bounds and settings of streams.
-use Rattle.std.specs.Prelude.{◌≡◌, ℕ, ℤ, pos, Bool, true, false, List, [], ◌∷◌, ◌++◌, map, replicate, Option, Some, None, codes}
+use Rattle.std.specs.Prelude.{◌≡◌, ℕ, ℤ, pos, true, false, List, [], ◌∷◌, ◌++◌, map, replicate, Option, Some, None, codes}
 use Rattle.std.proofs.Common.{refl}
 use Rattle.otel_model.specs.Calls.{ascii_lowercase}
-use Rattle.otel_model.specs.Checks.{is_within, is_letter, is_digit, is_name_byte, starts_badly, NameFault, name_fault, name_fault_text, is_good_name, Empty, Long, BadStart, BadCharacter, is_ascii, unit_fault, optional_unit_fault, is_good_unit, unit_fault_text, UnitFault, NotAscii, rises, bounds_fault_text, stream_bounds_fault_text, aggregation_bounds_fault_text, incompatible_text, StreamFault, UnitLength, UnitInvalidChar, LimitZero, LimitMax, Boundaries, stream_fault, stream_fault_text}
+use Rattle.otel_model.specs.Checks.{is_within, is_letter, is_digit, is_name_byte, starts_badly, name_fault, name_fault_text, is_good_name, Empty, Long, BadStart, BadCharacter, is_ascii, unit_fault, optional_unit_fault, is_good_unit, unit_fault_text, UnitFault, NotAscii, rises, bounds_fault_text, stream_bounds_fault_text, aggregation_bounds_fault_text, incompatible_text, StreamFault, UnitLength, UnitInvalidChar, LimitZero, LimitMax, Boundaries, stream_fault, stream_fault_text}
 use Rattle.otel_model_rows.specs.Rows.{up_from, bytes}
 
 -- ======== characters ========

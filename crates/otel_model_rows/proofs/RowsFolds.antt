@@ -1,5 +1,5 @@
 -- Worked rows on folds, one measurement at a time and of whole lists, on totals, differences, and points as data.
-use Rattle.std.specs.Prelude.{◌≡◌, ℕ, ℤ, pos, negsuc, Bool, true, false, List, [], ◌∷◌, map, Option, Some, None}
+use Rattle.std.specs.Prelude.{◌≡◌, ℕ, ℤ, pos, negsuc, true, false, List, [], ◌∷◌, map, Some, None}
 use Rattle.std.proofs.Common.{refl}
 use Rattle.otel_common.specs.declared.metrics.Temporality.TheVariants as temporality
 use Rattle.otel_data.specs.declared.aggregated.MetricData.TheVariants as data_of

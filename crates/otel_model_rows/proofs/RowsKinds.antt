@@ -4,8 +4,11 @@ use Rattle.std.proofs.Common.{refl}
 use Rattle.otel_common.specs.Canonical.{canon}
 use Rattle.otel_common.specs.declared.attributes.KeyValue.{KeyValue}
 use Rattle.otel_model_stream.specs.Sets.{AttributeSet}
-use Rattle.otel_model.specs.Calls.{InstrumentKind, Counter, UpDownCounter, Histogram, ObservableCounter, ObservableUpDownCounter, Gauge, ObservableGauge, kind_number, About, Observed, Call, Meter, Build, Record, Bind, Collect, WrongKind, WrongNumber, Reply}
-use Rattle.otel_model.specs.Demands.{Temporality, Cumulative, Delta, Answer, ReaderAnswers, Aggregation, Drop, Default, Sum, LastValue, ExplicitBucketHistogram, Views, answers_by, answer_for, fits, kinds, kind_default}
+use Rattle.otel_model_stream.specs.Folds.{Aggregate}
+use Rattle.otel_model_stream.specs.Events.{Kind}
+use Rattle.otel_model.specs.Calls.{is_observable, InstrumentKind, Counter, UpDownCounter, Histogram, ObservableCounter, ObservableUpDownCounter, Gauge, ObservableGauge, kind_number, About, Observed, Call, Meter, Build, Record, Bind, Collect, WrongKind, WrongNumber, Reply}
+use Rattle.otel_model.specs.Demands.{Temporality, Cumulative, Delta, Answer, ReaderAnswers, Demand, Aggregation, Drop, Default, Sum, LastValue, ExplicitBucketHistogram, Views, answers_by, answer_for, fits, kinds, kind_default}
+use Rattle.otel_model.specs.Streams.{is_sum, is_last_value, observes_sums, observes_last_values, is_drained, always_resets, is_delta, kind_of, has_sum, aggregate_from, aggregate_of, is_monotonic_kind}
 use Rattle.otel_model_rows.specs.Rows.{SeenPoints, a, m, about, with_own_bounds, u64, i64, x1, y1, if_named, aggregating, cumulative, delta, low_memory, AloneShows, replies, one, delta_sum, cumulative_sum, plain_sum, last_values, cumulative_histogram, delta_histogram, plain_spread, spread, on, add, observe}
 
 -- counters, up-down counters, histograms, observable counters, observable up-down counters, gauges, observable gauges
@@ -83,6 +86,68 @@ usual_bounds = pos 0 ∷ pos 5 ∷ pos 10 ∷ pos 25 ∷ pos 50 ∷ pos 75 ∷ p
 
 pub defaults_of_kinds : map kind_default seven ≡ Sum ∷ Sum ∷ ExplicitBucketHistogram usual_bounds true ∷ Sum ∷ Sum ∷ LastValue ∷ LastValue ∷ []
 defaults_of_kinds = refl
+
+-- ======== what kinds of streams there are ========
+abbrev each_aggregation : List Aggregation
+each_aggregation = Drop ∷ Default ∷ Sum ∷ LastValue ∷ ExplicitBucketHistogram ten true ∷ []
+
+pub sums : map is_sum each_aggregation ≡ false ∷ false ∷ true ∷ false ∷ false ∷ []
+sums = refl
+
+pub last_values_of_each : map is_last_value each_aggregation ≡ false ∷ false ∷ false ∷ true ∷ false ∷ []
+last_values_of_each = refl
+
+pub observables : map is_observable seven ≡ false ∷ false ∷ false ∷ true ∷ true ∷ false ∷ true ∷ []
+observables = refl
+
+pub observing_sums : map observes_sums seven ≡ false ∷ false ∷ false ∷ true ∷ true ∷ false ∷ false ∷ []
+observing_sums = refl
+
+pub observing_last_values : map observes_last_values seven ≡ false ∷ false ∷ false ∷ false ∷ false ∷ false ∷ true ∷ []
+observing_last_values = refl
+
+pub kinds_with_sums : map has_sum seven ≡ true ∷ false ∷ true ∷ true ∷ false ∷ true ∷ false ∷ []
+kinds_with_sums = refl
+
+pub monotonic_kinds : map is_monotonic_kind seven ≡ true ∷ false ∷ true ∷ true ∷ false ∷ false ∷ false ∷ []
+monotonic_kinds = refl
+
+-- a stream of each kind with the same aggregation
+abbrev demands : Aggregation → List Demand
+demands aggregation = map (λ kind. record { identity = record { scope = m; kind = kind; signed = false; description = []; unit = []; name = a }; spelling = a; aggregation = aggregation; allow = None; limit = 1 }) seven
+
+pub drained_sums : map is_drained (demands Sum) ≡ false ∷ false ∷ false ∷ true ∷ true ∷ false ∷ false ∷ []
+drained_sums = refl
+
+pub drained_histograms : map is_drained (demands (ExplicitBucketHistogram ten true)) ≡ false ∷ false ∷ false ∷ false ∷ false ∷ false ∷ false ∷ []
+drained_histograms = refl
+
+pub resetting_sums : map always_resets (demands Sum) ≡ false ∷ false ∷ false ∷ false ∷ false ∷ false ∷ false ∷ []
+resetting_sums = refl
+
+pub resetting_last_values : map always_resets (demands LastValue) ≡ false ∷ false ∷ false ∷ false ∷ false ∷ false ∷ true ∷ []
+resetting_last_values = refl
+
+pub delta_sums : map (is_delta delta) (demands Sum) ≡ true ∷ false ∷ true ∷ true ∷ false ∷ true ∷ true ∷ []
+delta_sums = refl
+
+pub cumulative_last_values : map (is_delta cumulative) (demands LastValue) ≡ false ∷ false ∷ false ∷ false ∷ false ∷ false ∷ true ∷ []
+cumulative_last_values = refl
+
+pub kinds_of_sums : map (kind_of delta) (demands Sum) ≡ Kind.Delta ∷ Kind.Cumulative ∷ Kind.Delta ∷ Kind.Drained ∷ Kind.Drained ∷ Kind.Delta ∷ Kind.Delta ∷ []
+kinds_of_sums = refl
+
+pub kinds_of_last_values : map (kind_of cumulative) (demands LastValue) ≡ Kind.Cumulative ∷ Kind.Cumulative ∷ Kind.Cumulative ∷ Kind.Cumulative ∷ Kind.Cumulative ∷ Kind.Cumulative ∷ Kind.Delta ∷ []
+kinds_of_last_values = refl
+
+pub aggregates : map (aggregate_from false Counter) each_aggregation ≡ Aggregate.Sum ∷ Aggregate.Sum ∷ Aggregate.Sum ∷ Aggregate.LastValue ∷ Aggregate.Histogram ten true true ∷ []
+aggregates = refl
+
+pub aggregates_drained : map (aggregate_from true UpDownCounter) each_aggregation ≡ Aggregate.Sum ∷ Aggregate.Sum ∷ Aggregate.LastValue ∷ Aggregate.LastValue ∷ Aggregate.Histogram ten true false ∷ []
+aggregates_drained = refl
+
+pub aggregates_of_sums : map aggregate_of (demands Sum) ≡ Aggregate.Sum ∷ Aggregate.Sum ∷ Aggregate.Sum ∷ Aggregate.LastValue ∷ Aggregate.LastValue ∷ Aggregate.Sum ∷ Aggregate.Sum ∷ []
+aggregates_of_sums = refl
 
 -- ======== observable or not ========
 -- what the same call answers at an instrument of each kind

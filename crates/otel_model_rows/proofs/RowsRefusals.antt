@@ -1,12 +1,11 @@
 -- Worked rows on refusals: which fault comes where several hold, and that a refused call changes nothing.
-use Rattle.std.specs.Prelude.{◌≡◌, ℕ, ℤ, pos, true, false, List, [], ◌∷◌, map, Option, Some, None}
+use Rattle.std.specs.Prelude.{◌≡◌, ℕ, pos, true, false, List, [], ◌∷◌, map, Option, Some, None}
 use Rattle.std.proofs.Common.{refl}
 use Rattle.otel_common.specs.Canonical.{canon}
 use Rattle.otel_model.specs.Calls.{InstrumentKind, Counter, UpDownCounter, ObservableCounter, ObservableGauge, Number, Observed, Call, Meter, Build, Record, Bind, RecordBound, Unbind, Collect, Flush, Shutdown, Fault, UnknownMeter, UnknownInstrument, UnknownHandle, UnknownReader, WrongNumber, WrongKind, AlreadyShutdown, ReaderShutDown, Exhausted, Reply}
 use Rattle.otel_model.specs.Resources.{empty_resource}
 use Rattle.otel_model.specs.Refusals.{meter_refusal, number_refusal, record_refusal, bind_refusal, instrument_held, held_refusal, handle_refusal, unbind_refusal, observation_refusal, first_fault, observations_refusal, refusal}
 use Rattle.otel_model.specs.State.{InstrumentState, Shared, State}
-use Rattle.otel_model.specs.Machine.{new_state}
 use Rattle.otel_model.specs.Steps.{reply_of, reply_by, after, after_by}
 use Rattle.otel_model_rows.specs.Rows.{a, b, m, about, u64, i64, x1, cumulative, replies, on, observe}
 

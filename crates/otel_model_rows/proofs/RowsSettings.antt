@@ -1,5 +1,5 @@
 -- Worked rows on what instruments, views and readers say of streams: names, units, aggregations, bounds, keys.
-use Rattle.std.specs.Prelude.{◌≡◌, ℕ, ℤ, pos, negsuc, Bool, true, false, List, [], ◌∷◌, ◌++◌, map, Option, Some, None, codes}
+use Rattle.std.specs.Prelude.{◌≡◌, ℕ, ℤ, pos, true, false, List, [], ◌∷◌, ◌++◌, map, Option, Some, None, codes}
 use Rattle.std.proofs.Common.{refl}
 use Rattle.otel_common.specs.Canonical.{canon}
 use Rattle.otel_common.specs.declared.attributes.KeyValue.{KeyValue}
@@ -7,11 +7,10 @@ use Rattle.otel_common.specs.declared.attributes.Value.TheVariants as value
 use Rattle.otel_data.specs.declared.aggregated.AggregatedMetrics.TheVariants.{U64}
 use Rattle.otel_data.specs.declared.aggregated.MetricData.TheVariants.{Sum}
 use Rattle.otel_model_stream.specs.Sets.{none_set, over_set, allowed_part, set_of}
-use Rattle.otel_model.specs.Calls as calls
-use Rattle.otel_model.specs.Calls.{InstrumentKind, Counter, Histogram, ObservableCounter, Gauge, ObservableGauge, About, Call, Build, Record, Collect, or_else}
-use Rattle.otel_model.specs.Demands.{Aggregation, Drop, Default, LastValue, ExplicitBucketHistogram, StreamSpec, Views, ReaderAnswers, Cumulative, kinds, default_from, with_bounds, with_own, resolved_aggregation, description_of, unit_of, instrument_of, nothing_said}
+use Rattle.otel_model.specs.Calls.{InstrumentKind, Counter, Histogram, Gauge, ObservableGauge, About, Build, Record, Collect, or_else}
+use Rattle.otel_model.specs.Demands.{Aggregation, Drop, Default, LastValue, ExplicitBucketHistogram, Views, ReaderAnswers, Cumulative, kinds, default_from, with_bounds, with_own, resolved_aggregation, description_of, unit_of, instrument_of, nothing_said}
 use Rattle.otel_model.specs.Resources.{empty_resource}
-use Rattle.otel_model_rows.specs.Rows.{a, b, m, about, with_own_bounds, u64, x1, y1, pair, if_named, named, aggregating, but_for, default_of, limit_1, cumulative, delta, AloneShows, Gives, one, delta_sum, cumulative_sum, last_values, cumulative_histogram, spread, on, add, observe}
+use Rattle.otel_model_rows.specs.Rows.{a, b, m, about, with_own_bounds, u64, x1, y1, pair, if_named, named, but_for, default_of, limit_1, cumulative, delta, AloneShows, Gives, one, delta_sum, cumulative_sum, last_values, cumulative_histogram, spread, on, add, observe}
 
 -- ======== sets ========
 abbrev overflow : List KeyValue

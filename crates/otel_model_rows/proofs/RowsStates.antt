@@ -1,21 +1,19 @@
 -- Worked rows on the state of a provider: what each call leaves of all that it keeps, also where no collection shows it.
-use Rattle.std.specs.Prelude.{◌≡◌, ℕ, ℤ, pos, Bool, true, false, cond, List, [], ◌∷◌, map, Option, Some, None, codes}
+use Rattle.std.specs.Prelude.{◌≡◌, ℕ, Bool, true, false, List, [], ◌∷◌, map, Some, None, codes}
 use Rattle.std.proofs.Common.{refl}
 use Rattle.otel_common.specs.Canonical.{canon}
-use Rattle.otel_common.specs.declared.scopes.InstrumentationScope.{InstrumentationScope}
-use Rattle.otel_model_stream.specs.Sets.{AttributeSet, none_set, over_set}
+use Rattle.otel_model_stream.specs.Sets.{AttributeSet, over_set}
 use Rattle.otel_model_stream.specs.Folds as folds
 use Rattle.otel_model_stream.specs.Folds.{Fold, Total, Last}
-use Rattle.otel_model_stream.specs.Entries.{Entry, Table}
+use Rattle.otel_model_stream.specs.Entries.{Entry}
 use Rattle.otel_model_stream.specs.Events as events
 use Rattle.otel_model_stream.specs.Events.{Kind, Point}
-use Rattle.otel_model_stream.specs.Machine as machines
 use Rattle.otel_model_stream.specs.Machine.{Machine}
-use Rattle.otel_model.specs.Calls.{InstrumentKind, Counter, UpDownCounter, ObservableCounter, About, Observed, Call, Meter, Build, Record, Bind, RecordBound, Unbind, Collect, Flush, Shutdown, Reply}
-use Rattle.otel_model.specs.Demands.{Aggregation, Drop, Sum, LastValue, Identity, Demand, Views, ReaderAnswers, nothing_said}
-use Rattle.otel_model.specs.Machine.{with_meter, new_instrument, instrument_after_record, accepted_by, without_handle, shared_after, machine_after, points_at, start_after, reported_after, if_held, recorded_with, recorded_over, recorded_after, exported_after, stream_after, new_stream, enter, make, part_after_demand, build_demands, with_feeds, part_after_build, part_after_call, readers_after, accepted_after, new_part, new_state}
-use Rattle.otel_model.specs.Resources.{Resource, empty_resource}
-use Rattle.otel_model.specs.State.{InstrumentState, LiveHandle, Shared, Stream, ReaderPart, State}
+use Rattle.otel_model.specs.Calls.{InstrumentKind, Counter, UpDownCounter, ObservableCounter, Call, Meter, Build, Record, Bind, RecordBound, Unbind, Collect, Flush, Shutdown, Reply}
+use Rattle.otel_model.specs.Demands.{Drop, Sum, LastValue, Identity, Demand, ReaderAnswers}
+use Rattle.otel_model.specs.Machine.{with_meter, new_instrument, instrument_after_record, accepted_by, without_handle, start_after, reported_after, if_held, recorded_with, recorded_over, exported_after, new_stream, enter, make, with_feeds, new_state}
+use Rattle.otel_model.specs.Resources.{Resource}
+use Rattle.otel_model.specs.State.{InstrumentState, Shared, Stream, ReaderPart, State}
 use Rattle.otel_model.specs.Steps.{after, answer_of, reply_of, number_from}
 use Rattle.otel_model_rows.specs.Rows.{a, b, m, scope_named, about, u64, x1, y1, pair, if_named, named, aggregating, cumulative, delta, observe}
 

@@ -1,6 +1,6 @@
 -- Worked rows on single steps and runs: when memory may be refused, when readers may fail, and what is left for a reader
 -- by itself. Many of them deny a step.
-use Rattle.std.specs.Prelude.{◌≡◌, ℕ, pos, Bool, true, false, IsTrue, List, [], ◌∷◌, map, length, Option, Some, None}
+use Rattle.std.specs.Prelude.{◌≡◌, ℕ, pos, Bool, true, false, List, [], ◌∷◌, map, length, Some, None}
 use Rattle.std.proofs.Common.{refl, sym, ap, ◌∙◌, true≢false}
 use Rattle.std.proofs.lemmas.Option.{none-some}
 use Rattle.otel_common.specs.Canonical.{canon}
@@ -12,8 +12,8 @@ use Rattle.otel_model.specs.Only.{is_short, is_others, renumbered_call, only, re
 use Rattle.otel_model.specs.Refusals.{refusal}
 use Rattle.otel_model.specs.Resources.{empty_resource}
 use Rattle.otel_model.specs.State.{State}
-use Rattle.otel_model.specs.Steps.{takes_memory, asks_readers, reply_of, after, Step, Run, replies_of, state_of}
-use Rattle.otel_model_rows.specs.Rows.{a, m, about, u64, i64, x1, cumulative, add, observe}
+use Rattle.otel_model.specs.Steps.{takes_memory, asks_readers, after, Step, Run, replies_of, state_of}
+use Rattle.otel_model_rows.specs.Rows.{a, m, about, u64, i64, x1, cumulative, observe}
 
 -- ======== words on calls and replies ========
 -- one call of each kind, and both kinds of records

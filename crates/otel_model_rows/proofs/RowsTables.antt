@@ -1,15 +1,13 @@
 -- Worked rows on the table of one stream: entries, places, handles, collections, and what a map knows.
-use Rattle.std.specs.Prelude.{◌≡◌, ℕ, ◌+◌, Bool, true, false, IsTrue, List, [], ◌∷◌, ◌++◌, map, Option, Some, None, Result, Ok, Err}
+use Rattle.std.specs.Prelude.{◌≡◌, ℕ, ◌+◌, Bool, true, false, List, [], ◌∷◌, map, Some, None, Ok, Err}
 use Rattle.std.proofs.Common.{refl, sym, ap, true≢false}
 use Rattle.std.specs.List.{IsDistinct}
 use Rattle.otel_common.specs.Canonical.{canon}
 use Rattle.otel_common.specs.Equality.{set_eq}
-use Rattle.otel_common.specs.declared.attributes.KeyValue.{KeyValue}
-use Rattle.otel_model_stream.specs.Sets.{AttributeSet, none_set, over_set}
+use Rattle.otel_model_stream.specs.Sets.{AttributeSet, over_set}
 use Rattle.otel_model_stream.specs.Lists.{changed_at}
-use Rattle.otel_model_stream.specs.Folds as folds
-use Rattle.otel_model_stream.specs.Folds.{Fold, Sample, Total, Last, Spreads, Sum, LastValue, sample_of}
-use Rattle.otel_model_stream.specs.Events.{Event, Record, Bind, RecordBound, Unbind, Collect, Kind, Delta, Cumulative, Drained, Handles, held_by, without}
+use Rattle.otel_model_stream.specs.Folds.{Sample, Total, Last, Sum, LastValue, sample_of}
+use Rattle.otel_model_stream.specs.Events.{Event, Bind, RecordBound, Unbind, Collect, Delta, Cumulative, Drained, Handles, held_by, without}
 use Rattle.otel_model_stream.specs.Entries.{Entry, Table, new_entry, new_table, is_of, has, AreCanonical, number_counted, entries_with_place, entry_for, on, write, take_handle, drop_handle, reset, at_entry, place, recorded_at, held_at, stays, evicted_table, drained_table, point_of_entry}
 use Rattle.otel_model_stream.specs.Entries as entries
 use Rattle.otel_model_stream.specs.Maps.{MapState, new_map, with_place, measured_map, bound_map, bound_to, updated_bound, unbound_map, readonly_points, resetting_points, draining_points, evicted_map, drained_map, KnownMap, without_lists, knows, keys, SucceedsIfKnown, is_admitted, given_with, measured_list, bound_list, given_left, collected_known, evicted_known, drained_known, AreListed}
