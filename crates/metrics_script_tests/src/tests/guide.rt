@@ -1,11 +1,10 @@
 //! The scripts of `examples/` that show a part of the guide, and what they print.
 
 use super::assert_prints;
-use std::test::Fail;
 
 /// A histogram with its own bounds.
 #[test]
-fn histogram(rt: HostRuntime) -> Result<(), Fail> {
+fn histogram(rt: HostRuntime) {
     assert_prints(
         &rt,
         rt.alloc(),
@@ -25,12 +24,12 @@ fn histogram(rt: HostRuntime) -> Result<(), Fail> {
          ok\n\
          collected 1\n\
          point shop latency histogram cumulative 100 200 path=s:/cart 3 267 7 250 2,0,1\n",
-    )
+    );
 }
 
 /// Two readers, one of them delta.
 #[test]
-fn readers(rt: HostRuntime) -> Result<(), Fail> {
+fn readers(rt: HostRuntime) {
     assert_prints(
         &rt,
         rt.alloc(),
@@ -58,12 +57,12 @@ fn readers(rt: HostRuntime) -> Result<(), Fail> {
          point shop visits sum cumulative monotonic 100 400 - 7\n\
          collected 1\n\
          point shop visits sum delta monotonic 300 500 - 4\n",
-    )
+    );
 }
 
 /// What views can say about a stream.
 #[test]
-fn views(rt: HostRuntime) -> Result<(), Fail> {
+fn views(rt: HostRuntime) {
     assert_prints(
         &rt,
         rt.alloc(),
@@ -112,12 +111,12 @@ fn views(rt: HostRuntime) -> Result<(), Fail> {
          point shop users sum cumulative monotonic 100 200 user=i:1 1\n\
          point shop users sum cumulative monotonic 100 200 otel.metric.overflow=b:true 5\n\
          point shop latency histogram cumulative 100 200 - 2 77 7 70 1,1,0,0\n",
-    )
+    );
 }
 
 /// A reader's own limit and aggregation; what a delta collection frees.
 #[test]
-fn limits(rt: HostRuntime) -> Result<(), Fail> {
+fn limits(rt: HostRuntime) {
     assert_prints(
         &rt,
         rt.alloc(),
@@ -152,12 +151,12 @@ fn limits(rt: HostRuntime) -> Result<(), Fail> {
          ok\n\
          collected 1\n\
          point shop users sum delta monotonic 300 400 user=i:2 5\n",
-    )
+    );
 }
 
 /// Calls after a shutdown.
 #[test]
-fn shutdown(rt: HostRuntime) -> Result<(), Fail> {
+fn shutdown(rt: HostRuntime) {
     assert_prints(
         &rt,
         rt.alloc(),
@@ -180,12 +179,12 @@ fn shutdown(rt: HostRuntime) -> Result<(), Fail> {
          meter none\n\
          refused 9 reader is shut down or not registered\n\
          refused 8 already shut down\n",
-    )
+    );
 }
 
 /// What is observed before each collection of a delta reader.
 #[test]
-fn observed(rt: HostRuntime) -> Result<(), Fail> {
+fn observed(rt: HostRuntime) {
     assert_prints(
         &rt,
         rt.alloc(),
@@ -206,12 +205,12 @@ fn observed(rt: HostRuntime) -> Result<(), Fail> {
          point disk written sum delta monotonic 100 200 disk=s:b 70\n\
          collected 1\n\
          point disk written sum delta monotonic 200 300 disk=s:a 400\n",
-    )
+    );
 }
 
 /// A handle, and its end.
 #[test]
-fn handles(rt: HostRuntime) -> Result<(), Fail> {
+fn handles(rt: HostRuntime) {
     assert_prints(
         &rt,
         rt.alloc(),
@@ -239,5 +238,5 @@ fn handles(rt: HostRuntime) -> Result<(), Fail> {
          ok\n\
          refused 4 unknown handle\n\
          collected 0\n",
-    )
+    );
 }

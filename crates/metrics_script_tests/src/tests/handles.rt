@@ -1,12 +1,11 @@
 //! Bound handles.
 
 use super::assert_prints;
-use std::test::Fail;
 
 /// What is refused: observable instruments, values of another number type, and instruments and handles that don't
 /// exist.
 #[test]
-fn refused(rt: HostRuntime) -> Result<(), Fail> {
+fn refused(rt: HostRuntime) {
     assert_prints(
         &rt,
         rt.alloc(),
@@ -30,5 +29,5 @@ fn refused(rt: HostRuntime) -> Result<(), Fail> {
          refused 6 wrong number type\n\
          refused 4 unknown handle\n\
          refused 4 unknown handle\n",
-    )
+    );
 }

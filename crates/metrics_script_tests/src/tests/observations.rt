@@ -69,7 +69,7 @@ fn each_sort(rt: HostRuntime) -> Result<(), Fail> {
          point app heat gauge 300 500 - 3\n\
          collected 0\n\
          collected 0\n",
-    )?;
+    );
     assert_collects(
         &rt,
         rt.alloc(),
@@ -105,7 +105,7 @@ fn each_sort(rt: HostRuntime) -> Result<(), Fail> {
 
 /// A record at an observable instrument is refused, whatever its number type.
 #[test]
-fn records_of_observables(rt: HostRuntime) -> Result<(), Fail> {
+fn records_of_observables(rt: HostRuntime) {
     assert_prints(
         &rt,
         rt.alloc(),
@@ -139,7 +139,7 @@ fn records_of_observables(rt: HostRuntime) -> Result<(), Fail> {
          refused 7 wrong instrument kind\n\
          refused 3 unknown instrument\n\
          collected 0\n",
-    )
+    );
 }
 
 /// Nothing can be observed of an instrument that takes in records.
@@ -163,7 +163,7 @@ fn observations_of_others(rt: HostRuntime) -> Result<(), Fail> {
              instrument 0\n\
              refused 7 wrong instrument kind\n\
              collected 0\n",
-        )?;
+        );
     }
     Ok(())
 }
@@ -171,7 +171,7 @@ fn observations_of_others(rt: HostRuntime) -> Result<(), Fail> {
 /// The reader is checked first, then the provider, then each observation in turn: its instrument, its kind, its number
 /// type. An instrument with a bad name is checked too.
 #[test]
-fn bad_observations(rt: HostRuntime) -> Result<(), Fail> {
+fn bad_observations(rt: HostRuntime) {
     assert_prints(
         &rt,
         rt.alloc(),
@@ -218,13 +218,13 @@ fn bad_observations(rt: HostRuntime) -> Result<(), Fail> {
          ok\n\
          refused 5 unknown reader\n\
          refused 9 reader is shut down or not registered\n",
-    )
+    );
 }
 
 /// A collection for which memory is refused has no effect: what was observed for it is not kept. Memory is refused by
 /// hand: `rt try --test --fail-alloc N`.
 #[test]
-fn refused_memory(rt: HostRuntime) -> Result<(), Fail> {
+fn refused_memory(rt: HostRuntime) {
     assert_prints_or(
         &rt,
         rt.alloc(),
@@ -275,5 +275,5 @@ fn refused_memory(rt: HostRuntime) -> Result<(), Fail> {
              point app seen sum delta monotonic 200 300 a=i:1 5\n\
              refused 1 out of memory\n",
         ],
-    )
+    );
 }

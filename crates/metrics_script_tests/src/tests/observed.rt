@@ -5,7 +5,7 @@ use std::test::Fail;
 
 /// Each sort of observable instrument, at a cumulative reader.
 #[test]
-fn sorts(rt: HostRuntime) -> Result<(), Fail> {
+fn sorts(rt: HostRuntime) {
     assert_prints(
         &rt,
         rt.alloc(),
@@ -40,12 +40,12 @@ fn sorts(rt: HostRuntime) -> Result<(), Fail> {
          collected 2\n\
          point app c sum cumulative monotonic 1 3 - 9\n\
          point app h gauge 2 3 - 8\n",
-    )
+    );
 }
 
 /// Refusals: records at observable instruments, observations of other instruments, and more.
 #[test]
-fn refusals(rt: HostRuntime) -> Result<(), Fail> {
+fn refusals(rt: HostRuntime) {
     assert_prints(
         &rt,
         rt.alloc(),
@@ -81,7 +81,7 @@ fn refusals(rt: HostRuntime) -> Result<(), Fail> {
          collected 0\n\
          ok\n\
          refused 9 reader is shut down or not registered\n",
-    )
+    );
 }
 
 /// Only further observations and skipped lines may come between observations and their collection.

@@ -6,7 +6,7 @@ use std::test::Fail;
 /// A limit for a kind wins, in whichever order the two limits stand. A reader's bounds may be any: if they do not rise,
 /// the kind's own are taken.
 #[test]
-fn options(rt: HostRuntime) -> Result<(), Fail> {
+fn options(rt: HostRuntime) {
     assert_prints(
         &rt,
         rt.alloc(),
@@ -48,7 +48,7 @@ fn options(rt: HostRuntime) -> Result<(), Fail> {
          point m c sum delta monotonic 100 200 otel.metric.overflow=b:true 4\n\
          point m h histogram delta 100 200 x=i:1 1 5 5 5 -\n\
          point m h histogram delta 100 200 otel.metric.overflow=b:true 1 6 6 6 -\n",
-    )
+    );
 }
 
 /// Options that are invalid, given twice, or have invalid values.

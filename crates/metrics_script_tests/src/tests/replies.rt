@@ -1,11 +1,10 @@
 //! What the program prints.
 
 use super::assert_prints;
-use std::test::Fail;
 
 /// One meter, one counter, and two records of one set of attributes.
 #[test]
-fn script_s1(rt: HostRuntime) -> Result<(), Fail> {
+fn script_s1(rt: HostRuntime) {
     assert_prints(
         &rt,
         rt.alloc(),
@@ -22,12 +21,12 @@ fn script_s1(rt: HostRuntime) -> Result<(), Fail> {
          ok\n\
          collected 1\n\
          point app requests sum cumulative monotonic 100 200 a=i:1,b=s:y 7\n",
-    )
+    );
 }
 
 /// A histogram with a view, refusals of each kind, a shutdown, and a collection after it.
 #[test]
-fn script_s2(rt: HostRuntime) -> Result<(), Fail> {
+fn script_s2(rt: HostRuntime) {
     assert_prints(
         &rt,
         rt.alloc(),
@@ -54,12 +53,12 @@ fn script_s2(rt: HostRuntime) -> Result<(), Fail> {
          refused 5 unknown reader\n\
          ok\n\
          refused 9 reader is shut down or not registered\n",
-    )
+    );
 }
 
 /// Calls after a shutdown.
 #[test]
-fn shutdowns(rt: HostRuntime) -> Result<(), Fail> {
+fn shutdowns(rt: HostRuntime) {
     assert_prints(
         &rt,
         rt.alloc(),
@@ -77,12 +76,12 @@ fn shutdowns(rt: HostRuntime) -> Result<(), Fail> {
          refused 8 already shut down\n\
          meter none\n\
          instrument 0\n",
-    )
+    );
 }
 
 /// The script `examples/requests.script`, and what the README says that it prints.
 #[test]
-fn example(rt: HostRuntime) -> Result<(), Fail> {
+fn example(rt: HostRuntime) {
     assert_prints(
         &rt,
         rt.alloc(),
@@ -110,12 +109,12 @@ fn example(rt: HostRuntime) -> Result<(), Fail> {
          collected 2\n\
          point shop requests sum cumulative monotonic 100 300 - 1\n\
          point shop requests sum cumulative monotonic 100 300 ok=b:true,path=s:/cart 7\n",
-    )
+    );
 }
 
 /// Escapes, and the special word for a name. There are four meters, since an absent version is not an empty one.
 #[test]
-fn texts(rt: HostRuntime) -> Result<(), Fail> {
+fn texts(rt: HostRuntime) {
     assert_prints(
         &rt,
         rt.alloc(),
@@ -148,12 +147,12 @@ fn texts(rt: HostRuntime) -> Result<(), Fail> {
          point - a sum cumulative monotonic 1 9 - 1\n\
          point %2D a sum cumulative monotonic 2 9 - 1\n\
          point a%2C%20b%25zz%0D a sum cumulative monotonic 3 9 - 1\n",
-    )
+    );
 }
 
 /// Attributes as they are read, printed in the order of their keys.
 #[test]
-fn attributes(rt: HostRuntime) -> Result<(), Fail> {
+fn attributes(rt: HostRuntime) {
     assert_prints(
         &rt,
         rt.alloc(),
@@ -174,12 +173,12 @@ fn attributes(rt: HostRuntime) -> Result<(), Fail> {
          point app a sum cumulative monotonic 1 2 =s:,-=s:-,a=s:x%3Dy,b=b:true,c=b:false 1\n\
          point app a sum cumulative monotonic 1 2 y=i:-9223372036854775808,z=i:0 2\n\
          point app a sum cumulative monotonic 1 2 ~=s:%25!%7F,%C3%A9=s:~%2C%3D 3\n",
-    )
+    );
 }
 
 /// Numbers at the end of their range, leading zeros, and words between runs of spaces.
 #[test]
-fn numbers(rt: HostRuntime) -> Result<(), Fail> {
+fn numbers(rt: HostRuntime) {
     assert_prints(
         &rt,
         rt.alloc(),
@@ -198,12 +197,12 @@ fn numbers(rt: HostRuntime) -> Result<(), Fail> {
          ok\n\
          collected 1\n\
          point app a sum cumulative monotonic 7 18446744073709551615 - 2\n",
-    )
+    );
 }
 
 /// Refused calls change nothing, and the status stays 0.
 #[test]
-fn refused_calls(rt: HostRuntime) -> Result<(), Fail> {
+fn refused_calls(rt: HostRuntime) {
     assert_prints(
         &rt,
         rt.alloc(),
@@ -229,12 +228,12 @@ fn refused_calls(rt: HostRuntime) -> Result<(), Fail> {
          refused 3 unknown instrument\n\
          collected 0\n\
          refused 5 unknown reader\n",
-    )
+    );
 }
 
 /// Readers of each temporality, in any case of letters: each gives the sums in its own way.
 #[test]
-fn readers(rt: HostRuntime) -> Result<(), Fail> {
+fn readers(rt: HostRuntime) {
     assert_prints(
         &rt,
         rt.alloc(),
@@ -266,24 +265,24 @@ fn readers(rt: HostRuntime) -> Result<(), Fail> {
          point app requests sum delta monotonic 100 300 - 7\n\
          collected 0\n\
          refused 5 unknown reader\n",
-    )
+    );
 }
 
 /// A provider without readers.
 #[test]
-fn no_reader(rt: HostRuntime) -> Result<(), Fail> {
-    assert_prints(&rt, rt.alloc(), b"go", "")?;
+fn no_reader(rt: HostRuntime) {
+    assert_prints(&rt, rt.alloc(), b"go", "");
     assert_prints(
         &rt,
         rt.alloc(),
         b"go\nmeter app\nbuild 0 u64_counter a 1\nrecord 0 u:1 -\ncollect 0 2\n",
         "meter 0\ninstrument 0\nok\nrefused 5 unknown reader\n",
-    )
+    );
 }
 
 /// A unit and a description are part of an instrument's identity; an absent one is the empty text.
 #[test]
-fn options(rt: HostRuntime) -> Result<(), Fail> {
+fn options(rt: HostRuntime) {
     assert_prints(
         &rt,
         rt.alloc(),
@@ -311,5 +310,5 @@ fn options(rt: HostRuntime) -> Result<(), Fail> {
          collected 2\n\
          point app a sum cumulative monotonic 1 9 - 9\n\
          point app a sum cumulative monotonic 2 9 - 6\n",
-    )
+    );
 }

@@ -8,7 +8,7 @@ use std::test::Fail;
 
 /// Refused calls change nothing.
 #[test]
-fn refusals(rt: HostRuntime) -> Result<(), Fail> {
+fn refusals(rt: HostRuntime) {
     assert_prints(
         &rt,
         rt.alloc(),
@@ -39,12 +39,12 @@ fn refusals(rt: HostRuntime) -> Result<(), Fail> {
          refused 5 unknown reader\n\
          collected 1\n\
          point app requests sum cumulative monotonic 100 200 a=i:1 1\n",
-    )
+    );
 }
 
 /// An instrument without a meter or with a bad name ignores its records.
 #[test]
-fn ignored(rt: HostRuntime) -> Result<(), Fail> {
+fn ignored(rt: HostRuntime) {
     assert_prints(
         &rt,
         rt.alloc(),
@@ -66,12 +66,12 @@ fn ignored(rt: HostRuntime) -> Result<(), Fail> {
          ok\n\
          refused 6 wrong number type\n\
          collected 0\n",
-    )
+    );
 }
 
 /// Builds whose names differ only in the case of ASCII letters share a stream, which has the spelling of the first.
 #[test]
-fn shared_streams(rt: HostRuntime) -> Result<(), Fail> {
+fn shared_streams(rt: HostRuntime) {
     assert_prints(
         &rt,
         rt.alloc(),
@@ -96,7 +96,7 @@ fn shared_streams(rt: HostRuntime) -> Result<(), Fail> {
          collected 2\n\
          point app Requests sum cumulative monotonic 100 300 - 4\n\
          point app Requests sum cumulative monotonic 100 300 a=i:1 3\n",
-    )
+    );
 }
 
 /// Equal scopes give the same meter, and another version gives another one. A collection has scopes in the order of
@@ -141,7 +141,7 @@ fn meters(rt: HostRuntime) -> Result<(), Fail> {
          point b z sum cumulative monotonic 100 200 - 8\n\
          point a z sum cumulative monotonic 100 200 - 2\n\
          point a x sum cumulative monotonic 100 200 - 1\n",
-    )?;
+    );
     assert_is_full(&rt, rt.alloc(), script)
 }
 
@@ -177,13 +177,14 @@ fn many_points(alloc: Global) -> Result<String, Fail> {
 fn overflow(rt: HostRuntime) -> Result<(), Fail> {
     let script = many_sets(rt.alloc())?;
     let printed = many_points(rt.alloc())?;
-    assert_prints(&rt, rt.alloc(), script.as_bytes(), printed.as_str())
+    assert_prints(&rt, rt.alloc(), script.as_bytes(), printed.as_str());
+    Ok(())
 }
 
 /// A call for which memory is refused has no effect, whichever call it is; a record through a handle takes none. Memory
 /// is refused by hand: `rt try --test --fail-alloc N`.
 #[test]
-fn refused_memory(rt: HostRuntime) -> Result<(), Fail> {
+fn refused_memory(rt: HostRuntime) {
     assert_prints_or(
         &rt,
         rt.alloc(),
@@ -268,12 +269,12 @@ fn refused_memory(rt: HostRuntime) -> Result<(), Fail> {
              ok\n\
              refused 1 out of memory\n",
         ],
-    )
+    );
 }
 
 /// The same of a build that copies the bounds that a reader wants for counters.
 #[test]
-fn refused_bounds(rt: HostRuntime) -> Result<(), Fail> {
+fn refused_bounds(rt: HostRuntime) {
     assert_prints_or(
         &rt,
         rt.alloc(),
@@ -302,5 +303,5 @@ fn refused_bounds(rt: HostRuntime) -> Result<(), Fail> {
              ok\n\
              refused 1 out of memory\n",
         ],
-    )
+    );
 }

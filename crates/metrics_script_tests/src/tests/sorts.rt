@@ -1,12 +1,11 @@
 //! What collections of instruments of each sort give.
 
 use super::assert_prints;
-use std::test::Fail;
 
 /// Gauges of either number type keep the last value: a cumulative reader sees it again, a delta reader only if it was
 /// set since its last collection.
 #[test]
-fn gauges(rt: HostRuntime) -> Result<(), Fail> {
+fn gauges(rt: HostRuntime) {
     assert_prints(
         &rt,
         rt.alloc(),
@@ -49,12 +48,12 @@ fn gauges(rt: HostRuntime) -> Result<(), Fail> {
          collected 2\n\
          point app g gauge 1 20 - 7\n\
          point app g gauge 2 20 a=i:1 -7\n",
-    )
+    );
 }
 
 /// Up-down counters add numbers of either sign, and even a delta reader sees their sums since the build.
 #[test]
-fn up_down_counters(rt: HostRuntime) -> Result<(), Fail> {
+fn up_down_counters(rt: HostRuntime) {
     assert_prints(
         &rt,
         rt.alloc(),
@@ -83,13 +82,13 @@ fn up_down_counters(rt: HostRuntime) -> Result<(), Fail> {
          collected 2\n\
          point app u sum cumulative plain 1 20 - -1\n\
          point app u sum cumulative plain 1 20 a=i:-1 -4\n",
-    )
+    );
 }
 
 /// Histograms count since the build or since the last collection. A value equal to a bound belongs to the bucket that
 /// ends there.
 #[test]
-fn histograms(rt: HostRuntime) -> Result<(), Fail> {
+fn histograms(rt: HostRuntime) {
     assert_prints(
         &rt,
         rt.alloc(),
@@ -123,13 +122,13 @@ fn histograms(rt: HostRuntime) -> Result<(), Fail> {
          point app h histogram cumulative 1 3 a=i:1 2 32 11 21 0,0,1,1\n\
          collected 1\n\
          point app h histogram delta 2 3 - 1 0 0 0 0,1,0,0\n",
-    )
+    );
 }
 
 /// Bounds: none; one; those of the first of two builds; and those that do not rise, with which a histogram ignores its
 /// records. For other instruments they don't matter.
 #[test]
-fn bounds(rt: HostRuntime) -> Result<(), Fail> {
+fn bounds(rt: HostRuntime) {
     assert_prints(
         &rt,
         rt.alloc(),
@@ -166,12 +165,12 @@ fn bounds(rt: HostRuntime) -> Result<(), Fail> {
          point app none histogram cumulative 1 2 - 1 7 7 7 -\n\
          point app one histogram cumulative 1 2 - 2 9223372036854775806 9223372036854775807 18446744073709551615 1,1\n\
          point app c sum cumulative monotonic 1 2 - 7\n",
-    )
+    );
 }
 
 /// Numbers of another type than the instrument's, even at an instrument that ignores its records.
 #[test]
-fn wrong_numbers(rt: HostRuntime) -> Result<(), Fail> {
+fn wrong_numbers(rt: HostRuntime) {
     assert_prints(
         &rt,
         rt.alloc(),
@@ -203,5 +202,5 @@ fn wrong_numbers(rt: HostRuntime) -> Result<(), Fail> {
          refused 6 wrong number type\n\
          ok\n\
          collected 0\n",
-    )
+    );
 }

@@ -6,7 +6,7 @@ use std::test::Fail;
 /// If all that can be demanded drops, a counter has its own stream if an answer doesn't fit it: one counter's stream
 /// drops, the other's identity was dropped before.
 #[test]
-fn own_stream_where_all_drop(rt: HostRuntime) -> Result<(), Fail> {
+fn own_stream_where_all_drop(rt: HostRuntime) {
     assert_prints(
         &rt,
         rt.alloc(),
@@ -29,12 +29,12 @@ fn own_stream_where_all_drop(rt: HostRuntime) -> Result<(), Fail> {
          collected 2\n\
          point m a sum cumulative monotonic 100 200 - 1\n\
          point m b sum cumulative monotonic 100 200 - 2\n",
-    )
+    );
 }
 
 /// Two views give a counter the same stream: the keys and the limit of the first hold, and it counts once.
 #[test]
-fn first_decides(rt: HostRuntime) -> Result<(), Fail> {
+fn first_decides(rt: HostRuntime) {
     assert_prints(
         &rt,
         rt.alloc(),
@@ -54,13 +54,13 @@ fn first_decides(rt: HostRuntime) -> Result<(), Fail> {
          collected 2\n\
          point m c sum cumulative monotonic 100 200 a=i:1 1\n\
          point m c sum cumulative monotonic 100 200 otel.metric.overflow=b:true 2\n",
-    )
+    );
 }
 
 /// A view's name is compared byte for byte. The word `*` stands for all instruments, and its escape for the name `*`.
 /// Views are asked in the order of their lines, and readers may come between them.
 #[test]
-fn selectors(rt: HostRuntime) -> Result<(), Fail> {
+fn selectors(rt: HostRuntime) {
     assert_prints(
         &rt,
         rt.alloc(),
@@ -86,7 +86,7 @@ fn selectors(rt: HostRuntime) -> Result<(), Fail> {
          point m x sum cumulative monotonic 100 200 k=i:1,l=i:1 1\n\
          point m ab sum cumulative monotonic 100 200 k=i:1 1\n\
          point m b sum cumulative monotonic 110 200 -=i:2,%3D=i:3,k=i:4 2\n",
-    )
+    );
 }
 
 /// Options that are invalid, given twice, or have invalid values or bad settings.

@@ -5,7 +5,7 @@ use std::test::Fail;
 
 /// A description may be any text, a unit may not, and both tell streams apart.
 #[test]
-fn descriptions_and_units(rt: HostRuntime) -> Result<(), Fail> {
+fn descriptions_and_units(rt: HostRuntime) {
     assert_prints(
         &rt,
         rt.alloc(),
@@ -43,12 +43,12 @@ fn descriptions_and_units(rt: HostRuntime) -> Result<(), Fail> {
          point app c sum cumulative monotonic 120 200 - 36\n\
          point app c sum cumulative monotonic 130 200 - 8\n\
          point app c sum cumulative monotonic 140 200 - 16\n",
-    )
+    );
 }
 
 /// The first word of a meter is its name, the second its version.
 #[test]
-fn names_and_versions(rt: HostRuntime) -> Result<(), Fail> {
+fn names_and_versions(rt: HostRuntime) {
     assert_prints(
         &rt,
         rt.alloc(),
@@ -98,7 +98,7 @@ fn names_and_versions(rt: HostRuntime) -> Result<(), Fail> {
          point app a sum cumulative monotonic 120 240 - 4\n\
          point 1.0 b sum cumulative monotonic 110 240 - 2\n\
          point app c sum cumulative monotonic 100 240 - 1\n",
-    )
+    );
 }
 
 /// A tab is a byte of a word: it neither separates words nor makes a line empty.
@@ -120,7 +120,8 @@ fn tabs(rt: HostRuntime) -> Result<(), Fail> {
         rt.alloc(),
         b"go\nmeter a\tb\nmeter a b\nmeter a\tb\n",
         "meter 0\nmeter 1\nmeter 0\n",
-    )
+    );
+    Ok(())
 }
 
 /// Names, texts and lists of any length are accepted.
@@ -151,5 +152,6 @@ fn long_lines(rt: HostRuntime) -> Result<(), Fail> {
         name.as_str(),
         pairs.as_str()
     )?;
-    assert_prints(&rt, alloc, script.as_bytes(), printed.as_str())
+    assert_prints(&rt, alloc, script.as_bytes(), printed.as_str());
+    Ok(())
 }

@@ -1,5 +1,6 @@
 //! Which settings of streams are refused, and with which text.
 
+use super::texts::prints;
 use otel_common::faults::Fault;
 use otel_common::keys::Key;
 use otel_common::lists::Items;
@@ -15,21 +16,27 @@ fn fault_of(builder: StreamBuilder) -> Option<StreamFault> {
 }
 
 /// Whether a fault shows this text; no fault shows `Ok`.
-fn shows(alloc: Global, fault: Option<StreamFault>, text: &str) -> Result<bool, Fail> {
+fn shows(alloc: Global, fault: Option<StreamFault>, text: &str) -> bool {
     match fault {
-        None => Ok(text == "Ok"),
-        Some(fault) => Ok(format!(in alloc; "{fault}")?.as_str() == text),
+        None => text == "Ok",
+        Some(fault) => prints(alloc, &fault, text),
     }
 }
 
-fn fault_by_name(alloc: Global, name: &str) -> Result<Option<StreamFault>, Fault> {
-    let name = String::from_str(alloc, name)?;
-    Ok(fault_of(Stream::builder().with_name(name)))
+/// Whether a builder with this name builds.
+fn name_builds(alloc: Global, name: &str) -> bool {
+    match String::from_str(alloc, name) {
+        Ok(name) => fault_of(Stream::builder().with_name(name)).is_none(),
+        Err(_) => false,
+    }
 }
 
-fn fault_by_unit(alloc: Global, unit: &str) -> Result<Option<StreamFault>, Fault> {
-    let unit = String::from_str(alloc, unit)?;
-    Ok(fault_of(Stream::builder().with_unit(unit)))
+/// Whether the fault of a builder with this unit shows this text; no fault shows `Ok`.
+fn unit_shows(alloc: Global, unit: &str, text: &str) -> bool {
+    match String::from_str(alloc, unit) {
+        Ok(unit) => shows(alloc, fault_of(Stream::builder().with_unit(unit)), text),
+        Err(_) => false,
+    }
 }
 
 fn fault_by_bounds(alloc: Global, bounds: &[i64]) -> Result<Option<StreamFault>, Fault> {
@@ -44,81 +51,86 @@ fn fault_by_limit(limit: usize) -> Option<StreamFault> {
     fault_of(Stream::builder().with_cardinality_limit(limit))
 }
 
-/// Whether the fault of a builder with this unit shows this text; no fault shows `Ok`.
-fn unit_shows(alloc: Global, unit: &str, text: &str) -> Result<bool, Fail> {
-    let fault = fault_by_unit(alloc, unit)?;
-    shows(alloc, fault, text)
-}
+const NAMES: &[&str] = &[
+    "validateName",
+    "allow/slash",
+    "allow_under_score",
+    "allow.dots.ok",
+    "utf8char锈",
+    "invalid name",
+    "/not / allowed",
+    "_startWithNoneAlphabet",
+    "\\allow\\slash /sec",
+    "\\allow\\$$slash /sec",
+    "\\test\\UsagePercent(Total) > 80%",
+    "",
+];
 
 #[test]
 fn stream_name_no_validation(rt: HostRuntime) -> Result<(), Fail> {
-    let alloc = rt.alloc();
-    let long = "a".repeat(alloc, 256)?;
-    for name in [
-        "validateName",
-        "allow/slash",
-        "allow_under_score",
-        "allow.dots.ok",
-        "utf8char锈",
-        "invalid name",
-        "/not / allowed",
-        "_startWithNoneAlphabet",
-        "\\allow\\slash /sec",
-        "\\allow\\$$slash /sec",
-        "\\test\\UsagePercent(Total) > 80%",
-        "",
-        long.as_str(),
-    ] {
-        assert!(rt; fault_by_name(alloc, name)?.is_none(), "of {name}");
+    for name in NAMES {
+        assert!(rt; name_builds(rt.alloc(), name), "of {name}");
     }
+    let long = "a".repeat(rt.alloc(), 256)?;
+    assert!(rt; name_builds(rt.alloc(), long.as_str()));
     Ok(())
 }
+
+const UNITS: &[(&str, &str)] = &[
+    ("utf8char锈", "characters in unit must be ASCII"),
+    ("kb", "Ok"),
+    ("Kb/sec", "Ok"),
+    ("%", "Ok"),
+    ("", "Ok"),
+];
 
 #[test]
 fn stream_unit_validation(rt: HostRuntime) -> Result<(), Fail> {
-    let alloc = rt.alloc();
-    let long = "0".repeat(alloc, 64)?;
-    for (unit, answer) in [
-        (long.as_str(), "unit must be less than 64 characters"),
-        ("utf8char锈", "characters in unit must be ASCII"),
-        ("kb", "Ok"),
-        ("Kb/sec", "Ok"),
-        ("%", "Ok"),
-        ("", "Ok"),
-    ] {
-        assert!(rt; unit_shows(alloc, unit, answer)?, "of {unit}");
+    for (unit, answer) in UNITS {
+        assert!(rt; unit_shows(rt.alloc(), unit, answer), "of {unit}");
     }
+    let long = "0".repeat(rt.alloc(), 64)?;
+    let answer = "unit must be less than 64 characters";
+    assert!(rt; unit_shows(rt.alloc(), long.as_str(), answer));
     Ok(())
 }
 
+const LIMITS: &[(usize, &str)] = &[
+    (0, "Cardinality limit must be greater than 0"),
+    (usize::MAX, "Cardinality limit must be less than usize::MAX"),
+    (usize::MAX - 1, "Ok"),
+    (1, "Ok"),
+    (10, "Ok"),
+    (100, "Ok"),
+    (1000, "Ok"),
+];
+
 #[test]
-fn stream_cardinality_limit_validation(rt: HostRuntime) -> Result<(), Fail> {
-    let alloc = rt.alloc();
-    for (limit, answer) in [
-        (0, "Cardinality limit must be greater than 0"),
-        (usize::MAX, "Cardinality limit must be less than usize::MAX"),
-        (usize::MAX - 1, "Ok"),
-        (1, "Ok"),
-        (10, "Ok"),
-        (100, "Ok"),
-        (1000, "Ok"),
-    ] {
-        assert!(rt; shows(alloc, fault_by_limit(limit), answer)?, "of {limit}");
+fn stream_cardinality_limit_validation(rt: HostRuntime) {
+    for (limit, answer) in LIMITS {
+        assert!(rt;
+            shows(rt.alloc(), fault_by_limit(*limit), answer),
+            "of {limit}"
+        );
     }
-    Ok(())
+}
+
+/// Whether the fault of a builder with these bounds shows this text; no fault shows `Ok`.
+fn bounds_show(alloc: Global, bounds: &[i64], text: &str) -> bool {
+    match fault_by_bounds(alloc, bounds) {
+        Ok(fault) => shows(alloc, fault, text),
+        Err(_) => false,
+    }
 }
 
 #[test]
-fn stream_histogram_bucket_validation(rt: HostRuntime) -> Result<(), Fail> {
+fn stream_histogram_bucket_validation(rt: HostRuntime) {
     let alloc = rt.alloc();
-    let valid = fault_by_bounds(alloc, &[1, 2, 5, 10, 20, 50, 100])?;
-    assert!(rt; valid.is_none());
-    let unsorted = fault_by_bounds(alloc, &[1, 5, 2, 10])?;
-    assert!(rt; unsorted == Some(StreamFault::Boundaries));
-    let doubled = fault_by_bounds(alloc, &[1, 2, 5, 5, 10])?;
     let text = "Bucket boundaries must be sorted and not contain any duplicates";
-    assert!(rt; shows(alloc, doubled, text)?);
-    Ok(())
+    assert!(rt; bounds_show(alloc, &[1, 2, 5, 10, 20, 50, 100], "Ok"));
+    assert!(rt; bounds_show(alloc, &[1, 5, 2, 10], text));
+    assert!(rt; bounds_show(alloc, &[1, 2, 5, 5, 10], text));
+    assert!(rt; fault_by_bounds(alloc, &[1, 5, 2, 10]).ok() == Some(Some(StreamFault::Boundaries)));
 }
 
 /// A builder with everything set, from these texts and keys.
@@ -191,7 +203,8 @@ fn default_has_no_name() -> bool {
 /// Tests each setting once, with its getter.
 #[test]
 fn stream_valid_build(rt: HostRuntime) -> Result<(), Fail> {
-    assert!(rt; copy_builds(&builder(rt.alloc())?));
+    let builder = builder(rt.alloc())?;
+    assert!(rt; copy_builds(&builder));
     assert!(rt; default_has_no_name());
     Ok(())
 }

@@ -225,7 +225,7 @@ fn row_15(rt: HostRuntime) -> Result<(), Fail> {
 /// If memory is refused for a record of a new set at two readers, neither has it. Memory is refused by hand: `rt try
 /// --test --fail-alloc N`.
 #[test]
-fn row_17(rt: HostRuntime) -> Result<(), Fail> {
+fn row_17(rt: HostRuntime) {
     assert_prints_or(
         &rt,
         rt.alloc(),
@@ -273,7 +273,7 @@ fn row_17(rt: HostRuntime) -> Result<(), Fail> {
              point app requests sum cumulative monotonic 100 200 a=i:1 1\n\
              refused 1 out of memory\n",
         ],
-    )
+    );
 }
 
 /// A `lowmemory` reader gets a counter's sums since its last collection, and an up-down counter's since the build.

@@ -187,14 +187,16 @@ fn goes_on(alloc: Global, sum: &mut Sum<u64>, kind: Kind, steps: &[Step]) -> Res
 }
 
 /// Whether a sum of this kind and limit, made at 100, follows these steps.
-fn follows(alloc: Global, kind: Kind, limit: usize, steps: &[Step]) -> Result<bool, Fault> {
-    let mut sum = made(alloc, kind, limit)?;
-    Ok(goes_on(alloc, &mut sum, kind, steps).unwrap_or(false))
+fn follows(alloc: Global, kind: Kind, limit: usize, steps: &[Step]) -> bool {
+    match made(alloc, kind, limit) {
+        Ok(mut sum) => goes_on(alloc, &mut sum, kind, steps).unwrap_or(false),
+        Err(_) => false,
+    }
 }
 
 #[test]
-fn past_the_limit_the_overflow_entry_is_used(rt: HostRuntime) -> Result<(), Fail> {
-    let steps: [Step; 6] = [
+fn past_the_limit_the_overflow_entry_is_used(rt: HostRuntime) {
+    let steps = &[
         Step::Record(X, 1),
         Step::Record(Y, 2),
         Step::Record(Z, 4),
@@ -202,39 +204,36 @@ fn past_the_limit_the_overflow_entry_is_used(rt: HostRuntime) -> Result<(), Fail
         Step::Gives(100, 200, &[(X, 9), (OVERFLOW, 6)]),
         Step::Gives(100, 200, &[(X, 9), (OVERFLOW, 6)]),
     ];
-    assert!(rt; follows(rt.alloc(), CUMULATIVE, 1, &steps)?);
-    Ok(())
+    assert!(rt; follows(rt.alloc(), CUMULATIVE, 1, steps));
 }
 
 #[test]
-fn the_empty_set_comes_first_and_is_not_counted(rt: HostRuntime) -> Result<(), Fail> {
-    let steps: [Step; 5] = [
+fn the_empty_set_comes_first_and_is_not_counted(rt: HostRuntime) {
+    let steps = &[
         Step::Gives(100, 200, &[]),
         Step::Record(X, 2),
         Step::Record(NONE, 1),
         Step::Record(Y, 4),
         Step::Gives(100, 200, &[(NONE, 1), (X, 2), (OVERFLOW, 4)]),
     ];
-    assert!(rt; follows(rt.alloc(), CUMULATIVE, 1, &steps)?);
-    Ok(())
+    assert!(rt; follows(rt.alloc(), CUMULATIVE, 1, steps));
 }
 
 #[test]
-fn row_3(rt: HostRuntime) -> Result<(), Fail> {
-    let steps: [Step; 5] = [
+fn row_3(rt: HostRuntime) {
+    let steps = &[
         Step::Record(X, 1),
         Step::Record(Y, 2),
         Step::Record(Z, 4),
         Step::Record(X, 8),
         Step::Gives(100, 200, &[(X, 9), (Y, 2), (OVERFLOW, 4)]),
     ];
-    assert!(rt; follows(rt.alloc(), DELTA, 2, &steps)?);
-    Ok(())
+    assert!(rt; follows(rt.alloc(), DELTA, 2, steps));
 }
 
 #[test]
-fn row_4(rt: HostRuntime) -> Result<(), Fail> {
-    let steps: [Step; 6] = [
+fn row_4(rt: HostRuntime) {
+    let steps = &[
         Step::Record(X, 1),
         Step::Gives(100, 200, &[(X, 1)]),
         Step::Record(Y, 2),
@@ -242,13 +241,12 @@ fn row_4(rt: HostRuntime) -> Result<(), Fail> {
         Step::Record(Y, 4),
         Step::Gives(300, 400, &[(Y, 4)]),
     ];
-    assert!(rt; follows(rt.alloc(), DELTA, 1, &steps)?);
-    Ok(())
+    assert!(rt; follows(rt.alloc(), DELTA, 1, steps));
 }
 
 #[test]
-fn row_7(rt: HostRuntime) -> Result<(), Fail> {
-    let steps: [Step; 6] = [
+fn row_7(rt: HostRuntime) {
+    let steps = &[
         Step::Record(OVERFLOW, 1),
         Step::Record(X, 2),
         Step::Gives(100, 200, &[(OVERFLOW, 3)]),
@@ -256,77 +254,71 @@ fn row_7(rt: HostRuntime) -> Result<(), Fail> {
         Step::Record(X, 5),
         Step::Gives(300, 400, &[(OVERFLOW, 5)]),
     ];
-    assert!(rt; follows(rt.alloc(), DELTA, 1, &steps)?);
-    Ok(())
+    assert!(rt; follows(rt.alloc(), DELTA, 1, steps));
 }
 
 #[test]
-fn row_22(rt: HostRuntime) -> Result<(), Fail> {
-    let steps: [Step; 4] = [
+fn row_22(rt: HostRuntime) {
+    let steps = &[
         Step::Record(NONE, 1),
         Step::Record(X, 2),
         Step::Record(Y, 4),
         Step::Gives(100, 200, &[(NONE, 1), (X, 2), (OVERFLOW, 4)]),
     ];
-    assert!(rt; follows(rt.alloc(), DELTA, 1, &steps)?);
-    Ok(())
+    assert!(rt; follows(rt.alloc(), DELTA, 1, steps));
 }
 
 /// A delta collection starts at the moment of the one before, even if that had no points.
 #[test]
-fn delta_moments(rt: HostRuntime) -> Result<(), Fail> {
-    let steps: [Step; 3] = [
+fn delta_moments(rt: HostRuntime) {
+    let steps = &[
         Step::Gives(100, 200, &[]),
         Step::Record(NONE, 1),
         Step::Gives(200, 300, &[(NONE, 1)]),
     ];
-    assert!(rt; follows(rt.alloc(), DELTA, 10, &steps)?);
-    Ok(())
+    assert!(rt; follows(rt.alloc(), DELTA, 10, steps));
 }
 
 /// The same if the points of the one before add up to 0.
 #[test]
-fn delta_moments_of_zero(rt: HostRuntime) -> Result<(), Fail> {
-    let steps: [Step; 3] = [
+fn delta_moments_of_zero(rt: HostRuntime) {
+    let steps = &[
         Step::Record(X, 0),
         Step::Gives(100, 200, &[(X, 0)]),
         Step::Gives(200, 300, &[]),
     ];
-    assert!(rt; follows(rt.alloc(), DELTA, 10, &steps)?);
-    Ok(())
+    assert!(rt; follows(rt.alloc(), DELTA, 10, steps));
 }
 
 #[test]
-fn the_order_of_attributes_does_not_matter(rt: HostRuntime) -> Result<(), Fail> {
-    let steps: [Step; 4] = [
+fn the_order_of_attributes_does_not_matter(rt: HostRuntime) {
+    let steps = &[
         Step::Record(Set::BThenA, 1),
         Step::Record(Set::AThenB, 2),
         Step::Record(Set::TwiceAThenB, 4),
         Step::Gives(100, 200, &[(Set::AThenB, 7)]),
     ];
-    assert!(rt; follows(rt.alloc(), CUMULATIVE, 10, &steps)?);
-    Ok(())
+    assert!(rt; follows(rt.alloc(), CUMULATIVE, 10, steps));
 }
 
 #[test]
-fn an_allow_list_drops_other_keys(rt: HostRuntime) -> Result<(), Fail> {
+fn an_allow_list_drops_other_keys(rt: HostRuntime) {
     let kind = Kind {
         allow: Some("b"),
         ..CUMULATIVE
     };
-    let steps: [Step; 4] = [
+    let steps = &[
         Step::Record(Set::BThenA, 1),
         Step::Record(Set::CThenB, 2),
         Step::Record(Set::A, 4),
         Step::Gives(100, 200, &[(NONE, 4), (Set::OneB, 3)]),
     ];
-    assert!(rt; follows(rt.alloc(), kind, 10, &steps)?);
-    Ok(())
+    assert!(rt; follows(rt.alloc(), kind, 10, steps));
 }
 
 #[test]
-fn a_record_is_prepared_and_then_taken_in(rt: HostRuntime) -> Result<(), Fail> {
-    let steps: [Step; 8] = [
+fn a_record_is_prepared_and_then_taken_in(rt: HostRuntime) {
+    let steps = &[
         Step::IsPrepared(false),
         Step::Prepare(X),
         Step::IsPrepared(true),
@@ -336,29 +328,25 @@ fn a_record_is_prepared_and_then_taken_in(rt: HostRuntime) -> Result<(), Fail> {
         Step::Shows(100, 300, &[(X, 5)]),
         Step::Gives(100, 200, &[(X, 5)]),
     ];
-    assert!(rt; follows(rt.alloc(), CUMULATIVE, 10, &steps)?);
-    Ok(())
+    assert!(rt; follows(rt.alloc(), CUMULATIVE, 10, steps));
 }
 
 /// A resetting collection gives up a prepared record.
 #[test]
-fn a_delta_collection_gives_up_a_record(rt: HostRuntime) -> Result<(), Fail> {
-    let steps: [Step; 3] = [
+fn a_delta_collection_gives_up_a_record(rt: HostRuntime) {
+    let steps = &[
         Step::Prepare(X),
         Step::Gives(100, 200, &[]),
         Step::IsPrepared(false),
     ];
-    assert!(rt; follows(rt.alloc(), DELTA, 10, &steps)?);
-    Ok(())
+    assert!(rt; follows(rt.alloc(), DELTA, 10, steps));
 }
 
 #[test]
-fn sum_aggregation(rt: HostRuntime) -> Result<(), Fail> {
-    let steps: [Step; 2] = [Step::Record(B, 3), Step::Gives(100, 200, &[(B, 3)])];
-    for kind in [CUMULATIVE, DELTA] {
-        assert!(rt; follows(rt.alloc(), kind, 10, &steps)?);
-    }
-    Ok(())
+fn sum_aggregation(rt: HostRuntime) {
+    let steps = &[Step::Record(B, 3), Step::Gives(100, 200, &[(B, 3)])];
+    assert!(rt; follows(rt.alloc(), CUMULATIVE, 10, steps));
+    assert!(rt; follows(rt.alloc(), DELTA, 10, steps));
 }
 
 /// Whether a cumulative sum of signed numbers wraps around, and stays from one collection to the next.
@@ -386,8 +374,8 @@ fn row_13(rt: HostRuntime) -> Result<(), Fail> {
 /// An entry that a live handle holds outlives collections without records and counts toward the limit, until the
 /// handle ends.
 #[test]
-fn a_held_entry_stays(rt: HostRuntime) -> Result<(), Fail> {
-    let steps: [Step; 12] = [
+fn a_held_entry_stays(rt: HostRuntime) {
+    let steps = &[
         Step::Bind(3, X),
         Step::RecordBound(3, 5),
         Step::Gives(100, 200, &[(X, 5)]),
@@ -401,8 +389,7 @@ fn a_held_entry_stays(rt: HostRuntime) -> Result<(), Fail> {
         Step::Record(Y, 4),
         Step::Gives(600, 700, &[(Y, 4)]),
     ];
-    assert!(rt; follows(rt.alloc(), DELTA, 1, &steps)?);
-    Ok(())
+    assert!(rt; follows(rt.alloc(), DELTA, 1, steps));
 }
 
 /// Whether a sum shows a record of 1. If memory is refused, tries again.

@@ -50,17 +50,15 @@ fn keeps_the_last<T: Number + Drop + PartialEq>(
 }
 
 #[test]
-fn an_increment_adds_up(rt: HostRuntime) -> Result<(), Fail> {
-    assert!(rt; adds_up(rt.alloc(), [3u64, 4], 7, 7)?);
-    assert!(rt; adds_up(rt.alloc(), [-4i64, 3], -1, 18446744073709551615)?);
-    Ok(())
+fn an_increment_adds_up(rt: HostRuntime) {
+    assert!(rt; adds_up(rt.alloc(), [3u64, 4], 7, 7).unwrap_or(false));
+    assert!(rt; adds_up(rt.alloc(), [-4i64, 3], -1, 18446744073709551615).unwrap_or(false));
 }
 
 #[test]
-fn an_assign_keeps_the_last(rt: HostRuntime) -> Result<(), Fail> {
-    assert!(rt; keeps_the_last(rt.alloc(), 4u64, 3)?);
-    assert!(rt; keeps_the_last(rt.alloc(), 3i64, -4)?);
-    Ok(())
+fn an_assign_keeps_the_last(rt: HostRuntime) {
+    assert!(rt; keeps_the_last(rt.alloc(), 4u64, 3).unwrap_or(false));
+    assert!(rt; keeps_the_last(rt.alloc(), 3i64, -4).unwrap_or(false));
 }
 
 fn rising(alloc: Global, bounds: &[i64]) -> Result<Option<Bounds>, Fault> {
@@ -68,16 +66,25 @@ fn rising(alloc: Global, bounds: &[i64]) -> Result<Option<Bounds>, Fault> {
     Ok(Bounds::new(items))
 }
 
+/// Whether bounds are made of these numbers, with so many buckets.
+fn has_buckets(alloc: Global, bounds: &[i64], number: usize) -> bool {
+    match rising(alloc, bounds) {
+        Ok(Some(bounds)) => bounds.number_of_buckets() == number,
+        _ => false,
+    }
+}
+
+/// Whether no bounds are made of these numbers.
+fn is_refused(alloc: Global, bounds: &[i64]) -> bool {
+    matches!(rising(alloc, bounds), Ok(None))
+}
+
 #[test]
-fn bounds_that_rise(rt: HostRuntime) -> Result<(), Fail> {
-    assert!(rt; is_rising(&[]));
-    assert!(rt; is_rising(&[-3, 0, 7]));
-    assert!(rt; !is_rising(&[0, 0]));
-    assert!(rt; !is_rising(&[1, 2, -3]));
-    assert!(rt; rising(rt.alloc(), &[1, 1])?.is_none());
-    let none = rising(rt.alloc(), &[])?.ok_or("bounds that do not rise")?;
-    assert_eq!(rt; none.number_of_buckets(), 0);
-    Ok(())
+fn bounds_that_rise(rt: HostRuntime) {
+    assert!(rt; is_rising(&[]) && is_rising(&[-3, 0, 7]));
+    assert!(rt; !is_rising(&[0, 0]) && !is_rising(&[1, 2, -3]));
+    assert!(rt; is_refused(rt.alloc(), &[1, 1]));
+    assert!(rt; has_buckets(rt.alloc(), &[], 0));
 }
 
 /// Whether another owner of the bounds has these numbers.
@@ -85,18 +92,20 @@ fn is_shared(bounds: &Bounds, want: &[i64]) -> Result<bool, Fault> {
     Ok(bounds.share()?.as_slice() == want)
 }
 
+/// Whether these are the bounds 1 and 3.
+fn are_one_and_three(bounds: &Bounds) -> bool {
+    bounds.number_of_buckets() == 3
+        && bounds.as_slice() == [1, 3].as_slice()
+        && is_shared(bounds, &[1, 3]).unwrap_or(false)
+        && bounds.bucket_of(1) == 0
+        && bounds.bucket_of(2) == 1
+        && bounds.bucket_of(170141183460469231731687303715884105727) == 2
+}
+
 #[test]
 fn bounds_rise(rt: HostRuntime) -> Result<(), Fail> {
     let bounds = rising(rt.alloc(), &[1, 3])?.ok_or("bounds that do not rise")?;
-    assert_eq!(rt; bounds.number_of_buckets(), 3);
-    assert!(rt; bounds.as_slice() == [1, 3].as_slice());
-    assert!(rt; is_shared(&bounds, &[1, 3]).unwrap_or(false));
-    assert_eq!(rt; bounds.bucket_of(1), 0);
-    assert_eq!(rt; bounds.bucket_of(2), 1);
-    assert_eq!(rt;
-        bounds.bucket_of(170141183460469231731687303715884105727),
-        2
-    );
+    assert!(rt; are_one_and_three(&bounds));
     Ok(())
 }
 
@@ -118,18 +127,33 @@ fn counted<T: Number + Drop>(
     Ok(buckets)
 }
 
+/// Whether buckets have counted -3, 2 and 4.
+fn have_counted(buckets: &Buckets<i64>) -> bool {
+    buckets.counts.as_slice() == [1, 2].as_slice()
+        && buckets.sum == 3
+        && buckets.least == Some(-3)
+        && buckets.greatest == Some(4)
+}
+
+/// Whether buckets weigh what they have counted, and their copy has counted it too.
+fn are_copied(alloc: Global, buckets: &Buckets<i64>) -> bool {
+    match buckets.copy(alloc) {
+        Ok(copy) => buckets.weight() == 3 && have_counted(&copy),
+        Err(_) => false,
+    }
+}
+
+/// Whether buckets are empty after a reset.
+fn are_reset(buckets: &mut Buckets<i64>) -> bool {
+    reset_fold(buckets);
+    buckets.weight() == 0
+        && buckets.counts.as_slice() == [0, 0].as_slice()
+        && buckets.least.is_none()
+}
+
 #[test]
 fn buckets_count(rt: HostRuntime) -> Result<(), Fail> {
     let mut buckets = counted(rt.alloc(), (-3i64, 0), (2, 1), (4, 1))?;
-    assert_eq!(rt; buckets.weight(), 3);
-    let copy = buckets.copy(rt.alloc())?;
-    assert!(rt; copy.counts.as_slice() == [1, 2].as_slice());
-    assert_eq!(rt; copy.sum, 3);
-    assert_eq!(rt; copy.least, Some(-3));
-    assert_eq!(rt; copy.greatest, Some(4));
-    reset_fold(&mut buckets);
-    assert_eq!(rt; buckets.weight(), 0);
-    assert!(rt; buckets.counts.as_slice() == [0, 0].as_slice());
-    assert_eq!(rt; buckets.least, None);
+    assert!(rt; are_copied(rt.alloc(), &buckets) && are_reset(&mut buckets));
     Ok(())
 }

@@ -124,15 +124,23 @@ fn drains(
     Ok(are_sums(alloc, &given, wanted)? && shows(alloc, map, &[], 0)?)
 }
 
+/// A map of sums with this limit.
+fn sums<T: Number + Drop>(alloc: Global, limit: usize) -> Result<ValueMap<Increment<T>>, Fault> {
+    ValueMap::new(alloc, SetHashBuilder::default(), (), limit)
+}
+
+/// Whether a new map is emptied by a draining collection, and not by a resetting one.
+fn is_drained(alloc: Global, map: &mut ValueMap<Increment<u64>>) -> Result<bool, Fault> {
+    record(alloc, map, TURNED, 1)?;
+    let is_given = finds(alloc, map, BOTH, 1)? && gives(alloc, map, &[(BOTH, 1)])?;
+    record(alloc, map, NONE, 4)?;
+    Ok(is_given && drains(alloc, map, &[(NONE, 4), (BOTH, 0)])?)
+}
+
 #[test]
 fn a_map_drains(rt: HostRuntime) -> Result<(), Fail> {
-    let alloc = rt.alloc();
-    let mut map: ValueMap<Increment<u64>> = ValueMap::new(alloc, SetHashBuilder::default(), (), 2)?;
-    assert!(rt; record(alloc, &mut map, TURNED, 1).is_ok());
-    assert!(rt; finds(alloc, &map, BOTH, 1).unwrap_or(false));
-    assert!(rt; gives(alloc, &mut map, &[(BOTH, 1)]).unwrap_or(false));
-    assert!(rt; record(alloc, &mut map, NONE, 4).is_ok());
-    assert!(rt; drains(alloc, &mut map, &[(NONE, 4), (BOTH, 0)]).unwrap_or(false));
+    let mut map = sums(rt.alloc(), 2)?;
+    assert!(rt; is_drained(rt.alloc(), &mut map).unwrap_or(false));
     Ok(())
 }
 
@@ -151,79 +159,139 @@ fn restores(
     Ok(is_changed && shows(alloc, map, wanted, total)?)
 }
 
+/// Whether a new map with a limit of 1 is restored, empty and with sets at and past the limit.
+fn is_restored(alloc: Global, map: &mut ValueMap<Increment<u64>>) -> Result<bool, Fault> {
+    let wanted = [(NONE, 4), (OTHER, 1)];
+    let is_empty = restores(alloc, map, NONE, &[], 0)? && restores(alloc, map, BOTH, &[], 0)?;
+    record(alloc, map, NONE, 4)?;
+    record(alloc, map, OTHER, 1)?;
+    let is_known = restores(alloc, map, OTHER, &wanted, 5)?;
+    let is_past = restores(alloc, map, BOTH, &wanted, 5)?;
+    record(alloc, map, OTHER, 2)?;
+    Ok(is_empty && is_known && is_past && gives(alloc, map, &[(NONE, 4), (OTHER, 3)])?)
+}
+
 #[test]
 fn a_map_is_restored(rt: HostRuntime) -> Result<(), Fail> {
-    let alloc = rt.alloc();
-    let mut map: ValueMap<Increment<u64>> = ValueMap::new(alloc, SetHashBuilder::default(), (), 1)?;
-    assert!(rt; restores(alloc, &mut map, NONE, &[], 0).unwrap_or(false));
-    assert!(rt; restores(alloc, &mut map, BOTH, &[], 0).unwrap_or(false));
-    assert!(rt; record(alloc, &mut map, NONE, 4).is_ok());
-    assert!(rt; record(alloc, &mut map, OTHER, 1).is_ok());
-    assert!(rt; restores(alloc, &mut map, OTHER, &[(NONE, 4), (OTHER, 1)], 5).unwrap_or(false));
-    assert!(rt; restores(alloc, &mut map, BOTH, &[(NONE, 4), (OTHER, 1)], 5).unwrap_or(false));
-    assert!(rt; record(alloc, &mut map, OTHER, 2).is_ok());
-    assert!(rt; gives(alloc, &mut map, &[(NONE, 4), (OTHER, 3)]).unwrap_or(false));
+    let mut map = sums(rt.alloc(), 1)?;
+    assert!(rt; is_restored(rt.alloc(), &mut map).unwrap_or(false));
     Ok(())
+}
+
+/// Whether a new map takes in some records, of which one is given up.
+fn takes_all(alloc: Global, map: &mut ValueMap<Increment<u64>>) -> Result<bool, Fault> {
+    record(alloc, map, TURNED, 1)?;
+    let is_taken = takes_in(alloc, map, BOTH, 2)? && gives_up(alloc, map, OTHER)?;
+    record(alloc, map, NONE, 4)?;
+    Ok(is_taken)
+}
+
+/// Whether a new map gives its sets in order, and once.
+fn is_in_order(alloc: Global, map: &mut ValueMap<Increment<u64>>) -> Result<bool, Fault> {
+    let wanted = [(NONE, 4), (BOTH, 3)];
+    let is_taken = takes_all(alloc, map)?;
+    let is_shown = shows(alloc, map, &wanted, 7)? && gives(alloc, map, &wanted)?;
+    Ok(is_taken && is_shown && gives(alloc, map, &[])? && shows(alloc, map, &[], 0)?)
 }
 
 #[test]
 fn a_map_gives_its_sets_in_order(rt: HostRuntime) -> Result<(), Fail> {
-    let alloc = rt.alloc();
-    let mut map: ValueMap<Increment<u64>> = ValueMap::new(alloc, SetHashBuilder::default(), (), 2)?;
-    assert!(rt; record(alloc, &mut map, TURNED, 1).is_ok());
-    assert!(rt; takes_in(alloc, &mut map, BOTH, 2).unwrap_or(false));
-    assert!(rt; gives_up(alloc, &mut map, OTHER).unwrap_or(false));
-    assert!(rt; record(alloc, &mut map, NONE, 4).is_ok());
-    assert!(rt; shows(alloc, &map, &[(NONE, 4), (BOTH, 3)], 7).unwrap_or(false));
-    assert!(rt; gives(alloc, &mut map, &[(NONE, 4), (BOTH, 3)]).unwrap_or(false));
-    assert!(rt; gives(alloc, &mut map, &[]).unwrap_or(false));
-    assert!(rt; shows(alloc, &map, &[], 0).unwrap_or(false));
+    let mut map = sums(rt.alloc(), 2)?;
+    assert!(rt; is_in_order(rt.alloc(), &mut map).unwrap_or(false));
     Ok(())
+}
+
+/// Whether a new map adds signed numbers.
+fn adds_signed(alloc: Global, map: &mut ValueMap<Increment<i64>>) -> Result<bool, Fault> {
+    let wanted = [(NONE, -4), (BOTH, 3)];
+    record(alloc, map, TURNED, 1)?;
+    let is_taken = takes_in(alloc, map, NONE, -4)?;
+    record(alloc, map, BOTH, 2)?;
+    let is_shown = shows(alloc, map, &wanted, 18446744073709551615)?;
+    Ok(is_taken && is_shown && gives(alloc, map, &wanted)?)
 }
 
 #[test]
 fn a_map_of_signed_sums(rt: HostRuntime) -> Result<(), Fail> {
-    let alloc = rt.alloc();
-    let mut map: ValueMap<Increment<i64>> = ValueMap::new(alloc, SetHashBuilder::default(), (), 2)?;
-    assert!(rt; record(alloc, &mut map, TURNED, 1).is_ok());
-    assert!(rt; takes_in(alloc, &mut map, NONE, -4).unwrap_or(false));
-    assert!(rt; record(alloc, &mut map, BOTH, 2).is_ok());
-    assert!(rt;
-        shows(alloc, &map, &[(NONE, -4), (BOTH, 3)], 18446744073709551615).unwrap_or(false)
-    );
-    assert!(rt; gives(alloc, &mut map, &[(NONE, -4), (BOTH, 3)]).unwrap_or(false));
+    let mut map = sums(rt.alloc(), 2)?;
+    assert!(rt; adds_signed(rt.alloc(), &mut map).unwrap_or(false));
     Ok(())
+}
+
+/// A map of last values with a limit of 10.
+fn last_values(alloc: Global) -> Result<ValueMap<Assign<i64>>, Fault> {
+    ValueMap::new(alloc, SetHashBuilder::default(), (), 10)
+}
+
+/// Whether a map has so many keys and counted entries.
+fn has(map: &ValueMap<Assign<i64>>, keys: usize, count: usize) -> bool {
+    map.keys() == keys && map.count() == count
+}
+
+/// Whether a map knows a list of attributes.
+fn knows(alloc: Global, map: &ValueMap<Assign<i64>>, set: Set) -> Result<bool, Fault> {
+    Ok(map.knows(&attributes(alloc, set)?))
+}
+
+/// Sets the value of a set.
+fn assign(
+    alloc: Global,
+    map: &mut ValueMap<Assign<i64>>,
+    set: Set,
+    value: i64,
+) -> Result<(), Fault> {
+    map.measure(value, &attributes(alloc, set)?)
+}
+
+/// Whether a resetting collection gives so many points.
+fn counts(alloc: Global, map: &mut ValueMap<Assign<i64>>, count: usize) -> Result<bool, Fault> {
+    Ok(map.collect_and_reset(alloc)?.len() == count)
+}
+
+/// Whether a list in another order than its set is known as long as the entry that it made.
+fn is_known_until_evicted(alloc: Global, map: &mut ValueMap<Assign<i64>>) -> Result<bool, Fault> {
+    assign(alloc, map, TURNED, 1)?;
+    let is_known = knows(alloc, map, TURNED)? && knows(alloc, map, BOTH)?;
+    let is_made = is_known && has(map, 2, 1);
+    let is_counted = counts(alloc, map, 1)? && counts(alloc, map, 0)?;
+    Ok(is_made && is_counted && has(map, 0, 0) && !knows(alloc, map, TURNED)?)
 }
 
 /// A list in another order than its set leads to the entry that it made, as the set does, until the entry is evicted.
 #[test]
 fn row_31(rt: HostRuntime) -> Result<(), Fail> {
-    let alloc = rt.alloc();
-    let given = attributes(alloc, TURNED)?;
-    let sorted = attributes(alloc, BOTH)?;
-    let mut map: ValueMap<Assign<i64>> = ValueMap::new(alloc, SetHashBuilder::default(), (), 10)?;
-    map.measure(1, &given)?;
-    assert!(rt; map.keys() == 2 && map.count() == 1);
-    assert!(rt; map.knows(&given) && map.knows(&sorted));
-    assert_eq!(rt; map.collect_and_reset(alloc)?.len(), 1);
-    assert_eq!(rt; map.collect_and_reset(alloc)?.len(), 0);
-    assert!(rt; map.keys() == 0 && map.count() == 0);
-    assert!(rt; !map.knows(&given));
+    let mut map = last_values(rt.alloc())?;
+    assert!(rt; is_known_until_evicted(rt.alloc(), &mut map).unwrap_or(false));
     Ok(())
+}
+
+/// Whether these are the one point of a set, with this value.
+fn is_point(
+    alloc: Global,
+    points: &[(SharedItems<KeyValue>, Assign<i64>)],
+    set: Set,
+    value: i64,
+) -> Result<bool, Fault> {
+    let set = attributes(alloc, set)?;
+    match points {
+        [point] => Ok(point.0.as_slice() == set.as_slice() && point.1.value == value),
+        _ => Ok(false),
+    }
+}
+
+/// Whether a list in another order than the one that made the entry goes there, and is no key.
+fn adds_no_key(alloc: Global, map: &mut ValueMap<Assign<i64>>) -> Result<bool, Fault> {
+    assign(alloc, map, BOTH, 1)?;
+    assign(alloc, map, TURNED, 2)?;
+    let is_one = map.keys() == 1 && !knows(alloc, map, TURNED)?;
+    let points = map.collect_and_reset(alloc)?;
+    Ok(is_one && is_point(alloc, points.as_slice(), BOTH, 2)?)
 }
 
 /// A list in another order than the one that made the entry adds no key.
 #[test]
 fn row_32(rt: HostRuntime) -> Result<(), Fail> {
-    let alloc = rt.alloc();
-    let given = attributes(alloc, TURNED)?;
-    let sorted = attributes(alloc, BOTH)?;
-    let mut map: ValueMap<Assign<i64>> = ValueMap::new(alloc, SetHashBuilder::default(), (), 10)?;
-    map.measure(1, &sorted)?;
-    map.measure(2, &given)?;
-    assert!(rt; map.keys() == 1 && !map.knows(&given));
-    let points = map.collect_and_reset(alloc)?;
-    assert_eq!(rt; points.len(), 1);
-    assert!(rt; points[0].0.as_slice() == sorted.as_slice() && points[0].1.value == 2);
+    let mut map = last_values(rt.alloc())?;
+    assert!(rt; adds_no_key(rt.alloc(), &mut map).unwrap_or(false));
     Ok(())
 }

@@ -184,10 +184,9 @@ fn many_keys_are_found_in_any_order(rt: HostRuntime) -> Result<(), Fail> {
 }
 
 #[test]
-fn a_canonical_form_is_seen_without_being_made(rt: HostRuntime) -> Result<(), Fail> {
+fn a_canonical_form_is_seen_without_being_made(rt: HostRuntime) {
     let alloc = rt.alloc();
-    assert!(rt; has_form(alloc, FEW_MIXED, FEW)?);
-    assert!(rt; has_form(alloc, MANY_MIXED, MANY)?);
-    assert!(rt; !has_form(alloc, MANY_MIXED, FEW)?);
-    Ok(())
+    assert!(rt; has_form(alloc, FEW_MIXED, FEW).unwrap_or(false));
+    assert!(rt; has_form(alloc, MANY_MIXED, MANY).unwrap_or(false));
+    assert!(rt; !has_form(alloc, MANY_MIXED, FEW).unwrap_or(true));
 }
