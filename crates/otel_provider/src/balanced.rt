@@ -70,7 +70,9 @@ impl BalancedCore {
     pub(crate) fn balances(&self)
         ensures balances { Balances self.now }
         ensures lawful { IsLawful self.now }
-    {}
+    {
+        let _ = self.core.allocator();
+    }
 
     /// Makes one call and returns its reply.
     pub(crate) fn step<V: View, R: MetricReader>(
