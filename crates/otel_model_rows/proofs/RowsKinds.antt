@@ -1,12 +1,12 @@
 -- Worked rows on kinds of instruments: readers' preferences, their aggregations, sums that may fall, and differences.
-use Rattle.std.specs.Prelude.{◌≡◌, ℕ, ℤ, pos, negsuc, Bool, true, false, List, [], ◌∷◌, ◌++◌, map, drop, Some, None}
+use Rattle.std.specs.Prelude.{◌≡◌, ℕ, ℤ, pos, negsuc, Bool, true, false, List, [], ◌∷◌, ◌++◌, map, drop, replicate, Some, None}
 use Rattle.std.proofs.Common.{refl}
 use Rattle.otel_common.specs.Canonical.{canon}
 use Rattle.otel_common.specs.declared.attributes.KeyValue.{KeyValue}
 use Rattle.otel_model_stream.specs.Sets.{AttributeSet}
 use Rattle.otel_model_stream.specs.Folds.{Aggregate}
 use Rattle.otel_model_stream.specs.Events.{Kind}
-use Rattle.otel_model.specs.Calls.{is_observable, InstrumentKind, Counter, UpDownCounter, Histogram, ObservableCounter, ObservableUpDownCounter, Gauge, ObservableGauge, kind_number, About, Observed, Call, Meter, Build, Record, Bind, Collect, WrongKind, WrongNumber, Reply}
+use Rattle.otel_model.specs.Calls.{is_observable, InstrumentKind, Counter, UpDownCounter, Histogram, ObservableCounter, ObservableUpDownCounter, Gauge, ObservableGauge, kind_number, kind_eq, About, Observed, Call, Meter, Build, Record, Bind, Collect, WrongKind, WrongNumber, Reply}
 use Rattle.otel_model.specs.Demands.{Temporality, Cumulative, Delta, Answer, ReaderAnswers, Demand, Aggregation, Drop, Default, Sum, LastValue, ExplicitBucketHistogram, Views, answers_by, answer_for, fits, kinds, kind_default}
 use Rattle.otel_model.specs.Streams.{is_sum, is_last_value, observes_sums, observes_last_values, is_drained, always_resets, is_delta, kind_of, has_sum, aggregate_from, aggregate_of, is_monotonic_kind}
 use Rattle.otel_model_rows.specs.Rows.{SeenPoints, a, m, about, with_own_bounds, u64, i64, x1, y1, if_named, aggregating, cumulative, delta, low_memory, AloneShows, replies, one, delta_sum, cumulative_sum, plain_sum, last_values, cumulative_histogram, delta_histogram, plain_spread, spread, on, add, observe}
@@ -29,6 +29,13 @@ answer_of_kind temporality ObservableCounter = refl
 answer_of_kind temporality ObservableUpDownCounter = refl
 answer_of_kind temporality Gauge = refl
 answer_of_kind temporality ObservableGauge = refl
+
+-- a reader without answers is cumulative, and wants no limit and no aggregation
+pub no_answers : map (answer_for []) seven ≡ replicate 7 (record { temporality = Cumulative; limit = None; aggregation = None })
+no_answers = refl
+
+pub same_kinds : map (λ kind. kind_eq Histogram kind) seven ≡ false ∷ false ∷ true ∷ false ∷ false ∷ false ∷ false ∷ []
+same_kinds = refl
 
 -- in the order of the numbers of kinds
 abbrev in_order : ReaderAnswers → List Temporality

@@ -228,7 +228,7 @@ pub more_if_held : (if_held None 3 7 ≡ 7) × (if_held (Some x1) 3 7 ≡ 3)
 more_if_held = (refl, refl)
 
 -- each event sees the handles that the ones before it left
-pub recorded_by_events : recorded_over folds.Sum Kind.Delta 1 x_machine 7 (through_five 4 ∷ events.Unbind 4 ∷ through_five 4 ∷ events.Bind 8 y1 ∷ through_five 8 ∷ record_five ∷ []) ≡ 22
+pub recorded_by_events : recorded_over folds.Sum Kind.Delta 1 x_machine 7 (through_five 4 ∷ events.Unbind 4 ∷ through_five 4 ∷ through_five 4 ∷ events.Bind 8 y1 ∷ through_five 8 ∷ record_five ∷ []) ≡ 22
 recorded_by_events = refl
 
 pub recorded_by_none : recorded_over folds.Sum Kind.Delta 1 x_machine 7 [] ≡ 7

@@ -12,7 +12,7 @@ use Rattle.otel_model.specs.Only.{is_short, is_others, renumbered_call, only, re
 use Rattle.otel_model.specs.Refusals.{refusal}
 use Rattle.otel_model.specs.Resources.{empty_resource}
 use Rattle.otel_model.specs.State.{State}
-use Rattle.otel_model.specs.Steps.{takes_memory, asks_readers, after, Step, Run, replies_of, state_of}
+use Rattle.otel_model.specs.Steps.{takes_memory, asks_readers, reply_of, after, Step, Run, replies_of, state_of}
 use Rattle.otel_model_rows.specs.Rows.{a, m, about, u64, i64, x1, cumulative, observe}
 
 -- ======== words on calls and replies ========
@@ -225,6 +225,16 @@ reply_missing views old new call r = r
 -- of three calls the second is refused for want of memory
 pub run_short : Run [] begun (Flush ∷ Bind 0 [] ∷ Shutdown ∷ []) (Reply.Done ∷ Reply.Refused OutOfMemory ∷ Reply.Done ∷ []) ended
 run_short = (begun, (refl, refl), (begun, (refl, refl, refl), (ended, (refl, refl), refl)))
+
+-- each call sees the state that the one before it left, and the last one leaves the new state
+pub wrong_run : Run [] begun (Bind 0 [] ∷ []) (Reply.Done ∷ []) (after [] begun (Bind 0 [])) → ⊥
+wrong_run r = let e : (Reply.Done ≡ Reply.Handle 0) = r.1.0 in cc
+
+pub unlinked_run : (new : State) → Run [] begun (Shutdown ∷ Flush ∷ []) (Reply.Done ∷ Reply.Done ∷ []) new → ⊥
+unlinked_run new r = let e : (Reply.Done ≡ Reply.Refused AlreadyShutdown) = r.2.1.0 ∙ ap (λ st. reply_of st Flush) r.1.1 in cc
+
+pub unfinished_run : Run [] begun (Shutdown ∷ []) (Reply.Done ∷ []) begun → ⊥
+unfinished_run r = true≢false (sym (ap (λ (st : State). st.shared.shut) (r.2 ∙ r.1.1)))
 
 abbrev three : List Call
 three = Bind 0 [] ∷ Record 9 (u64 1) [] ∷ Bind 0 [] ∷ []

@@ -83,6 +83,10 @@ measured_by_handle = (refl, refl)
 pub measurements : records to_z ((3, y1) ∷ []) handle_events ≡ (z1, amount 1) ∷ (y1, amount 2) ∷ (z1, amount 4) ∷ (z1, amount 16) ∷ []
 measurements = refl
 
+-- of two handles with one number the first counts
+pub first_handle : records to_z ((3, y1) ∷ []) (Bind 3 x1 ∷ RecordBound 3 (amount 1) ∷ []) ≡ (y1, amount 1) ∷ []
+first_handle = refl
+
 abbrev measured : List (AttributeSet × Amount)
 measured = (x1, amount 1) ∷ (y1, amount 2) ∷ (x1, amount 4) ∷ []
 
