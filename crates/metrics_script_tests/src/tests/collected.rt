@@ -42,24 +42,29 @@ fn exemplars_of<T>(data: &MetricData<T>) -> usize {
     count
 }
 
-/// Writes the bounds of each point of a histogram, each after a space; of other data nothing.
+/// Writes the bounds of each point of a histogram; of other data nothing.
 fn write_bounds<T>(text: &mut String, data: &MetricData<T>) -> Result<(), Fail> {
     if let MetricData::Histogram(histogram) = data {
         for point in histogram.data_points() {
-            write!(text, " bounds=")?;
-            for bound in point.bounds() {
-                write!(text, "{bound},")?;
-            }
+            write!(text, " bounds={:?}", point.bounds().as_slice())?;
         }
     }
     Ok(())
 }
 
+/// Writes the number type, and how many points and exemplars there are.
+fn write_counts(
+    text: &mut String,
+    number: &str,
+    points: usize,
+    exemplars: usize,
+) -> Result<(), Fail> {
+    Ok(write!(text, " {number} points={points} exemplars={exemplars}")?)
+}
+
 /// Writes the number type and what else is to be seen of these data.
 fn write_data<T>(text: &mut String, number: &str, data: &MetricData<T>) -> Result<(), Fail> {
-    let points = points_of(data);
-    let exemplars = exemplars_of(data);
-    write!(text, " {number} points={points} exemplars={exemplars}")?;
+    write_counts(text, number, points_of(data), exemplars_of(data))?;
     write_bounds(text, data)
 }
 

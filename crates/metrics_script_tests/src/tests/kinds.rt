@@ -90,26 +90,26 @@ fn sorts(rt: HostRuntime) -> Result<(), Fail> {
          metric open description= unit=1 i64 points=1 exemplars=0\n\
          metric load description= unit=% u64 points=1 exemplars=0\n\
          metric heat description= unit=K i64 points=1 exemplars=0\n\
-         metric size description= unit=By u64 points=1 exemplars=0 bounds=-1,5,\n\
+         metric size description= unit=By u64 points=1 exemplars=0 bounds=[-1, 5]\n\
          resource None attributes=0\n\
          scope app None None attributes=0\n\
          metric hits description= unit= u64 points=1 exemplars=0\n\
          metric open description= unit=1 i64 points=1 exemplars=0\n\
          metric load description= unit=% u64 points=1 exemplars=0\n\
          metric heat description= unit=K i64 points=1 exemplars=0\n\
-         metric size description= unit=By u64 points=1 exemplars=0 bounds=-1,5,\n\
+         metric size description= unit=By u64 points=1 exemplars=0 bounds=[-1, 5]\n\
          resource None attributes=0\n\
          scope app None None attributes=0\n\
          metric hits description= unit= u64 points=1 exemplars=0\n\
          metric open description= unit=1 i64 points=1 exemplars=0\n\
          metric load description= unit=% u64 points=1 exemplars=0\n\
          metric heat description= unit=K i64 points=1 exemplars=0\n\
-         metric size description= unit=By u64 points=1 exemplars=0 bounds=-1,5,\n\
+         metric size description= unit=By u64 points=1 exemplars=0 bounds=[-1, 5]\n\
          resource None attributes=0\n\
          scope app None None attributes=0\n\
          metric open description= unit=1 i64 points=1 exemplars=0\n\
          metric heat description= unit=K i64 points=1 exemplars=0\n\
-         metric size description= unit=By u64 points=1 exemplars=0 bounds=-1,5,\n",
+         metric size description= unit=By u64 points=1 exemplars=0 bounds=[-1, 5]\n",
     )
 }
 

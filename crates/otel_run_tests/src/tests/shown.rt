@@ -2,7 +2,8 @@
 
 use opentelemetry_sdk::common::{KeyValue, Value};
 use opentelemetry_sdk::metrics::data::{
-    AggregatedMetrics, Gauge, Histogram, Metric, MetricData, ResourceMetrics, ScopeMetrics, Sum,
+    AggregatedMetrics, Gauge, Histogram, HistogramDataPoint, Metric, MetricData, ResourceMetrics,
+    ScopeMetrics, Sum,
 };
 use opentelemetry_sdk::metrics::provider::{Parts, Provider};
 use std::alloc::Global;
@@ -10,82 +11,90 @@ use std::fmt::{Debug, Display};
 use std::slice::Iter;
 use std::test::Fail;
 
-/// Writes attributes in brackets, each with a comma after it.
-fn write_attributes(text: &mut String, attributes: Iter<'_, KeyValue>) -> Result<(), Fail> {
-    write!(text, "[")?;
-    for attribute in attributes {
-        let key = attribute.key.as_str();
-        match &attribute.value {
-            Value::I64(value) => write!(text, "{key}={value},")?,
-            Value::String(value) => write!(text, "{key}={},", value.as_str())?,
-            other => write!(text, "{key}={other:?},")?,
-        }
+/// Writes an attribute, with a comma after it.
+fn write_attribute(text: &mut String, attribute: &KeyValue) -> Result<(), Fail> {
+    let key = attribute.key.as_str();
+    match &attribute.value {
+        Value::I64(value) => Ok(write!(text, "{key}={value},")?),
+        Value::String(value) => Ok(write!(text, "{key}={},", value.as_str())?),
+        other => Ok(write!(text, "{key}={other:?},")?),
     }
-    Ok(write!(text, "]")?)
 }
 
-/// Writes a line for each point of a sum.
+/// Writes attributes in brackets.
+fn write_attributes(text: &mut String, attributes: Iter<'_, KeyValue>) -> Result<(), Fail> {
+    text.push_str("[")?;
+    for attribute in attributes {
+        write_attribute(text, attribute)?;
+    }
+    Ok(text.push_str("]")?)
+}
+
+/// Writes a line for a point with one value.
+fn write_point<T: Copy + Display>(
+    text: &mut String,
+    attributes: Iter<'_, KeyValue>,
+    value: T,
+    exemplars: usize,
+) -> Result<(), Fail> {
+    write_attributes(text, attributes)?;
+    Ok(writeln!(text, " {value} exemplars={exemplars}")?)
+}
+
+/// Writes the heading of a sum, and a line for each of its points.
 fn write_sum<T: Copy + Display>(text: &mut String, sum: &Sum<T>) -> Result<(), Fail> {
     let temporality = sum.temporality();
     let monotonic = sum.is_monotonic();
-    let start = sum.start_time();
-    let time = sum.time();
-    writeln!(
-        text,
-        "sum {temporality:?} monotonic={monotonic} {start} {time}"
-    )?;
+    write!(text, "sum {temporality:?} monotonic={monotonic}")?;
+    writeln!(text, " {} {}", sum.start_time(), sum.time())?;
     for point in sum.data_points() {
-        let value = point.value();
-        let exemplars = point.exemplars().len();
-        write_attributes(text, point.attributes())?;
-        writeln!(text, " {value} exemplars={exemplars}")?;
+        write_point(
+            text,
+            point.attributes(),
+            point.value(),
+            point.exemplars().len(),
+        )?;
     }
     Ok(())
 }
 
-/// Writes a line for each point of a gauge.
+/// Writes the heading of a gauge, and a line for each of its points.
 fn write_gauge<T: Copy + Display>(text: &mut String, gauge: &Gauge<T>) -> Result<(), Fail> {
-    let start = gauge.start_time();
-    let time = gauge.time();
-    writeln!(text, "gauge {start:?} {time}")?;
+    writeln!(text, "gauge {:?} {}", gauge.start_time(), gauge.time())?;
     for point in gauge.data_points() {
-        let value = point.value();
-        let exemplars = point.exemplars().len();
-        write_attributes(text, point.attributes())?;
-        writeln!(text, " {value} exemplars={exemplars}")?;
+        write_point(
+            text,
+            point.attributes(),
+            point.value(),
+            point.exemplars().len(),
+        )?;
     }
     Ok(())
 }
 
-/// Writes numbers, each with a comma after it.
-fn write_numbers<T: Display>(text: &mut String, numbers: Iter<'_, T>) -> Result<(), Fail> {
-    for number in numbers {
-        write!(text, "{number},")?;
-    }
-    Ok(())
+/// Writes a line for a point of a histogram.
+fn write_spread<T: Copy + Display + Debug>(
+    text: &mut String,
+    point: &HistogramDataPoint<T>,
+) -> Result<(), Fail> {
+    write_attributes(text, point.attributes())?;
+    write!(text, " {} {}", point.count(), point.sum())?;
+    write!(text, " {:?} {:?}", point.min(), point.max())?;
+    write!(text, " bounds={:?}", point.bounds().as_slice())?;
+    write!(text, " counts={:?}", point.bucket_counts().as_slice())?;
+    Ok(writeln!(text, " exemplars={}", point.exemplars().len())?)
 }
 
-/// Writes a line for each point of a histogram.
+/// Writes the heading of a histogram, and a line for each of its points.
 fn write_histogram<T: Copy + Display + Debug>(
     text: &mut String,
     histogram: &Histogram<T>,
 ) -> Result<(), Fail> {
     let temporality = histogram.temporality();
-    let start = histogram.start_time();
-    let time = histogram.time();
-    writeln!(text, "histogram {temporality:?} {start} {time}")?;
+    write!(text, "histogram {temporality:?}")?;
+    writeln!(text, " {} {}", histogram.start_time(), histogram.time())?;
     for point in histogram.data_points() {
-        let count = point.count();
-        let sum = point.sum();
-        let least = point.min();
-        let greatest = point.max();
-        let exemplars = point.exemplars().len();
-        write_attributes(text, point.attributes())?;
-        write!(text, " {count} {sum} {least:?} {greatest:?} bounds=")?;
-        write_numbers(text, point.bounds())?;
-        write!(text, " counts=")?;
-        write_numbers(text, point.bucket_counts())?;
-        writeln!(text, " exemplars={exemplars}")?;
+        write_spread(text, point)?;
     }
     Ok(())
 }

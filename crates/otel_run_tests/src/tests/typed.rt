@@ -56,7 +56,7 @@ pub const COLLECTED: &str = "resource None attributes=0\n\
      metric heat ()  i64 gauge Some(130) 200\n\
      [] -11 exemplars=0\n\
      metric size ()  u64 histogram Cumulative 140 200\n\
-     [] 1 13 Some(13) Some(13) bounds=10, counts=0,1, exemplars=0\n";
+     [] 1 13 Some(13) Some(13) bounds=[10] counts=[0, 1] exemplars=0\n";
 
 /// Asserts what a provider's first reader collects after each instrument has been used.
 fn assert_collected<P: Parts>(

@@ -185,7 +185,7 @@ fn row_48(rt: HostRuntime) -> Result<(), Fail> {
          metric h description= unit= u64 points=1 exemplars=0\n\
          resource None attributes=0\n\
          scope m None None attributes=0\n\
-         metric h description= unit= u64 points=1 exemplars=0 bounds=5,\n",
+         metric h description= unit= u64 points=1 exemplars=0 bounds=[5]\n",
     )
 }
 
@@ -224,7 +224,7 @@ fn row_49(rt: HostRuntime) -> Result<(), Fail> {
          metric h description= unit= u64 points=1 exemplars=0\n\
          resource None attributes=0\n\
          scope m None None attributes=0\n\
-         metric h description= unit= u64 points=1 exemplars=0 bounds=10,\n",
+         metric h description= unit= u64 points=1 exemplars=0 bounds=[10]\n",
     )
 }
 
