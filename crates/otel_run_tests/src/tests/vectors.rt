@@ -56,7 +56,7 @@ impl MetricReader for Failing {
 }
 
 /// A provider with three readers, of which two fail.
-fn failing(alloc: Global) -> Result<SdkMeterProvider, Fail> {
+fn provider_of_failing(alloc: Global) -> Result<SdkMeterProvider, Fail> {
     let first = Box::new(alloc, ManualReader::default())?;
     let second = Box::new(alloc, Failing)?;
     let third = Box::new(alloc, Failing)?;
@@ -68,7 +68,7 @@ fn failing(alloc: Global) -> Result<SdkMeterProvider, Fail> {
 /// With three readers, of which two fail, the provider is shut down all the same.
 #[test]
 fn row_26(rt: HostRuntime) -> Result<(), Fail> {
-    let mut provider = failing(rt.alloc())?;
+    let mut provider = provider_of_failing(rt.alloc())?;
     assert_eq!(rt; seen(provider.shutdown()), (10, 2, 1));
     assert_eq!(rt; seen(provider.shutdown()), (8, 0, 0));
     Ok(())
