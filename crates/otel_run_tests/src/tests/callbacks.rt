@@ -3,7 +3,7 @@
 ghost use Rattle.std.specs.Prelude.{◌≡◌, true, IfOk};
 
 use super::shown::collected;
-use super::support::provider;
+use super::support::{assert_text, provider};
 use opentelemetry_sdk::common::{Fault, Items, Key, KeyValue, Value};
 use opentelemetry_sdk::metrics::Temporality::Delta;
 use opentelemetry_sdk::metrics::callback::{Observation, ObserveI64, ObserveU64};
@@ -196,7 +196,8 @@ fn assert_of_three<P: Parts>(
     count(alloc, provider, "first", first)?;
     hold(alloc, provider, middle)?;
     count(alloc, provider, "last", last)?;
-    assert_eq!(rt;
+    assert_text(
+        rt,
         collected_in_turn(alloc, provider, &[0, 0])?.as_str(),
         "refused 7\n\
          resource None attributes=0\n\
@@ -206,7 +207,7 @@ fn assert_of_three<P: Parts>(
          metric middle ()  i64 sum Cumulative monotonic=false 110 300\n\
          [k=1,] -5 exemplars=0\n\
          metric last ()  u64 sum Cumulative monotonic=true 100 300\n\
-         [k=1,] 4 exemplars=0\n"
+         [k=1,] 4 exemplars=0\n",
     );
     Ok(())
 }
@@ -242,12 +243,13 @@ fn assert_of_two<P: Parts>(
         .with_callback(early)?
         .with_callback(late)?
         .build(provider, 100)?;
-    assert_eq!(rt;
+    assert_text(
+        rt,
         collected(alloc, provider, 0, 200)?.as_str(),
         "resource None attributes=0\n\
          scope app None None []\n\
          metric load (how much) 1 u64 sum Cumulative monotonic=true 100 200\n\
-         [k=1,] 8 exemplars=0\n"
+         [k=1,] 8 exemplars=0\n",
     );
     Ok(())
 }
@@ -275,9 +277,17 @@ fn assert_refused<P: Parts>(
         .i64_observable_gauge(name)
         .with_callback(callback)?
         .build(provider, 100)?;
-    assert_eq!(rt; collected(alloc, provider, 1, 200)?.as_str(), "refused 5\n");
+    assert_text(
+        rt,
+        collected(alloc, provider, 1, 200)?.as_str(),
+        "refused 5\n",
+    );
     provider.shutdown()?;
-    assert_eq!(rt; collected(alloc, provider, 0, 300)?.as_str(), "refused 9\n");
+    assert_text(
+        rt,
+        collected(alloc, provider, 0, 300)?.as_str(),
+        "refused 9\n",
+    );
     Ok(())
 }
 

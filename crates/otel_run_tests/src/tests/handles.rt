@@ -1,7 +1,7 @@
 //! Bound handles as values.
 
 use super::shown::collected;
-use super::support::provider;
+use super::support::{assert_text, provider};
 use super::typed::COLLECTED;
 use opentelemetry_sdk::common::Fault;
 use opentelemetry_sdk::metrics::meter::{Bound, Meter, NumberType, Synchronous};
@@ -77,7 +77,7 @@ fn assert_collected<P: Parts>(
     add(alloc, provider, meter)?;
     gauge(alloc, provider, meter)?;
     spread(alloc, provider, meter)?;
-    assert_eq!(rt; collected(alloc, provider, 0, 200)?.as_str(), COLLECTED);
+    assert_text(rt, collected(alloc, provider, 0, 200)?.as_str(), COLLECTED);
     Ok(())
 }
 

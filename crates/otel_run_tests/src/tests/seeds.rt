@@ -1,7 +1,7 @@
 //! The seed of the hashes.
 
 use super::shown::shown;
-use super::support::{attributes, collection, text};
+use super::support::{assert_text, attributes, collection, text};
 use super::wholes::{counter, record, short_scope};
 use opentelemetry_sdk::common::Items;
 use opentelemetry_sdk::metrics::provider::{Call, NumberValue, Reply};
@@ -84,7 +84,7 @@ fn assert_replies(
     for reply in replies.as_slice() {
         write_reply(alloc, &mut text, reply)?;
     }
-    assert_eq!(rt; text.as_str(), REPLIES);
+    assert_text(rt, text.as_str(), REPLIES);
     Ok(())
 }
 

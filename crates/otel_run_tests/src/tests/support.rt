@@ -4,7 +4,13 @@ use opentelemetry_sdk::common::{Items, Key, KeyValue, StringValue, Value};
 use opentelemetry_sdk::metrics::provider::Call;
 use opentelemetry_sdk::metrics::{ManualReader, SdkMeterProvider};
 use std::alloc::Global;
+use std::process::Abort;
 use std::test::Fail;
+
+/// Asserts that a text is as wanted.
+pub fn assert_text(rt: &impl Abort, text: &str, wanted: &str) {
+    assert_eq!(rt; text, wanted);
+}
 
 /// A text as a value.
 pub fn text(alloc: Global, text: &str) -> Result<StringValue, Fail> {

@@ -1,7 +1,7 @@
 //! Meters and instruments as values.
 
 use super::shown::collected;
-use super::support::provider;
+use super::support::{assert_text, provider};
 use opentelemetry_sdk::common::Fault;
 use opentelemetry_sdk::metrics::SdkMeterProvider;
 use opentelemetry_sdk::metrics::meter::Meter;
@@ -68,7 +68,7 @@ fn assert_collected<P: Parts>(
     add(alloc, provider, meter)?;
     gauge(alloc, provider, meter)?;
     spread(alloc, provider, meter)?;
-    assert_eq!(rt; collected(alloc, provider, 0, 200)?.as_str(), COLLECTED);
+    assert_text(rt, collected(alloc, provider, 0, 200)?.as_str(), COLLECTED);
     Ok(())
 }
 
