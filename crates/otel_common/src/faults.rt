@@ -42,7 +42,8 @@ pub enum Fault {
     /// A flush or a shutdown of a provider that was already shut down (Metrics SDK, "Shutdown").
     #[error("already shut down")]
     AlreadyShutdown,
-    /// No number is left: 2^64 - 1 handles were bound, or 2^32 - 1 workers of a shared provider were opened.
+    /// No number is left: 2^64 - 1 handles were bound, at a provider or at one entry of a map, or 2^32 - 1 workers of a
+    /// shared provider were opened.
     #[error("exhausted")]
     Exhausted,
     /// No further record can be entered in the book of a shared provider: 2^64 - 1 records of workers were accepted.

@@ -36,9 +36,15 @@ pub enum Form<'a> {
 
 /// A key of a table of sets. In a table it owns its set; for a look-up it borrows attributes, so that they need no
 /// copy.
-#[derive(Drop)]
 pub struct SetKey<'a> {
     form: Form<'a>,
+}
+
+impl<'a> Drop for SetKey<'a> {
+    /// A function of its own, so that no proof about who lets one go looks into it.
+    fn drop(self) {
+        let SetKey { form: _form } = self;
+    }
 }
 
 impl<'a> Model for SetKey<'a> {
