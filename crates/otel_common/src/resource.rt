@@ -17,10 +17,20 @@ use std::alloc::Global;
 
 /// A source of telemetry, such as a service: its attributes, each key once and in byte order, and optionally the URL of
 /// their schema (Resource SDK).
-#[derive(Clone, Debug, Drop, PartialEq)]
+#[derive(Clone, Debug, PartialEq)]
 pub struct Resource {
     pub(crate) attributes: AttributeSet,
     pub(crate) schema_url: Option<StringValue>,
+}
+
+impl Drop for Resource {
+    /// A function of its own, so that no proof about who lets one go looks into it.
+    fn drop(self) {
+        let Resource {
+            attributes: _attributes,
+            schema_url: _schema_url,
+        } = self;
+    }
 }
 
 /// Returns the schema URL of a merge: the common one if both are equal, none if they differ, and if only one is set,

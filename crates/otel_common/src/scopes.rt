@@ -17,12 +17,24 @@ use std::slice::Iter;
 /// scope").
 ///
 /// Two scopes are equal exactly if their four parts are: name, version, schema URL and attributes.
-#[derive(Clone, Debug, Drop, PartialEq, Eq, Hash)]
+#[derive(Clone, Debug, PartialEq, Eq, Hash)]
 pub struct InstrumentationScope {
     name: StringValue,
     version: Option<StringValue>,
     schema_url: Option<StringValue>,
     attributes: Items<KeyValue>,
+}
+
+impl Drop for InstrumentationScope {
+    /// A function of its own, so that no proof about who lets one go looks into it.
+    fn drop(self) {
+        let InstrumentationScope {
+            name: _name,
+            version: _version,
+            schema_url: _schema_url,
+            attributes: _attributes,
+        } = self;
+    }
 }
 
 impl InstrumentationScope {
@@ -85,6 +97,28 @@ impl InstrumentationScope {
     {
         self.attributes.as_slice().iter()
     }
+
+    /// Sorts its attributes stably by key.
+    fn sorted(self) -> Result<InstrumentationScope, Fault>
+        ensures rest { IfOk result (λ s. s ≡ record self { attributes = s.attributes }) }
+        ensures sorted { IfOk result (λ s. IsStablySorted self.attributes s.attributes) }
+        ensures only_memory { IsOkUnless result Fault.OutOfMemory }
+    {
+        let InstrumentationScope {
+            name,
+            version,
+            schema_url,
+            attributes,
+        } = self;
+        let mut attributes = attributes.into_vec();
+        attributes.sort_by(|a, b| a.key.cmp(&b.key))?;
+        Ok(InstrumentationScope {
+            name,
+            version,
+            schema_url,
+            attributes: Items::from(attributes),
+        })
+    }
 }
 
 /// A builder of scopes.
@@ -130,19 +164,6 @@ impl InstrumentationScopeBuilder {
         ensures only_memory { IsOkUnless result Fault.OutOfMemory }
     {
         let InstrumentationScopeBuilder { scope } = self;
-        let InstrumentationScope {
-            name,
-            version,
-            schema_url,
-            attributes,
-        } = scope;
-        let mut attributes = attributes.into_vec();
-        attributes.sort_by(|a, b| a.key.cmp(&b.key))?;
-        Ok(InstrumentationScope {
-            name,
-            version,
-            schema_url,
-            attributes: Items::from(attributes),
-        })
+        scope.sorted()
     }
 }

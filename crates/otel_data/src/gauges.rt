@@ -9,11 +9,22 @@ use std::slice::Iter;
 
 /// The points of a gauge at one collection, with their start and the moment of the collection (Metrics data model,
 /// "Gauge").
-#[derive(Clone, Debug, Drop)]
+#[derive(Clone, Debug)]
 pub struct Gauge<T> {
     data_points: Items<GaugeDataPoint<T>>,
     start_time: u64,
     time: u64,
+}
+
+impl<T: Drop> Drop for Gauge<T> {
+    /// A function of its own, so that no proof about who lets one go looks into it.
+    fn drop(self) {
+        let Gauge {
+            data_points: _data_points,
+            start_time: _,
+            time: _,
+        } = self;
+    }
 }
 
 impl<T> Gauge<T> {

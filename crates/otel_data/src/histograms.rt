@@ -10,12 +10,24 @@ use std::slice::Iter;
 
 /// The points of a histogram at one collection, with their start and the moment of the collection (Metrics data model,
 /// "Histogram").
-#[derive(Clone, Debug, Drop)]
+#[derive(Clone, Debug)]
 pub struct Histogram<T> {
     data_points: Items<HistogramDataPoint<T>>,
     start_time: u64,
     time: u64,
     temporality: Temporality,
+}
+
+impl<T: Drop> Drop for Histogram<T> {
+    /// A function of its own, so that no proof about who lets one go looks into it.
+    fn drop(self) {
+        let Histogram {
+            data_points: _data_points,
+            start_time: _,
+            time: _,
+            temporality: _,
+        } = self;
+    }
 }
 
 impl<T> Histogram<T> {

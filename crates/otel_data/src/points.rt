@@ -10,11 +10,22 @@ use std::slice::Iter;
 
 /// A point of a sum: what the records of one set of attributes add up to (Metrics data model,
 /// "Sums").
-#[derive(Clone, Debug, Drop, PartialEq)]
+#[derive(Clone, Debug, PartialEq)]
 pub struct SumDataPoint<T> {
     attributes: SharedItems<KeyValue>,
     exemplars: Items<Exemplar<T>>,
     value: T,
+}
+
+impl<T: Drop> Drop for SumDataPoint<T> {
+    /// A function of its own, so that no proof about who lets one go looks into it.
+    fn drop(self) {
+        let SumDataPoint {
+            attributes: _attributes,
+            exemplars: _exemplars,
+            value: _value,
+        } = self;
+    }
 }
 
 impl<T> SumDataPoint<T> {
@@ -54,11 +65,22 @@ impl<T> SumDataPoint<T> {
 }
 
 /// A point of a gauge: the last value of one set of attributes (Metrics data model, "Gauge").
-#[derive(Clone, Debug, Drop, PartialEq)]
+#[derive(Clone, Debug, PartialEq)]
 pub struct GaugeDataPoint<T> {
     attributes: SharedItems<KeyValue>,
     exemplars: Items<Exemplar<T>>,
     value: T,
+}
+
+impl<T: Drop> Drop for GaugeDataPoint<T> {
+    /// A function of its own, so that no proof about who lets one go looks into it.
+    fn drop(self) {
+        let GaugeDataPoint {
+            attributes: _attributes,
+            exemplars: _exemplars,
+            value: _value,
+        } = self;
+    }
 }
 
 impl<T> GaugeDataPoint<T> {
@@ -99,7 +121,7 @@ impl<T> GaugeDataPoint<T> {
 
 /// A point of a histogram: how the records of one set of attributes spread (Metrics data model,
 /// "Histogram").
-#[derive(Clone, Debug, Drop, PartialEq)]
+#[derive(Clone, Debug, PartialEq)]
 pub struct HistogramDataPoint<T> {
     attributes: SharedItems<KeyValue>,
     exemplars: Items<Exemplar<T>>,
@@ -109,6 +131,22 @@ pub struct HistogramDataPoint<T> {
     min: Option<T>,
     max: Option<T>,
     sum: T,
+}
+
+impl<T: Drop> Drop for HistogramDataPoint<T> {
+    /// A function of its own, so that no proof about who lets one go looks into it.
+    fn drop(self) {
+        let HistogramDataPoint {
+            attributes: _attributes,
+            exemplars: _exemplars,
+            bounds: _bounds,
+            bucket_counts: _bucket_counts,
+            count: _,
+            min: _min,
+            max: _max,
+            sum: _sum,
+        } = self;
+    }
 }
 
 impl<T> HistogramDataPoint<T> {

@@ -10,13 +10,26 @@ use std::slice::Iter;
 
 /// The points of a sum at one collection, with their start and the moment of the collection (Metrics data model,
 /// "Sums").
-#[derive(Clone, Debug, Drop)]
+#[derive(Clone, Debug)]
 pub struct Sum<T> {
     data_points: Items<SumDataPoint<T>>,
     start_time: u64,
     time: u64,
     temporality: Temporality,
     is_monotonic: bool,
+}
+
+impl<T: Drop> Drop for Sum<T> {
+    /// A function of its own, so that no proof about who lets one go looks into it.
+    fn drop(self) {
+        let Sum {
+            data_points: _data_points,
+            start_time: _,
+            time: _,
+            temporality: _,
+            is_monotonic: _,
+        } = self;
+    }
 }
 
 impl<T> Sum<T> {

@@ -24,7 +24,6 @@ use otel_stream::view::View;
 use std::marker::PhantomData;
 
 /// Builds an instrument of the kind that `K` marks, with values of type `T` (Metrics API, "Instrument").
-#[derive(Drop)]
 #[derive_where(Debug)]
 pub struct InstrumentBuilder<K, T> {
     meter: Meter,
@@ -34,6 +33,21 @@ pub struct InstrumentBuilder<K, T> {
     unit: Option<StringValue>,
     boundaries: Option<Items<i64>>,
     of: PhantomData<(K, T)>,
+}
+
+impl<K, T> Drop for InstrumentBuilder<K, T> {
+    /// A function of its own, so that no proof about who lets one go looks into it.
+    fn drop(self) {
+        let InstrumentBuilder {
+            meter: _meter,
+            sort: _,
+            name: _name,
+            description: _description,
+            unit: _unit,
+            boundaries: _boundaries,
+            of: _,
+        } = self;
+    }
 }
 
 /// Builds a histogram.

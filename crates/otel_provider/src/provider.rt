@@ -36,11 +36,21 @@ use std::alloc::Global;
 use std::time::Duration;
 
 /// Makes a provider, from a resource, readers and views (Metrics SDK, "MeterProvider Creation").
-#[derive(Drop)]
 pub struct ProviderBuilder<P: Parts> {
     core: FreshCore,
     views: Vec<P::View>,
     readers: Vec<P::Reader>,
+}
+
+impl<P: Parts> Drop for ProviderBuilder<P> {
+    /// A function of its own, so that no proof about who lets one go looks into it.
+    fn drop(self) {
+        let ProviderBuilder {
+            core: _core,
+            views: _views,
+            readers: _readers,
+        } = self;
+    }
 }
 
 /// A provider of meters, which makes instruments, takes in their records and hands out collections (Metrics SDK,
@@ -249,16 +259,10 @@ impl<P: Parts> Provider<P> {
         ensures views { provider_views result ≡ [] }
         ensures callbacks { callbacks_of result ≡ [] }
     {
-        let builder: ProviderBuilder<P> = Provider::builder(alloc);
-        let ProviderBuilder {
-            core,
-            views,
-            readers,
-        } = builder;
         Provider {
-            core: BalancedCore::new(core),
-            views,
-            readers,
+            core: BalancedCore::new(FreshCore::new(alloc)),
+            views: Vec::new(alloc),
+            readers: Vec::new(alloc),
             callbacks: Vec::new(alloc),
         }
     }

@@ -12,7 +12,7 @@ use otel_common::strings::StringValue;
 use std::alloc::AllocError;
 
 /// What makes two demands name the same stream of a reader (Metrics SDK, "Duplicate instrument registration").
-#[derive(Debug, Drop, PartialEq, Eq, Hash)]
+#[derive(Debug, PartialEq, Eq, Hash)]
 pub struct Identity {
     /// The scope of the meter.
     pub scope: InstrumentationScope,
@@ -28,9 +28,23 @@ pub struct Identity {
     pub name: StringValue,
 }
 
+impl Drop for Identity {
+    /// A function of its own, so that no proof about who lets one go looks into it.
+    fn drop(self) {
+        let Identity {
+            scope: _scope,
+            kind: _,
+            signed: _,
+            description: _description,
+            unit: _unit,
+            name: _name,
+        } = self;
+    }
+}
+
 /// A stream that is demanded of a reader (Metrics SDK, "Stream configuration"). The first demand of an identity decides
 /// the other fields.
-#[derive(Debug, Drop)]
+#[derive(Debug)]
 pub struct Demand {
     /// The identity, by which the streams of a reader are told apart.
     pub identity: Identity,
@@ -42,6 +56,19 @@ pub struct Demand {
     pub allow: Option<Items<Key>>,
     /// How many sets of attributes have points of their own.
     pub limit: usize,
+}
+
+impl Drop for Demand {
+    /// A function of its own, so that no proof about who lets one go looks into it.
+    fn drop(self) {
+        let Demand {
+            identity: _identity,
+            spelling: _spelling,
+            aggregation: _aggregation,
+            allow: _allow,
+            limit: _,
+        } = self;
+    }
 }
 
 impl Clone for Identity {

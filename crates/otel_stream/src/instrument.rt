@@ -72,7 +72,7 @@ impl InstrumentKind {
 }
 
 /// An instrument, as views see it (Metrics SDK, "Instrument selection criteria").
-#[derive(Debug, Drop, PartialEq)]
+#[derive(Debug, PartialEq)]
 pub struct Instrument {
     /// The name, as it was given.
     pub name: StringValue,
@@ -84,6 +84,19 @@ pub struct Instrument {
     pub unit: StringValue,
     /// The scope of its meter.
     pub scope: InstrumentationScope,
+}
+
+impl Drop for Instrument {
+    /// A function of its own, so that no proof about who lets one go looks into it.
+    fn drop(self) {
+        let Instrument {
+            name: _name,
+            description: _description,
+            kind: _,
+            unit: _unit,
+            scope: _scope,
+        } = self;
+    }
 }
 
 impl Instrument {
