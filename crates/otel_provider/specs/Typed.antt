@@ -54,6 +54,10 @@ builder_callbacks b = b.callbacks.items
 abbrev pub instrument_number : {K T : Type 0} → Synchronous K T → ℕ
 instrument_number i = i.number
 
+-- the identity of the provider that it belongs to
+abbrev pub instrument_identity : {K T : Type 0} → Synchronous K T → ℕ
+instrument_identity i = i.identity
+
 -- the instrument has the provider's identity
 abbrev pub IsInstrumentOf : {K T P V R U I : Type 0} → Synchronous K T → Provider P V R U I → Type 0
 IsInstrumentOf i p = i.identity ≡ identity_of p
@@ -68,6 +72,10 @@ IsObservableOf i p = i.identity ≡ identity_of p
 -- ======== handles ========
 abbrev pub handle_number : {T : Type 0} → Bound T → ℕ
 handle_number b = b.handle
+
+-- the identity of the provider that it belongs to
+abbrev pub handle_identity : {T : Type 0} → Bound T → ℕ
+handle_identity b = b.identity
 
 -- the handle has the provider's identity
 abbrev pub IsBoundOf : {T P V R U I : Type 0} → Bound T → Provider P V R U I → Type 0

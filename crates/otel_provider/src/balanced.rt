@@ -75,7 +75,7 @@ impl BalancedCore {
     }
 
     /// Makes one call and returns its reply.
-    pub(crate) fn step<V: View, R: MetricReader>(
+    pub fn step<V: View, R: MetricReader>(
         &mut self,
         views: &[V],
         readers: &mut [R],
@@ -136,14 +136,14 @@ impl BalancedCore {
 /// anything else is checked.
 impl BalancedCore {
     /// Returns the allocator. `balances` says that the streams balance before a call too.
-    pub(crate) fn allocator(&self) -> Global
+    pub fn allocator(&self) -> Global
         ensures balances { Balances self.now }
     {
         self.core.allocator()
     }
 
     /// Returns the identity.
-    pub(crate) fn identity(&self) -> u64
+    pub fn identity(&self) -> u64
         ensures { result ≡ self.now.shared.identity }
     {
         self.core.identity()
@@ -185,7 +185,7 @@ impl BalancedCore {
 
     /// Checks that a collection of this reader is not refused before its callbacks run. `balances` says that the
     /// streams balance before a call too.
-    pub(crate) fn check_collection(&self, reader: usize) -> Result<(), Fault>
+    pub fn check_collection(&self, reader: usize) -> Result<(), Fault>
         ensures ok { OnOk result (collect_refusal self.now reader ≡ None) }
         ensures fault { IfErr result (λ f. collect_refusal self.now reader ≡ Some (fault_of f)) }
         ensures balances { Balances self.now }
@@ -217,7 +217,7 @@ impl BalancedCore {
     }
 
     /// Makes a collection of a reader at a moment, in nanoseconds since 1970, with what was observed.
-    pub(crate) fn collect(
+    pub fn collect(
         &mut self,
         reader: usize,
         now: u64,
@@ -231,7 +231,7 @@ impl BalancedCore {
     }
 
     /// Records a value with attributes at an instrument of a provider of this identity.
-    pub(crate) fn record(
+    pub fn record(
         &mut self,
         identity: u64,
         instrument: usize,
@@ -271,7 +271,7 @@ impl BalancedCore {
     }
 
     /// Records a value through a handle of a provider of this identity.
-    pub(crate) fn record_bound(
+    pub fn record_bound(
         &mut self,
         identity: u64,
         handle: u64,

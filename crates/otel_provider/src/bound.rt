@@ -7,7 +7,7 @@ ghost use Rattle.otel_model.specs.Steps.{Step};
 ghost use Rattle.otel_model_laws.specs.Lawful.{Balances};
 ghost use Rattle.otel_core.specs.Correspondence.{number_of};
 ghost use Rattle.otel_provider.specs.Providers.{state_of, views_of, provider_readers, provider_views, callbacks_of};
-ghost use Rattle.otel_provider.specs.Typed.{IsInstrumentOf, IsBoundOf, instrument_number, handle_number, record_reply, bind_reply, unbind_reply};
+ghost use Rattle.otel_provider.specs.Typed.{IsInstrumentOf, IsBoundOf, instrument_number, handle_number, handle_identity, record_reply, bind_reply, unbind_reply};
 
 use crate::parts::Parts;
 use crate::provider::Provider;
@@ -105,6 +105,20 @@ impl<T: NumberType> Bound<T> {
 }
 
 impl<T> Bound<T> {
+    /// The handle's number, which `Call::RecordBound` takes.
+    pub fn number(&self) -> u64
+        ensures { result ≡ handle_number self.now }
+    {
+        self.handle
+    }
+
+    /// The identity of the provider that it belongs to.
+    pub fn identity(&self) -> u64
+        ensures { result ≡ handle_identity self.now }
+    {
+        self.identity
+    }
+
     /// Returns the handle's number, which `Call::RecordBound` and `Call::Unbind` take. The handle stays live.
     pub fn into_number(self) -> u64
         ensures { result ≡ handle_number self }

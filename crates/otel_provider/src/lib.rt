@@ -3,7 +3,7 @@
 
 pub mod async_builders;
 pub mod asynchronous;
-mod balanced;
+pub mod balanced;
 pub mod bound;
 pub mod builders;
 pub mod laws;

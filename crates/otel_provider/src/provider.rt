@@ -267,6 +267,49 @@ impl<P: Parts> Provider<P> {
         }
     }
 
+    /// Takes the provider apart into its core, views, readers and callbacks. Takes no memory.
+    pub fn into_parts(
+        self,
+    ) -> (
+        BalancedCore,
+        Vec<P::View>,
+        Vec<P::Reader>,
+        Vec<Registered<P::ObserveU64, P::ObserveI64>>,
+    )
+        ensures core { result.0 ≡ state_of self }
+        ensures views { result.1.items ≡ provider_views self }
+        ensures readers { result.2.items ≡ provider_readers self }
+        ensures callbacks { result.3.items ≡ callbacks_of self }
+    {
+        let Provider {
+            core,
+            views,
+            readers,
+            callbacks,
+        } = self;
+        (core, views, readers, callbacks)
+    }
+
+    /// Makes a provider of what `into_parts` gave. Takes no memory.
+    pub fn from_parts(
+        core: BalancedCore,
+        views: Vec<P::View>,
+        readers: Vec<P::Reader>,
+        callbacks: Vec<Registered<P::ObserveU64, P::ObserveI64>>,
+    ) -> Provider<P>
+        ensures core { state_of result ≡ core }
+        ensures views { provider_views result ≡ views.items }
+        ensures readers { provider_readers result ≡ readers.items }
+        ensures callbacks { callbacks_of result ≡ callbacks.items }
+    {
+        Provider {
+            core,
+            views,
+            readers,
+            callbacks,
+        }
+    }
+
     /// Does nothing. Its clauses say that the streams of a provider balance, and that its state is lawful, whatever was
     /// called before: also where it was handed in, and before it is called.
     pub fn balances(&self)

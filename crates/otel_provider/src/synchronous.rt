@@ -9,7 +9,7 @@ ghost use Rattle.otel_core.specs.Correspondence.{number_of};
 ghost use Rattle.otel_core.specs.Known.{is_known};
 ghost use Rattle.otel_provider.specs.Providers.{state_of, views_of, provider_readers, provider_views, callbacks_of};
 ghost use Rattle.otel_core.specs.States.{IsNamed};
-ghost use Rattle.otel_provider.specs.Typed.{IsInstrumentOf, instrument_number, record_reply};
+ghost use Rattle.otel_provider.specs.Typed.{IsInstrumentOf, instrument_number, instrument_identity, record_reply};
 
 use crate::parts::Parts;
 use crate::provider::Provider;
@@ -66,6 +66,22 @@ pub type Gauge<T> = Synchronous<GaugeKind, T>;
 
 /// An instrument that tells how values are distributed (Metrics API, "Histogram").
 pub type Histogram<T> = Synchronous<HistogramKind, T>;
+
+impl<K, T> Synchronous<K, T> {
+    /// The number of the instrument, which `Call::Record` and `Call::Bind` take.
+    pub fn number(&self) -> usize
+        ensures { result ≡ instrument_number self.now }
+    {
+        self.number
+    }
+
+    /// The identity of the provider that it belongs to.
+    pub fn identity(&self) -> u64
+        ensures { result ≡ instrument_identity self.now }
+    {
+        self.identity
+    }
+}
 
 impl<K: Adds, T: NumberType> Synchronous<K, T> {
     /// Adds a value, in the instrument's unit, with attributes in any order, as `step` does with `Call::Record`.
