@@ -1,8 +1,8 @@
 -- What the code's own values are in the words of the model, by cases. These definitions are trusted: no contract says
--- that they are right. Tests of `opentelemetry_sdk` and `metrics_script` send each kind of call, and look at each
+-- that they are right. Tests in `otel_run_tests` and `metrics_script_tests` send each kind of call, and look at each
 -- kind of reply, each fault and each message.
-use Rattle.std.specs.Prelude.{◌≡◌, ℕ, ℤ, pos, Bool, false, true, List, map, Option, None, Some, Result, Ok, Err}
-use Rattle.std.specs.Int.{cast_unsigned, w64}
+use Rattle.std.specs.Prelude.{◌≡◌, ℕ, ℤ, Bool, false, true, List, map, Option, None, Some, Result, Ok, Err}
+use Rattle.otel_aggregate.specs.Any.{is_signed_value, amount_of}
 pub use Rattle.otel_pipeline.specs.Observations.{observed_of}
 use Rattle.otel_common.specs.declared.faults.Fault.{Fault}
 use Rattle.otel_common.specs.declared.faults.Fault.TheVariants as fault
@@ -10,7 +10,6 @@ use Rattle.otel_common.specs.declared.faults.InternalFault.TheVariants as inner
 use Rattle.otel_common.specs.declared.metrics.MetricError.{MetricError}
 use Rattle.otel_common.specs.declared.metrics.MetricError.TheVariants.{InvalidInstrumentConfiguration}
 use Rattle.otel_data.specs.declared.numbers.NumberValue.{NumberValue}
-use Rattle.otel_data.specs.declared.numbers.NumberValue.TheVariants as number
 use Rattle.otel_model.specs.Calls as model
 use Rattle.otel_stream.specs.Requests.{Outcome}
 use Rattle.otel_core.specs.declared.calls.Call.{Call}
@@ -48,8 +47,7 @@ about sort name description unit bounds = record { kind = kind_of sort; signed =
 
 -- ======== calls ========
 abbrev pub number_of : NumberValue → model.Number
-number_of (number.U64 n) = record { signed = false; amount = record { bits = n; wide = pos n } }
-number_of (number.I64 z) = record { signed = true; amount = record { bits = cast_unsigned w64 z; wide = z } }
+number_of value = record { signed = is_signed_value value; amount = amount_of value }
 
 abbrev pub call_of : Call → model.Call
 call_of (Meter scope) = model.Call.Meter scope
