@@ -23,7 +23,6 @@ use Rattle.otel_pipeline.specs.Pipelines.{Piped, part_of, part_after_record}
 use Rattle.otel_pipeline.proofs.Handles.{bound-sent, update-sent, unbind-sent}
 use Rattle.otel_core.specs.Correspondence.{number_of}
 use Rattle.otel_core.specs.States.{IsMade, AreTyped, FeedType, state_of, shared_of}
-use Rattle.otel_core.proofs.StepLemmas.{number-is}
 
 -- ======== all readers ========
 pub all_bound : (h n : ℕ) (l : List KeyValue) (ps : List Piped) → All (IsReadyToBindAt n l) ps → EachOf (FeedsSynchronous n) (map part_of ps) → EachOf (IsNewAt h) (map part_of ps)
@@ -35,8 +34,7 @@ pub all_updated : (n h : ℕ) (value : NumberValue) (ps : List Piped) → All (I
     → map (part_after_record n value) ps ≡ map (part_after_call 0 (model.Call.RecordBound h (number_of value))) (map part_of ps)
 all_updated n h value [] all typed sync held = refl
 all_updated n h value (p ∷ ps) all typed sync held =
-    λ i. (update-sent n h value p (all 0 p (omega arith)) (λ x fed. typed.0 x fed ∙ ap (λ (v : model.Number). v.signed) (number-is value)) sync.0 held.0
-    ∙ ap (λ v. part_after_call 0 (model.Call.RecordBound h v) (part_of p)) (sym (number-is value))) i
+    λ i. update-sent n h value p (all 0 p (omega arith)) typed.0 sync.0 held.0 i
     ∷ all_updated n h value ps (λ j d g. all (suc j) d (omega arith)) typed.1 sync.1 held.1 i
 
 pub all_ended : (n h : ℕ) (ps : List Piped) → All (IsPreparedHeldAt n h) ps → EachOf (FeedsSynchronous n) (map part_of ps) → EachOf (IsHeldByFed n h) (map part_of ps)

@@ -8,8 +8,6 @@ use Rattle.otel_common.specs.declared.attributes.KeyValue.{KeyValue}
 use Rattle.otel_common.specs.declared.faults.Fault.{Fault}
 use Rattle.otel_common.specs.declared.scopes.InstrumentationScope.{InstrumentationScope}
 use Rattle.otel_data.specs.declared.numbers.NumberValue.{NumberValue}
-use Rattle.otel_data.specs.declared.numbers.NumberValue.TheVariants as number
-use Rattle.otel_aggregate.specs.Any.{is_signed_value, amount_of}
 use Rattle.otel_model.specs.Calls as model
 use Rattle.otel_model.specs.Checks.{is_good_name, optional_unit_fault}
 use Rattle.otel_model.specs.Demands.{StreamSpec, Views, is_good, are_good_bounds}
@@ -112,17 +110,11 @@ all-asked views (Some scope) about now answered asked (p ∷ ps) =
     λ i. (ap (λ l. machine.part_after_build (views_answering l) (Some scope) about now p) asked ∙ built-answered views scope about now p) i ∷ all-asked views (Some scope) about now answered asked ps i
 
 -- ======== records ========
--- a value with its number type
-pub number-is : (value : NumberValue) → number_of value ≡ record { signed = is_signed_value value; amount = amount_of value }
-number-is (number.U64 n) = refl
-number-is (number.I64 z) = refl
-
 pub all_recorded : (next n : ℕ) (value : NumberValue) (l : List KeyValue) (ps : List Piped) → All (IsPreparedFor n l) ps → FeedType n (number_of value) (map part_of ps)
     → map (part_after_record n value) ps ≡ map (machine.part_after_call next (model.Call.Record n (number_of value) l)) (map part_of ps)
 all_recorded next n value l [] all typed = refl
 all_recorded next n value l (p ∷ ps) all typed =
-    λ i. (recorded-sent next n value l p (all 0 p (omega arith)) (λ x fed. typed.0 x fed ∙ ap (λ (v : model.Number). v.signed) (number-is value))
-    ∙ ap (λ v. machine.part_after_call next (model.Call.Record n v l) (part_of p)) (sym (number-is value))) i
+    λ i. recorded-sent next n value l p (all 0 p (omega arith)) typed.0 i
     ∷ all_recorded next n value l ps (λ j d h. all (suc j) d (omega arith)) typed.1 i
 
 -- ======== lent readers ========
