@@ -55,6 +55,7 @@ use std::marker::Model;
 
 /// Whether the provider was shut down, its resource, identity, meters, instruments and live handles, and the streams of
 /// each reader.
+#[derive(Drop)]
 pub struct Core {
     alloc: Global,
     hasher: SetHashBuilder,
@@ -68,24 +69,6 @@ pub struct Core {
     handles: Links,
     /// How many handles were bound.
     next: u64,
-}
-
-impl Drop for Core {
-    /// A function of its own, so that no proof about who lets one go looks into it.
-    fn drop(self) {
-        let Core {
-            alloc: _,
-            hasher: _,
-            shut: _,
-            resource: _resource,
-            identity: _,
-            meters: _meters,
-            instruments: _instruments,
-            pipelines: _pipelines,
-            handles: _handles,
-            next: _,
-        } = self;
-    }
 }
 
 impl Model for Core {
