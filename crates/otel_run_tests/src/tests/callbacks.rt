@@ -3,7 +3,7 @@
 ghost use Rattle.std.specs.Prelude.{◌≡◌, true, IfOk};
 
 use super::shown::collected;
-use super::support::{assert_text, provider};
+use super::support::{assert_text, provider, with_reader};
 use opentelemetry_sdk::common::{Fault, Items, Key, KeyValue, Value};
 use opentelemetry_sdk::metrics::Temporality::Delta;
 use opentelemetry_sdk::metrics::callback::{Observation, ObserveI64, ObserveU64};
@@ -153,11 +153,9 @@ fn dropping(alloc: Global) -> Result<SdkMeterProvider, Fail> {
         .with_temporality(Delta)
         .with_default_aggregation(InstrumentKind::ObservableCounter, Aggregation::Drop)
         .build();
-    let first = Box::new(alloc, first)?;
+    let builder = with_reader(alloc, SdkMeterProvider::builder(alloc), first)?;
     let second = ManualReader::builder().with_temporality(Delta).build();
-    let second = Box::new(alloc, second)?;
-    let builder = SdkMeterProvider::builder(alloc).with_reader(first)?;
-    Ok(builder.with_reader(second)?.build()?)
+    Ok(with_reader(alloc, builder, second)?.build()?)
 }
 
 /// Of two delta readers the first drops observable counters; the callback runs in each collection, of either.

@@ -2,7 +2,7 @@
 
 use super::shown::collected;
 use super::support::{assert_text, provider};
-use super::typed::COLLECTED;
+use super::typed::{COLLECTED, counter, histogram, up_down_counter};
 use opentelemetry_sdk::common::Fault;
 use opentelemetry_sdk::metrics::meter::{Bound, Meter, NumberType, Synchronous};
 use opentelemetry_sdk::metrics::provider::{Parts, Provider};
@@ -35,14 +35,9 @@ fn hand<K, T: NumberType, P: Parts>(
 
 /// Makes both instruments that add, and adds through handles.
 fn add<P: Parts>(alloc: Global, provider: &mut Provider<P>, meter: Meter) -> Result<(), Fault> {
-    let hits = meter
-        .u64_counter(String::from_str(alloc, "hits")?)
-        .build(provider, 100)?;
+    let hits = counter(alloc, provider, meter)?;
     hand(provider, hits, 5)?;
-    let open = meter
-        .i64_up_down_counter(String::from_str(alloc, "open")?)
-        .with_unit(String::from_str(alloc, "1")?)
-        .build(provider, 110)?;
+    let open = up_down_counter(alloc, provider, meter)?;
     hand(provider, open, -7)
 }
 
@@ -60,10 +55,7 @@ fn gauge<P: Parts>(alloc: Global, provider: &mut Provider<P>, meter: Meter) -> R
 
 /// Makes a histogram, and records through a handle.
 fn spread<P: Parts>(alloc: Global, provider: &mut Provider<P>, meter: Meter) -> Result<(), Fault> {
-    let size = meter
-        .u64_histogram(String::from_str(alloc, "size")?)
-        .with_boundaries([10].to_vec(alloc)?)
-        .build(provider, 140)?;
+    let size = histogram(alloc, provider, meter)?;
     hand(provider, size, 13)
 }
 

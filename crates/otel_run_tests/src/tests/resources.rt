@@ -1,6 +1,6 @@
 //! Merges of resources, their builders, and the resource of a collection.
 
-use super::support::{collection, text};
+use super::support::{collection, text, with_reader};
 use opentelemetry_sdk::common::{Key, KeyValue, Value};
 use opentelemetry_sdk::metrics::provider::Reply;
 use opentelemetry_sdk::metrics::{ManualReader, SdkMeterProvider};
@@ -13,11 +13,15 @@ use std::test::Fail;
 /// Attributes whose values are texts, and a schema URL; the empty URL stands for none.
 pub type Parts<'a> = (&'a [(&'a str, &'a str)], &'a str);
 
+fn attribute(alloc: Global, key: &str, value: &str) -> Result<KeyValue, Fail> {
+    let key = Key::new(alloc, key)?;
+    Ok(KeyValue::new(key, Value::String(text(alloc, value)?)))
+}
+
 fn list(alloc: Global, pairs: &[(&str, &str)]) -> Result<Vec<KeyValue>, Fail> {
     let mut list = Vec::new(alloc);
     for (key, value) in pairs {
-        let value = Value::String(text(alloc, value)?);
-        list.push(KeyValue::new(Key::new(alloc, key)?, value))?;
+        list.push(attribute(alloc, key, value)?)?;
     }
     Ok(list)
 }
@@ -153,11 +157,10 @@ fn builder_with_schema_url(rt: HostRuntime) -> Result<(), Fail> {
 
 /// A provider whose resource is a service of this name.
 fn service(alloc: Global, name: &str) -> Result<SdkMeterProvider, Fail> {
-    let reader = Box::new(alloc, ManualReader::default())?;
     let name = Value::String(text(alloc, name)?);
     let service = Resource::builder_empty(alloc).with_service_name(name)?;
     let builder = SdkMeterProvider::builder(alloc).with_resource(service.build())?;
-    Ok(builder.with_reader(reader)?.build()?)
+    Ok(with_reader(alloc, builder, ManualReader::default())?.build()?)
 }
 
 /// Asserts that the resource of a collection has one attribute, with this key and value.

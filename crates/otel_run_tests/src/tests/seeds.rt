@@ -1,7 +1,7 @@
 //! The seed of the hashes.
 
 use super::shown::shown;
-use super::support::{assert_text, attributes, collection, text};
+use super::support::{assert_text, attributes, collection, text, with_reader};
 use super::wholes::{counter, record, short_scope};
 use opentelemetry_sdk::common::Items;
 use opentelemetry_sdk::metrics::provider::{Call, NumberValue, Reply};
@@ -13,13 +13,11 @@ use std::test::Fail;
 /// A provider with a delta reader whose sets are hashed from this seed, if there is one.
 fn seeded(alloc: Global, seed: Option<u64>) -> Result<SdkMeterProvider, Fail> {
     let reader = ManualReader::builder().with_temporality(Temporality::Delta);
-    let reader = Box::new(alloc, reader.build())?;
     let mut builder = SdkMeterProvider::builder(alloc);
     if let Some(seed) = seed {
         builder = builder.with_hash_seed(seed);
     }
-    let builder = builder.with_reader(reader)?;
-    Ok(builder.build()?)
+    Ok(with_reader(alloc, builder, reader.build())?.build()?)
 }
 
 /// Adds records of three sets, of which one comes in two orders and one through a handle, and a collection.

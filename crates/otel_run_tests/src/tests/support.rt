@@ -2,7 +2,7 @@
 
 use opentelemetry_sdk::common::{Items, Key, KeyValue, StringValue, Value};
 use opentelemetry_sdk::metrics::provider::Call;
-use opentelemetry_sdk::metrics::{ManualReader, SdkMeterProvider};
+use opentelemetry_sdk::metrics::{ManualReader, MeterProviderBuilder, SdkMeterProvider};
 use std::alloc::Global;
 use std::process::Abort;
 use std::test::Fail;
@@ -26,11 +26,19 @@ pub fn attributes(alloc: Global, pairs: &[(&str, i64)]) -> Result<Vec<KeyValue>,
     Ok(attributes)
 }
 
+/// The builder with one reader more.
+pub fn with_reader(
+    alloc: Global,
+    builder: MeterProviderBuilder,
+    reader: ManualReader,
+) -> Result<MeterProviderBuilder, Fail> {
+    Ok(builder.with_reader(Box::new(alloc, reader)?)?)
+}
+
 /// A provider with a cumulative reader.
 pub fn provider(alloc: Global) -> Result<SdkMeterProvider, Fail> {
-    let reader = Box::new(alloc, ManualReader::default())?;
-    let builder = SdkMeterProvider::builder(alloc).with_reader(reader)?;
-    Ok(builder.build()?)
+    let builder = SdkMeterProvider::builder(alloc);
+    Ok(with_reader(alloc, builder, ManualReader::default())?.build()?)
 }
 
 /// A collection of this reader at this moment, for which nothing was observed.

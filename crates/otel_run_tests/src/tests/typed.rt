@@ -4,23 +4,72 @@ use super::shown::collected;
 use super::support::{assert_text, provider};
 use opentelemetry_sdk::common::Fault;
 use opentelemetry_sdk::metrics::SdkMeterProvider;
-use opentelemetry_sdk::metrics::meter::Meter;
+use opentelemetry_sdk::metrics::meter::{
+    Adds, Counter, Histogram, Meter, NumberType, Records, Synchronous, UpDownCounter,
+};
 use opentelemetry_sdk::metrics::provider::{Parts, Provider};
 use std::alloc::Global;
 use std::process::Abort;
 use std::test::Fail;
 
+/// The counter `hits`, made at 100.
+pub fn counter<P: Parts>(
+    alloc: Global,
+    provider: &mut Provider<P>,
+    meter: Meter,
+) -> Result<Counter<u64>, Fault> {
+    let name = String::from_str(alloc, "hits")?;
+    meter.u64_counter(name).build(provider, 100)
+}
+
+/// The up-down counter `open`, made at 110.
+pub fn up_down_counter<P: Parts>(
+    alloc: Global,
+    provider: &mut Provider<P>,
+    meter: Meter,
+) -> Result<UpDownCounter<i64>, Fault> {
+    let unit = String::from_str(alloc, "1")?;
+    let name = String::from_str(alloc, "open")?;
+    let builder = meter.i64_up_down_counter(name).with_unit(unit);
+    builder.build(provider, 110)
+}
+
+/// The histogram `size`, made at 140.
+pub fn histogram<P: Parts>(
+    alloc: Global,
+    provider: &mut Provider<P>,
+    meter: Meter,
+) -> Result<Histogram<u64>, Fault> {
+    let boundaries = [10].to_vec(alloc)?;
+    let name = String::from_str(alloc, "size")?;
+    let builder = meter.u64_histogram(name).with_boundaries(boundaries);
+    builder.build(provider, 140)
+}
+
+/// Adds a value without attributes.
+fn added<K: Adds, T: NumberType, P: Parts>(
+    provider: &mut Provider<P>,
+    instrument: Synchronous<K, T>,
+    value: T,
+) -> Result<(), Fault> {
+    instrument.add(provider, value, &[])
+}
+
+/// Records a value without attributes.
+fn recorded<K: Records, T: NumberType, P: Parts>(
+    provider: &mut Provider<P>,
+    instrument: Synchronous<K, T>,
+    value: T,
+) -> Result<(), Fault> {
+    instrument.record(provider, value, &[])
+}
+
 /// Makes both instruments that add, and adds values.
 fn add<P: Parts>(alloc: Global, provider: &mut Provider<P>, meter: Meter) -> Result<(), Fault> {
-    let hits = meter
-        .u64_counter(String::from_str(alloc, "hits")?)
-        .build(provider, 100)?;
-    hits.add(provider, 5, &[])?;
-    let open = meter
-        .i64_up_down_counter(String::from_str(alloc, "open")?)
-        .with_unit(String::from_str(alloc, "1")?)
-        .build(provider, 110)?;
-    open.add(provider, -7, &[])
+    let hits = counter(alloc, provider, meter)?;
+    added(provider, hits, 5)?;
+    let open = up_down_counter(alloc, provider, meter)?;
+    added(provider, open, -7)
 }
 
 /// Makes both gauges, and records values.
@@ -28,20 +77,17 @@ fn gauge<P: Parts>(alloc: Global, provider: &mut Provider<P>, meter: Meter) -> R
     let load = meter
         .u64_gauge(String::from_str(alloc, "load")?)
         .build(provider, 120)?;
-    load.record(provider, 9, &[])?;
+    recorded(provider, load, 9)?;
     let heat = meter
         .i64_gauge(String::from_str(alloc, "heat")?)
         .build(provider, 130)?;
-    heat.record(provider, -11, &[])
+    recorded(provider, heat, -11)
 }
 
 /// Makes a histogram, and records a value.
 fn spread<P: Parts>(alloc: Global, provider: &mut Provider<P>, meter: Meter) -> Result<(), Fault> {
-    let size = meter
-        .u64_histogram(String::from_str(alloc, "size")?)
-        .with_boundaries([10].to_vec(alloc)?)
-        .build(provider, 140)?;
-    size.record(provider, 13, &[])
+    let size = histogram(alloc, provider, meter)?;
+    recorded(provider, size, 13)
 }
 
 /// What the instruments below collect at 200, as text.
@@ -94,14 +140,12 @@ fn faults<P: Parts>(
     own: &mut Provider<P>,
     other: &mut Provider<P>,
 ) -> Result<[u8; 3], Fault> {
-    let hits = String::from_str(alloc, "hits")?;
-    let more = String::from_str(alloc, "more")?;
     let meter = own.meter("app")?;
-    let hits = meter.u64_counter(hits).build(own, 100)?;
+    let hits = counter(alloc, own, meter)?;
     Ok([
-        fault_of(hits.add(own, 5, &[])),
-        fault_of(hits.add(other, 5, &[])),
-        fault_of(meter.u64_counter(more).build(other, 100)),
+        fault_of(added(own, hits, 5)),
+        fault_of(added(other, hits, 5)),
+        fault_of(counter(alloc, other, meter)),
     ])
 }
 

@@ -6,7 +6,9 @@ ghost use Rattle.otel_common.specs.declared.metrics.Temporality.TheVariants.{Cum
 use super::handles::ended;
 use super::resources::assert_merged;
 use super::shutdowns::seen;
+use super::support::with_reader;
 use super::texts::assert_answer;
+use super::typed::counter;
 use opentelemetry_sdk::common::{Fault, OTelSdkResult};
 use opentelemetry_sdk::metrics::instrument::{Stream, StreamFault};
 use opentelemetry_sdk::metrics::meter::validate_instrument_name;
@@ -57,12 +59,12 @@ impl MetricReader for Failing {
 
 /// A provider with three readers, of which two fail.
 fn provider_of_failing(alloc: Global) -> Result<SdkMeterProvider, Fail> {
-    let first = Box::new(alloc, ManualReader::default())?;
-    let second = Box::new(alloc, Failing)?;
-    let third = Box::new(alloc, Failing)?;
-    let builder = SdkMeterProvider::builder(alloc).with_reader(first)?;
-    let builder = builder.with_reader(second)?;
-    Ok(builder.with_reader(third)?.build()?)
+    let builder = SdkMeterProvider::builder(alloc);
+    let mut builder = with_reader(alloc, builder, ManualReader::default())?;
+    for _ in 0..2 {
+        builder = builder.with_reader(Box::new(alloc, Failing)?)?;
+    }
+    Ok(builder.build()?)
 }
 
 /// With three readers, of which two fail, the provider is shut down all the same.
@@ -80,8 +82,8 @@ fn ended_twice<P: Parts>(
     own: &mut Provider<P>,
     other: &mut Provider<P>,
 ) -> Result<[u8; 2], Fault> {
-    let name = String::from_str(alloc, "hits")?;
-    let hits = own.meter("app")?.u64_counter(name).build(own, 100)?;
+    let meter = own.meter("app")?;
+    let hits = counter(alloc, own, meter)?;
     let handle = hits.bind(own, &[])?;
     match handle.unbind(other) {
         Ok(()) => Ok([0, 0]),

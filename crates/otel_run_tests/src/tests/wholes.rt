@@ -4,7 +4,7 @@ ghost use Rattle.std.specs.Prelude.{◌≡◌, Ok, cond};
 ghost use Rattle.otel_stream.specs.declared.instrument.InstrumentKind.TheVariants.{Counter};
 
 use super::shown::shown;
-use super::support::{attributes, collection, text};
+use super::support::{attributes, collection, text, with_reader};
 use opentelemetry_sdk::common::{
     InstrumentationScope, Items, Key, KeyValue, OTelSdkResult, StringValue, Value,
 };
@@ -263,10 +263,8 @@ fn manual_readers(alloc: Global) -> Result<MeterProviderBuilder, Fail> {
         Temporality::Delta,
         Temporality::LowMemory,
     ] {
-        let reader = ManualReader::builder()
-            .with_temporality(temporality)
-            .build();
-        builder = builder.with_reader(Box::new(alloc, reader)?)?;
+        let reader = ManualReader::builder().with_temporality(temporality);
+        builder = with_reader(alloc, builder, reader.build())?;
     }
     Ok(builder)
 }
