@@ -28,8 +28,8 @@ fn list(alloc: Global, pairs: &[(&str, &str)]) -> Result<Vec<KeyValue>, Fail> {
 
 fn builder(alloc: Global, parts: Parts<'_>) -> Result<ResourceBuilder, Fail> {
     let (pairs, url) = parts;
-    let list = list(alloc, pairs)?;
     let url = String::from_str(alloc, url)?;
+    let list = list(alloc, pairs)?;
     Ok(Resource::builder_empty(alloc).with_schema_url(list, url)?)
 }
 

@@ -2,6 +2,7 @@
 
 use super::support::provider;
 use opentelemetry_sdk::common::{Fault, InternalFault, OTelSdkResult};
+use opentelemetry_sdk::metrics::provider::{Parts, Provider};
 use std::test::Fail;
 use std::time::Duration;
 
@@ -16,15 +17,17 @@ pub fn seen(answer: OTelSdkResult) -> (u8, usize, usize) {
     }
 }
 
-/// A flush, a shutdown with a timeout, and a flush after it.
+/// What is seen of a flush, a shutdown with a timeout, and a flush after it.
+fn shut_down<P: Parts>(provider: &mut Provider<P>) -> [(u8, usize, usize); 3] {
+    let flushed = seen(provider.force_flush());
+    let shut = seen(provider.shutdown_with_timeout(Duration::from_secs(1)));
+    [flushed, shut, seen(provider.force_flush())]
+}
+
 #[test]
 fn shutdowns(rt: HostRuntime) -> Result<(), Fail> {
     let mut provider = provider(rt.alloc())?;
-    assert_eq!(rt; seen(provider.force_flush()), (0, 0, 0));
-    assert_eq!(rt;
-        seen(provider.shutdown_with_timeout(Duration::from_secs(1))),
-        (0, 0, 0)
-    );
-    assert_eq!(rt; seen(provider.force_flush()), (8, 0, 0));
+    let seen = shut_down(&mut provider);
+    assert_eq!(rt; seen, [(0, 0, 0), (0, 0, 0), (8, 0, 0)]);
     Ok(())
 }
