@@ -41,6 +41,7 @@ fn add<P: Parts>(alloc: Global, provider: &mut Provider<P>, meter: Meter) -> Res
     hand(provider, hits, 5)?;
     let open = meter
         .i64_up_down_counter(String::from_str(alloc, "open")?)
+        .with_description(String::from_str(alloc, "how many")?)
         .with_unit(String::from_str(alloc, "1")?)
         .build(provider, 110)?;
     hand(provider, open, -7)
@@ -76,7 +77,8 @@ fn assert_collected<P: Parts>(
     let meter = provider.meter("app")?;
     add(alloc, provider, meter)?;
     gauge(alloc, provider, meter)?;
-    spread(alloc, provider, meter)?;
+    let other = provider.meter("other")?;
+    spread(alloc, provider, other)?;
     assert_text(rt, collected(alloc, provider, 0, 200)?.as_str(), COLLECTED);
     Ok(())
 }

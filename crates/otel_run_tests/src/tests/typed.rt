@@ -18,6 +18,7 @@ fn add<P: Parts>(alloc: Global, provider: &mut Provider<P>, meter: Meter) -> Res
     hits.add(provider, 5, &[])?;
     let open = meter
         .i64_up_down_counter(String::from_str(alloc, "open")?)
+        .with_description(String::from_str(alloc, "how many")?)
         .with_unit(String::from_str(alloc, "1")?)
         .build(provider, 110)?;
     open.add(provider, -7, &[])
@@ -49,12 +50,13 @@ pub const COLLECTED: &str = "resource None attributes=0\n\
      scope app None None []\n\
      metric hits ()  u64 sum Cumulative monotonic=true 100 200\n\
      [] 5 exemplars=0\n\
-     metric open () 1 i64 sum Cumulative monotonic=false 110 200\n\
+     metric open (how many) 1 i64 sum Cumulative monotonic=false 110 200\n\
      [] -7 exemplars=0\n\
      metric load ()  u64 gauge Some(120) 200\n\
      [] 9 exemplars=0\n\
      metric heat ()  i64 gauge Some(130) 200\n\
      [] -11 exemplars=0\n\
+     scope other None None []\n\
      metric size ()  u64 histogram Cumulative 140 200\n\
      [] 1 13 Some(13) Some(13) bounds=[10] counts=[0, 1] exemplars=0\n";
 
@@ -67,7 +69,8 @@ fn assert_collected<P: Parts>(
     let meter = provider.meter("app")?;
     add(alloc, provider, meter)?;
     gauge(alloc, provider, meter)?;
-    spread(alloc, provider, meter)?;
+    let other = provider.meter("other")?;
+    spread(alloc, provider, other)?;
     assert_text(rt, collected(alloc, provider, 0, 200)?.as_str(), COLLECTED);
     Ok(())
 }
@@ -80,7 +83,7 @@ fn typed(rt: HostRuntime) -> Result<(), Fail> {
 }
 
 /// The number of the fault, or 0 if there is none.
-fn fault_of<T: Drop>(answer: Result<T, Fault>) -> u8 {
+pub fn fault_of<T: Drop>(answer: Result<T, Fault>) -> u8 {
     match answer {
         Ok(_) => 0,
         Err(fault) => fault.number(),

@@ -56,7 +56,7 @@ impl MetricReader for Failing {
 }
 
 /// A provider with three readers, of which two fail.
-fn provider_of_failing(alloc: Global) -> Result<SdkMeterProvider, Fail> {
+pub fn provider_of_failing(alloc: Global) -> Result<SdkMeterProvider, Fail> {
     let first = Box::new(alloc, ManualReader::default())?;
     let second = Box::new(alloc, Failing)?;
     let third = Box::new(alloc, Failing)?;
