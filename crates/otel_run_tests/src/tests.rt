@@ -2,6 +2,8 @@
 
 mod callbacks;
 mod handles;
+mod numbers;
+mod refusing;
 mod resources;
 mod seeds;
 mod shown;

@@ -204,3 +204,38 @@ fn wrong_numbers(rt: HostRuntime) {
          collected 0\n",
     );
 }
+
+/// Signed values go to the buckets of a histogram that a view asks for. Its sum is 0 for an up-down counter.
+#[test]
+fn signed_histograms(rt: HostRuntime) {
+    assert_prints(
+        &rt,
+        rt.alloc(),
+        b"reader cumulative\n\
+          view open agg=hist:-5,5\n\
+          view heat agg=hist:-5,5\n\
+          go\n\
+          meter app\n\
+          build 0 i64_up_down_counter open 1\n\
+          build 0 i64_gauge heat 2\n\
+          record 0 i:-7 -\n\
+          record 0 i:-5 -\n\
+          record 0 i:5 -\n\
+          record 0 i:9223372036854775807 -\n\
+          record 1 i:-7 -\n\
+          record 1 i:6 -\n\
+          collect 0 10\n",
+        "meter 0\n\
+         instrument 0\n\
+         instrument 1\n\
+         ok\n\
+         ok\n\
+         ok\n\
+         ok\n\
+         ok\n\
+         ok\n\
+         collected 2\n\
+         point app open histogram cumulative 1 10 - 4 0 -7 9223372036854775807 2,1,1\n\
+         point app heat histogram cumulative 2 10 - 2 -1 -7 6 1,0,1\n",
+    );
+}

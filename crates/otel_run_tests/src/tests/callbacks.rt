@@ -115,14 +115,14 @@ fn count<P: Parts>(
     Ok(())
 }
 
-/// Makes an observable up-down counter with this callback at the moment 110.
+/// Makes an observable up-down counter of another meter with this callback at the moment 110.
 fn hold<P: Parts>(
     alloc: Global,
     provider: &mut Provider<P>,
     callback: P::ObserveI64,
 ) -> Result<(), Fault> {
     let name = String::from_str(alloc, "middle")?;
-    let meter = provider.meter("app")?;
+    let meter = provider.meter("other")?;
     meter
         .i64_observable_up_down_counter(name)
         .with_callback(callback)?
@@ -202,10 +202,11 @@ fn assert_of_three<P: Parts>(
          scope app None None []\n\
          metric first ()  u64 sum Cumulative monotonic=true 100 300\n\
          [k=1,] 2 exemplars=0\n\
-         metric middle ()  i64 sum Cumulative monotonic=false 110 300\n\
-         [k=1,] -5 exemplars=0\n\
          metric last ()  u64 sum Cumulative monotonic=true 100 300\n\
-         [k=1,] 4 exemplars=0\n",
+         [k=1,] 4 exemplars=0\n\
+         scope other None None []\n\
+         metric middle ()  i64 sum Cumulative monotonic=false 110 300\n\
+         [k=1,] -5 exemplars=0\n",
     );
     Ok(())
 }

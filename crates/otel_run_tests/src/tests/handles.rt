@@ -68,7 +68,8 @@ fn assert_collected<P: Parts>(
     let meter = provider.meter("app")?;
     add(alloc, provider, meter)?;
     gauge(alloc, provider, meter)?;
-    spread(alloc, provider, meter)?;
+    let other = provider.meter("other")?;
+    spread(alloc, provider, other)?;
     assert_text(rt, collected(alloc, provider, 0, 200)?.as_str(), COLLECTED);
     Ok(())
 }

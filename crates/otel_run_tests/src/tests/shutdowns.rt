@@ -1,8 +1,10 @@
 //! Flushes and shutdowns.
 
+use super::numbers::build_faults;
 use super::support::provider;
 use opentelemetry_sdk::common::{Fault, InternalFault, OTelSdkResult};
 use opentelemetry_sdk::metrics::provider::{Parts, Provider};
+use std::alloc::Global;
 use std::test::Fail;
 use std::time::Duration;
 
@@ -29,5 +31,20 @@ fn shutdowns(rt: HostRuntime) -> Result<(), Fail> {
     let mut provider = provider(rt.alloc())?;
     let seen = shut_down(&mut provider);
     assert_eq!(rt; seen, [(0, 0, 0), (0, 0, 0), (8, 0, 0)]);
+    Ok(())
+}
+
+/// The fault numbers of builds of a meter that was asked for after a shutdown.
+fn late_faults<P: Parts>(alloc: Global, provider: &mut Provider<P>) -> Result<[u8; 2], Fault> {
+    provider.shutdown()?;
+    let meter = provider.meter("late")?;
+    build_faults(alloc, provider, meter)
+}
+
+/// After a shutdown a meter has no number, and its instruments are built all the same.
+#[test]
+fn late_meter(rt: HostRuntime) -> Result<(), Fail> {
+    let mut provider = provider(rt.alloc())?;
+    assert_eq!(rt; late_faults(rt.alloc(), &mut provider).ok(), Some([0, 0]));
     Ok(())
 }

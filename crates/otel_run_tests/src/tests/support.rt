@@ -1,7 +1,7 @@
 //! Texts, attributes and providers that several tests use.
 
 use opentelemetry_sdk::common::{Items, Key, KeyValue, StringValue, Value};
-use opentelemetry_sdk::metrics::provider::Call;
+use opentelemetry_sdk::metrics::provider::{Call, Reply};
 use opentelemetry_sdk::metrics::{ManualReader, MeterProviderBuilder, SdkMeterProvider};
 use std::alloc::Global;
 use std::process::Abort;
@@ -47,5 +47,13 @@ pub fn collection(alloc: Global, reader: usize, now: u64) -> Call {
         reader,
         now,
         observations: Items::from(Vec::new(alloc)),
+    }
+}
+
+/// The number of the fault with which a call was refused, or 0 if it was not.
+pub fn replied(reply: Reply) -> u8 {
+    match reply {
+        Reply::Refused(fault) => fault.number(),
+        _ => 0,
     }
 }

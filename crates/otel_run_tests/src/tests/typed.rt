@@ -28,9 +28,11 @@ pub fn up_down_counter<P: Parts>(
     provider: &mut Provider<P>,
     meter: Meter,
 ) -> Result<UpDownCounter<i64>, Fault> {
+    let description = String::from_str(alloc, "how many")?;
     let unit = String::from_str(alloc, "1")?;
     let name = String::from_str(alloc, "open")?;
-    let builder = meter.i64_up_down_counter(name).with_unit(unit);
+    let builder = meter.i64_up_down_counter(name);
+    let builder = builder.with_description(description).with_unit(unit);
     builder.build(provider, 110)
 }
 
@@ -47,7 +49,7 @@ pub fn histogram<P: Parts>(
 }
 
 /// Adds a value without attributes.
-fn added<K: Adds, T: NumberType, P: Parts>(
+pub fn added<K: Adds, T: NumberType, P: Parts>(
     provider: &mut Provider<P>,
     instrument: Synchronous<K, T>,
     value: T,
@@ -95,12 +97,13 @@ pub const COLLECTED: &str = "resource None attributes=0\n\
      scope app None None []\n\
      metric hits ()  u64 sum Cumulative monotonic=true 100 200\n\
      [] 5 exemplars=0\n\
-     metric open () 1 i64 sum Cumulative monotonic=false 110 200\n\
+     metric open (how many) 1 i64 sum Cumulative monotonic=false 110 200\n\
      [] -7 exemplars=0\n\
      metric load ()  u64 gauge Some(120) 200\n\
      [] 9 exemplars=0\n\
      metric heat ()  i64 gauge Some(130) 200\n\
      [] -11 exemplars=0\n\
+     scope other None None []\n\
      metric size ()  u64 histogram Cumulative 140 200\n\
      [] 1 13 Some(13) Some(13) bounds=[10] counts=[0, 1] exemplars=0\n";
 
@@ -113,7 +116,8 @@ fn assert_collected<P: Parts>(
     let meter = provider.meter("app")?;
     add(alloc, provider, meter)?;
     gauge(alloc, provider, meter)?;
-    spread(alloc, provider, meter)?;
+    let other = provider.meter("other")?;
+    spread(alloc, provider, other)?;
     assert_text(rt, collected(alloc, provider, 0, 200)?.as_str(), COLLECTED);
     Ok(())
 }
@@ -126,7 +130,7 @@ fn typed(rt: HostRuntime) -> Result<(), Fail> {
 }
 
 /// The number of the fault, or 0 if there is none.
-fn fault_of<T: Drop>(answer: Result<T, Fault>) -> u8 {
+pub fn fault_of<T: Drop>(answer: Result<T, Fault>) -> u8 {
     match answer {
         Ok(_) => 0,
         Err(fault) => fault.number(),

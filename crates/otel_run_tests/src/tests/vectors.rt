@@ -58,7 +58,7 @@ impl MetricReader for Failing {
 }
 
 /// A provider with three readers, of which two fail.
-fn provider_of_failing(alloc: Global) -> Result<SdkMeterProvider, Fail> {
+pub fn provider_of_failing(alloc: Global) -> Result<SdkMeterProvider, Fail> {
     let builder = SdkMeterProvider::builder(alloc);
     let mut builder = with_reader(alloc, builder, ManualReader::default())?;
     for _ in 0..2 {
