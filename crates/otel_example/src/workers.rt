@@ -5,7 +5,7 @@ ghost use Rattle.otel_model_laws.specs.Books.{count_in, sum_in};
 ghost use Rattle.otel_provider.specs.Providers.{state_of};
 
 use crate::calls::{counter, text};
-use crate::parts::Plain;
+use crate::parts::OnlyManual;
 use opentelemetry_sdk::common::Fault;
 use opentelemetry_sdk::metrics::meter::Counter;
 use opentelemetry_sdk::metrics::provider::{Parts, Provider};
@@ -108,4 +108,30 @@ fn share<
         Ok(provider) => Ok(provider),
         Err((fault, _, _)) => Err(fault),
     }
+}
+
+/// The counter of a provider's requests.
+pub fn counter_of_requests<P: Parts>(
+    alloc: Global,
+    provider: &mut Provider<P>,
+) -> Result<Counter<u64>, Fault> {
+    let meter = provider.meter("shop")?;
+    counter(alloc, provider, meter, "requests", 100)
+}
+
+/// The same at a provider whose readers are in no box. No ledger is named in the signature.
+pub fn share_plain<R: Threads + Wait + Sync>(
+    rt: &R,
+    alloc: Global,
+    provider: Provider<OnlyManual>,
+    requests: Counter<u64>,
+) -> Result<Provider<OnlyManual>, Fault> {
+    share::<OnlyManual, Brand, Brand, R>(
+        rt,
+        alloc,
+        provider,
+        requests,
+        Blank::new(MOST_WORKERS),
+        Blank::new(MOST_WORKERS),
+    )
 }

@@ -10,8 +10,7 @@ use std::sync::ledger::Share;
 /// What one thread records with: a list of records that wait to be made at a shared provider, and a share of its book,
 /// which is how many records of this worker the provider has accepted, and the sum of their values.
 ///
-/// Records are added to the list without the lock, and `Locked::submit` makes them. A worker can be handed to a thread
-/// if `C: Account + Send + Sync` and `S: Account + Send + Sync`.
+/// Records are added to the list without the lock, and `Locked::submit` makes them. A worker can be handed to a thread.
 ///
 /// A worker that is dropped takes its share along. From then on `Locked::settle` is refused.
 pub struct Worker<C: Account, S: Account> {

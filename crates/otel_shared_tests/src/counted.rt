@@ -105,19 +105,22 @@ fn value_of(metric: &Metric) -> u64 {
     value
 }
 
-/// The values of the counters `a` and `b`, each 0 if it isn't shown.
-pub fn values_of(collected: &ResourceMetrics) -> (u64, u64) {
-    let mut values = (0, 0);
+/// The value of the metric of this name, 0 if there is none.
+fn value_under(collected: &ResourceMetrics, name: &str) -> u64 {
+    let mut value = 0;
     for scope in collected.scope_metrics() {
         for metric in scope.metrics() {
-            match metric.name() {
-                "a" => values.0 = value_of(metric),
-                "b" => values.1 = value_of(metric),
-                _ => {}
+            if metric.name() == name {
+                value = value_of(metric);
             }
         }
     }
-    values
+    value
+}
+
+/// The values of the counters `a` and `b`, each 0 if it isn't shown.
+pub fn values_of(collected: &ResourceMetrics) -> (u64, u64) {
+    (value_under(collected, "a"), value_under(collected, "b"))
 }
 
 /// What the first reader collects of the counters `a` and `b`.

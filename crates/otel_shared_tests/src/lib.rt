@@ -3,7 +3,7 @@
 
 mod alone;
 mod counted;
-mod crossing;
+pub mod crossing;
 mod four;
 mod handed;
 #[cfg(test)]
