@@ -9,9 +9,7 @@ use crate::parts::OnlyManual;
 use opentelemetry_sdk::common::Fault;
 use opentelemetry_sdk::metrics::meter::Counter;
 use opentelemetry_sdk::metrics::provider::{Parts, Provider};
-use opentelemetry_sdk::metrics::shared::{
-    Account, Locked, MOST_WORKERS, SharedProvider, Worker,
-};
+use opentelemetry_sdk::metrics::shared::{Account, Locked, MOST_WORKERS, SharedProvider, Worker};
 use std::alloc::Global;
 use std::marker::Brand;
 use std::sync::ledger::Blank;

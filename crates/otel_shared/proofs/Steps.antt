@@ -1,5 +1,5 @@
 -- What records and other calls do to what all instruments have accepted.
-use Rattle.std.proofs.Common.{◌≡◌, ◌∙◌, ⊎_elim, ℕ, ◌+◌, Bool, true, false, List, [], Option, Some, None, Result, Ok, Err, length, refl, sym, ap, subst, true≢false}
+use Rattle.std.proofs.Common.{◌≡◌, ◌∙◌, ⊎_elim, ℕ, ◌+◌, false, [], Option, Some, None, Result, Ok, Err, length, refl, sym, ap, subst, true≢false}
 use Rattle.std.specs.Prelude.{◌%◌, ◌^◌, OnOk, IfErr}
 use Rattle.otel_common.specs.declared.faults.Fault.{Fault}
 use Rattle.otel_model_stream.specs.Folds.{Amount, wrap}

@@ -117,11 +117,7 @@ impl<C: Account, S: Account> Worker<C, S> {
     ///
     /// Refused with `UnknownHandle` if the handle belongs to a provider of another identity, otherwise only for want of
     /// memory. A refused call changes nothing.
-    pub fn add_through<T: NumberType>(
-        &mut self,
-        handle: &Bound<T>,
-        value: T,
-    ) -> Result<(), Fault>
+    pub fn add_through<T: NumberType>(&mut self, handle: &Bound<T>, value: T) -> Result<(), Fault>
         ensures added { OnOk result (pending_of self.new ≡ pending_of self.old ++ PendingRecord.Bound (handle_number handle.now) (T.value value) ∷ []) }
         ensures unadded { OnErr result (pending_of self.new ≡ pending_of self.old) }
         ensures foreign { ¬ (handle_identity handle.now ≡ worker_identity self.old) → result ≡ Err Fault.UnknownHandle }

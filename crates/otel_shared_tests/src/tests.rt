@@ -1,9 +1,8 @@
 use crate::alone::{Case, alone_with_boxes};
-use crate::four;
 use crate::four::four_with_boxes;
-use crate::typed;
 use crate::typed::{foreign, own};
 use crate::watched::{Seen, watched_with_boxes};
+use crate::{four, typed};
 use otel_provider::provider::SdkMeterProvider;
 use otel_stream::manual_reader::ManualReader;
 use otel_stream::reader::MetricReader;

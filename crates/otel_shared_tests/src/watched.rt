@@ -60,12 +60,7 @@ fn both<
     C: Account + Send + Sync,
     S: Account + Send + Sync,
     R: Threads + Wait + Sync,
->(
-    rt: &R,
-    alloc: Global,
-    shared: &SharedProvider<P, C, S>,
-    workers: Vec<Worker<C, S>>,
-) -> bool {
+>(rt: &R, alloc: Global, shared: &SharedProvider<P, C, S>, workers: Vec<Worker<C, S>>) -> bool {
     let done = thread::map_vec(
         rt,
         workers,
