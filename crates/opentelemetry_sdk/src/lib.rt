@@ -6,7 +6,7 @@
 //! - [`common`]: attributes and their canonical sets, instrumentation scopes, faults;
 //! - [`resource`]: what all the metrics of a provider come from;
 //! - [`metrics`]: the provider and its calls, checks of instruments, views and settings of streams, readers, the data
-//!   of a collection, aggregation.
+//!   of a collection, aggregation, a provider that threads share.
 //!
 //! A builder makes a provider from views and readers in boxes. Then calls are made on the provider, and each of them
 //! has a reply. A refused call changes nothing, except for a flush or a shutdown in which readers failed. Here a

@@ -5,6 +5,7 @@ pub mod instrument;
 pub mod meter;
 pub mod provider;
 pub mod reader;
+pub mod shared;
 
 pub use otel_aggregate::internal;
 pub use otel_common::metrics::{Aggregation, MetricError, Temporality};

@@ -10,6 +10,7 @@ mod printing;
 mod shop;
 mod stand;
 mod views;
+mod workers;
 
 use anyhow::Error;
 use balances::count_any;
@@ -23,6 +24,9 @@ use printing::{print_collected, print_collection};
 use shop::Shop;
 use stand::{count_a_day, provider_with_views};
 use std::alloc::Global;
+use std::sync::Wait;
+use std::thread::Threads;
+use workers::{counter_of_requests, share_plain};
 
 /// Serves two requests while others wait, and prints what was counted.
 fn serve<P: Parts>(
@@ -128,10 +132,19 @@ fn in_batches(rt: &impl Print, alloc: Global) -> Result<(), Error> {
     print_two(rt, alloc, &mut provider)
 }
 
+/// Four threads count requests, and what they counted is printed.
+fn in_threads<R: Print + Threads + Wait + Sync>(rt: &R, alloc: Global) -> Result<(), Error> {
+    let mut provider = plain_provider(alloc, ManualReader::default())?;
+    let requests = counter_of_requests(alloc, &mut provider)?;
+    let mut provider = share_plain(rt, alloc, provider, requests)?;
+    print_collection(rt, alloc, &mut provider, 200)
+}
+
 fn main(rt: HostRuntime) -> Result<(), Error> {
     first_program(&rt, rt.alloc())?;
     with_boxes(&rt, rt.alloc())?;
     without_boxes(&rt, rt.alloc())?;
     with_views(&rt, rt.alloc())?;
-    in_batches(&rt, rt.alloc())
+    in_batches(&rt, rt.alloc())?;
+    in_threads(&rt, rt.alloc())
 }

@@ -1,0 +1,135 @@
+//! Four threads that count requests at one provider, each with a worker of its own.
+
+ghost use Rattle.std.specs.Prelude.{◌≡◌, ◌%◌, ◌^◌};
+ghost use Rattle.otel_model_laws.specs.Books.{count_in, sum_in};
+ghost use Rattle.otel_provider.specs.Providers.{state_of};
+
+use crate::calls::{counter, text};
+use crate::parts::OnlyManual;
+use opentelemetry_sdk::common::Fault;
+use opentelemetry_sdk::metrics::meter::Counter;
+use opentelemetry_sdk::metrics::provider::{Parts, Provider};
+use opentelemetry_sdk::metrics::shared::{Account, Locked, MOST_WORKERS, SharedProvider, Worker};
+use std::alloc::Global;
+use std::marker::Brand;
+use std::sync::ledger::Blank;
+use std::sync::{Mutex, Wait};
+use std::thread;
+use std::thread::Threads;
+
+/// Adds three requests to a worker's list, without the lock.
+fn add_requests<C: Account, S: Account>(
+    alloc: Global,
+    requests: Counter<u64>,
+    worker: &mut Worker<C, S>,
+) -> Result<(), Fault> {
+    for path in ["/cart", "/", "/cart"] {
+        let attributes = vec![in alloc; text(alloc, "path", path)?]?;
+        worker.add_to(&requests, 1, attributes)?;
+    }
+    Ok(())
+}
+
+/// What one thread does: it counts three requests and hands them in, all at once, under the lock. What is refused stays
+/// in the worker's list.
+fn count_requests<P: Parts, C: Account, S: Account, R: Wait>(
+    rt: &R,
+    alloc: Global,
+    shared: &SharedProvider<P, C, S>,
+    requests: Counter<u64>,
+    worker: Worker<C, S>,
+) -> Worker<C, S> {
+    let mut worker = worker;
+    let _ = add_requests(alloc, requests, &mut worker);
+    let _ = shared.lock(rt).submit(&mut worker);
+    worker
+}
+
+/// Opens four workers.
+fn open_four<P: Parts, C: Account, S: Account>(
+    alloc: Global,
+    locked: &mut Locked<P, C, S>,
+) -> Result<Vec<Worker<C, S>>, Fault> {
+    let mut workers = Vec::new(alloc);
+    for _ in 0..4 {
+        let worker = locked.open_worker()?;
+        workers.push(worker)?;
+    }
+    Ok(workers)
+}
+
+/// Has each worker count in a thread of its own, and gives the workers back.
+fn count_in_threads<
+    P: Parts + Send + Sync,
+    C: Account + Send + Sync,
+    S: Account + Send + Sync,
+    R: Threads + Wait + Sync,
+>(
+    rt: &R,
+    alloc: Global,
+    shared: &SharedProvider<P, C, S>,
+    requests: Counter<u64>,
+    workers: Vec<Worker<C, S>>,
+) -> Result<Vec<Worker<C, S>>, Fault> {
+    match thread::map_vec(
+        rt,
+        workers,
+        &|worker| count_requests(rt, alloc, shared, requests, worker),
+    ) {
+        Ok(workers) => Ok(workers),
+        Err(_) => Err(Fault::OutOfMemory),
+    }
+}
+
+/// Hands a provider over to four threads, and takes it back.
+fn share<
+    P: Parts + Send + Sync,
+    C: Account + Send + Sync,
+    S: Account + Send + Sync,
+    R: Threads + Wait + Sync,
+>(
+    rt: &R,
+    alloc: Global,
+    provider: Provider<P>,
+    requests: Counter<u64>,
+    records: Blank,
+    values: Blank,
+) -> Result<Provider<P>, Fault>
+    requires records { (records.name ≡ C.name) × (records.parts ≡ C.parts) × (records.parts ≡ 4294967295) × (C.before ≡ count_in (state_of provider) % 2 ^ 64) }
+    requires values { (values.name ≡ S.name) × (values.parts ≡ S.parts) × (values.parts ≡ 4294967295) × (S.before ≡ sum_in (state_of provider) % 2 ^ 64) }
+{
+    let mut locked = Locked::<P, C, S>::new(provider, records, values);
+    let workers = open_four(alloc, &mut locked)?;
+    let shared = Mutex::new(locked);
+    let workers = count_in_threads(rt, alloc, &shared, requests, workers)?;
+    match shared.into_inner().settle(workers) {
+        Ok(provider) => Ok(provider),
+        Err((fault, _, _)) => Err(fault),
+    }
+}
+
+/// The counter of a provider's requests.
+pub fn counter_of_requests<P: Parts>(
+    alloc: Global,
+    provider: &mut Provider<P>,
+) -> Result<Counter<u64>, Fault> {
+    let meter = provider.meter("shop")?;
+    counter(alloc, provider, meter, "requests", 100)
+}
+
+/// The same at a provider whose readers are in no box. No ledger is named in the signature.
+pub fn share_plain<R: Threads + Wait + Sync>(
+    rt: &R,
+    alloc: Global,
+    provider: Provider<OnlyManual>,
+    requests: Counter<u64>,
+) -> Result<Provider<OnlyManual>, Fault> {
+    share::<OnlyManual, Brand, Brand, R>(
+        rt,
+        alloc,
+        provider,
+        requests,
+        Blank::new(MOST_WORKERS),
+        Blank::new(MOST_WORKERS),
+    )
+}

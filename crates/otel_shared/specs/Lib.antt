@@ -1,0 +1,3 @@
+pub mod Pending
+pub mod Shared
+pub mod Workers

@@ -1,0 +1,21 @@
+-- What a worker has. `C` is the ledger of the numbers of records, `S` that of the sums of their values.
+use Rattle.std.specs.Prelude.{ℕ, List}
+use Rattle.otel_shared.specs.declared.account.Account as account
+use Rattle.otel_shared.specs.declared.pending.PendingRecord.{PendingRecord}
+use Rattle.otel_shared.specs.declared.worker.Worker.{Worker}
+
+-- the records that wait to be made, in order
+abbrev pub pending_of : {C S : Type 0} {c : account.Ghosts C} {s : account.Ghosts S} → Worker C S c s → List PendingRecord
+pending_of w = w.pending.items
+
+-- its share of the book: how many of its records were accepted
+abbrev pub records_of : {C S : Type 0} {c : account.Ghosts C} {s : account.Ghosts S} → Worker C S c s → ℕ
+records_of w = w.records.amount
+
+-- and the sum of the 64 bits of their values
+abbrev pub values_of : {C S : Type 0} {c : account.Ghosts C} {s : account.Ghosts S} → Worker C S c s → ℕ
+values_of w = w.values.amount
+
+-- the identity of the provider that opened it
+abbrev pub worker_identity : {C S : Type 0} {c : account.Ghosts C} {s : account.Ghosts S} → Worker C S c s → ℕ
+worker_identity w = w.identity

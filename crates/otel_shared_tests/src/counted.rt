@@ -1,0 +1,135 @@
+//! Counters by number, and what a collection shows of them.
+
+use otel_common::faults::Fault;
+use otel_common::scopes::InstrumentationScope;
+use otel_common::strings::StringValue;
+use otel_core::calls::{Call, Reply};
+use otel_core::sorts::InstrumentSort;
+use otel_data::aggregated::{AggregatedMetrics, MetricData};
+use otel_data::collections::{Metric, ResourceMetrics};
+use otel_data::numbers::NumberValue;
+use otel_provider::parts::Parts;
+use otel_shared::account::Account;
+use otel_shared::booked::Receipt;
+use otel_shared::locked::Locked;
+use otel_shared::worker::Worker;
+use std::alloc::Global;
+
+/// Builds a counter of the first meter.
+fn build_counter<P: Parts, C: Account, S: Account>(
+    alloc: Global,
+    locked: &mut Locked<P, C, S>,
+    name: &str,
+) -> Result<(), Fault> {
+    let build = Call::Build {
+        meter: Some(0),
+        sort: InstrumentSort::U64Counter,
+        name: StringValue::new(alloc, name)?,
+        description: None,
+        unit: None,
+        boundaries: None,
+        now: 100,
+    };
+    let _ = locked.call(&build);
+    Ok(())
+}
+
+/// Builds the counters `a`, with the number 0, and `b`, with the number 1.
+pub fn build_counters<P: Parts, C: Account, S: Account>(
+    alloc: Global,
+    locked: &mut Locked<P, C, S>,
+) -> Result<(), Fault> {
+    let name = String::from_str(alloc, "app")?;
+    let scope = InstrumentationScope::builder(alloc, name).build()?;
+    let _ = locked.call(&Call::Meter { scope });
+    build_counter(alloc, locked, "a")?;
+    build_counter(alloc, locked, "b")
+}
+
+/// Adds a record to a worker's list, without attributes.
+pub fn add<C: Account, S: Account>(
+    alloc: Global,
+    worker: &mut Worker<C, S>,
+    instrument: usize,
+    value: u64,
+) -> Result<(), Fault> {
+    worker.add(instrument, NumberValue::U64(value), Vec::new(alloc))
+}
+
+/// Opens so many workers.
+pub fn open_workers<P: Parts, C: Account, S: Account>(
+    alloc: Global,
+    locked: &mut Locked<P, C, S>,
+    number: usize,
+) -> Result<Vec<Worker<C, S>>, Fault> {
+    let mut workers = Vec::new(alloc);
+    for _ in 0..number {
+        let worker = locked.open_worker()?;
+        workers.push(worker)?;
+    }
+    Ok(workers)
+}
+
+/// The number of the fault of a refused submission, otherwise 0.
+pub fn fault_of_submission(answer: &Result<Receipt, Fault>) -> u64 {
+    match answer {
+        Ok(_) => 0,
+        Err(fault) => u64::from(fault.number()),
+    }
+}
+
+/// The number of the fault of a refused record, otherwise 0.
+pub fn fault_of_record(answer: &Result<(), Fault>) -> u64 {
+    match answer {
+        Ok(()) => 0,
+        Err(fault) => u64::from(fault.number()),
+    }
+}
+
+/// The number of the fault of a refused call, otherwise 0.
+pub fn fault_of_reply(reply: &Reply) -> u64 {
+    match reply {
+        Reply::Refused(fault) => u64::from(fault.number()),
+        _ => 0,
+    }
+}
+
+/// The value of the last point of a metric that is a sum of unsigned numbers.
+fn value_of(metric: &Metric) -> u64 {
+    let mut value = 0;
+    if let AggregatedMetrics::U64(MetricData::Sum(sum)) = metric.data() {
+        for point in sum.data_points() {
+            value = point.value();
+        }
+    }
+    value
+}
+
+/// The value of the metric of this name, 0 if there is none.
+fn value_under(collected: &ResourceMetrics, name: &str) -> u64 {
+    let mut value = 0;
+    for scope in collected.scope_metrics() {
+        for metric in scope.metrics() {
+            if metric.name() == name {
+                value = value_of(metric);
+            }
+        }
+    }
+    value
+}
+
+/// The values of the counters `a` and `b`, each 0 if it isn't shown.
+pub fn values_of(collected: &ResourceMetrics) -> (u64, u64) {
+    (value_under(collected, "a"), value_under(collected, "b"))
+}
+
+/// What the first reader collects of the counters `a` and `b`.
+pub fn read<P: Parts, C: Account, S: Account>(
+    alloc: Global,
+    locked: &mut Locked<P, C, S>,
+    now: u64,
+) -> Result<(u64, u64), Fault> {
+    let mut collected = ResourceMetrics::default(alloc);
+    locked.collect(0, now, &mut collected)?;
+    Ok(values_of(&collected))
+}
