@@ -19,7 +19,7 @@ mod typed;
 mod values;
 
 use anyhow::{Error, bail};
-use scenarios::{SCENARIOS, Scenario, Tested, scenario};
+use scenarios::{LAST_SCENARIO, Scenario, Tested, scenario_of};
 use std::alloc::Global;
 use std::env;
 use twins::{try_call, try_provider};
@@ -49,8 +49,8 @@ fn try_scenario(
 
 /// Tries all scenarios.
 fn try_all(rt: &impl Print, alloc: Global) -> Result<(), Error> {
-    for number in 1..=SCENARIOS {
-        if let Some(next) = scenario(number) {
+    for number in 1..=LAST_SCENARIO {
+        if let Some(next) = scenario_of(number) {
             try_scenario(rt, alloc, number, next)?;
         }
     }
@@ -63,7 +63,7 @@ fn main(rt: HostRuntime) -> Result<(), Error> {
         return try_all(&rt, rt.alloc());
     };
     let number = word.as_str().parse::<usize>()?;
-    match scenario(number) {
+    match scenario_of(number) {
         Some(scenario) => try_scenario(&rt, rt.alloc(), number, scenario),
         None => bail!("there is no scenario {number}"),
     }

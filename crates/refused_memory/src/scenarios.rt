@@ -168,11 +168,11 @@ const SURE: [Tested; 40] = [
     Tested::Value(Made::Reader),
 ];
 
-/// The number of scenarios.
-pub const SCENARIOS: usize = UNSURE.len() + SURE.len();
+/// The number of the last scenario.
+pub const LAST_SCENARIO: usize = UNSURE.len() + SURE.len();
 
 /// The scenario of a number, from 1. After the last there is none.
-pub fn scenario(number: usize) -> Option<Scenario> {
+pub fn scenario_of(number: usize) -> Option<Scenario> {
     let place = number.checked_sub(1)?;
     if let Some(tested) = UNSURE.get(place) {
         return Some(Scenario {

@@ -30,7 +30,7 @@ pub const CALLBACKS: u64 = 3;
 
 /// A reader of each temporality; views with a limit of 1, with an allow-list, with bounds, and two for one instrument;
 /// and calls before the call under test.
-const SET_UP: &str = "\
+const FIRST: &str = "\
 reader cumulative
 reader delta limit:histogram=2
 reader lowmemory agg:updowncounter=hist:0,10
@@ -117,9 +117,9 @@ pub struct Materials {
 }
 
 /// Reads what a provider is made of.
-pub fn materials(alloc: Global) -> Result<Materials, Error> {
+pub fn read_materials(alloc: Global) -> Result<Materials, Error> {
     Ok(Materials {
-        script: script_of(alloc, SET_UP.as_bytes())?,
+        script: script_of(alloc, FIRST.as_bytes())?,
         resource: resource(alloc)?,
     })
 }
@@ -224,7 +224,7 @@ pub fn fill(
 
 /// A provider as it is before the call under test. Of its callbacks this many skip a run later.
 pub fn set_up(alloc: Global, ahead: u64) -> Result<Provider<Swept>, Error> {
-    let (mut provider, calls) = provider_of(alloc, materials(alloc)?)?;
+    let (mut provider, calls) = provider_of(alloc, read_materials(alloc)?)?;
     fill(alloc, &mut provider, calls.as_slice(), ahead)?;
     Ok(provider)
 }
@@ -240,7 +240,7 @@ pub struct Instruments {
 }
 
 /// Makes the instruments.
-pub fn instruments<P: Parts>(
+pub fn instruments_at<P: Parts>(
     alloc: Global,
     provider: &mut Provider<P>,
 ) -> Result<Instruments, Fault> {

@@ -5,7 +5,8 @@ use crate::callbacks::Counting;
 use crate::marks::{begin, end};
 use crate::scenarios::Tested;
 use crate::set_up::{
-    CALLBACKS, Instruments, Swept, calls_of, fill, instruments, materials, provider_of, set_up,
+    CALLBACKS, Instruments, Swept, calls_of, fill, instruments_at, provider_of, read_materials,
+    set_up,
 };
 use crate::typed::{Words, bind, build_observable, build_synchronous, record};
 use anyhow::{Error, bail};
@@ -19,8 +20,12 @@ use std::alloc::Global;
 use std::mem::replace;
 use std::time::Duration;
 
-/// Calls after the call under test: records and binds of known and of new sets, and collections of each reader.
+/// Calls after the call under test: collections of each reader, records and binds of known and of new sets, and further
+/// collections.
 const LATER: &str = "\
+collect 0 250
+collect 1 250
+collect 2 250
 record 0 u:100 a=i:1
 record 0 u:100 z=i:9
 record 1 i:100 b=s:new
@@ -45,6 +50,10 @@ build 0 u64_counter late 310
 build 1 u64_counter late 310
 bind 0 y=i:9
 bind 3 z=i:9
+record 3 u:100 y=i:9
+record 3 u:100 a=i:1
+record 4 i:100 y=i:9
+record 4 i:100 a=i:1
 record 13 u:100 a=i:1
 record 14 u:100 a=i:1
 record 15 u:100 a=i:1
@@ -142,7 +151,7 @@ fn scope_of(alloc: Global, tested: Tested) -> Result<Option<InstrumentationScope
 }
 
 /// Makes what the call needs.
-fn given<P: Parts>(
+fn given_for<P: Parts>(
     alloc: Global,
     provider: &mut Provider<P>,
     tested: Tested,
@@ -153,7 +162,7 @@ fn given<P: Parts>(
         words: Some(Words::new(alloc)?),
         name: Some(String::from_str(alloc, "observed")?),
         callbacks: Some((Counting::new(alloc, 0), Counting::new(alloc, 0))),
-        instruments: instruments(alloc, provider)?,
+        instruments: instruments_at(alloc, provider)?,
         metrics: ResourceMetrics::default(alloc),
     };
     provider.collect(0, 190, &mut given.metrics)?;
@@ -332,7 +341,7 @@ fn text_of_twin(
     tested: Tested,
     replies: &[Reply],
 ) -> Result<String, Error> {
-    let mut given = given(alloc, twin, tested)?;
+    let mut given = given_for(alloc, twin, tested)?;
     let again = make_again(alloc, twin, tested, &mut given, replies)?;
     text_of(alloc, twin, again.replies(), &given.metrics)
 }
@@ -372,7 +381,7 @@ fn try_at(
     tested: Tested,
     provider: &mut Provider<Swept>,
 ) -> Result<(bool, bool), Error> {
-    let mut given = given(alloc, provider, tested)?;
+    let mut given = given_for(alloc, provider, tested)?;
     begin(rt, number)?;
     let answer = make(alloc, provider, tested, &mut given);
     end(rt)?;
@@ -407,7 +416,7 @@ fn text_of_new(
 
 /// Builds a provider, and once more if that was refused. Returns whether it was, and whether a twin answers the same.
 pub fn try_provider(rt: &impl Print, alloc: Global, number: usize) -> Result<(bool, bool), Error> {
-    let materials = materials(alloc)?;
+    let materials = read_materials(alloc)?;
     begin(rt, number)?;
     let answer = provider_of(alloc, materials);
     end(rt)?;

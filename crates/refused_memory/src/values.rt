@@ -69,7 +69,7 @@ fn unsorted(alloc: Global) -> Result<Vec<KeyValue>, Fault> {
 }
 
 /// Makes what values are made of.
-fn given(alloc: Global) -> Result<Given, Error> {
+fn new_given(alloc: Global) -> Result<Given, Error> {
     let other = Resource::builder_empty(alloc).with_attributes(unsorted(alloc)?)?;
     Ok(Given {
         key: Key::new(alloc, "service.name")?,
@@ -140,14 +140,14 @@ fn make(alloc: Global, made: Made, given: Given) -> Result<Shown, Fault> {
 }
 
 /// Makes a value, and once more if that was refused. Returns whether the first call was refused, and the value as text.
-fn made(
+fn make_between_marks(
     rt: &impl Print,
     alloc: Global,
     number: usize,
     made: Made,
 ) -> Result<(bool, String), Error> {
-    let first = given(alloc)?;
-    let second = given(alloc)?;
+    let first = new_given(alloc)?;
+    let second = new_given(alloc)?;
     begin(rt, number)?;
     let answer = make(alloc, made, first);
     end(rt)?;
@@ -168,8 +168,8 @@ pub fn try_value(
     number: usize,
     which: Made,
 ) -> Result<(bool, bool), Error> {
-    let (is_refused, text) = made(rt, alloc, number, which)?;
-    let twin = make(alloc, which, given(alloc)?)?;
+    let (is_refused, text) = make_between_marks(rt, alloc, number, which)?;
+    let twin = make(alloc, which, new_given(alloc)?)?;
     let twin = format!(in alloc; "{twin:?}")?;
     Ok((is_refused, text.as_str() == twin.as_str()))
 }
