@@ -1,6 +1,7 @@
 //! Tests of whole runs.
 
 mod callbacks;
+mod failing;
 mod handles;
 mod numbers;
 mod refusing;

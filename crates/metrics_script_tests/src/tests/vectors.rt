@@ -1,5 +1,6 @@
 //! Worked rows as scripts, each with what it prints.
 
+mod awkward;
 mod counters;
 mod handles;
 mod histograms;

@@ -1,6 +1,6 @@
 //! Observable instruments with callbacks.
 
-ghost use Rattle.std.specs.Prelude.{◌≡◌, true, IfOk};
+ghost use Rattle.std.specs.Prelude.{◌≡◌, None, IfOk};
 
 use super::shown::collected;
 use super::support::{assert_text, provider, with_reader};
@@ -10,6 +10,7 @@ use opentelemetry_sdk::metrics::callback::{Observation, ObserveI64, ObserveU64};
 use opentelemetry_sdk::metrics::provider::{Parts, Provider};
 use opentelemetry_sdk::metrics::{Aggregation, InstrumentKind, ManualReader, SdkMeterProvider};
 use std::alloc::Global;
+use std::mem::replace;
 use std::process::Abort;
 use std::test::Fail;
 
@@ -56,25 +57,24 @@ impl ObserveU64 for InTurn {
 #[derive(Drop)]
 struct FailsFirst {
     alloc: Global,
-    failed: bool,
+    fault: Option<Fault>,
 }
 
 impl FailsFirst {
-    fn new(alloc: Global) -> FailsFirst {
+    fn new(alloc: Global, fault: Fault) -> FailsFirst {
         FailsFirst {
             alloc,
-            failed: false,
+            fault: Some(fault),
         }
     }
 }
 
 impl ObserveI64 for FailsFirst {
-    ghost observes = { λ before after left answer. IfOk answer (λ _. before.failed ≡ true) };
+    ghost observes = { λ before after left answer. IfOk answer (λ _. before.fault ≡ None) };
 
     fn observe(&mut self, out: &mut Vec<Observation<i64>>) -> Result<(), Fault> {
-        if !self.failed {
-            self.failed = true;
-            return Err(Fault::WrongKind);
+        if let Some(fault) = replace(&mut self.fault, None) {
+            return Err(fault);
         }
         let attributes = place(self.alloc)?;
         let value = -5;
@@ -182,7 +182,8 @@ fn row_51(rt: HostRuntime) -> Result<(), Fail> {
     )
 }
 
-/// Asserts what two collections of three instruments with these callbacks give: the first is refused.
+/// Asserts what two collections of three instruments with these callbacks give: the first is refused with the fault of
+/// this number.
 fn assert_of_three<P: Parts>(
     rt: &impl Abort,
     alloc: Global,
@@ -190,15 +191,21 @@ fn assert_of_three<P: Parts>(
     first: P::ObserveU64,
     middle: P::ObserveI64,
     last: P::ObserveU64,
+    number: u8,
 ) -> Result<(), Fail> {
     count(alloc, provider, "first", first)?;
     hold(alloc, provider, middle)?;
     count(alloc, provider, "last", last)?;
+    let refused = format!(in alloc; "refused {number}\n")?;
     assert_text(
         rt,
-        collected_in_turn(alloc, provider, &[0, 0])?.as_str(),
-        "refused 7\n\
-         resource None attributes=0\n\
+        collected(alloc, provider, 0, 200)?.as_str(),
+        refused.as_str(),
+    );
+    assert_text(
+        rt,
+        collected(alloc, provider, 0, 300)?.as_str(),
+        "resource None attributes=0\n\
          scope app None None []\n\
          metric first ()  u64 sum Cumulative monotonic=true 100 300\n\
          [k=1,] 2 exemplars=0\n\
@@ -211,16 +218,31 @@ fn assert_of_three<P: Parts>(
     Ok(())
 }
 
+/// Asserts what three callbacks give of which the second answers a fault of this number on its first run.
+fn assert_second_fails(
+    rt: &impl Abort,
+    alloc: Global,
+    fault: Fault,
+    number: u8,
+) -> Result<(), Fail> {
+    let first = Box::new(alloc, InTurn::new(alloc, [1, 2, 3]))?;
+    let middle = Box::new(alloc, FailsFirst::new(alloc, fault))?;
+    let last = Box::new(alloc, InTurn::new(alloc, [4, 5, 6]))?;
+    let mut provider = provider(alloc)?;
+    assert_of_three(rt, alloc, &mut provider, first, middle, last, number)
+}
+
 /// Callbacks run in the order in which their instruments were built, up to the first that fails; those before it have
 /// run, but nothing is taken in.
 #[test]
 fn callback_refuses(rt: HostRuntime) -> Result<(), Fail> {
-    let alloc = rt.alloc();
-    let first = Box::new(alloc, InTurn::new(alloc, [1, 2, 3]))?;
-    let middle = Box::new(alloc, FailsFirst::new(alloc))?;
-    let last = Box::new(alloc, InTurn::new(alloc, [4, 5, 6]))?;
-    let mut provider = provider(alloc)?;
-    assert_of_three(&rt, alloc, &mut provider, first, middle, last)
+    assert_second_fails(&rt, rt.alloc(), Fault::WrongKind, 7)
+}
+
+/// The same of a callback that finds no memory: two have run once, the third has not.
+#[test]
+fn callback_without_memory(rt: HostRuntime) -> Result<(), Fail> {
+    assert_second_fails(&rt, rt.alloc(), Fault::OutOfMemory, 1)
 }
 
 /// Asserts what is collected from one counter with two callbacks.
@@ -294,7 +316,7 @@ fn assert_refused<P: Parts>(
 #[test]
 fn callbacks_do_not_run(rt: HostRuntime) -> Result<(), Fail> {
     let alloc = rt.alloc();
-    let callback = Box::new(alloc, FailsFirst::new(alloc))?;
+    let callback = Box::new(alloc, FailsFirst::new(alloc, Fault::WrongKind))?;
     let mut provider = provider(alloc)?;
     assert_refused(&rt, alloc, &mut provider, callback)
 }

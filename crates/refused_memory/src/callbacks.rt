@@ -1,0 +1,71 @@
+//! A callback that observes how often it has run.
+
+ghost use Rattle.std.specs.Prelude.{◌≡◌};
+
+use opentelemetry_sdk::common::{Fault, Items, Key, KeyValue, Value};
+use opentelemetry_sdk::metrics::callback::{Observation, ObserveI64, ObserveU64};
+use std::alloc::Global;
+
+/// How often each callback has run before the call under test.
+const RUNS_BEFORE: u64 = 2;
+
+/// Observes how often it has run, with an attribute and without one. After the runs before the call under test it observes
+/// more than that by what is skipped, as if it had run that many times in between.
+#[derive(Drop)]
+pub struct Counting {
+    alloc: Global,
+    runs: u64,
+    skipped: u64,
+}
+
+impl Counting {
+    /// A callback that has not run.
+    pub fn new(alloc: Global, skipped: u64) -> Counting {
+        Counting {
+            alloc,
+            runs: 0,
+            skipped,
+        }
+    }
+
+    /// Counts a run, and returns what is observed.
+    fn next(&mut self) -> u64 {
+        self.runs = self.runs.saturating_add(1);
+        if self.runs <= RUNS_BEFORE {
+            return self.runs;
+        }
+        self.runs.saturating_add(self.skipped)
+    }
+}
+
+/// Observes a value with an attribute and without one.
+fn observe_twice<T: Copy>(
+    alloc: Global,
+    value: T,
+    out: &mut Vec<Observation<T>>,
+) -> Result<(), Fault> {
+    let attribute = KeyValue::new(Key::new(alloc, "k")?, Value::I64(1));
+    let attributes = Items::from(vec![in alloc; attribute]?);
+    out.push(Observation { value, attributes })?;
+    let attributes = Items::from(Vec::new(alloc));
+    out.push(Observation { value, attributes })?;
+    Ok(())
+}
+
+impl ObserveU64 for Counting {
+    ghost observes = { λ before after left answer. after.skipped ≡ before.skipped };
+
+    fn observe(&mut self, out: &mut Vec<Observation<u64>>) -> Result<(), Fault> {
+        let value = self.next();
+        observe_twice(self.alloc, value, out)
+    }
+}
+
+impl ObserveI64 for Counting {
+    ghost observes = { λ before after left answer. after.skipped ≡ before.skipped };
+
+    fn observe(&mut self, out: &mut Vec<Observation<i64>>) -> Result<(), Fault> {
+        let value = i64::try_from(self.next()).unwrap_or(i64::MAX);
+        observe_twice(self.alloc, value, out)
+    }
+}
