@@ -1,0 +1,3 @@
+pub mod EscapeLemmas
+pub mod NameLemmas
+pub mod RoundTrip
