@@ -1,3 +1,4 @@
 pub mod EscapeLemmas
 pub mod NameLemmas
+pub mod NumberLemmas
 pub mod RoundTrip

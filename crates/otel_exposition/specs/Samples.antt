@@ -7,6 +7,10 @@ use Rattle.std.specs.Fmt.{signed_decimal}
 abbrev pub Pair : Type 0
 Pair = List ℕ × List ℕ
 
+-- a label with one more value, behind a semicolon
+abbrev pub joined : Pair → List ℕ → Pair
+joined l value = (l.0, l.1 ++ 59 ∷ value)
+
 pub record Sample : Type 0 where
   pub name : List ℕ
   pub labels : List Pair

@@ -2,17 +2,17 @@
 
 ghost use Rattle.std.specs.Prelude.{◌≡◌, ◌++◌, [], ◌∷◌, OnOk};
 ghost use Rattle.std.specs.String.{string_bytes};
-ghost use Rattle.otel_exposition.specs.Samples.{label_text, labels_text, more_labels_text};
+ghost use Rattle.otel_exposition.specs.Samples.{joined, label_text, labels_text, more_labels_text};
 
 use crate::escapes::push_escaped;
 use std::alloc::AllocError;
 use std::marker::Model;
 
-/// A label of a sample: a name, and any text as its value. Contracts see it as the pair of its name and its value.
+/// A label of a sample: a name, and any bytes as its value. Contracts see it as the pair of its name and its value.
 #[derive(Debug, Drop)]
 pub struct Label {
     name: String,
-    value: String,
+    value: Vec<u8>,
 }
 
 impl Model for Label {
@@ -21,13 +21,13 @@ impl Model for Label {
 
     ghost Value = { List ℕ × List ℕ };
 
-    ghost view = { λ l. (string_bytes l.name, string_bytes l.value) };
+    ghost view = { λ l. (string_bytes l.name, l.value.items) };
 }
 
 impl Label {
     /// Makes a label of its name and its value. Takes no memory.
-    pub fn new(name: String, value: String) -> Label
-        ensures { result ≡ (string_bytes name, string_bytes value) }
+    pub fn new(name: String, value: Vec<u8>) -> Label
+        ensures { result ≡ (string_bytes name, value.items) }
     {
         Label { name, value }
     }
@@ -39,29 +39,29 @@ impl Label {
         self.name.as_str()
     }
 
-    /// The value.
-    pub fn value(&self) -> &str
+    /// The bytes of the value.
+    pub fn value(&self) -> &[u8]
         ensures { result.now ≡ self.now.1 }
     {
-        self.value.as_str()
+        self.value.as_slice()
     }
 
-    /// Appends a semicolon and a text to the value. For want of memory the value may end with the semicolon.
-    pub fn add(&mut self, text: &str) -> Result<(), AllocError>
-        ensures { OnOk result (self.new ≡ (self.old.0, self.old.1 ++ 59 ∷ text.now)) }
+    /// Appends a semicolon and another value to the value. For want of memory the value may end with the semicolon.
+    pub fn add(&mut self, value: &[u8]) -> Result<(), AllocError>
+        ensures { OnOk result (self.new ≡ joined self.old value.now) }
     {
-        self.value.push_str(";")?;
-        self.value.push_str(text)
+        self.value.extend_from_slice(b";")?;
+        self.value.extend_from_slice(value)
     }
 }
 
-/// Appends a label.
-fn push_label(out: &mut Vec<u8>, label: &Label) -> Result<(), AllocError>
-    ensures { OnOk result (out.new.items ≡ out.old.items ++ label_text label.now) }
+/// Appends a label of this name and this value, which may be any bytes. Refused only for want of memory.
+pub fn push_label(out: &mut Vec<u8>, name: &str, value: &[u8]) -> Result<(), AllocError>
+    ensures { OnOk result (out.new.items ≡ out.old.items ++ label_text (name.now, value.now)) }
 {
-    out.extend_from_slice(label.name.as_bytes())?;
+    out.extend_from_slice(name.as_bytes())?;
     out.extend_from_slice(b"=\"")?;
-    push_escaped(out, label.value.as_bytes())?;
+    push_escaped(out, value)?;
     out.extend_from_slice(b"\"")
 }
 
@@ -71,7 +71,7 @@ fn push_more_labels(out: &mut Vec<u8>, labels: &[Label]) -> Result<(), AllocErro
 {
     for label in labels {
         out.extend_from_slice(b",")?;
-        push_label(out, label)?;
+        push_label(out, label.name(), label.value())?;
     }
     out.extend_from_slice(b"}")
 }
@@ -84,6 +84,6 @@ pub fn push_labels(out: &mut Vec<u8>, labels: &[Label]) -> Result<(), AllocError
         return Ok(());
     };
     out.extend_from_slice(b"{")?;
-    push_label(out, first)?;
+    push_label(out, first.name(), first.value())?;
     push_more_labels(out, others)
 }

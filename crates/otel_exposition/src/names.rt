@@ -83,18 +83,18 @@ fn name_of(alloc: Global, text: &[u8], is_metric: bool) -> Result<String, AllocE
 
 /// Makes the name of a label of a text: each run of `_` and of bytes outside `[a-zA-Z0-9_]` is one `_`, and a `_` stands
 /// in front of a digit (Prometheus and OpenMetrics Compatibility, "Metric Attributes"). Refused only for want of memory.
-pub fn label_name(alloc: Global, text: &str) -> Result<String, AllocError>
+pub fn label_name(alloc: Global, text: &[u8]) -> Result<String, AllocError>
     ensures name { IfOk result (λ name. string_bytes name ≡ name_of is_label_byte text.now) }
     ensures valid { IfOk result (λ name. IsLabelName (string_bytes name)) }
 {
-    name_of(alloc, text.as_bytes(), false)
+    name_of(alloc, text, false)
 }
 
 /// Makes the name of a metric of a text, by the same rule, but that `:` may stand in it (Prometheus and OpenMetrics
 /// Compatibility, "Metric Metadata"). Refused only for want of memory.
-pub fn metric_name(alloc: Global, text: &str) -> Result<String, AllocError>
+pub fn metric_name(alloc: Global, text: &[u8]) -> Result<String, AllocError>
     ensures name { IfOk result (λ name. string_bytes name ≡ name_of is_metric_byte text.now) }
     ensures valid { IfOk result (λ name. IsMetricName (string_bytes name)) }
 {
-    name_of(alloc, text.as_bytes(), true)
+    name_of(alloc, text, true)
 }

@@ -1,27 +1,27 @@
 //! Samples.
 
 ghost use Rattle.std.specs.Prelude.{◌≡◌, ◌++◌, OnOk};
+ghost use Rattle.std.specs.Fmt.{signed_decimal};
 ghost use Rattle.otel_exposition.specs.Samples.{line_text};
 
-use crate::numbers::push_number;
-use itoa::Integer;
+use crate::numbers::Number;
 use std::alloc::AllocError;
 
 /// Appends the line of a sample. Its name is given in two parts, and its labels as `push_labels` spells them. Refused
 /// only for want of memory.
-pub fn push_sample<T: Integer>(
+pub fn push_sample<T: Number>(
     out: &mut Vec<u8>,
     name: &str,
     suffix: &str,
     labels: &[u8],
     value: T,
 ) -> Result<(), AllocError>
-    ensures { OnOk result (out.new.items ≡ out.old.items ++ line_text (name.now ++ suffix.now) labels.now (T.text value)) }
+    ensures { OnOk result (out.new.items ≡ out.old.items ++ line_text (name.now ++ suffix.now) labels.now (signed_decimal (T.integer value))) }
 {
     out.extend_from_slice(name.as_bytes())?;
     out.extend_from_slice(suffix.as_bytes())?;
     out.extend_from_slice(labels)?;
     out.extend_from_slice(b" ")?;
-    push_number(out, value)?;
+    value.push_to(out)?;
     out.extend_from_slice(b"\n")
 }
