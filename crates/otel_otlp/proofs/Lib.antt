@@ -1,0 +1,4 @@
+pub mod Depths
+pub mod Fronts
+pub mod PointTokens
+pub mod Steps
