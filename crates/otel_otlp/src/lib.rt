@@ -7,6 +7,7 @@
 #![tactic(auto)]
 
 mod attributes;
+pub mod laws;
 mod metrics;
 mod numbers;
 mod points;
