@@ -47,6 +47,11 @@ abbrev pub labels_text : List Pair → List ℕ
 labels_text [] = []
 labels_text (l ∷ ls) = 123 ∷ (label_text l ++ more_labels_text ls)
 
+-- each label with a comma, and then the last one with the closing brace
+abbrev pub with_last_text : List Pair → Pair → List ℕ
+with_last_text [] m = label_text m ++ 125 ∷ []
+with_last_text (l ∷ ls) m = label_text l ++ 44 ∷ with_last_text ls m
+
 -- a line: the name, the spelled labels and the digits of the value
 abbrev pub line_text : List ℕ → List ℕ → List ℕ → List ℕ
 line_text name labels digits = name ++ (labels ++ 32 ∷ (digits ++ 10 ∷ []))

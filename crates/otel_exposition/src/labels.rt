@@ -2,7 +2,7 @@
 
 ghost use Rattle.std.specs.Prelude.{◌≡◌, ◌++◌, [], ◌∷◌, OnOk};
 ghost use Rattle.std.specs.String.{string_bytes};
-ghost use Rattle.otel_exposition.specs.Samples.{joined, label_text, labels_text, more_labels_text};
+ghost use Rattle.otel_exposition.specs.Samples.{joined, label_text, labels_text, more_labels_text, with_last_text};
 
 use crate::escapes::push_escaped;
 use std::alloc::AllocError;
@@ -86,4 +86,35 @@ pub fn push_labels(out: &mut Vec<u8>, labels: &[Label]) -> Result<(), AllocError
     out.extend_from_slice(b"{")?;
     push_label(out, first.name(), first.value())?;
     push_more_labels(out, others)
+}
+
+/// Appends labels, each with a comma, and then a last one with the closing brace.
+fn push_labels_and_last(
+    out: &mut Vec<u8>,
+    labels: &[Label],
+    name: &str,
+    value: &[u8],
+) -> Result<(), AllocError>
+    ensures { OnOk result (out.new.items ≡ out.old.items ++ with_last_text labels.now (name.now, value.now)) }
+{
+    for label in labels {
+        push_label(out, label.name(), label.value())?;
+        out.extend_from_slice(b",")?;
+    }
+    push_label(out, name, value)?;
+    out.extend_from_slice(b"}")
+}
+
+/// Appends labels and one more label in braces. Refused only for want of memory.
+pub fn push_labels_with(
+    out: &mut Vec<u8>,
+    labels: &[Label],
+    name: &str,
+    value: &[u8],
+) -> Result<(), AllocError>
+    ensures { OnOk result (out.new.items ≡ out.old.items ++ labels_text (labels.now ++ (name.now, value.now) ∷ [])) }
+{
+    out.extend_from_slice(b"{")?;
+    push_labels_and_last(out, labels, name, value)?;
+    Ok(())
 }

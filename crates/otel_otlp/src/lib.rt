@@ -13,3 +13,4 @@ mod numbers;
 mod points;
 pub mod requests;
 mod scopes;
+pub mod writes;
