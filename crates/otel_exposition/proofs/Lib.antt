@@ -1,0 +1,5 @@
+pub mod EscapeLemmas
+pub mod LabelLemmas
+pub mod NameLemmas
+pub mod NumberLemmas
+pub mod RoundTrip
