@@ -4,7 +4,6 @@ use super::shown::collected;
 use super::support::{assert_text, provider};
 use super::typed::{COLLECTED, counter, histogram, up_down_counter};
 use opentelemetry_sdk::common::Fault;
-use opentelemetry_sdk::metrics::SdkMeterProvider;
 use opentelemetry_sdk::metrics::meter::{Bound, Meter, NumberType, Synchronous};
 use opentelemetry_sdk::metrics::provider::{Parts, Provider};
 use std::alloc::Global;
@@ -80,29 +79,4 @@ fn assert_collected<P: Parts>(
 fn through_handles(rt: HostRuntime) -> Result<(), Fail> {
     let mut provider = provider(rt.alloc())?;
     assert_collected(&rt, rt.alloc(), &mut provider)
-}
-
-/// The fault numbers of a record through a handle at another provider, of one at its own, and of its end there.
-fn faults<P: Parts>(
-    alloc: Global,
-    own: &mut Provider<P>,
-    other: &mut Provider<P>,
-) -> Result<[u8; 3], Fault> {
-    let name = String::from_str(alloc, "hits")?;
-    let hits = own.meter("app")?.u64_counter(name).build(own, 100)?;
-    let handle = hits.bind(own, &[])?;
-    let answers = [handle.add(other, 5), handle.add(own, 5)];
-    let [other, held] = answers.map(|answer| answer.err().map_or(0, |fault| fault.number()));
-    Ok([other, held, ended(handle, own)])
-}
-
-/// A provider of another identity has no such handle, even if it has one of that number.
-#[test]
-fn foreign_handle(rt: HostRuntime) -> Result<(), Fail> {
-    let builder = SdkMeterProvider::builder(rt.alloc()).with_identity(1);
-    let mut own = builder.build()?;
-    let mut other = provider(rt.alloc())?;
-    let faults = faults(rt.alloc(), &mut own, &mut other);
-    assert_eq!(rt; faults.ok(), Some([4, 0, 0]));
-    Ok(())
 }

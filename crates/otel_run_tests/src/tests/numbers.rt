@@ -1,7 +1,7 @@
 //! Numbers and identities of instruments and handles, and what is refused where providers are mixed up.
 
 use super::handles::ended;
-use super::support::{provider, replied};
+use super::support::{identified, provider, replied};
 use super::typed::{added, fault_of};
 use opentelemetry_sdk::common::Fault;
 use opentelemetry_sdk::metrics::SdkMeterProvider;
@@ -45,8 +45,7 @@ fn numbers_of<P: Parts>(alloc: Global, provider: &mut Provider<P>) -> Result<[u6
 /// Instruments and handles are numbered from 0 in the order in which they are made, and have their provider's identity.
 #[test]
 fn numbers(rt: HostRuntime) -> Result<(), Fail> {
-    let builder = SdkMeterProvider::builder(rt.alloc()).with_identity(7);
-    let mut provider = builder.build()?;
+    let mut provider = identified(rt.alloc(), 7)?;
     let numbers = numbers_of(rt.alloc(), &mut provider);
     assert_eq!(rt; numbers.ok(), Some([1, 7, 0, 1, 7, 1]));
     Ok(())
@@ -187,8 +186,7 @@ fn one_identity(rt: HostRuntime) -> Result<(), Fail> {
 /// A provider of another identity has no such meter, instrument or handle, whatever has the number there.
 #[test]
 fn other_identity(rt: HostRuntime) -> Result<(), Fail> {
-    let builder = SdkMeterProvider::builder(rt.alloc()).with_identity(1);
-    let mut own = builder.build()?;
+    let mut own = identified(rt.alloc(), 1)?;
     let mut other = provider(rt.alloc())?;
     let faults = mixed_up(rt.alloc(), &mut own, &mut other);
     let wanted = ([2, 2], [3, 3, 3, 3, 3], [[4, 4], [4, 4]], [2, 2]);

@@ -35,6 +35,12 @@ pub fn with_reader(
     Ok(builder.with_reader(Box::new(alloc, reader)?)?)
 }
 
+/// A provider of this identity, without readers.
+pub fn identified(alloc: Global, identity: u64) -> Result<SdkMeterProvider, Fail> {
+    let builder = SdkMeterProvider::builder(alloc);
+    Ok(builder.with_identity(identity).build()?)
+}
+
 /// A provider with a cumulative reader.
 pub fn provider(alloc: Global) -> Result<SdkMeterProvider, Fail> {
     let builder = SdkMeterProvider::builder(alloc);

@@ -1,7 +1,7 @@
 //! Meters and instruments as values.
 
 use super::shown::collected;
-use super::support::{assert_text, provider};
+use super::support::{assert_text, identified, provider};
 use opentelemetry_sdk::common::Fault;
 use opentelemetry_sdk::metrics::SdkMeterProvider;
 use opentelemetry_sdk::metrics::meter::{
@@ -157,8 +157,7 @@ fn faults<P: Parts>(
 #[test]
 fn foreign(rt: HostRuntime) -> Result<(), Fail> {
     let mut other = SdkMeterProvider::default(rt.alloc());
-    let builder = SdkMeterProvider::builder(rt.alloc()).with_identity(1);
-    let mut own = builder.build()?;
+    let mut own = identified(rt.alloc(), 1)?;
     let faults = faults(rt.alloc(), &mut own, &mut other);
     assert_eq!(rt; faults.ok(), Some([0, 3, 2]));
     Ok(())

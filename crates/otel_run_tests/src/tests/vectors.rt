@@ -6,7 +6,7 @@ ghost use Rattle.otel_common.specs.declared.metrics.Temporality.TheVariants.{Cum
 use super::handles::ended;
 use super::resources::assert_merged;
 use super::shutdowns::seen;
-use super::support::with_reader;
+use super::support::{identified, with_reader};
 use super::texts::assert_answer;
 use super::typed::counter;
 use opentelemetry_sdk::common::{Fault, OTelSdkResult};
@@ -100,10 +100,8 @@ fn ended_twice<P: Parts>(
 /// A handle that another provider refuses is given back.
 #[test]
 fn row_28(rt: HostRuntime) -> Result<(), Fail> {
-    let one = SdkMeterProvider::builder(rt.alloc()).with_identity(1);
-    let two = SdkMeterProvider::builder(rt.alloc()).with_identity(2);
-    let mut own = one.build()?;
-    let mut other = two.with_hash_seed(7).build()?;
+    let mut own = identified(rt.alloc(), 1)?;
+    let mut other = identified(rt.alloc(), 2)?;
     let ended = ended_twice(rt.alloc(), &mut own, &mut other);
     assert_eq!(rt; ended.ok(), Some([4, 0]));
     Ok(())
