@@ -9,16 +9,20 @@ use otel_stream::reader::MetricReader;
 use std::alloc::Global;
 use std::test::*;
 
-/// A provider with one cumulative reader.
-fn provider_of(alloc: Global, identity: u64) -> Result<SdkMeterProvider, Fail> {
-    let reader: Box<dyn MetricReader> = Box::new(alloc, ManualReader::default())?;
+/// A provider with this reader.
+fn provider_of(
+    alloc: Global,
+    reader: Box<dyn MetricReader>,
+    identity: u64,
+) -> Result<SdkMeterProvider, Fail> {
     let builder = SdkMeterProvider::builder(alloc).with_reader(reader)?;
     Ok(builder.with_identity(identity).build()?)
 }
 
 #[test]
 fn row_18(rt: HostRuntime) -> Result<(), Fail> {
-    let provider = provider_of(rt.alloc(), 0)?;
+    let reader = Box::new(rt.alloc(), ManualReader::default())?;
+    let provider = provider_of(rt.alloc(), reader, 0)?;
     let shown = four_with_boxes(&rt, rt.alloc(), provider)?;
     let want = four::Shown {
         greatest: 6000,
@@ -31,7 +35,8 @@ fn row_18(rt: HostRuntime) -> Result<(), Fail> {
 
 #[test]
 fn watched_while_two_record(rt: HostRuntime) -> Result<(), Fail> {
-    let provider = provider_of(rt.alloc(), 0)?;
+    let reader = Box::new(rt.alloc(), ManualReader::default())?;
+    let provider = provider_of(rt.alloc(), reader, 0)?;
     let seen = watched_with_boxes(&rt, rt.alloc(), provider)?;
     let want = Seen {
         rose: true,
@@ -43,7 +48,8 @@ fn watched_while_two_record(rt: HostRuntime) -> Result<(), Fail> {
 
 #[test]
 fn row_29(rt: HostRuntime) -> Result<(), Fail> {
-    let provider = provider_of(rt.alloc(), 0)?;
+    let reader = Box::new(rt.alloc(), ManualReader::default())?;
+    let provider = provider_of(rt.alloc(), reader, 0)?;
     let shown = alone_with_boxes(rt.alloc(), provider, Case::Stopped)?;
     assert_eq!(rt; shown, [3, 1, 2, 9, 2, 0, 2]);
     Ok(())
@@ -51,7 +57,8 @@ fn row_29(rt: HostRuntime) -> Result<(), Fail> {
 
 #[test]
 fn row_30(rt: HostRuntime) -> Result<(), Fail> {
-    let provider = provider_of(rt.alloc(), 0)?;
+    let reader = Box::new(rt.alloc(), ManualReader::default())?;
+    let provider = provider_of(rt.alloc(), reader, 0)?;
     let shown = alone_with_boxes(rt.alloc(), provider, Case::Missing)?;
     assert_eq!(rt; shown, [13, 13, 14, 0, 0, 0, 0]);
     Ok(())
@@ -59,7 +66,8 @@ fn row_30(rt: HostRuntime) -> Result<(), Fail> {
 
 #[test]
 fn nothing_is_submitted(rt: HostRuntime) -> Result<(), Fail> {
-    let provider = provider_of(rt.alloc(), 0)?;
+    let reader = Box::new(rt.alloc(), ManualReader::default())?;
+    let provider = provider_of(rt.alloc(), reader, 0)?;
     let shown = alone_with_boxes(rt.alloc(), provider, Case::Nothing)?;
     assert_eq!(rt; shown, [0, 1, 1, 0, 0, 0, 0]);
     Ok(())
@@ -67,7 +75,8 @@ fn nothing_is_submitted(rt: HostRuntime) -> Result<(), Fail> {
 
 #[test]
 fn dropped_worker(rt: HostRuntime) -> Result<(), Fail> {
-    let provider = provider_of(rt.alloc(), 0)?;
+    let reader = Box::new(rt.alloc(), ManualReader::default())?;
+    let provider = provider_of(rt.alloc(), reader, 0)?;
     let shown = alone_with_boxes(rt.alloc(), provider, Case::Dropped)?;
     assert_eq!(rt; shown, [14, 14, 0, 0, 0, 0, 0]);
     Ok(())
@@ -75,7 +84,8 @@ fn dropped_worker(rt: HostRuntime) -> Result<(), Fail> {
 
 #[test]
 fn settled_with_a_pending_record(rt: HostRuntime) -> Result<(), Fail> {
-    let provider = provider_of(rt.alloc(), 0)?;
+    let reader = Box::new(rt.alloc(), ManualReader::default())?;
+    let provider = provider_of(rt.alloc(), reader, 0)?;
     let shown = alone_with_boxes(rt.alloc(), provider, Case::Waiting)?;
     assert_eq!(rt; shown, [1, 1, 5, 0, 0, 0, 0]);
     Ok(())
@@ -83,7 +93,8 @@ fn settled_with_a_pending_record(rt: HostRuntime) -> Result<(), Fail> {
 
 #[test]
 fn own_instruments(rt: HostRuntime) -> Result<(), Fail> {
-    let provider = provider_of(rt.alloc(), 0)?;
+    let reader = Box::new(rt.alloc(), ManualReader::default())?;
+    let provider = provider_of(rt.alloc(), reader, 0)?;
     let shown = own(rt.alloc(), provider)?;
     let want = typed::Shown {
         faults: [0, 0, 0],
@@ -97,8 +108,10 @@ fn own_instruments(rt: HostRuntime) -> Result<(), Fail> {
 
 #[test]
 fn instruments_of_another_provider(rt: HostRuntime) -> Result<(), Fail> {
-    let mut other = provider_of(rt.alloc(), 7)?;
-    let provider = provider_of(rt.alloc(), 0)?;
+    let reader = Box::new(rt.alloc(), ManualReader::default())?;
+    let mut other = provider_of(rt.alloc(), reader, 7)?;
+    let reader = Box::new(rt.alloc(), ManualReader::default())?;
+    let provider = provider_of(rt.alloc(), reader, 0)?;
     let shown = foreign(rt.alloc(), provider, &mut other)?;
     let want = typed::Shown {
         faults: [3, 3, 4],
