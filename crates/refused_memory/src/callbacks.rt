@@ -29,7 +29,9 @@ impl Counting {
     }
 
     /// Counts a run, and returns what is observed.
-    fn next(&mut self) -> u64 {
+    fn next(&mut self) -> u64
+        ensures { self.new.skipped ≡ self.old.skipped }
+    {
         self.runs = self.runs.saturating_add(1);
         if self.runs <= RUNS_BEFORE {
             return self.runs;
