@@ -99,7 +99,7 @@ fn push_labels_and_last(
 {
     for label in labels {
         push_label(out, label.name(), label.value())?;
-        out.extend_from_slice(b",")?;
+        out.extend_from_slice(&[b','])?;
     }
     push_label(out, name, value)?;
     out.extend_from_slice(b"}")
