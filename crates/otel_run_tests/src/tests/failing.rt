@@ -5,7 +5,7 @@ ghost use Rattle.otel_common.specs.declared.metrics.Temporality.TheVariants.{Cum
 
 use super::shown::collected;
 use super::shutdowns::seen;
-use super::support::assert_text;
+use super::support::{assert_is, assert_text};
 use opentelemetry_sdk::common::{Fault, OTelSdkResult};
 use opentelemetry_sdk::metrics::callback::NoCallback;
 use opentelemetry_sdk::metrics::instrument::{Instrument, InstrumentKind, Stream};
@@ -123,16 +123,30 @@ fn were_asked(readers: &[Counted], flushes: u32, shutdowns: u32) -> bool {
     readers.iter().all(|reader| reader.flushes == flushes && reader.shutdowns == shutdowns)
 }
 
+/// Whether each reader of a provider was asked this often.
+fn all_were_asked(provider: Provider<Failing>, flushes: u32, shutdowns: u32) -> bool {
+    let (core, views, readers, callbacks) = provider.into_parts();
+    let were_asked = were_asked(readers.as_slice(), flushes, shutdowns);
+    // Lets them go as one.
+    let _provider: Provider<Failing> = Provider::from_parts(core, views, readers, callbacks);
+    were_asked
+}
+
+/// What is seen of two flushes and two shutdowns.
+fn asked_again<P: Parts>(provider: &mut Provider<P>) -> [(u8, usize, usize); 4] {
+    let flushed = seen(provider.force_flush());
+    let again = seen(provider.force_flush());
+    let shut = seen(provider.shutdown());
+    [flushed, again, shut, seen(provider.shutdown())]
+}
+
 /// Each flush asks all readers, and so does a shutdown, also those after one that failed.
 #[test]
 fn readers_fail(rt: HostRuntime) -> Result<(), Fail> {
     let mut provider = provider_of_readers(rt.alloc())?;
-    assert_eq!(rt; seen(provider.force_flush()), (10, 2, 0));
-    assert_eq!(rt; seen(provider.force_flush()), (10, 2, 0));
-    assert_eq!(rt; seen(provider.shutdown()), (10, 2, 0));
-    assert_eq!(rt; seen(provider.shutdown()), (8, 0, 0));
-    let (_core, _views, readers, _callbacks) = provider.into_parts();
-    assert!(rt; were_asked(readers.as_slice(), 2, 1));
+    let asked = asked_again(&mut provider);
+    assert_is(&rt, asked, [(10, 2, 0), (10, 2, 0), (10, 2, 0), (8, 0, 0)]);
+    assert!(rt; all_were_asked(provider, 2, 1));
     Ok(())
 }
 

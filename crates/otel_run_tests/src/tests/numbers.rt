@@ -1,7 +1,7 @@
 //! Numbers and identities of instruments and handles, and what is refused where providers are mixed up.
 
 use super::handles::ended;
-use super::support::{identified, provider, replied};
+use super::support::{assert_is, identified, provider, replied};
 use super::typed::{added, fault_of};
 use opentelemetry_sdk::common::Fault;
 use opentelemetry_sdk::metrics::SdkMeterProvider;
@@ -47,7 +47,7 @@ fn numbers_of<P: Parts>(alloc: Global, provider: &mut Provider<P>) -> Result<[u6
 fn numbers(rt: HostRuntime) -> Result<(), Fail> {
     let mut provider = identified(rt.alloc(), 7)?;
     let numbers = numbers_of(rt.alloc(), &mut provider);
-    assert_eq!(rt; numbers.ok(), Some([1, 7, 0, 1, 7, 1]));
+    assert_is(&rt, numbers.ok(), Some([1, 7, 0, 1, 7, 1]));
     Ok(())
 }
 
@@ -76,7 +76,8 @@ fn ends_of<P: Parts>(alloc: Global, provider: &mut Provider<P>) -> Result<[u8; 3
 #[test]
 fn ends(rt: HostRuntime) -> Result<(), Fail> {
     let mut provider = provider(rt.alloc())?;
-    assert_eq!(rt; ends_of(rt.alloc(), &mut provider).ok(), Some([0, 0, 4]));
+    let ends = ends_of(rt.alloc(), &mut provider);
+    assert_is(&rt, ends.ok(), Some([0, 0, 4]));
     Ok(())
 }
 
@@ -179,7 +180,7 @@ fn one_identity(rt: HostRuntime) -> Result<(), Fail> {
     let mut other = provider(rt.alloc())?;
     let faults = mixed_up(rt.alloc(), &mut own, &mut other);
     let wanted = ([2, 2], [6, 7, 3, 7, 3], [[6, 0], [4, 4]], [0, 0]);
-    assert_eq!(rt; faults.ok(), Some(wanted));
+    assert_is(&rt, faults.ok(), Some(wanted));
     Ok(())
 }
 
@@ -190,6 +191,6 @@ fn other_identity(rt: HostRuntime) -> Result<(), Fail> {
     let mut other = provider(rt.alloc())?;
     let faults = mixed_up(rt.alloc(), &mut own, &mut other);
     let wanted = ([2, 2], [3, 3, 3, 3, 3], [[4, 4], [4, 4]], [2, 2]);
-    assert_eq!(rt; faults.ok(), Some(wanted));
+    assert_is(&rt, faults.ok(), Some(wanted));
     Ok(())
 }

@@ -1,6 +1,6 @@
 //! Merges of resources, their builders, and the resource of a collection.
 
-use super::support::{collection, text, with_reader};
+use super::support::{assert_text, collection, text, with_reader};
 use opentelemetry_sdk::common::{Key, KeyValue, Value};
 use opentelemetry_sdk::metrics::provider::Reply;
 use opentelemetry_sdk::metrics::{ManualReader, SdkMeterProvider};
@@ -50,6 +50,17 @@ fn shown(alloc: Global, resource: &Resource) -> Result<String, Fail> {
     Ok(shown)
 }
 
+/// Asserts that a resource is shown as wanted.
+fn assert_shown(
+    rt: &impl Abort,
+    alloc: Global,
+    resource: &Resource,
+    wanted: &str,
+) -> Result<(), Fail> {
+    assert_text(rt, shown(alloc, resource)?.as_str(), wanted);
+    Ok(())
+}
+
 pub fn assert_merged(
     rt: &impl Abort,
     alloc: Global,
@@ -58,8 +69,7 @@ pub fn assert_merged(
     wanted: &str,
 ) -> Result<(), Fail> {
     let merged = resource(alloc, one)?.merge(&resource(alloc, other)?)?;
-    assert_eq!(rt; shown(alloc, &merged)?.as_str(), wanted);
-    Ok(())
+    assert_shown(rt, alloc, &merged, wanted)
 }
 
 #[test]
@@ -139,7 +149,7 @@ fn new_resource(rt: HostRuntime) -> Result<(), Fail> {
     ] {
         let list = list(rt.alloc(), pairs.as_slice())?;
         let built = Resource::builder_empty(rt.alloc()).with_attributes(list)?;
-        assert_eq!(rt; shown(rt.alloc(), &built.build())?.as_str(), wanted);
+        assert_shown(&rt, rt.alloc(), &built.build(), wanted)?;
     }
     Ok(())
 }
@@ -150,7 +160,7 @@ fn builder_with_schema_url(rt: HostRuntime) -> Result<(), Fail> {
         let url = String::from_str(rt.alloc(), given)?;
         let none = Vec::new(rt.alloc());
         let built = builder(rt.alloc(), (&[], own))?.with_schema_url(none, url)?;
-        assert_eq!(rt; shown(rt.alloc(), &built.build())?.as_str(), wanted);
+        assert_shown(&rt, rt.alloc(), &built.build(), wanted)?;
     }
     Ok(())
 }

@@ -1,7 +1,7 @@
 //! Flushes and shutdowns.
 
 use super::numbers::build_faults;
-use super::support::provider;
+use super::support::{assert_is, provider};
 use opentelemetry_sdk::common::{Fault, InternalFault, OTelSdkResult};
 use opentelemetry_sdk::metrics::provider::{Parts, Provider};
 use std::alloc::Global;
@@ -30,7 +30,7 @@ fn shut_down<P: Parts>(provider: &mut Provider<P>) -> [(u8, usize, usize); 3] {
 fn shutdowns(rt: HostRuntime) -> Result<(), Fail> {
     let mut provider = provider(rt.alloc())?;
     let seen = shut_down(&mut provider);
-    assert_eq!(rt; seen, [(0, 0, 0), (0, 0, 0), (8, 0, 0)]);
+    assert_is(&rt, seen, [(0, 0, 0), (0, 0, 0), (8, 0, 0)]);
     Ok(())
 }
 
@@ -45,6 +45,7 @@ fn late_faults<P: Parts>(alloc: Global, provider: &mut Provider<P>) -> Result<[u
 #[test]
 fn late_meter(rt: HostRuntime) -> Result<(), Fail> {
     let mut provider = provider(rt.alloc())?;
-    assert_eq!(rt; late_faults(rt.alloc(), &mut provider).ok(), Some([0, 0]));
+    let faults = late_faults(rt.alloc(), &mut provider);
+    assert_is(&rt, faults.ok(), Some([0, 0]));
     Ok(())
 }

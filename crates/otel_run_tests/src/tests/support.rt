@@ -4,8 +4,15 @@ use opentelemetry_sdk::common::{Items, Key, KeyValue, StringValue, Value};
 use opentelemetry_sdk::metrics::provider::{Call, Reply};
 use opentelemetry_sdk::metrics::{ManualReader, MeterProviderBuilder, SdkMeterProvider};
 use std::alloc::Global;
+use std::fmt::Debug;
 use std::process::Abort;
 use std::test::Fail;
+
+/// Asserts that a value is as wanted. A function of its own, so that no proof about who owns a provider looks into how
+/// it would be printed.
+pub fn assert_is<T: PartialEq + Debug + Drop>(rt: &impl Abort, found: T, wanted: T) {
+    assert_eq!(rt; found, wanted);
+}
 
 /// Asserts that a text is as wanted.
 pub fn assert_text(rt: &impl Abort, text: &str, wanted: &str) {

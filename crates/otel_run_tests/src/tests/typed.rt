@@ -1,7 +1,7 @@
 //! Meters and instruments as values.
 
 use super::shown::collected;
-use super::support::{assert_text, identified, provider};
+use super::support::{assert_is, assert_text, identified, provider};
 use opentelemetry_sdk::common::Fault;
 use opentelemetry_sdk::metrics::SdkMeterProvider;
 use opentelemetry_sdk::metrics::meter::{
@@ -159,6 +159,6 @@ fn foreign(rt: HostRuntime) -> Result<(), Fail> {
     let mut other = SdkMeterProvider::default(rt.alloc());
     let mut own = identified(rt.alloc(), 1)?;
     let faults = faults(rt.alloc(), &mut own, &mut other);
-    assert_eq!(rt; faults.ok(), Some([0, 3, 2]));
+    assert_is(&rt, faults.ok(), Some([0, 3, 2]));
     Ok(())
 }

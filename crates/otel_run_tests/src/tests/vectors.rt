@@ -6,7 +6,7 @@ ghost use Rattle.otel_common.specs.declared.metrics.Temporality.TheVariants.{Cum
 use super::handles::ended;
 use super::resources::assert_merged;
 use super::shutdowns::seen;
-use super::support::{identified, with_reader};
+use super::support::{assert_is, identified, with_reader};
 use super::texts::assert_answer;
 use super::typed::counter;
 use opentelemetry_sdk::common::{Fault, OTelSdkResult};
@@ -78,7 +78,7 @@ fn shut_twice<P: Parts>(provider: &mut Provider<P>) -> [(u8, usize, usize); 2] {
 fn row_26(rt: HostRuntime) -> Result<(), Fail> {
     let mut provider = provider_of_failing(rt.alloc())?;
     let seen = shut_twice(&mut provider);
-    assert_eq!(rt; seen, [(10, 2, 1), (8, 0, 0)]);
+    assert_is(&rt, seen, [(10, 2, 1), (8, 0, 0)]);
     Ok(())
 }
 
@@ -103,7 +103,7 @@ fn row_28(rt: HostRuntime) -> Result<(), Fail> {
     let mut own = identified(rt.alloc(), 1)?;
     let mut other = identified(rt.alloc(), 2)?;
     let ended = ended_twice(rt.alloc(), &mut own, &mut other);
-    assert_eq!(rt; ended.ok(), Some([4, 0]));
+    assert_is(&rt, ended.ok(), Some([4, 0]));
     Ok(())
 }
 
