@@ -1,8 +1,11 @@
 //! What callbacks observe.
 
+ghost use Rattle.std.specs.Prelude.{◌≡◌, []};
+
 use otel_common::attributes::KeyValue;
 use otel_common::lists::Items;
 use otel_data::numbers::NumberValue;
+use std::alloc::Global;
 
 /// A value that a callback observed, with its attributes (Metrics API, "Measurement").
 #[derive(Clone, Debug, Drop)]
@@ -11,6 +14,28 @@ pub struct Observation<T> {
     pub value: T,
     /// The attributes, in any order. Where a key occurs more than once, the first value counts.
     pub attributes: Items<KeyValue>,
+}
+
+impl<T> Observation<T> {
+    /// An observation without attributes. Takes no memory.
+    pub fn new(alloc: Global, value: T) -> Observation<T>
+        ensures { result ≡ record { value = value; attributes = [] } }
+    {
+        Observation {
+            value,
+            attributes: Items::from(Vec::new(alloc)),
+        }
+    }
+
+    /// An observation with these attributes. Takes no memory.
+    pub fn with_attributes(value: T, attributes: Vec<KeyValue>) -> Observation<T>
+        ensures { result ≡ record { value = value; attributes = attributes.items } }
+    {
+        Observation {
+            value,
+            attributes: Items::from(attributes),
+        }
+    }
 }
 
 /// A value that was observed of an instrument, with its attributes.

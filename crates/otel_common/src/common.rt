@@ -9,5 +9,6 @@ pub use crate::laws::{
     temporality_laws,
 };
 pub use crate::lists::{Items, SharedItems};
+pub use crate::outside::{now_nanos, random_seed};
 pub use crate::scopes::{InstrumentationScope, InstrumentationScopeBuilder};
 pub use crate::strings::StringValue;

@@ -1,7 +1,10 @@
 //! What one collection gives.
 
 ghost use Rattle.std.specs.Prelude.{◌≡◌, [], None};
+ghost use Rattle.std.specs.List.{find};
+ghost use Rattle.std.specs.Option.{option_map};
 ghost use Rattle.std.specs.Slice.Iter.{iter_rest};
+ghost use Rattle.otel_common.specs.Equality.{bytes_eq};
 
 use crate::aggregated::AggregatedMetrics;
 use otel_common::lists::Items;
@@ -127,6 +130,18 @@ impl ScopeMetrics {
     {
         self.metrics.as_slice().iter()
     }
+
+    /// The first metric of this name, if there is one. Goes over the metrics up to it.
+    pub fn metric(&self, name: &str) -> Option<&Metric>
+        ensures { option_map (λ found. found.now) result ≡ find (λ metric. bytes_eq metric.name name.now) self.now.metrics }
+    {
+        for metric in self.metrics.as_slice() {
+            if metric.name() == name {
+                return Some(metric);
+            }
+        }
+        None
+    }
 }
 
 /// All that one collection gives (Metrics data model).
@@ -179,5 +194,17 @@ impl ResourceMetrics {
         ensures { iter_rest result ≡ self.now.scope_metrics }
     {
         self.scope_metrics.as_slice().iter()
+    }
+
+    /// The metrics of the first scope of this name, if there is one. Goes over the scopes up to it.
+    pub fn scope(&self, name: &str) -> Option<&ScopeMetrics>
+        ensures { option_map (λ found. found.now) result ≡ find (λ metrics. bytes_eq metrics.scope.name name.now) self.now.scope_metrics }
+    {
+        for metrics in self.scope_metrics.as_slice() {
+            if metrics.scope().name() == name {
+                return Some(metrics);
+            }
+        }
+        None
     }
 }

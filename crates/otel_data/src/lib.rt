@@ -8,6 +8,7 @@ pub mod aggregated;
 pub mod collections;
 pub mod copies;
 pub mod data;
+mod display;
 pub mod exemplars;
 pub mod gauges;
 pub mod histograms;

@@ -12,7 +12,7 @@ use Rattle.otel_model.specs.State.{State}
 use Rattle.otel_model.specs.Steps.{Step}
 use Rattle.otel_core.specs.Checks.{has_stream}
 use Rattle.otel_core.specs.Correspondence.{observed_of}
-use Rattle.otel_provider.specs.Typed.{collect_reply}
+use Rattle.otel_provider.specs.Typed.{collect_reply, collected_reply}
 
 -- ======== registering ========
 -- a callback, registered for the instrument with this number
@@ -28,3 +28,8 @@ added_callbacks n st cs = cond (has_stream n st) (map (registered_callback n) cs
 abbrev pub IsCollectionOf : Views → State → ℕ → ℕ → Result (List Observed) Fault → Result (Unit {0}) Fault → ResourceMetrics → State → Type 0
 IsCollectionOf views old r now (Ok observed) result metrics new = Step views old (model.Call.Collect r now (map observed_of observed)) (collect_reply result metrics) new
 IsCollectionOf views old r now (Err f) result metrics new = (result ≡ Err f) × (new ≡ old)
+
+-- the same of a collection that is returned
+abbrev pub IsCollected : Views → State → ℕ → ℕ → Result (List Observed) Fault → Result ResourceMetrics Fault → State → Type 0
+IsCollected views old r now (Ok observed) result new = Step views old (model.Call.Collect r now (map observed_of observed)) (collected_reply result) new
+IsCollected views old r now (Err f) result new = (result ≡ Err f) × (new ≡ old)

@@ -109,6 +109,10 @@ abbrev pub unbind_reply : {T : Type 0} → Result (Unit {0}) (Bound T × Fault) 
 unbind_reply (Ok _) = model.Reply.Done
 unbind_reply (Err e) = model.Reply.Refused (fault_of e.1)
 
+-- the reply to a collection, which is returned
+abbrev pub collected_reply : Result ResourceMetrics Fault → model.Reply
+collected_reply r = reply_from model.Reply.Collected r
+
 -- the reply to a collection, which is handed back in this value
 abbrev pub collect_reply : Result (Unit {0}) Fault → ResourceMetrics → model.Reply
 collect_reply r c = reply_from (λ _. model.Reply.Collected c) r

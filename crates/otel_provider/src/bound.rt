@@ -5,7 +5,7 @@ ghost use Rattle.otel_model.specs.Calls as model;
 ghost use Rattle.otel_model.specs.Laws.{KeepsReaders};
 ghost use Rattle.otel_model.specs.Steps.{Step};
 ghost use Rattle.otel_model_laws.specs.Lawful.{Balances};
-ghost use Rattle.otel_core.specs.Correspondence.{number_of};
+ghost use Rattle.otel_core.specs.Correspondence.{number_of, reply_to};
 ghost use Rattle.otel_provider.specs.Providers.{state_of, views_of, provider_readers, provider_views, callbacks_of};
 ghost use Rattle.otel_provider.specs.Typed.{IsInstrumentOf, IsBoundOf, instrument_number, handle_number, handle_identity, record_reply, bind_reply, unbind_reply};
 
@@ -151,6 +151,26 @@ impl<T> Bound<T> {
                 Ok(())
             }
             Err(fault) => Err((self, fault)),
+        }
+    }
+
+    /// Ends the handle, as `unbind` does, and lets it go even where that is refused, with the same faults. Takes no
+    /// memory.
+    pub fn end<P: Parts>(self, provider: &mut Provider<P>) -> Result<(), Fault>
+        ensures step { IsBoundOf self provider.old → Step (views_of P.View.answer provider.old) (state_of provider.old) (model.Call.Unbind (handle_number self)) (reply_to result) (state_of provider.new) }
+        ensures foreign { ¬ IsBoundOf self provider.old → (result ≡ Err Fault.UnknownHandle) × (state_of provider.new ≡ state_of provider.old) }
+        ensures balances { Balances (state_of provider.new) }
+        ensures readers { KeepsReaders (state_of provider.old) (state_of provider.new) }
+        ensures kept { provider_readers provider.new ≡ provider_readers provider.old }
+        ensures views { provider_views provider.new ≡ provider_views provider.old }
+        ensures callbacks { callbacks_of provider.new ≡ callbacks_of provider.old }
+    {
+        match self.unbind(provider) {
+            Ok(()) => Ok(()),
+            Err((handle, fault)) => {
+                let _ = handle.into_number();
+                Err(fault)
+            }
         }
     }
 }

@@ -14,13 +14,13 @@ ghost use Rattle.otel_model.specs.Steps.{Step, Run, asks_readers};
 ghost use Rattle.otel_model_laws.specs.Given.{IsGivenOrPending};
 ghost use Rattle.otel_model_laws.specs.Lawful.{Balances, IsLawful};
 ghost use Rattle.otel_core.specs.Checks.{collect_refusal};
-ghost use Rattle.otel_provider.specs.Callbacks.{IsCollectionOf};
+ghost use Rattle.otel_provider.specs.Callbacks.{IsCollectionOf, IsCollected};
 ghost use Rattle.otel_provider.specs.Headline.{OfReaders, OfStreams, OfAnswers, InAnyOrder};
 ghost use Rattle.otel_provider.specs.Providers.{state_of, identity_of, resource_of, identity_of_builder, answers_of_readers, views_of, builder_readers, builder_views, provider_readers, provider_views, callbacks_of, wants_of};
 ghost use Rattle.otel_core.specs.Correspondence.{call_of, reply_of, reply_to};
 ghost use Rattle.otel_core.specs.Known.{IsKnown, HasMemory};
 ghost use Rattle.otel_core.specs.Readers.{AreReached, ShutsDown, StepReaches, RunReaches};
-ghost use Rattle.otel_provider.specs.Typed.{collect_reply};
+ghost use Rattle.otel_provider.specs.Typed.{collect_reply, collected_reply};
 ghost use Rattle.otel_stream.specs.Answers.{answers_wanting};
 
 use crate::balanced::BalancedCore;
@@ -370,8 +370,7 @@ impl<P: Parts> Provider<P> {
         self.core.step(&self.views, &mut self.readers, call)
     }
 
-    /// Makes a collection of a reader at a moment, in nanoseconds since 1970, and puts it into `metrics`, in place of
-    /// what that held (Metrics SDK, "Collect").
+    /// Makes a collection of a reader at a moment, in nanoseconds since 1970, and returns it (Metrics SDK, "Collect").
     ///
     /// Runs each callback once, on an empty list, in the order in which their instruments were built, up to the first
     /// that answers a fault. The rest is what `step` does with `Call::Collect` and all that was observed, which goes to
@@ -379,7 +378,26 @@ impl<P: Parts> Provider<P> {
     ///
     /// Refused if no reader has this number or the provider was shut down, and then no callback runs; with the fault of
     /// a callback; if a callback observed values of another number type than its instrument's; and for want of memory.
-    /// Then nothing has changed except what callbacks did to themselves, and `metrics` holds what it held before.
+    /// Then nothing has changed except what callbacks did to themselves.
+    pub fn collected(&mut self, reader: usize, now: u64) -> Result<ResourceMetrics, Fault>
+        ensures unrun { (fault : model.Fault) → collect_refusal (state_of self.old) reader ≡ Some fault → (collected_reply result ≡ model.Reply.Refused fault) × (state_of self.new ≡ state_of self.old) × (callbacks_of self.new ≡ callbacks_of self.old) }
+        ensures ran { collect_refusal (state_of self.old) reader ≡ None → (given : Result (List Observed) Fault) × RanAll (Ran P.ObserveU64.observes P.ObserveI64.observes) (callbacks_of self.old) (callbacks_of self.new) given × IsCollected (views_of P.View.answer self.old) (state_of self.old) reader now given result (state_of self.new) }
+        ensures balances { Balances (state_of self.new) }
+        ensures readers { KeepsReaders (state_of self.old) (state_of self.new) }
+        ensures kept { provider_readers self.new ≡ provider_readers self.old }
+        ensures views { provider_views self.new ≡ provider_views self.old }
+    {
+        self.core.check_collection(reader)?;
+        let alloc = self.core.allocator();
+        let observations = match run_callbacks(alloc, &mut self.callbacks) {
+            Ok(observations) => observations,
+            Err(fault) => return Err(fault),
+        };
+        self.core.collect(reader, now, &observations)
+    }
+
+    /// Makes a collection as [`Provider::collected`] does, and puts it into `metrics`, in place of what that held. If it
+    /// is refused, `metrics` holds what it held before.
     pub fn collect(
         &mut self,
         reader: usize,
@@ -394,13 +412,7 @@ impl<P: Parts> Provider<P> {
         ensures kept { provider_readers self.new ≡ provider_readers self.old }
         ensures views { provider_views self.new ≡ provider_views self.old }
     {
-        self.core.check_collection(reader)?;
-        let alloc = self.core.allocator();
-        let observations = match run_callbacks(alloc, &mut self.callbacks) {
-            Ok(observations) => observations,
-            Err(fault) => return Err(fault),
-        };
-        match self.core.collect(reader, now, &observations) {
+        match self.collected(reader, now) {
             Ok(collected) => {
                 *metrics = collected;
                 Ok(())

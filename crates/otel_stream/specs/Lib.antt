@@ -5,6 +5,7 @@ pub mod Compatible
 pub mod Preferences
 pub mod Questions
 pub mod Requests
+pub mod Selectors
 pub mod Settings
 pub mod Units
 pub mod Wants

@@ -12,6 +12,7 @@ pub mod laws;
 pub mod limit;
 pub mod manual_reader;
 pub mod reader;
+pub mod selector;
 pub mod stream;
 pub mod stream_fault;
 pub mod stream_spec;

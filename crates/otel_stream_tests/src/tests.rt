@@ -6,6 +6,7 @@ mod callbacks;
 mod data;
 mod instruments;
 mod readers;
+mod ready;
 mod streams;
 mod texts;
 mod wants;

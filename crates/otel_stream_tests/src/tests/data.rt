@@ -1,5 +1,6 @@
 //! Tests each getter, copy and comparison once.
 
+use super::texts::prints;
 use otel_common::attributes::{KeyValue, Value};
 use otel_common::faults::Fault;
 use otel_common::keys::Key;
@@ -294,6 +295,37 @@ fn are_collections(all: &ResourceMetrics, name: &str) -> bool {
         Ok(copy) => is_collection(all, name) && is_collection(&copy, name),
         Err(_) => false,
     }
+}
+
+/// Whether the scope without a name is found in a collection, and in it the metric of this name, but no other.
+fn is_found(all: &ResourceMetrics, name: &str) -> bool {
+    match all.scope("") {
+        Some(scope) => {
+            scope.metric(name).is_some()
+                && scope.metric("other").is_none()
+                && all.scope("other").is_none()
+        }
+        None => false,
+    }
+}
+
+/// Whether a metric is found by its scope and name, and prints a line for its point.
+fn is_found_and_printed(alloc: Global, name: &str) -> Result<bool, Fault> {
+    let all = collection(alloc, name)?;
+    Ok(
+        is_found(&all, name)
+            && prints(
+                alloc,
+                &all,
+                "histogram key=value: count 3 sum 44 buckets 1 0 2\n",
+            ),
+    )
+}
+
+#[test]
+fn found_by_name(rt: HostRuntime) -> Result<(), Fail> {
+    assert!(rt; is_found_and_printed(rt.alloc(), "histogram")?);
+    Ok(())
 }
 
 /// Whether a collection of one metric and its copy both have the expected parts.
