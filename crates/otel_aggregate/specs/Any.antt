@@ -8,17 +8,17 @@ use Rattle.otel_data.specs.declared.aggregated.MetricData.{MetricData}
 use Rattle.otel_data.specs.declared.aggregated.MetricData.TheVariants as metric
 use Rattle.otel_data.specs.declared.numbers.NumberValue.{NumberValue}
 use Rattle.otel_data.specs.declared.numbers.NumberValue.TheVariants as number
-use Rattle.otel_model_stream.specs.Sets.{AttributeSet, AllowList}
+use Rattle.otel_model_stream.specs.Sets.{AttributeSet, AllowList, none_set}
 use Rattle.otel_model_stream.specs.Folds.{Aggregate, Sum, LastValue, Histogram, Amount}
 use Rattle.otel_model_stream.specs.Entries.{Table, Point}
-use Rattle.otel_model_stream.specs.Events.{Handles}
+use Rattle.otel_model_stream.specs.Events.{Handles, held_by}
 use Rattle.otel_model_stream.specs.Maps.{draining_points}
 use Rattle.otel_model_stream.specs.Data.{natural_of, signed_of}
 use Rattle.otel_value_map.specs.Numbers.{without_handles}
 use Rattle.otel_aggregate.specs.declared.settings.AnySettings.{AnySettings}
 use Rattle.otel_aggregate.specs.declared.settings.AnySettings.TheVariants as settings
 use Rattle.otel_aggregate.specs.Data.{sum_data, gauge_data, histogram_data}
-use Rattle.otel_aggregate.specs.Streams.{StreamState, HeldStream, new_stream, points_now, stream_after_collection, stream_after_commit, stream_after_bind, stream_after_unbind}
+use Rattle.otel_aggregate.specs.Streams.{StreamState, HeldStream, new_stream, recorded_set, points_now, stream_after_collection, stream_after_commit, stream_after_bind, stream_after_update, stream_after_unbind}
 use Rattle.otel_aggregate.specs.Observed.{ObservedState, HeldObserved, drained_at, observed_data}
 
 -- whether its numbers are signed; the stream; its live handles; the set of the prepared record or bind, if any; whether
@@ -98,7 +98,11 @@ with_stream a s = record a { state = s.state; live = s.live; pending = s.pending
 abbrev pub any_after_commit : NumberValue → HeldAny → HeldAny
 any_after_commit value a = cond (beq (is_signed_value value) a.is_signed) (with_stream a (stream_after_commit (amount_of value) (stream_in a))) a
 
--- whether that makes a record
+-- after a record of a value without attributes; a stream of the other number type doesn't change
+abbrev pub any_after_none : NumberValue → HeldAny → HeldAny
+any_after_none value a = cond (beq (is_signed_value value) a.is_signed) (record a { state = recorded_set none_set (amount_of value) a.state; pending = None }) a
+
+-- whether the prepared record is made
 abbrev pub is_taken : NumberValue → HeldAny → Bool
 is_taken value a = beq (is_signed_value value) a.is_signed && is_some a.pending
 
@@ -111,6 +115,18 @@ any_with_room a = record a { room = not a.drains }
 -- doesn't change
 abbrev pub any_after_bind : ℕ → HeldAny → HeldAny
 any_after_bind h a = cond a.drains a (with_stream a (stream_after_bind h (stream_in a)))
+
+-- whether the stream takes values of this number type through handles; one of observed sums has none
+abbrev pub takes_bound : NumberValue → HeldAny → Bool
+takes_bound value a = not a.drains && beq (is_signed_value value) a.is_signed
+
+-- after a record of a value through this handle, if it is live; what was prepared is given up
+abbrev pub any_after_update : ℕ → NumberValue → HeldAny → HeldAny
+any_after_update h value a = cond (takes_bound value a) (with_stream a (stream_after_update h (amount_of value) (stream_in a))) a
+
+-- whether that makes a record
+abbrev pub is_updated : ℕ → NumberValue → HeldAny → Bool
+is_updated h value a = takes_bound value a && is_some (held_by h a.live)
 
 -- after the end of this handle, if it is live; what was prepared is given up. A stream of observed sums doesn't change
 abbrev pub any_after_unbind : ℕ → HeldAny → HeldAny

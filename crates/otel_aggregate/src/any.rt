@@ -1,13 +1,13 @@
 //! A stream of any aggregate and either number type.
 
+ghost use Rattle.std.specs.Bool.{beq};
 ghost use Rattle.std.specs.Prelude.{◌≡◌, [], ◌&&◌, true, false, is_some, None, Some, IsTrue, OnOk, OnErr, IfOk, IsOk, IsOkUnless};
 ghost use Rattle.otel_common.specs.Temporalities.{resets};
-ghost use Rattle.otel_model_stream.specs.Events.{held_by};
-ghost use Rattle.otel_model_stream.specs.Sets.{AttributeSet, set_of};
+ghost use Rattle.otel_model_stream.specs.Sets.{set_of};
 ghost use Rattle.otel_model_stream.specs.Folds.{wrap};
 ghost use Rattle.otel_model_stream.specs.Totals.{points_total};
-ghost use Rattle.otel_value_map.specs.Numbers.{is_placed, without_handles};
-ghost use Rattle.otel_aggregate.specs.Any.{aggregate_of, is_monotonic_of, drains_of, any_after_commit, is_taken, any_with_room, any_after_bind, any_after_unbind, metrics_now, any_points, any_after_collection, saved_of, IsLike, with_saved};
+ghost use Rattle.otel_value_map.specs.Numbers.{without_handles};
+ghost use Rattle.otel_aggregate.specs.Any.{aggregate_of, is_monotonic_of, drains_of, any_after_commit, any_after_none, is_taken, is_signed_value, any_with_room, any_after_bind, any_after_update, is_updated, any_after_unbind, metrics_now, any_points, any_after_collection, saved_of, IsLike, with_saved};
 ghost use Rattle.otel_aggregate.specs.Streams.{new_stream, is_known};
 
 use crate::histogram::Histogram;
@@ -203,6 +203,32 @@ impl AnyAggregate {
         }
     }
 
+    /// Takes in a record without attributes, if the value has the stream's number type, and returns whether it does;
+    /// then it gives up what was prepared. Looks nothing up, and takes no memory.
+    #[inline(always)]
+    pub fn measure_none(&mut self, value: NumberValue) -> bool
+        ensures taken { self.new ≡ any_after_none value self.old }
+        ensures told { result ≡ beq (is_signed_value value) self.old.is_signed }
+    {
+        match value {
+            NumberValue::U64(value) => match &mut self.inner {
+                Inner::SumU64(stream) => stream.measure_none(value),
+                Inner::PrecomputedSumU64(stream) => stream.measure_none(value),
+                Inner::LastValueU64(stream) => stream.measure_none(value),
+                Inner::HistogramU64(stream) => stream.measure_none(value),
+                _ => return false,
+            },
+            NumberValue::I64(value) => match &mut self.inner {
+                Inner::SumI64(stream) => stream.measure_none(value),
+                Inner::PrecomputedSumI64(stream) => stream.measure_none(value),
+                Inner::LastValueI64(stream) => stream.measure_none(value),
+                Inner::HistogramI64(stream) => stream.measure_none(value),
+                _ => return false,
+            },
+        }
+        true
+    }
+
     /// Makes room for a handle, which a bind uses up. Observed sums have no handles.
     pub fn make_room(&mut self) -> Result<(), Fault>
         ensures room { OnOk result (self.new ≡ any_with_room self.old) }
@@ -238,33 +264,32 @@ impl AnyAggregate {
         }
     }
 
-    /// Prepares a record through a handle, if it is live, in place of what was prepared before; otherwise only gives
-    /// that up. Looks up nothing but the handle, and takes no memory. Observed sums have no handles and stay
-    /// unchanged.
-    pub fn prepare_held(&mut self, handle: u64)
-        ensures same { self.new.state ≡ self.old.state }
-        ensures live { self.new.live ≡ self.old.live }
-        ensures room { self.new.room ≡ self.old.room }
-        ensures number { self.new.is_signed ≡ self.old.is_signed }
-        ensures drains { self.new.drains ≡ self.old.drains }
-        ensures reported { self.new.reported ≡ self.old.reported }
-        ensures ready { self.old.drains ≡ false → self.new.pending ≡ held_by handle self.old.live }
-        ensures placed { self.old.drains ≡ false → (g : AttributeSet) → self.new.pending ≡ Some g → is_placed g self.new.state.map_state.table.entries ≡ true }
+    /// Takes in a record through a handle, if it is live and the value has the stream's number type, and returns
+    /// whether it did. Looks up nothing but the handle, takes no memory, and gives up what was prepared. Observed sums
+    /// have no handles; they, and streams of the other number type, stay unchanged.
+    #[inline(always)]
+    pub fn update_bound(&mut self, handle: u64, value: NumberValue) -> bool
+        ensures updated { self.new ≡ any_after_update handle value self.old }
+        ensures told { result ≡ is_updated handle value self.old }
     {
-        match &mut self.inner {
-            Inner::SumU64(stream) => stream.prepare_held(handle),
-            Inner::SumI64(stream) => stream.prepare_held(handle),
-            Inner::PrecomputedSumU64(_) => {}
-            Inner::PrecomputedSumI64(_) => {}
-            Inner::LastValueU64(stream) => stream.prepare_held(handle),
-            Inner::LastValueI64(stream) => stream.prepare_held(handle),
-            Inner::HistogramU64(stream) => stream.prepare_held(handle),
-            Inner::HistogramI64(stream) => stream.prepare_held(handle),
+        match value {
+            NumberValue::U64(value) => match &mut self.inner {
+                Inner::SumU64(stream) => stream.update_bound(handle, value),
+                Inner::LastValueU64(stream) => stream.update_bound(handle, value),
+                Inner::HistogramU64(stream) => stream.update_bound(handle, value),
+                _ => false,
+            },
+            NumberValue::I64(value) => match &mut self.inner {
+                Inner::SumI64(stream) => stream.update_bound(handle, value),
+                Inner::LastValueI64(stream) => stream.update_bound(handle, value),
+                Inner::HistogramI64(stream) => stream.update_bound(handle, value),
+                _ => false,
+            },
         }
     }
 
-    /// Ends a handle, if it is live. Takes no memory, and goes over the handles made after it. Gives up what was
-    /// prepared, except in observed sums, which have no handles.
+    /// Ends a handle, if it is live. Takes no memory, and constant time, amortized. Gives up what was prepared, except in
+    /// observed sums, which have no handles.
     pub fn unbind(&mut self, handle: u64)
         ensures unbound { self.new ≡ any_after_unbind handle self.old }
     {

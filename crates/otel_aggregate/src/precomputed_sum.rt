@@ -3,7 +3,7 @@
 ghost use Rattle.std.specs.Prelude.{◌≡◌, [], cond, map, is_some, None, Some, IsTrue, IsSome, OnOk, OnErr, IfOk, IsOk, IsOkUnless};
 ghost use Rattle.std.specs.Option.{option_map};
 ghost use Rattle.otel_common.specs.Temporalities.{resets};
-ghost use Rattle.otel_model_stream.specs.Sets.{AttributeSet, set_of};
+ghost use Rattle.otel_model_stream.specs.Sets.{AttributeSet, none_set, set_of};
 ghost use Rattle.otel_model_stream.specs.Folds.{Last, LastValue, wrap};
 ghost use Rattle.otel_model_stream.specs.Totals.{points_total};
 ghost use Rattle.otel_model_stream.specs.Maps.{draining_points};
@@ -218,6 +218,13 @@ impl<T: Number + Drop> PrecomputedSum<T> {
         self.prepare(attributes)?;
         self.take_in(value);
         Ok(())
+    }
+
+    /// Takes in an observation without attributes. Looks nothing up, takes no memory, and gives up what was prepared.
+    pub fn measure_none(&mut self, value: T)
+        ensures { self.new ≡ record self.old { state = observed_set none_set (record { bits = T.bits value; wide = T.wide value }) self.old.state; pending = None } }
+    {
+        self.stream.measure_none(value);
     }
 
     /// What the last collection reported, if points show differences from it.

@@ -3,12 +3,12 @@
 ghost use Rattle.std.specs.Prelude.{◌≡◌, [], true, false, cond, map, is_some, None, Some, IsTrue, IsSome, IfOk, OnOk, OnErr, IsOk, IsOkUnless};
 ghost use Rattle.otel_common.specs.Temporalities.{resets};
 ghost use Rattle.otel_common.specs.declared.metrics.Temporality.TheVariants as shown;
-ghost use Rattle.otel_model_stream.specs.Sets.{AttributeSet, set_of};
+ghost use Rattle.otel_model_stream.specs.Sets.{AttributeSet, none_set, set_of};
 ghost use Rattle.otel_model_stream.specs.Events.{held_by};
 ghost use Rattle.otel_model_stream.specs.Folds.{wrap};
 ghost use Rattle.otel_model_stream.specs.Totals.{points_total};
 ghost use Rattle.otel_model_stream.specs.Maps.{draining_points, drained_map};
-ghost use Rattle.otel_value_map.specs.Numbers.{is_placed, without_handles};
+ghost use Rattle.otel_value_map.specs.Numbers.{without_handles};
 ghost use Rattle.otel_value_map.specs.Slots.{HasForm, copies};
 ghost use Rattle.otel_aggregate.specs.Data.{temporality_of};
 ghost use Rattle.otel_aggregate.specs.Streams.{new_stream, is_known, recorded_set, recorded_attributes, ready_to_bind, stream_after_bind, stream_after_update, stream_after_unbind, stream_after_commit, stream_after_collection, points_now};
@@ -20,6 +20,7 @@ use otel_common::faults::Fault;
 use otel_common::keys::Key;
 use otel_common::lists::{Items, SharedItems};
 use otel_common::metrics::Temporality;
+use otel_sets::allowed_keys::AllowedKeys;
 use otel_value_map::hashing::SetHashBuilder;
 use otel_value_map::saved::Saved;
 use std::alloc::Global;
@@ -48,11 +49,22 @@ pub(crate) fn shown_temporality(resets: bool) -> Temporality
     }
 }
 
+/// The allow-list of these keys, if there are any.
+fn allow_list(alloc: Global, keys: Option<Items<Key>>) -> Result<Option<AllowedKeys>, Fault>
+    ensures keys { IfOk result (λ allow. allow ≡ keys) }
+    ensures only_memory { IsOkUnless result Fault.OutOfMemory }
+{
+    match keys {
+        None => Ok(None),
+        Some(keys) => Ok(Some(AllowedKeys::new(alloc, keys)?)),
+    }
+}
+
 /// The records of a stream, by set (Metrics SDK, "MetricReader").
 pub struct Stream<A: Shows> {
     settings: A::Settings,
     map: BoundMap<A>,
-    allow: Option<Items<Key>>,
+    allow: Option<AllowedKeys>,
     /// Whether the stream starts again at each collection.
     resets: bool,
     start: u64,
@@ -96,7 +108,8 @@ impl<A: Shows> Stream<A> {
     /// answer: with `Delta` the stream starts again at each collection; with any other it goes on from `start`. Any
     /// limit is accepted; with 0, every set but the empty one goes to the overflow point.
     ///
-    /// Sets are hashed with `hasher`, which has no visible effect.
+    /// Sets are hashed with `hasher`, which has no visible effect. An allow-list of more than 8 keys is sorted too, so that a
+    /// record looks up a key of its attributes by a binary search.
     pub fn new(
         alloc: Global,
         hasher: SetHashBuilder,
@@ -112,6 +125,7 @@ impl<A: Shows> Stream<A> {
         ensures room { IfOk result (λ made. made.room ≡ false) }
         ensures only_memory { IsOkUnless result Fault.OutOfMemory }
     {
+        let allow = allow_list(alloc, allow)?;
         let map = BoundMap::new(alloc, hasher, A::config(&settings), limit)?;
         Ok(Stream {
             settings,
@@ -140,7 +154,7 @@ impl<A: Shows> Stream<A> {
     {
         match &self.allow {
             None => self.map.prepare(attributes),
-            Some(allow) => self.map.prepare_allowed(allow.as_slice(), attributes),
+            Some(allow) => self.map.prepare_allowed(allow, attributes),
         }
     }
 
@@ -190,6 +204,14 @@ impl<A: Shows> Stream<A> {
         Ok(())
     }
 
+    /// Takes in a record without attributes. Looks nothing up, takes no memory, and gives up what was prepared.
+    pub fn measure_none(&mut self, value: A::Value)
+        ensures { self.new ≡ record self.old { state = recorded_set none_set (record { bits = A.Value.bits value; wide = A.Value.wide value }) self.old.state; pending = None } }
+    {
+        let record = A::record(&self.settings, value);
+        self.map.measure_none(record);
+    }
+
     /// Makes room for a handle, which a bind uses up.
     pub fn make_room(&mut self) -> Result<(), Fault>
         ensures room { OnOk result (self.new ≡ record self.old { room = true }) }
@@ -222,18 +244,6 @@ impl<A: Shows> Stream<A> {
         Ok(())
     }
 
-    /// Prepares a record through a handle, if it is live, in place of what was prepared before; otherwise only gives
-    /// that up. Looks up nothing but the handle, and takes no memory.
-    pub fn prepare_held(&mut self, handle: u64)
-        ensures same { self.new.state ≡ self.old.state }
-        ensures live { self.new.live ≡ self.old.live }
-        ensures room { self.new.room ≡ self.old.room }
-        ensures ready { self.new.pending ≡ held_by handle self.old.live }
-        ensures placed { (g : AttributeSet) → self.new.pending ≡ Some g → is_placed g self.new.state.map_state.table.entries ≡ true }
-    {
-        self.map.prepare_held(handle);
-    }
-
     /// Takes in a record through a handle, if it is live, and returns whether it is. Looks up nothing but the handle,
     /// takes no memory, and gives up what was prepared.
     pub fn update_bound(&mut self, handle: u64, value: A::Value) -> bool
@@ -244,8 +254,7 @@ impl<A: Shows> Stream<A> {
         self.map.update_bound(handle, record)
     }
 
-    /// Ends a handle, if it is live. Takes no memory, goes over the handles made after it, and gives up what was
-    /// prepared.
+    /// Ends a handle, if it is live. Takes no memory, and constant time, amortized. Gives up what was prepared.
     pub fn unbind(&mut self, handle: u64)
         ensures unbound { self.new ≡ stream_after_unbind handle self.old }
     {

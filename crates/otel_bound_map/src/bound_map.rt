@@ -8,18 +8,17 @@ ghost use Rattle.otel_model_stream.specs.Events.{held_by};
 ghost use Rattle.otel_model_stream.specs.Folds.{wrap};
 ghost use Rattle.otel_model_stream.specs.Maps.{new_map, measured_map, evicted_map, drained_map, draining_points, without_lists, SucceedsIfKnown};
 ghost use Rattle.otel_model_stream.specs.Observed.{fold_in};
-ghost use Rattle.otel_model_stream.specs.Sets.{AttributeSet, allowed_part, set_of};
+ghost use Rattle.otel_model_stream.specs.Sets.{AttributeSet, allowed_part, none_set, set_of};
 ghost use Rattle.otel_model_stream.specs.Totals.{points_total};
 ghost use Rattle.otel_value_map.specs.Numbers.{is_placed, without_handles};
 ghost use Rattle.otel_value_map.specs.Slots.{HasForm, copies};
 ghost use Rattle.otel_bound_map.specs.Handles.{after_bind, after_update, after_unbind};
 
 use crate::links::{Links, add, make_room, number_in, take_out};
-use indexmap::IndexMap;
 use otel_common::attributes::KeyValue;
 use otel_common::faults::Fault;
-use otel_common::keys::Key;
 use otel_common::lists::SharedItems;
+use otel_sets::allowed_keys::AllowedKeys;
 use otel_value_map::aggregator::Aggregator;
 use otel_value_map::hashing::SetHashBuilder;
 use otel_value_map::saved::Saved;
@@ -42,9 +41,8 @@ pub struct BoundMap<A: Aggregator> {
 impl<A: Aggregator> Model for BoundMap<A> {
     ghost use Rattle.std.specs.Prelude.{◌<◌, IsTrue};
     ghost use Rattle.std.specs.List.{AllByRecursion};
-    ghost use Rattle.indexmap.specs.IndexMap.{spare};
     ghost use Rattle.otel_bound_map.specs.Handles.{HeldMap};
-    ghost use Rattle.otel_bound_map.specs.Links.{handles_of, IsLinked, AreHeld};
+    ghost use Rattle.otel_bound_map.specs.Links.{spare, handles_of, IsLinked, AreHeld};
 
     ghost Value = { HeldMap };
 
@@ -80,7 +78,7 @@ impl<A: Aggregator> BoundMap<A> {
     {
         Ok(BoundMap {
             map: ValueMap::new(alloc, hasher, config, limit)?,
-            live: IndexMap::with_hasher(alloc, hasher),
+            live: Links::new(alloc, hasher),
             room: false,
         })
     }
@@ -101,7 +99,11 @@ impl<A: Aggregator> BoundMap<A> {
 
     /// Prepares a record or a bind for those of the attributes whose key is in the allow-list, as
     /// `ValueMap::prepare_allowed` does.
-    pub fn prepare_allowed(&mut self, allow: &[Key], attributes: &[KeyValue]) -> Result<(), Fault>
+    pub fn prepare_allowed(
+        &mut self,
+        allow: &AllowedKeys,
+        attributes: &[KeyValue],
+    ) -> Result<(), Fault>
         ensures same { self.new.state ≡ self.old.state }
         ensures live { self.new.live ≡ self.old.live }
         ensures room { self.new.room ≡ self.old.room }
@@ -132,25 +134,6 @@ impl<A: Aggregator> BoundMap<A> {
         self.map.is_prepared()
     }
 
-    /// Prepares a record through a handle, if it is live, in place of what was prepared before; otherwise only gives
-    /// that up. Looks up nothing but the handle, and takes no memory.
-    pub fn prepare_held(&mut self, handle: u64)
-        ensures same { self.new.state ≡ self.old.state }
-        ensures live { self.new.live ≡ self.old.live }
-        ensures room { self.new.room ≡ self.old.room }
-        ensures ready { self.new.pending ≡ held_by handle self.old.live }
-        ensures placed { (g : AttributeSet) → self.new.pending ≡ Some g → is_placed g self.new.state.table.entries ≡ true }
-    {
-        match number_in(&self.live, handle) {
-            Some(number) => {
-                self.map.prepare_at(number);
-                // Tells the prover that a set with a number has an entry.
-                self.map.told_numbers();
-            }
-            None => self.map.give_up(),
-        }
-    }
-
     /// Takes in the prepared record. Looks nothing up for a set that has an entry.
     pub fn commit(&mut self, value: A::PreComputedValue)
         requires { IsSome self.old.pending }
@@ -162,6 +145,13 @@ impl<A: Aggregator> BoundMap<A> {
         self.map.commit(value);
         // Tells the prover that the entries that kept their numbers are still named by them.
         self.map.told_numbers();
+    }
+
+    /// Takes in a record for the empty set, as `ValueMap::measure_none` does.
+    pub fn measure_none(&mut self, value: A::PreComputedValue)
+        ensures { self.new ≡ record self.old { state = measured_map none_set (A.sample value) self.old.state; pending = None } }
+    {
+        self.map.measure_none(value);
     }
 
     /// Carries out the prepared bind for a handle with this number, if a bind is prepared, room was made for the
@@ -198,8 +188,7 @@ impl<A: Aggregator> BoundMap<A> {
         }
     }
 
-    /// Ends a handle, if it is live. Takes no memory, goes over the handles made after it, and gives up what was
-    /// prepared.
+    /// Ends a handle, if it is live. Takes no memory, and constant time, amortized. Gives up what was prepared.
     pub fn unbind(&mut self, handle: u64)
         ensures unbound { self.new ≡ after_unbind handle self.old }
     {

@@ -1,12 +1,11 @@
 -- Handles at all readers, and the calls on them as the machine makes them.
-use Rattle.std.proofs.Common.{◌≡◌, ℕ, ◌+◌, ◌<◌, ◌==◌, Bool, true, false, cond, List, [], ◌∷◌, ◌++◌, map, Option, Some, None, slice_get, nat_eq, refl, sym, ◌∙◌, ap, subst, arith, suc, ne_eqb}
+use Rattle.std.proofs.Common.{◌≡◌, ℕ, ◌+◌, ◌<◌, ◌==◌, Bool, true, false, cond, List, [], ◌∷◌, ◌++◌, map, length, get_or, Option, Some, None, slice_get, nat_eq, refl, sym, ◌∙◌, ap, subst, arith, zero, suc, ne_eqb}
 use Rattle.std.proofs.lemmas.Bool.Decides.{nat_tests}
 use Rattle.std.specs.List.{AllByRecursion as EachOf}
 use Rattle.std.specs.Map.{lookup, remove_entry}
 use Rattle.std.specs.Prelude.{All}
 use Rattle.otel_common.specs.declared.attributes.KeyValue.{KeyValue}
 use Rattle.otel_common.specs.declared.scopes.InstrumentationScope.{InstrumentationScope}
-use Rattle.otel_data.specs.declared.numbers.NumberValue.{NumberValue}
 use Rattle.otel_model.specs.Calls as model
 use Rattle.otel_model.specs.Calls.{is_observable}
 use Rattle.otel_model.specs.Demands.{Views}
@@ -18,11 +17,11 @@ use Rattle.otel_model.specs.State.{InstrumentState, LiveHandle, Shared, ReaderPa
 use Rattle.otel_model.specs.Steps.{reply_by, after_by}
 use Rattle.otel_model_laws.specs.Lawful.{HandlesAreSound, PartIsLawful, TakesRecords}
 use Rattle.otel_model_laws.proofs.Handles.{unfed-unheld, new-unheld}
-use Rattle.otel_pipeline.specs.Handles.{FeedsSynchronous, IsNewAt, IsHeldByFed, IsReadyToBindAt, part_after_bind, IsPreparedHeldAt, part_after_unbind}
-use Rattle.otel_pipeline.specs.Pipelines.{Piped, part_of, part_after_record}
-use Rattle.otel_pipeline.proofs.Handles.{bound-sent, update-sent, unbind-sent}
-use Rattle.otel_core.specs.Correspondence.{number_of}
-use Rattle.otel_core.specs.States.{IsMade, AreTyped, FeedType, state_of, shared_of}
+use Rattle.otel_pipeline.specs.Handles.{FeedsSynchronous, IsNewAt, IsHeldByFed, IsReadyToBindAt, part_after_bind}
+use Rattle.otel_pipeline.specs.Pipelines.{Piped, part_of}
+use Rattle.otel_pipeline.proofs.Handles.{bound-sent}
+use Rattle.otel_pipeline.proofs.PipelinesLemmas.{IsDoneUpto}
+use Rattle.otel_core.specs.States.{IsMade, AreTyped, state_of, shared_of}
 
 -- ======== all readers ========
 pub all_bound : (h n : ℕ) (l : List KeyValue) (ps : List Piped) → All (IsReadyToBindAt n l) ps → EachOf (FeedsSynchronous n) (map part_of ps) → EachOf (IsNewAt h) (map part_of ps)
@@ -30,17 +29,15 @@ pub all_bound : (h n : ℕ) (l : List KeyValue) (ps : List Piped) → All (IsRea
 all_bound h n l [] all sync new = refl
 all_bound h n l (p ∷ ps) all sync new = λ i. bound-sent h n l p (all 0 p (omega arith)) sync.0 new.0 i ∷ all_bound h n l ps (λ j d g. all (suc j) d (omega arith)) sync.1 new.1 i
 
-pub all_updated : (n h : ℕ) (value : NumberValue) (ps : List Piped) → All (IsPreparedHeldAt n h) ps → FeedType n (number_of value) (map part_of ps) → EachOf (FeedsSynchronous n) (map part_of ps) → EachOf (IsHeldByFed n h) (map part_of ps)
-    → map (part_after_record n value) ps ≡ map (part_after_call 0 (model.Call.RecordBound h (number_of value))) (map part_of ps)
-all_updated n h value [] all typed sync held = refl
-all_updated n h value (p ∷ ps) all typed sync held =
-    λ i. update-sent n h value p (all 0 p (omega arith)) typed.0 sync.0 held.0 i
-    ∷ all_updated n h value ps (λ j d g. all (suc j) d (omega arith)) typed.1 sync.1 held.1 i
+-- what holds at each reader holds at one
+each-at : (P : ReaderPart → Type 0) (ps : List Piped) (i : ℕ) (d : Piped) → i < length ps → EachOf P (map part_of ps) → P (part_of (get_or ps i d))
+each-at P [] i d h all = absurd (omega arith)
+each-at P (p ∷ ps) zero d h all = all.0
+each-at P (p ∷ ps) (suc i) d h all = each-at P ps i d (omega arith) all.1
 
-pub all_ended : (n h : ℕ) (ps : List Piped) → All (IsPreparedHeldAt n h) ps → EachOf (FeedsSynchronous n) (map part_of ps) → EachOf (IsHeldByFed n h) (map part_of ps)
-    → map (part_after_unbind n h) ps ≡ map (part_after_call 0 (model.Call.Unbind h)) (map part_of ps)
-all_ended n h [] all sync held = refl
-all_ended n h (p ∷ ps) all sync held = λ i. unbind-sent n h p (all 0 p (omega arith)) sync.0 held.0 i ∷ all_ended n h ps (λ j d g. all (suc j) d (omega arith)) sync.1 held.1 i
+-- and at the first of those that are left
+pub each-left : (P : ReaderPart → Type 0) (g : ReaderPart → ReaderPart) (old new : List Piped) (i : ℕ) (d : Piped) → i < length new → IsDoneUpto part_of (λ (p : Piped). g (part_of p)) old new i → EachOf P (map part_of old) → P (part_of (get_or new i d))
+each-left P g old new i d h so_far all = subst (λ (p : Piped). P (part_of p)) (sym (so_far.rest i (omega arith) d)) (each-at P old i d (omega (arith, so_far.long)) all)
 
 -- ======== what is known of handles ========
 -- an instrument that takes in records feeds no observable stream

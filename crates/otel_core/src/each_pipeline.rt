@@ -6,7 +6,7 @@ ghost use Rattle.std.specs.Option.{option_map};
 ghost use Rattle.otel_model.specs.Calls as model;
 ghost use Rattle.otel_model.specs.Machine as machine;
 ghost use Rattle.otel_model.specs.Machine.{part_after_call};
-ghost use Rattle.otel_pipeline.specs.Handles.{FeedsSynchronous, IsNewAt, IsHeldByFed, IsReadyToBindAt, IsPreparedHeldAt, part_after_bind, part_after_unbind};
+ghost use Rattle.otel_pipeline.specs.Handles.{FeedsSynchronous, IsNewAt, IsHeldByFed, IsReadyToBindAt, part_after_bind};
 ghost use Rattle.otel_pipeline.specs.Known.{is_known_at};
 ghost use Rattle.otel_pipeline.specs.Pipelines.{part_of, has_stream_at, piped_after_build, part_after_record, IsBuildableIn, IsPlanned, IsReadyFor, IsPreparedFor};
 ghost use Rattle.otel_pipeline.specs.Views.{views_answering};
@@ -80,6 +80,17 @@ fn commit_all(pipelines: &mut [Pipeline], instrument: usize, value: NumberValue)
     }
 }
 
+/// Makes a record without attributes in the streams that an instrument feeds, at all readers.
+#[inline(always)]
+fn record_none_all(pipelines: &mut [Pipeline], instrument: usize, value: NumberValue)
+    requires { FeedType instrument (number_of value) (map part_of pipelines.old) }
+    ensures { map part_of pipelines.new ≡ map (part_after_call 0 (model.Call.Record instrument (number_of value) [])) (map part_of pipelines.old) }
+{
+    for i in 0..pipelines.len() {
+        pipelines[i].record_none(instrument, value);
+    }
+}
+
 /// Prepares a bind in the streams that an instrument feeds, at all readers.
 fn prepare_bind_all(
     pipelines: &mut [Pipeline],
@@ -102,26 +113,6 @@ fn commit_bind_all(pipelines: &mut [Pipeline], instrument: usize, handle: u64)
 {
     for i in 0..pipelines.len() {
         pipelines[i].commit_bind(instrument, handle);
-    }
-}
-
-/// Prepares a record through a handle, or the end of one, in the streams that its instrument feeds, at all readers.
-#[inline(always)]
-fn prepare_held_all(pipelines: &mut [Pipeline], instrument: usize, handle: u64)
-    ensures same { map part_of pipelines.new ≡ map part_of pipelines.old }
-    ensures prepared { All (IsPreparedHeldAt instrument handle) pipelines.new }
-{
-    for i in 0..pipelines.len() {
-        pipelines[i].prepare_held(instrument, handle);
-    }
-}
-
-/// Ends a handle in the streams that its instrument feeds, at all readers.
-fn unbind_all(pipelines: &mut [Pipeline], instrument: usize, handle: u64)
-    ensures { map part_of pipelines.new ≡ map (part_after_unbind instrument handle) pipelines.old }
-{
-    for i in 0..pipelines.len() {
-        pipelines[i].unbind(instrument, handle);
     }
 }
 
@@ -176,6 +167,10 @@ pub(crate) fn record_or_none(
     ensures known { list_all (is_known_at instrument attributes.now) (map part_of pipelines.old) ≡ true → IsOk result }
     ensures only_memory { IsOkUnless result Fault.OutOfMemory }
 {
+    if attributes.is_empty() {
+        record_none_all(pipelines, instrument, value);
+        return Ok(());
+    }
     prepare_all(pipelines, instrument, attributes)?;
     commit_all(pipelines, instrument, value);
     Ok(())
@@ -212,8 +207,9 @@ pub(crate) fn record_held(
     requires held { EachOf (IsHeldByFed instrument handle) (map part_of pipelines.old) }
     ensures { map part_of pipelines.new ≡ map (part_after_call 0 (model.Call.RecordBound handle (number_of value))) (map part_of pipelines.old) }
 {
-    prepare_held_all(pipelines, instrument, handle);
-    commit_all(pipelines, instrument, value);
+    for i in 0..pipelines.len() {
+        pipelines[i].record_held(instrument, handle, value);
+    }
 }
 
 /// Ends a handle in the streams that its instrument feeds, at all readers.
@@ -222,6 +218,7 @@ pub(crate) fn unbind_held(pipelines: &mut [Pipeline], instrument: usize, handle:
     requires held { EachOf (IsHeldByFed instrument handle) (map part_of pipelines.old) }
     ensures { map part_of pipelines.new ≡ map (part_after_call 0 (model.Call.Unbind handle)) (map part_of pipelines.old) }
 {
-    prepare_held_all(pipelines, instrument, handle);
-    unbind_all(pipelines, instrument, handle);
+    for i in 0..pipelines.len() {
+        pipelines[i].unbind(instrument, handle);
+    }
 }

@@ -30,7 +30,7 @@ use crate::each_pipeline::{
 };
 use crate::instrument::Instrument;
 use crate::sorts::InstrumentSort;
-use indexmap::{IndexMap, IndexSet};
+use indexmap::IndexSet;
 use otel_bound_map::links::{Links, add, make_room, number_in, take_out};
 use otel_callback::observation::Observed;
 use otel_common::attributes::KeyValue;
@@ -145,7 +145,7 @@ impl Core {
             meters: IndexSet::new(alloc),
             instruments: Vec::new(alloc),
             pipelines: Vec::new(alloc),
-            handles: IndexMap::with_hasher(alloc, hasher),
+            handles: Links::new(alloc, hasher),
             next: 0,
         }
     }

@@ -4,12 +4,12 @@ use Rattle.std.specs.Bool.{beq}
 use Rattle.std.specs.List.{AllByRecursion}
 use Rattle.otel_data.specs.declared.numbers.NumberValue.{NumberValue}
 use Rattle.otel_model_stream.specs.Folds.{Amount}
-use Rattle.otel_model_stream.specs.Sets.{AttributeSet}
+use Rattle.otel_model_stream.specs.Sets.{AttributeSet, none_set}
 use Rattle.otel_aggregate.specs.Any.{is_signed_value, amount_of}
 use Rattle.otel_model.specs.Demands.{Demand}
 use Rattle.otel_model.specs.Machine.{changed_at}
 use Rattle.otel_pipeline.specs.Pipelines.{all_without_pending, committed_each, all_after_collection}
-use Rattle.otel_pipeline.specs.Streams.{Held, held_after_commit, committed_by, without_pending, held_after_collection}
+use Rattle.otel_pipeline.specs.Streams.{Held, held_after_commit, held_after_none, with_record, committed_by, without_pending, held_after_collection}
 
 -- a change of streams that leaves their demands and whether they reset
 abbrev pub KeepsAnswer : (Held → Held) → Type 0
@@ -37,6 +37,13 @@ commits_if false v k = (refl, refl)
 
 pub commits : (value : NumberValue) → KeepsAnswer (held_after_commit value)
 commits value k = commits_if (beq (is_signed_value value) k.stream.demand.identity.signed) (amount_of value) k
+
+measures_if : (b : Bool) (v : Amount) (k : Held) → ((cond b (with_record none_set v k) k).resets ≡ k.resets) × ((cond b (with_record none_set v k) k).stream.demand ≡ k.stream.demand)
+measures_if true v k = (refl, refl)
+measures_if false v k = (refl, refl)
+
+pub measures : (value : NumberValue) → KeepsAnswer (held_after_none value)
+measures value k = measures_if (beq (is_signed_value value) k.stream.demand.identity.signed) (amount_of value) k
 
 pub finishes : (now : ℕ) → KeepsAnswer (held_after_collection now)
 finishes now k = (refl, refl)

@@ -2,17 +2,18 @@
 use Rattle.std.proofs.Common.{◌≡◌, ℕ, ◌+◌, ◌==◌, Bool, true, false, cond, not, ◌&&◌, is_some, [], ◌∷◌, Option, Some, None, refl, sym, ◌∙◌, ap, subst, true≢false}
 use Rattle.std.specs.Bool.{beq}
 use Rattle.otel_data.specs.declared.numbers.NumberValue.{NumberValue}
-use Rattle.otel_model_stream.specs.Entries.{Table, place, recorded_at}
+use Rattle.otel_model_stream.specs.Entries.{Table, at_entry, place, recorded_at, write}
 use Rattle.otel_model_stream.specs.Events.{Handles, held_by, without}
 use Rattle.otel_model_stream.specs.Machine.{Machine, let_go}
 use Rattle.otel_model_stream.specs.Folds.{Amount, sample_of, wrap}
-use Rattle.otel_model_stream.specs.Sets.{AttributeSet}
+use Rattle.otel_model_stream.specs.Sets.{AttributeSet, none_set}
 use Rattle.otel_model_stream.specs.Totals.{size}
 use Rattle.otel_model.specs.Demands.{Demand}
+use Rattle.otel_model.specs.Machine.{if_held}
 use Rattle.otel_model.specs.Streams.{aggregate_of}
-use Rattle.otel_aggregate.specs.Any.{HeldAny, is_signed_value, amount_of, stream_in, any_after_commit, any_after_unbind, is_taken, with_stream}
-use Rattle.otel_aggregate.specs.Streams.{StreamState, recorded_set, stream_after_unbind, taken_from, unbind_at}
-use Rattle.otel_pipeline.specs.Streams.{Held, IsAsked, asked_aggregate, held_of, with_record, held_after_commit, held_after_unbind, committed_by, without_handle}
+use Rattle.otel_aggregate.specs.Any.{HeldAny, is_signed_value, amount_of, stream_in, any_after_commit, any_after_none, any_after_update, any_after_unbind, is_taken, is_updated, takes_bound, with_stream}
+use Rattle.otel_aggregate.specs.Streams.{StreamState, recorded_set, stream_after_unbind, taken_from, unbind_at, update_at}
+use Rattle.otel_pipeline.specs.Streams.{Held, IsAsked, asked_aggregate, held_of, with_record, with_update, held_after_commit, held_after_none, held_after_update, held_after_unbind, committed_by, without_handle}
 
 -- ======== the aggregate that was asked for ========
 -- a record leaves the aggregate the one that was asked for
@@ -34,6 +35,10 @@ asked-if d a false o v is = is
 
 pub asked-taken : (d : Demand) (a new : HeldAny) (value : NumberValue) → IsAsked d a → new ≡ any_after_commit value a → IsAsked d new
 asked-taken d a new value is e = subst (IsAsked d) (sym e) (asked-if d a (beq (is_signed_value value) a.is_signed) a.pending (amount_of value) is)
+
+-- the same of one without attributes
+pub asked-none : (d : Demand) (a new : HeldAny) (value : NumberValue) → IsAsked d a → new ≡ any_after_none value a → IsAsked d new
+asked-none d a new value is e = subst (IsAsked d) (sym e) (asked-if d a (beq (is_signed_value value) a.is_signed) (Some none_set) (amount_of value) is)
 
 module _ (d : Demand) (a : HeldAny) (value : NumberValue) (recorded exported : ℕ) (is : IsAsked d a) where
   abbrev v : Amount
@@ -83,6 +88,81 @@ module _ (d : Demand) (a : HeldAny) (value : NumberValue) (recorded exported : �
   pub commit-else : (new : HeldAny) → new ≡ any_after_commit value a → is_taken value a ≡ false → held_of d new recorded exported ≡ held_after_commit value held
   commit-else new e t = ap (λ x. held_of d x recorded exported) e ∙ else_by (beq (is_signed_value value) a.is_signed) a.pending refl refl t
 
+  -- ======== a record without attributes ========
+  pub none-then : (new : HeldAny) → new ≡ any_after_none value a → beq (is_signed_value value) a.is_signed ≡ true → held_of d new (wrap (recorded + size (aggregate_of d) v)) exported ≡ held_after_none value held
+  none-then new e t =
+      ap (λ x. held_of d x (wrap (recorded + size (aggregate_of d) v)) exported) (e ∙ ap (λ c. cond c (with_stream a (taken_from (Some none_set) v (stream_in a))) a) t)
+      ∙ (record-as none_set ∙ ap (λ c. cond c (with_record none_set v held) held) (sym t ∙ ap (beq (is_signed_value value)) is.signed))
+
+  pub none-else : (new : HeldAny) → new ≡ any_after_none value a → beq (is_signed_value value) a.is_signed ≡ false → held_of d new recorded exported ≡ held_after_none value held
+  none-else new e t =
+      ap (λ x. held_of d x recorded exported) (e ∙ ap (λ c. cond c (with_stream a (taken_from (Some none_set) v (stream_in a))) a) t)
+      ∙ ap (λ c. cond c (with_record none_set v held) held) (sym t ∙ ap (beq (is_signed_value value)) is.signed)
+
+-- ======== a record through a handle ========
+-- the stream in which a handle of this set's entry was used, if there is a set
+abbrev used : Option AttributeSet → Amount → HeldAny → HeldAny
+used o v a = with_stream a (record { state = update_at o v a.state; live = a.live; pending = None; room = a.room })
+
+asked-used : (d : Demand) (a : HeldAny) (b : Bool) (o : Option AttributeSet) (v : Amount) → IsAsked d a → IsAsked d (cond b (used o v a) a)
+asked-used d a true None v is = record { state = is.state; signed = is.signed; drains = is.drains; unheld = is.unheld }
+asked-used d a true (Some g) v is =
+    let to : update_at (Some g) v a.state ≡ update_at (Some g) v (asked_aggregate d a.state.resets a.state.map_state.table a.state.start) = ap (update_at (Some g) v) is.state in
+    record {
+      state = to ∙ sym (ap (λ (st : StreamState). asked_aggregate d st.resets st.map_state.table st.start) to);
+      signed = is.signed;
+      drains = is.drains;
+      unheld = is.unheld;
+    }
+asked-used d a false o v is = is
+
+-- it leaves the aggregate the one that was asked for
+pub asked-updated : (d : Demand) (a new : HeldAny) (h : ℕ) (value : NumberValue) → IsAsked d a → new ≡ any_after_update h value a → IsAsked d new
+asked-updated d a new h value is e = subst (IsAsked d) (sym e) (asked-used d a (takes_bound value a) (held_by h a.live) (amount_of value) is)
+
+module _ (d : Demand) (a : HeldAny) (h : ℕ) (value : NumberValue) (recorded exported : ℕ) (is : IsAsked d a) where
+  abbrev seen : Held
+  seen = held_of d a recorded exported
+
+  abbrev total : ℕ
+  total = wrap (recorded + size (aggregate_of d) (amount_of value))
+
+  -- with what the stream has of the handle
+  used-as : (o : Option AttributeSet) → held_of d (used o (amount_of value) a) (if_held o total recorded) exported ≡ with_update o (amount_of value) seen
+  used-as None = refl
+  used-as (Some g) = ap (λ (st : StreamState). record {
+    stream = record {
+      demand = d;
+      machine = record { table = at_entry g (write (sample_of st.aggregate (amount_of value))) a.state.map_state.table; live = a.live };
+      start = a.state.start;
+      reported = a.reported;
+      recorded = total;
+      exported = exported;
+    };
+    resets = a.state.resets;
+    pending = None;
+    room = a.room;
+  }) is.state
+
+  used-then : (b : Bool) (o : Option AttributeSet) → (b && is_some o) ≡ true → held_of d (cond b (used o (amount_of value) a) a) total exported ≡ cond b (with_update o (amount_of value) seen) seen
+  used-then true (Some g) t = used-as (Some g)
+  used-then true None t = absurd (true≢false (sym t))
+  used-then false o t = absurd (true≢false (sym t))
+
+  used-else : (b : Bool) (o : Option AttributeSet) → (b && is_some o) ≡ false → held_of d (cond b (used o (amount_of value) a) a) recorded exported ≡ cond b (with_update o (amount_of value) seen) seen
+  used-else true (Some g) t = absurd (true≢false t)
+  used-else true None t = used-as None
+  used-else false o t = refl
+
+  same-test : cond (takes_bound value a) (with_update (held_by h a.live) (amount_of value) seen) seen ≡ held_after_update h value seen
+  same-test = λ i. cond (not (is.drains i) && beq (is_signed_value value) (is.signed i)) (with_update (held_by h a.live) (amount_of value) seen) seen
+
+  pub update-then : (new : HeldAny) → new ≡ any_after_update h value a → is_updated h value a ≡ true → held_of d new total exported ≡ held_after_update h value seen
+  update-then new e t = ap (λ x. held_of d x total exported) e ∙ (used-then (takes_bound value a) (held_by h a.live) t ∙ same-test)
+
+  pub update-else : (new : HeldAny) → new ≡ any_after_update h value a → is_updated h value a ≡ false → held_of d new recorded exported ≡ held_after_update h value seen
+  update-else new e t = ap (λ x. held_of d x recorded exported) e ∙ (used-else (takes_bound value a) (held_by h a.live) t ∙ same-test)
+
 -- ======== the end of a handle ========
 without-none : (h : ℕ) (hs : Handles) → held_by h hs ≡ None → without h hs ≡ hs
 without-none h [] e = refl
@@ -108,13 +188,11 @@ module _ (d : Demand) (a : HeldAny) (h recorded exported : ℕ) (is : IsAsked d 
   ended-as None e = ap (λ (l : Handles). ended_with (record { table = a.state.map_state.table; live = l })) (without-none h a.live e)
   ended-as (Some g) e = refl
 
-  ended-by : (b : Bool) → a.drains ≡ b → is_some a.pending ≡ true
-      → held_of d (cond b a (with_stream a (stream_after_unbind h (stream_in a)))) recorded exported ≡ held_after_unbind h (held_of d a recorded exported)
-  ended-by true e some = ap (λ c. cond (not c && is_some a.pending) (without_handle h (held_of d a recorded exported)) (held_of d a recorded exported)) (sym e ∙ is.drains)
-  ended-by false e some =
+  ended-by : (b : Bool) → a.drains ≡ b → held_of d (cond b a (with_stream a (stream_after_unbind h (stream_in a)))) recorded exported ≡ held_after_unbind h (held_of d a recorded exported)
+  ended-by true e = ap (λ c. cond c (held_of d a recorded exported) (without_handle h (held_of d a recorded exported))) (sym e ∙ is.drains)
+  ended-by false e =
       ended-as (held_by h a.live) refl
-      ∙ ap (λ c. cond c (without_handle h (held_of d a recorded exported)) (held_of d a recorded exported)) (sym some)
-      ∙ ap (λ c. cond (not c && is_some a.pending) (without_handle h (held_of d a recorded exported)) (held_of d a recorded exported)) (sym e ∙ is.drains)
+      ∙ ap (λ c. cond c (held_of d a recorded exported) (without_handle h (held_of d a recorded exported))) (sym e ∙ is.drains)
 
-  pub unbind-then : (new : HeldAny) → new ≡ any_after_unbind h a → is_some a.pending ≡ true → held_of d new recorded exported ≡ held_after_unbind h (held_of d a recorded exported)
-  unbind-then new e some = ap (λ (x : HeldAny). held_of d x recorded exported) e ∙ ended-by a.drains refl some
+  pub unbind-as : (new : HeldAny) → new ≡ any_after_unbind h a → held_of d new recorded exported ≡ held_after_unbind h (held_of d a recorded exported)
+  unbind-as new e = ap (λ (x : HeldAny). held_of d x recorded exported) e ∙ ended-by a.drains refl

@@ -24,7 +24,7 @@ mapped-changed f again ns zero i n (x ∷ xs) e =
 mapped-changed f again ns (suc k) i n (x ∷ xs) e =
     λ j. cond (sym (ne_eqb n i (λ q. omega arith)) j || has_number i ns) (f x) x ∷ mapped-changed f again ns k (suc i) n xs (omega arith) j
 
-mapped-none : {X : Type 0} (f : X → X) (i : ℕ) (xs : List X) → changed_in [] f i xs ≡ xs
+pub mapped-none : {X : Type 0} (f : X → X) (i : ℕ) (xs : List X) → changed_in [] f i xs ≡ xs
 mapped-none f i [] = refl
 mapped-none f i (x ∷ xs) = ap (λ t. x ∷ t) (mapped-none f (suc i) xs)
 

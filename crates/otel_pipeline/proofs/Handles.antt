@@ -1,35 +1,31 @@
 -- What is done to handles stream by stream is the model's call.
-use Rattle.std.proofs.Common.{◌≡◌, ℕ, zero, suc, ◌+◌, ◌<◌, ◌==◌, ◌++◌, length, eq-eqb, eqb-true, Bool, true, false, cond, not, ◌&&◌, ◌||◌, List, [], ◌∷◌, map, Option, Some, None, is_some, is_none, slice_get, refl, sym, ◌∙◌, ap, subst, arith, true≢false, get_or}
-use Rattle.std.specs.List.{AllByRecursion as EachOf}
-use Rattle.std.specs.Prelude.{All, nat_lt}
-use Rattle.otel_common.specs.Equality.{set_eq, set_eq-Decides}
+use Rattle.std.proofs.Common.{◌≡◌, ℕ, zero, suc, ◌+◌, ◌<◌, ◌==◌, length, eq-eqb, eqb-true, Bool, true, false, cond, not, ◌&&◌, ◌||◌, List, [], ◌∷◌, map, Option, Some, None, is_none, slice_get, refl, sym, ◌∙◌, ap, subst, arith, true≢false, get_or}
+use Rattle.std.specs.List.{AllByRecursion as EachOf, IsDistinct}
+use Rattle.std.specs.Prelude.{All}
 use Rattle.otel_common.specs.declared.attributes.KeyValue.{KeyValue}
 use Rattle.otel_data.specs.declared.numbers.NumberValue.{NumberValue}
 use Rattle.otel_aggregate.specs.Any.{is_signed_value, amount_of}
 use Rattle.otel_callback.specs.declared.observation.Observed.{Observed}
-use Rattle.otel_model_stream.specs.Entries.{Entry, Table, new_entry, number_counted, has, place, entry_for, at_entry, write, recorded_at, entries_with_place}
 use Rattle.otel_model_stream.specs.Events.{held_by}
-use Rattle.otel_model_stream.specs.Folds.{Amount, Fold, Sample, empty_of, sample_of}
+use Rattle.otel_model_stream.specs.Folds.{Amount, sample_of, wrap}
 use Rattle.otel_model_stream.specs.Machine.{through, let_go}
-use Rattle.otel_model_stream.specs.Sets.{AttributeSet, none_set, over_set}
+use Rattle.otel_model_stream.specs.Sets.{AttributeSet}
 use Rattle.otel_model_stream.specs.Totals.{has_number, size}
-use Rattle.otel_model_stream.specs.Folds.{wrap}
-use Rattle.otel_value_map.specs.Numbers.{is_placed}
 use Rattle.otel_model.specs.Calls.{InstrumentKind, Counter, UpDownCounter, Histogram, ObservableCounter, ObservableUpDownCounter, Gauge, ObservableGauge, is_observable, or_else, Number, Bind, RecordBound, Unbind}
 use Rattle.otel_model.specs.Demands as model
 use Rattle.otel_model.specs.Machine.{stream_after, part_after_call, if_held}
 use Rattle.otel_model.specs.Sent.{is_fed, set_for}
 use Rattle.otel_model.specs.State.{Stream}
 use Rattle.otel_model.specs.Streams.{aggregate_of, is_drained, observes_sums}
-use Rattle.otel_pipeline.specs.Handles.{FeedsSynchronous, FeedsObservable, AreObservableFor, IsNewAt, IsHeldByFed, IsReadyToBind, IsReadyIfThere, IsReadyToBindAt, bound_each, part_after_bind, IsPreparedHeld, IsHeldIfThere, IsPreparedHeldAt, unbound_each, part_after_unbind}
+use Rattle.otel_pipeline.specs.Handles.{FeedsSynchronous, FeedsObservable, AreObservableFor, IsNewAt, IsHeldByFed, IsReadyToBind, IsReadyIfThere, IsReadyToBindAt, bound_each, part_after_bind, updated_each, unbound_each}
 use Rattle.otel_pipeline.specs.Observations.{AreObservable, AreObservableIn}
-use Rattle.otel_pipeline.specs.Pipelines.{Piped, AreNumbers, FeedsType, identity_of, is_streamed, fates_of, model_streams, named_identities, part_by, part_of, fed_by, committed_each, part_after_record}
-use Rattle.otel_pipeline.specs.Streams.{Held, with_bind, bound_by, held_after_bind, committed_by, held_after_commit, without_handle, held_after_unbind}
-use Rattle.otel_pipeline.proofs.Answered.{KeepsAnswer, commits}
+use Rattle.otel_pipeline.specs.Pipelines.{Piped, AreFedOnce, AreNumbers, FeedsType, identity_of, is_streamed, fates_of, model_streams, named_identities, number_of, part_by, part_of, fed_by, stream_identities}
+use Rattle.otel_pipeline.specs.Streams.{Held, with_bind, bound_by, held_after_bind, with_update, held_after_update, without_handle, held_after_unbind}
+use Rattle.otel_pipeline.proofs.Answered.{KeepsAnswer}
 use Rattle.otel_pipeline.proofs.Commits.{fold-changed}
 use Rattle.otel_pipeline.proofs.Identities.{AreApart, are_apart}
-use Rattle.otel_pipeline.proofs.PipelineLemmas.{demands-changed, demands-committed, feeds-same}
-use Rattle.otel_pipeline.proofs.Records.{all_sent, committed-twice, fed-at, fed-numbers, number, some_same, typed-fits}
+use Rattle.otel_pipeline.proofs.PipelineLemmas.{demands-changed, feeds-same}
+use Rattle.otel_pipeline.proofs.Records.{all_sent, each-sent, fed-at, fed-numbers, fits, some_same, typed-fits}
 
 -- ======== kinds ========
 drained-by : (kind : InstrumentKind) → is_observable kind ≡ false → observes_sums kind ≡ false
@@ -149,33 +145,20 @@ bound-sent h n l p ready sync new =
         let can : can_bind h k ≡ true = λ j. not (kind j) && (room j && is_none (away j)) in
         ap (λ o. (bound_by o h k).stream) (sym is.set) ∙ ap (λ b. (cond b (bound_by k.pending h k) k).stream) (sym can)
 
--- ======== records through handles ========
--- the entries where the set has none
-abbrev with_more : ℕ → Fold → AttributeSet → List Entry → List Entry
-with_more limit empty g es = cond (nat_lt (number_counted es) limit) (es ++ new_entry empty g true ∷ []) (cond (has over_set es) es (es ++ new_entry empty over_set false ∷ []))
+-- ======== what handles do to one stream ========
+updated-answer : (b : Bool) (o : Option AttributeSet) (v : Amount) (k : Held) → ((cond b (with_update o v k) k).resets ≡ k.resets) × ((cond b (with_update o v k) k).stream.demand ≡ k.stream.demand)
+updated-answer true o v k = (refl, refl)
+updated-answer false o v k = (refl, refl)
 
--- a set that has an entry gets no other
-placed-entries : (limit : ℕ) (empty : Fold) (g : AttributeSet) (es : List Entry) → is_placed g es ≡ true → entries_with_place limit empty g es ≡ es
-placed-entries limit empty g es h = by (set_eq g none_set) (has g es) refl refl h
-  where
-    by : (a b : Bool) → set_eq g none_set ≡ a → has g es ≡ b → (a || b) ≡ true → entries_with_place limit empty g es ≡ es
-    by true b p q e = λ i. cond (p i) es (cond (has g es) es (with_more limit empty g es))
-    by false true p q e = λ i. cond (p i) es (cond (q i) es (with_more limit empty g es))
-    by false false p q e = absurd (true≢false (sym e))
+pub updates : (h : ℕ) (value : NumberValue) → KeepsAnswer (held_after_update h value)
+updates h value k = updated-answer (not (is_drained k.stream.demand) && fits value k.stream.demand) (held_by h k.stream.machine.live) (amount_of value) k
 
--- and uses its own
-placed-own : (g : AttributeSet) (es : List Entry) → is_placed g es ≡ true → entry_for g es ≡ g
-placed-own g es h = by (set_eq g none_set) (has g es) refl refl h
-  where
-    by : (a b : Bool) → set_eq g none_set ≡ a → has g es ≡ b → (a || b) ≡ true → entry_for g es ≡ g
-    by true b p q e = (λ i. cond (p i) none_set (cond (has g es) g over_set)) ∙ sym ((set_eq-Decides g none_set).0 p)
-    by false true p q e = λ i. cond (p i) none_set (cond (q i) g over_set)
-    by false false p q e = absurd (true≢false (sym e))
+unbound-answer : (h : ℕ) (b : Bool) (k : Held) → ((cond b k (without_handle h k)).resets ≡ k.resets) × ((cond b k (without_handle h k)).stream.demand ≡ k.stream.demand)
+unbound-answer h true k = (refl, refl)
+unbound-answer h false k = (refl, refl)
 
-placed-there : (limit : ℕ) (empty : Fold) (g : AttributeSet) (v : Sample) (t : Table) → is_placed g t.entries ≡ true → recorded_at g v (place limit empty g t) ≡ at_entry g (write v) t
-placed-there limit empty g v t h =
-    ap (λ (es : List Entry). at_entry (entry_for g es) (write v) (record { none = t.none; entries = es })) (placed-entries limit empty g t.entries h)
-    ∙ ap (λ s. at_entry s (write v) t) (placed-own g t.entries h)
+pub unbinds : (h : ℕ) → KeepsAnswer (held_after_unbind h)
+unbinds h k = unbound-answer h (is_drained k.stream.demand) k
 
 -- a record through a handle, by what the stream has of it
 abbrev update_by : Option AttributeSet → Amount → Stream → Stream
@@ -191,62 +174,6 @@ update_by o v q = record {
 update-is : (answers : model.ReaderAnswers) (feeds : List (List model.Identity)) (next h : ℕ) (v : Number) (q : Stream) (o : Option AttributeSet) → held_by h q.machine.live ≡ o → stream_after answers feeds next (RecordBound h v) q ≡ update_by o v.amount q
 update-is answers feeds next h v q o e = ap (λ p. update_by p v.amount q) e
 
-update-made : (v : Amount) (k : Held) (o : Option AttributeSet) → ((g : AttributeSet) → o ≡ Some g → is_placed g k.stream.machine.table.entries ≡ true) → update_by o v k.stream ≡ (committed_by o v k).stream
-update-made v k None placed = refl
-update-made v k (Some g) placed =
-    ap (λ (t : Table). record {
-      demand = k.stream.demand;
-      machine = record { table = t; live = k.stream.machine.live };
-      start = k.stream.start;
-      reported = k.stream.reported;
-      recorded = wrap (k.stream.recorded + size (aggregate_of k.stream.demand) v);
-      exported = k.stream.exported;
-    }) (sym (placed-there k.stream.demand.limit (empty_of (aggregate_of k.stream.demand)) g (sample_of (aggregate_of k.stream.demand) v) k.stream.machine.table (placed g refl)))
-
-pub update-sent : (n h : ℕ) (value : NumberValue) (p : Piped) → IsPreparedHeldAt n h p → FeedsType n (is_signed_value value) (part_of p) → FeedsSynchronous n (part_of p) → IsHeldByFed n h (part_of p)
-    → part_after_record n value p ≡ part_after_call 0 (RecordBound h (number value)) (part_of p)
-update-sent n h value p prepared typed sync held =
-    let same : fates_of (committed_each value (fed_by n p) p.streams) ≡ fates_of p.streams = demands-committed value (fed_by n p) p.streams in
-    λ i. record {
-      answers = p.answers;
-      fates = same i;
-      streams = (ap model_streams (fold-changed (held_after_commit value) (committed-twice value) (fed_by n p) p.streams)
-          ∙ sym (all_sent p.answers p.streams (are_apart p.streams prepared.lawful.apart) p.feeds 0 n (RecordBound h (number value)) (held_after_commit value) (fed-numbers p.streams p.feeds n prepared.lawful.numbers) (λ k. (commits value k).1) made
-          (λ i k at s fed. update-is p.answers (map (named_identities p.streams) p.feeds) 0 h (number value) k.stream None (of-streamed (λ (q : Stream). is_fed (map (named_identities p.streams) p.feeds) n q.demand.identity ≡ false → held_by h q.machine.live ≡ None) p.streams held i k at s fed)))) i;
-      feeds = feeds-same (committed_each value (fed_by n p) p.streams) p.streams same p.feeds i;
-    }
-  where
-    made : (i : ℕ) (k : Held) → slice_get p.streams i ≡ Some k → is_streamed k ≡ true → has_number i (fed_by n p) ≡ true → is_fed (map (named_identities p.streams) p.feeds) n (identity_of k) ≡ true
-        → stream_after p.answers (map (named_identities p.streams) p.feeds) 0 (RecordBound h (number value)) k.stream ≡ (held_after_commit value k).stream
-    made i k at s t fed =
-        let is : IsPreparedHeld h k = there-at (IsHeldIfThere h) p.streams (fed_by n p) prepared.prepared i k at t in
-        let free : is_drained k.stream.demand ≡ false = undrained k.stream.demand (sync (identity_of k) fed) in
-        let o = held_by h k.stream.machine.live in
-        let set : k.pending ≡ o = is.set free in
-        update-made (amount_of value) k o (λ g e. is.placed free g (set ∙ e))
-        ∙ ap (λ x. (committed_by x (amount_of value) k).stream) (sym set)
-        ∙ ap (λ b. (cond b (committed_by k.pending (amount_of value) k) k).stream) (sym (typed-fits n value (part_of p) k.stream.demand typed fed))
-
--- ======== the end of handles ========
-unbound-answer : (h : ℕ) (b : Bool) (k : Held) → ((cond b (without_handle h k) k).resets ≡ k.resets) × ((cond b (without_handle h k) k).stream.demand ≡ k.stream.demand)
-unbound-answer h true k = (refl, refl)
-unbound-answer h false k = (refl, refl)
-
-pub unbinds : (h : ℕ) → KeepsAnswer (held_after_unbind h)
-unbinds h k = unbound-answer h (not (is_drained k.stream.demand) && is_some k.pending) k
-
--- a handle ends once
-unbound-once : (h : ℕ) (b : Bool) (k : Held) → (not (is_drained k.stream.demand) && is_some k.pending) ≡ b → held_after_unbind h (cond b (without_handle h k) k) ≡ cond b (without_handle h k) k
-unbound-once h false k e = ap (λ b. cond b (without_handle h k) k) e
-unbound-once h true k e = by (not (is_drained k.stream.demand))
-  where
-    by : (b : Bool) → cond (b && false) (without_handle h (without_handle h k)) (without_handle h k) ≡ without_handle h k
-    by true = refl
-    by false = refl
-
-unbound-twice : (h : ℕ) (k : Held) → held_after_unbind h (held_after_unbind h k) ≡ held_after_unbind h k
-unbound-twice h k = unbound-once h (not (is_drained k.stream.demand) && is_some k.pending) k refl
-
 -- the end of a handle, by what the stream has of it
 abbrev unbind_by : Option AttributeSet → ℕ → Stream → Stream
 unbind_by o h q = record { demand = q.demand; machine = let_go o h q.machine; start = q.start; reported = q.reported; recorded = q.recorded; exported = q.exported }
@@ -254,28 +181,22 @@ unbind_by o h q = record { demand = q.demand; machine = let_go o h q.machine; st
 unbind-is : (answers : model.ReaderAnswers) (feeds : List (List model.Identity)) (next h : ℕ) (q : Stream) (o : Option AttributeSet) → held_by h q.machine.live ≡ o → stream_after answers feeds next (Unbind h) q ≡ unbind_by o h q
 unbind-is answers feeds next h q o e = ap (λ p. unbind_by p h q) e
 
-unbind-made : (h : ℕ) (k : Held) (o : Option AttributeSet) → held_by h k.stream.machine.live ≡ o → unbind_by o h k.stream ≡ (cond (is_some o) (without_handle h k) k).stream
-unbind-made h k None e = refl
-unbind-made h k (Some g) e = ap (λ p. unbind_by p h k.stream) (sym e)
+-- ======== all streams that an instrument feeds ========
+module _ (answers : model.ReaderAnswers) (ks : List Held) (feeds : List (List ℕ)) (n : ℕ) (apart : IsDistinct model.identity_eq (stream_identities ks)) (numbers : All (AreNumbers ks) feeds) (once : EachOf AreFedOnce feeds) where
+  -- ======== records through handles ========
+  pub update-sent : (h : ℕ) (value : NumberValue) → FeedsType n (is_signed_value value) (part_by answers ks feeds) → FeedsSynchronous n (part_by answers ks feeds) → IsHeldByFed n h (part_by answers ks feeds)
+      → part_by answers (updated_each h value (or_else (slice_get feeds n) []) ks) feeds ≡ part_after_call 0 (RecordBound h (number_of value)) (part_by answers ks feeds)
+  update-sent h value typed sync held = each-sent answers ks feeds n apart numbers once (RecordBound h (number_of value)) (held_after_update h value) (updates h value)
+      (λ i k at s t fed.
+      let free : is_drained k.stream.demand ≡ false = undrained k.stream.demand (sync (identity_of k) fed) in
+      let fit : fits value k.stream.demand ≡ true = typed-fits n value (part_by answers ks feeds) k.stream.demand typed fed in
+      λ j. (cond (not (sym free j) && sym fit j) (with_update (held_by h k.stream.machine.live) (amount_of value) k) k).stream)
+      (λ i k at s fed. update-is answers (map (named_identities ks) feeds) 0 h (number_of value) k.stream None (of-streamed (λ (q : Stream). is_fed (map (named_identities ks) feeds) n q.demand.identity ≡ false → held_by h q.machine.live ≡ None) ks held i k at s fed))
 
-pub unbind-sent : (n h : ℕ) (p : Piped) → IsPreparedHeldAt n h p → FeedsSynchronous n (part_of p) → IsHeldByFed n h (part_of p) → part_after_unbind n h p ≡ part_after_call 0 (Unbind h) (part_of p)
-unbind-sent n h p prepared sync held =
-    let same : fates_of (unbound_each h (fed_by n p) p.streams) ≡ fates_of p.streams = demands-changed (held_after_unbind h) (λ k. (unbinds h k).1) (fed_by n p) p.streams in
-    λ i. record {
-      answers = p.answers;
-      fates = same i;
-      streams = (ap model_streams (fold-changed (held_after_unbind h) (unbound-twice h) (fed_by n p) p.streams)
-          ∙ sym (all_sent p.answers p.streams (are_apart p.streams prepared.lawful.apart) p.feeds 0 n (Unbind h) (held_after_unbind h) (fed-numbers p.streams p.feeds n prepared.lawful.numbers) (λ k. (unbinds h k).1) made
-          (λ i k at s fed. unbind-is p.answers (map (named_identities p.streams) p.feeds) 0 h k.stream None (of-streamed (λ (q : Stream). is_fed (map (named_identities p.streams) p.feeds) n q.demand.identity ≡ false → held_by h q.machine.live ≡ None) p.streams held i k at s fed)))) i;
-      feeds = feeds-same (unbound_each h (fed_by n p) p.streams) p.streams same p.feeds i;
-    }
-  where
-    made : (i : ℕ) (k : Held) → slice_get p.streams i ≡ Some k → is_streamed k ≡ true → has_number i (fed_by n p) ≡ true → is_fed (map (named_identities p.streams) p.feeds) n (identity_of k) ≡ true
-        → stream_after p.answers (map (named_identities p.streams) p.feeds) 0 (Unbind h) k.stream ≡ (held_after_unbind h k).stream
-    made i k at s t fed =
-        let is : IsPreparedHeld h k = there-at (IsHeldIfThere h) p.streams (fed_by n p) prepared.prepared i k at t in
-        let free : is_drained k.stream.demand ≡ false = undrained k.stream.demand (sync (identity_of k) fed) in
-        let set : k.pending ≡ held_by h k.stream.machine.live = is.set free in
-        unbind-made h k (held_by h k.stream.machine.live) refl
-        ∙ ap (λ o. (cond (is_some o) (without_handle h k) k).stream) (sym set)
-        ∙ ap (λ b. (cond (not b && is_some k.pending) (without_handle h k) k).stream) (sym free)
+  -- ======== the end of handles ========
+  pub unbind-sent : (h : ℕ) → FeedsSynchronous n (part_by answers ks feeds) → IsHeldByFed n h (part_by answers ks feeds) → part_by answers (unbound_each h (or_else (slice_get feeds n) []) ks) feeds ≡ part_after_call 0 (Unbind h) (part_by answers ks feeds)
+  unbind-sent h sync held = each-sent answers ks feeds n apart numbers once (Unbind h) (held_after_unbind h) (unbinds h)
+      (λ i k at s t fed.
+      let free : is_drained k.stream.demand ≡ false = undrained k.stream.demand (sync (identity_of k) fed) in
+      λ j. (cond (sym free j) k (without_handle h k)).stream)
+      (λ i k at s fed. unbind-is answers (map (named_identities ks) feeds) 0 h k.stream None (of-streamed (λ (q : Stream). is_fed (map (named_identities ks) feeds) n q.demand.identity ≡ false → held_by h q.machine.live ≡ None) ks held i k at s fed))

@@ -5,6 +5,7 @@ pub mod Collects
 pub mod Commits
 pub mod Identities
 pub mod Observes
+pub mod Once
 pub mod Outcomes
 pub mod Feeds
 pub mod DemandLemmas

@@ -8,7 +8,7 @@ use Rattle.otel_model_stream.specs.Maps.{MapState}
 use Rattle.otel_aggregate.specs.Streams.{is_known}
 use Rattle.otel_value_map.proofs.CanonicalSets.{canon-nil}
 
-set_of-nil : (allow : AllowList) → set_of allow [] ≡ []
+pub set_of-nil : (allow : AllowList) → set_of allow [] ≡ []
 set_of-nil None = canon-nil
 set_of-nil (Some allow) = canon-nil
 

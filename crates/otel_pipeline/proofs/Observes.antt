@@ -20,12 +20,12 @@ use Rattle.otel_model.specs.Streams.{aggregate_of, is_delta, kind_of}
 use Rattle.otel_model.proofs.Follow.{run_append, recorded_append}
 use Rattle.otel_pipeline.specs.Collections.{IsCollectedFrom, scopes_shown}
 use Rattle.otel_pipeline.specs.Observations.{observed_of, AreTypedFor, observed_one, changed_in, observing_numbers, observed_in, observed_all}
-use Rattle.otel_pipeline.specs.Pipelines.{AreAnswered, AreNumbers, FeedsType, all_without_pending, fates_of, all_after_collection, identity_of, named_identities, part_by, stream_identities}
+use Rattle.otel_pipeline.specs.Pipelines.{AreAnswered, AreNumbers, FeedsType, all_without_pending, fates_of, all_after_collection, identity_of, named_identities, number_of, part_by, stream_identities}
 use Rattle.otel_pipeline.specs.Streams.{Held, with_record}
 use Rattle.otel_pipeline.proofs.Collects.{collected-is, part-finished}
 use Rattle.otel_pipeline.proofs.Identities.{are_apart}
 use Rattle.otel_pipeline.proofs.PipelineLemmas.{feeds-same, identities-same, length-from, numbers-kept}
-use Rattle.otel_pipeline.proofs.Records.{record_sent, fed-numbers, fits, number, typed-fits}
+use Rattle.otel_pipeline.proofs.Records.{record_sent, fed-numbers, fits, typed-fits}
 
 -- ======== the model: records of observations, and a collection without ========
 -- an observation as a record
@@ -153,7 +153,7 @@ module _ (answers : ReaderAnswers) (feeds : List (List ℕ)) where
       λ i. record {
         answers = answers;
         fates = same i;
-        streams = sym (record_sent answers ks (are_apart ks apart) feeds 0 o.instrument (number o.value) o.attributes (observed_one o) (fed-numbers ks feeds o.instrument numbers) (λ k. (keeps o k).1) made) i;
+        streams = sym (record_sent answers ks (are_apart ks apart) feeds 0 o.instrument (number_of o.value) o.attributes (observed_one o) (fed-numbers ks feeds o.instrument numbers) (λ k. (keeps o k).1) made) i;
         feeds = feeds-same (observed_in feeds ks o) ks same feeds i;
       }
     where

@@ -1,7 +1,8 @@
 -- A record that is made stream by stream is the model's record.
-use Rattle.std.proofs.Common.{◌≡◌, ℕ, zero, suc, ◌+◌, ◌<◌, ◌==◌, Bool, true, false, cond, not, ◌||◌, List, [], ◌∷◌, ◌++◌, map, length, Option, Some, None, slice_get, refl, sym, ◌∙◌, ap, subst, arith, eq-eqb, ne_eqb, eqb-true}
+use Rattle.std.proofs.Common.{◌≡◌, ℕ, zero, suc, ◌+◌, ◌<◌, ◌==◌, Bool, true, false, cond, not, ◌||◌, List, [], ◌∷◌, ◌++◌, map, fold, length, Option, Some, None, slice_get, refl, sym, ◌∙◌, ap, subst, arith, eq-eqb, ne_eqb, eqb-true}
 use Rattle.std.specs.Bool.{beq}
 use Rattle.std.specs.Cmp.{booleans_Decides}
+use Rattle.std.specs.List.{AllByRecursion as EachOf, IsDistinct}
 use Rattle.std.specs.Option.{option_map}
 use Rattle.std.specs.Prelude.{All}
 use Rattle.std.proofs.Common.{⊎_elim}
@@ -11,21 +12,23 @@ use Rattle.otel_common.specs.declared.attributes.KeyValue.{KeyValue}
 use Rattle.otel_data.specs.declared.numbers.NumberValue.{NumberValue}
 use Rattle.otel_aggregate.specs.Any.{is_signed_value, amount_of}
 use Rattle.otel_model_stream.specs.Folds.{Amount}
-use Rattle.otel_model_stream.specs.Sets.{AttributeSet}
+use Rattle.otel_model_stream.specs.Sets.{AttributeSet, none_set}
 use Rattle.otel_model_stream.specs.Totals.{has_number}
 use Rattle.otel_model.specs.Calls.{or_else, Number, Call, Record as RecordCall}
 use Rattle.otel_model.specs.Demands as model
-use Rattle.otel_model.specs.Machine.{stream_after, part_after_call}
+use Rattle.otel_model.specs.Machine.{changed_at, stream_after, part_after_call}
 use Rattle.otel_model.specs.Sent.{is_fed, set_for}
 use Rattle.otel_model.specs.State.{ReaderPart, Stream}
 use Rattle.otel_model.proofs.Gather.{identity_eq_self}
-use Rattle.otel_pipeline.specs.Pipelines.{fates_of, named_identities, identity_at, identity_of, is_streamed, model_streams, part_of, Piped, AreNumbers, ArePrepared, IsPrepared, IsPreparedFor, fed_by, part_after_record, committed_each, FeedsType}
+use Rattle.otel_pipeline.specs.Pipelines.{fates_of, named_identities, identity_at, identity_of, is_streamed, model_streams, part_of, Piped, AreNumbers, ArePrepared, IsPrepared, IsPreparedFor, fed_by, number_of, part_after_record, part_by, committed_each, measured_each, stream_identities, AreFedOnce, FeedsType}
 use Rattle.otel_pipeline.specs.Observations.{changed_in}
-use Rattle.otel_pipeline.specs.Streams.{Held, with_record, held_after_commit, committed_by}
-use Rattle.otel_pipeline.proofs.Answered.{commits}
+use Rattle.otel_pipeline.specs.Streams.{Held, with_record, held_after_commit, held_after_none, committed_by}
+use Rattle.otel_pipeline.proofs.Answered.{KeepsAnswer, commits, measures}
 use Rattle.otel_pipeline.proofs.Commits.{fold-changed}
 use Rattle.otel_pipeline.proofs.Identities.{AreApart, are_apart}
-use Rattle.otel_pipeline.proofs.PipelineLemmas.{demands-committed, feeds-same}
+use Rattle.otel_pipeline.proofs.NoAttributes.{set_of-nil}
+use Rattle.otel_pipeline.proofs.Once.{fed-once, fold-once}
+use Rattle.otel_pipeline.proofs.PipelineLemmas.{demands-changed, demands-committed, feeds-same}
 
 -- ======== a record is made once ========
 committed-settled : (v : Amount) (o : Option AttributeSet) (k : Held) → k.pending ≡ o → committed_by (committed_by o v k).pending v (committed_by o v k) ≡ committed_by o v k
@@ -86,9 +89,6 @@ fed-named ks feeds n = ap (λ o. or_else o []) (slice_get-map (named_identities 
     cases (Some ns) = refl
 
 -- ======== all streams of a reader ========
-abbrev pub number : NumberValue → Number
-number value = record { signed = is_signed_value value; amount = amount_of value }
-
 -- a stream is fed by identity exactly if it is fed by number
 pub fed-at : (all : List Held) → AreApart all → (feeds : List (List ℕ)) (n : ℕ) → HaveStreams (or_else (slice_get feeds n) []) all → (i : ℕ) (k : Held) → slice_get all i ≡ Some k
     → is_fed (map (named_identities all) feeds) n (identity_of k) ≡ has_number i (or_else (slice_get feeds n) [])
@@ -175,14 +175,14 @@ pub typed-fits : (n : ℕ) (value : NumberValue) (p : ReaderPart) (d : model.Dem
 typed-fits n value p d typed fed = (booleans_Decides (is_signed_value value) d.identity.signed).1 (sym (typed d.identity fed))
 
 pub recorded-sent : (next n : ℕ) (value : NumberValue) (l : List KeyValue) (p : Piped) → IsPreparedFor n l p → FeedsType n (is_signed_value value) (part_of p)
-    → part_after_record n value p ≡ part_after_call next (RecordCall n (number value) l) (part_of p)
+    → part_after_record n value p ≡ part_after_call next (RecordCall n (number_of value) l) (part_of p)
 recorded-sent next n value l p prepared typed =
     let same : fates_of (committed_each value (fed_by n p) p.streams) ≡ fates_of p.streams = demands-committed value (fed_by n p) p.streams in
     λ i. record {
       answers = p.answers;
       fates = same i;
       streams = (ap model_streams (fold-changed (held_after_commit value) (committed-twice value) (fed_by n p) p.streams)
-          ∙ sym (record_sent p.answers p.streams (are_apart p.streams prepared.lawful.apart) p.feeds next n (number value) l (held_after_commit value) (fed-numbers p.streams p.feeds n prepared.lawful.numbers) (λ k. (commits value k).1) made)) i;
+          ∙ sym (record_sent p.answers p.streams (are_apart p.streams prepared.lawful.apart) p.feeds next n (number_of value) l (held_after_commit value) (fed-numbers p.streams p.feeds n prepared.lawful.numbers) (λ k. (commits value k).1) made)) i;
       feeds = feeds-same (committed_each value (fed_by n p) p.streams) p.streams same p.feeds i;
     }
   where
@@ -191,3 +191,32 @@ recorded-sent next n value l p prepared typed =
     made i k at h fed =
         ap (λ o. (committed_by o (amount_of value) k).stream) (sym (prepared-at l p.streams (fed_by n p) prepared.prepared i k at h))
         ∙ ap (λ b. (cond b (committed_by k.pending (amount_of value) k) k).stream) (sym (typed-fits n value (part_of p) k.stream.demand typed fed))
+
+-- ======== what is made in one pass ========
+-- `f` is what becomes of a stream that the instrument feeds
+module _ (answers : model.ReaderAnswers) (ks : List Held) (feeds : List (List ℕ)) (n : ℕ) (apart : IsDistinct model.identity_eq (stream_identities ks)) (numbers : All (AreNumbers ks) feeds) (once : EachOf AreFedOnce feeds) where
+  pub each-sent : (call : Call) (f : Held → Held) → KeepsAnswer f
+      → ((i : ℕ) (k : Held) → slice_get ks i ≡ Some k → is_streamed k ≡ true → has_number i (or_else (slice_get feeds n) []) ≡ true → is_fed (map (named_identities ks) feeds) n (identity_of k) ≡ true → stream_after answers (map (named_identities ks) feeds) 0 call k.stream ≡ (f k).stream)
+      → ((i : ℕ) (k : Held) → slice_get ks i ≡ Some k → is_streamed k ≡ true → is_fed (map (named_identities ks) feeds) n (identity_of k) ≡ false → stream_after answers (map (named_identities ks) feeds) 0 call k.stream ≡ k.stream)
+      → part_by answers (fold (λ ss m. changed_at m f ss) ks (or_else (slice_get feeds n) [])) feeds ≡ part_after_call 0 call (part_by answers ks feeds)
+  each-sent call f keeps made unmade =
+      let ns : List ℕ = or_else (slice_get feeds n) [] in
+      let new : List Held = fold (λ ss m. changed_at m f ss) ks ns in
+      let same : fates_of new ≡ fates_of ks = demands-changed f (λ k. (keeps k).1) ns ks in
+      λ i. record {
+        answers = answers;
+        fates = same i;
+        streams = (ap model_streams (fold-once f ns ks (fed-once feeds n once))
+            ∙ sym (all_sent answers ks (are_apart ks apart) feeds 0 n call f (fed-numbers ks feeds n numbers) (λ k. (keeps k).1) made unmade)) i;
+        feeds = feeds-same new ks same feeds i;
+      }
+
+  -- a record without attributes
+  pub none-sent : (value : NumberValue) → FeedsType n (is_signed_value value) (part_by answers ks feeds)
+      → part_by answers (measured_each value (or_else (slice_get feeds n) []) ks) feeds ≡ part_after_call 0 (RecordCall n (number_of value) []) (part_by answers ks feeds)
+  none-sent value typed = each-sent (RecordCall n (number_of value) []) (held_after_none value) (measures value)
+      (λ i k at s t fed.
+      sent_if answers 0 n (number_of value) [] (map (named_identities ks) feeds) k true fed
+      ∙ (ap (λ set. (with_record set (amount_of value) k).stream) (set_of-nil k.stream.demand.allow)
+      ∙ ap (λ b. (cond b (with_record none_set (amount_of value) k) k).stream) (sym (typed-fits n value (part_by answers ks feeds) k.stream.demand typed fed))))
+      (λ i k at s fed. sent_if answers 0 n (number_of value) [] (map (named_identities ks) feeds) k false fed)

@@ -3,9 +3,8 @@ use Rattle.std.specs.Prelude.{◌≡◌, ℕ, true, false, not, List, fold, All,
 use Rattle.std.specs.List.{AllByRecursion as EachOf}
 use Rattle.otel_callback.specs.declared.observation.Observed.{Observed}
 use Rattle.otel_common.specs.declared.attributes.KeyValue.{KeyValue}
+use Rattle.otel_data.specs.declared.numbers.NumberValue.{NumberValue}
 use Rattle.otel_model_stream.specs.Events.{held_by}
-use Rattle.otel_model_stream.specs.Sets.{AttributeSet}
-use Rattle.otel_value_map.specs.Numbers.{is_placed}
 use Rattle.otel_model.specs.Calls.{is_observable}
 use Rattle.otel_model.specs.Demands.{Identity}
 use Rattle.otel_model.specs.Machine.{changed_at}
@@ -13,7 +12,7 @@ use Rattle.otel_model.specs.Sent.{is_fed, set_for}
 use Rattle.otel_model.specs.State.{Stream, ReaderPart}
 use Rattle.otel_model.specs.Streams.{is_drained}
 use Rattle.otel_pipeline.specs.Pipelines.{Piped, IsLawful, fed_by, part_by}
-use Rattle.otel_pipeline.specs.Streams.{Held, held_after_bind, held_after_unbind}
+use Rattle.otel_pipeline.specs.Streams.{Held, held_after_bind, held_after_update, held_after_unbind}
 
 -- ======== what the streams of a reader have ========
 -- the instrument feeds only streams of synchronous instruments
@@ -66,30 +65,10 @@ abbrev pub part_after_bind : ℕ → ℕ → Piped → ReaderPart
 part_after_bind instrument h p = part_by p.answers (bound_each h (fed_by instrument p) p.streams) p.feeds
 
 -- ======== records through handles, and their end ========
--- the stream is ready for a record through this handle, or for the handle's end: unless it is drained, the handle's set
--- is prepared if the handle is live, and has an entry
-pub record IsPreparedHeld (h : ℕ) (k : Held) : Type 0 where
-  pub set : is_drained k.stream.demand ≡ false → k.pending ≡ held_by h k.stream.machine.live
-  pub placed : is_drained k.stream.demand ≡ false → (g : AttributeSet) → k.pending ≡ Some g → is_placed g k.stream.machine.table.entries ≡ true
-
--- the same of a stream, if there is one
-abbrev pub IsHeldIfThere : ℕ → Option Held → Type 0
-IsHeldIfThere h None = Unit {0}
-IsHeldIfThere h (Some k) = IsPreparedHeld h k
-
--- the same of the streams with these numbers
-abbrev pub ArePreparedHeld : ℕ → List Held → List ℕ → Type 0
-ArePreparedHeld h streams ns = All (λ n. IsHeldIfThere h (slice_get streams n)) ns
-
--- the reader is ready for a record through this handle of the instrument, or for the handle's end
-pub record IsPreparedHeldAt (instrument : ℕ) (h : ℕ) (p : Piped) : Type 0 where
-  pub lawful : IsLawful p
-  pub prepared : ArePreparedHeld h p.streams (fed_by instrument p)
+-- the streams, once the record is made through the handle in each with one of these numbers
+abbrev pub updated_each : ℕ → NumberValue → List ℕ → List Held → List Held
+updated_each h value ns streams = fold (λ ss n. changed_at n (held_after_update h value) ss) streams ns
 
 -- the streams, once the handle is ended in each with one of these numbers
 abbrev pub unbound_each : ℕ → List ℕ → List Held → List Held
 unbound_each h ns streams = fold (λ ss n. changed_at n (held_after_unbind h) ss) streams ns
-
--- the reader's part, once the handle is ended in each stream that the instrument feeds
-abbrev pub part_after_unbind : ℕ → ℕ → Piped → ReaderPart
-part_after_unbind instrument h p = part_by p.answers (unbound_each h (fed_by instrument p) p.streams) p.feeds

@@ -5,14 +5,15 @@ use Rattle.std.specs.List.{IsDistinct, AllByRecursion}
 use Rattle.otel_common.specs.declared.attributes.KeyValue.{KeyValue}
 use Rattle.otel_common.specs.declared.scopes.InstrumentationScope.{InstrumentationScope}
 use Rattle.otel_data.specs.declared.numbers.NumberValue.{NumberValue}
-use Rattle.otel_model.specs.Calls.{About, or_else}
+use Rattle.otel_aggregate.specs.Any.{is_signed_value, amount_of}
+use Rattle.otel_model.specs.Calls.{About, Number, or_else}
 use Rattle.otel_model.specs.Demands.{Identity, Demand, ReaderAnswers, Views, identity_eq, is_drop, is_dropped, are_good_bounds, demands_with, fed_identities}
 use Rattle.otel_model.specs.State.{Stream, ReaderPart}
 use Rattle.otel_model.specs.Machine.{changed_at, part_after_demand, enter}
 use Rattle.otel_model.specs.Sent.{is_fed, set_for}
 use Rattle.otel_model.specs.Streams.{is_delta}
 use Rattle.otel_model_stream.specs.Totals.{has_number}
-use Rattle.otel_pipeline.specs.Streams.{Held, held_after_commit, without_pending, held_after_collection}
+use Rattle.otel_pipeline.specs.Streams.{Held, held_after_commit, held_after_none, without_pending, held_after_collection}
 
 -- what a build is going to do: the numbers of the streams that the instrument will feed, and the new streams
 pub record Planned : Type 0 where
@@ -91,6 +92,11 @@ has_stream_at n part = some_stream (or_else (slice_get part.feeds n) [])
 -- each of these is the number of a stream
 abbrev pub AreNumbers : List Held → List ℕ → Type 0
 AreNumbers streams ns = All (λ n. n < length streams) ns
+
+-- no number occurs twice among these, so that no stream is fed twice
+abbrev pub AreFedOnce : List ℕ → Type 0
+AreFedOnce [] = Unit {0}
+AreFedOnce (n ∷ ns) = (has_number n ns ≡ false) × AreFedOnce ns
 
 -- the streams reset as the reader's answers say
 abbrev pub AreAnswered : ReaderAnswers → List Held → Type 0
@@ -184,6 +190,10 @@ abbrev pub piped_after_build : Piped → Piped
 piped_after_build p = built_by p.plan p
 
 -- ======== records ========
+-- a value in the words of the model
+abbrev pub number_of : NumberValue → Number
+number_of value = record { signed = is_signed_value value; amount = amount_of value }
+
 -- the numbers of the streams that the instrument feeds
 abbrev pub fed_by : ℕ → Piped → List ℕ
 fed_by instrument p = or_else (slice_get p.feeds instrument) []
@@ -217,6 +227,10 @@ committed_each value ns streams = fold (λ ss n. changed_at n (held_after_commit
 -- the reader's part, once the record is made in each stream that the instrument feeds
 abbrev pub part_after_record : ℕ → NumberValue → Piped → ReaderPart
 part_after_record instrument value p = part_by p.answers (committed_each value (fed_by instrument p) p.streams) p.feeds
+
+-- the streams, once a record without attributes is made in each with one of these numbers
+abbrev pub measured_each : NumberValue → List ℕ → List Held → List Held
+measured_each value ns streams = fold (λ ss n. changed_at n (held_after_none value) ss) streams ns
 
 -- ======== collections ========
 -- the streams after a collection at a moment

@@ -1,14 +1,14 @@
 -- One stream of a reader: the model's stream, with what the model leaves out.
-use Rattle.std.specs.Prelude.{ℕ, ◌+◌, Bool, true, false, cond, ◌&&◌, not, List, [], map, Option, None, Some, is_none, is_some, ◌≡◌}
+use Rattle.std.specs.Prelude.{ℕ, ◌+◌, Bool, true, false, cond, ◌&&◌, not, List, [], map, Option, None, Some, is_none, ◌≡◌}
 use Rattle.std.specs.Bool.{beq}
 use Rattle.otel_common.specs.declared.metrics.Temporality.TheVariants.{Cumulative, Delta}
 use Rattle.otel_data.specs.declared.collections.Metric.{Metric}
 use Rattle.otel_data.specs.declared.numbers.NumberValue.{NumberValue}
-use Rattle.otel_model_stream.specs.Sets.{AttributeSet}
+use Rattle.otel_model_stream.specs.Sets.{AttributeSet, none_set}
 use Rattle.otel_model_stream.specs.Folds.{Amount, empty_of, sample_of, wrap}
 use Rattle.otel_model_stream.specs.Entries.{Table, Point, place, recorded_at}
 use Rattle.otel_model_stream.specs.Events.{Kind, held_by}
-use Rattle.otel_model_stream.specs.Machine.{points, machine_after_collection, bind_handle, let_go}
+use Rattle.otel_model_stream.specs.Machine.{points, machine_after_collection, bind_handle, through, let_go}
 use Rattle.otel_model_stream.specs.Observed.{difference}
 use Rattle.otel_model_stream.specs.Totals.{size, points_total}
 use Rattle.otel_aggregate.specs.Any.{HeldAny, is_signed_value, amount_of}
@@ -16,7 +16,7 @@ use Rattle.otel_aggregate.specs.Streams.{StreamState}
 use Rattle.otel_model.specs.Calls.{is_observable}
 use Rattle.otel_model.specs.Demands.{Aggregation, Drop, Default, Sum, LastValue, ExplicitBucketHistogram, Demand, is_valid}
 use Rattle.otel_model.specs.Collections.{aggregated_metrics, has_points}
-use Rattle.otel_model.specs.Machine.{new_stream}
+use Rattle.otel_model.specs.Machine.{if_held, new_stream}
 use Rattle.otel_model.specs.State.{Stream}
 use Rattle.otel_model.specs.Streams.{aggregate_of, is_drained, is_monotonic_kind}
 
@@ -111,6 +111,10 @@ committed_by (Some s) v h = with_record s v h
 abbrev pub held_after_commit : NumberValue → Held → Held
 held_after_commit value h = cond (beq (is_signed_value value) h.stream.demand.identity.signed) (committed_by h.pending (amount_of value) h) h
 
+-- after a record of a value without attributes; a stream of the other number type doesn't change
+abbrev pub held_after_none : NumberValue → Held → Held
+held_after_none value h = cond (beq (is_signed_value value) h.stream.demand.identity.signed) (with_record none_set (amount_of value) h) h
+
 -- the stream, with nothing prepared and no room made
 abbrev pub without_pending : Held → Held
 without_pending h = record { stream = h.stream; resets = h.resets; pending = None; room = false }
@@ -142,6 +146,27 @@ bound_by (Some s) h k = with_bind h s k
 abbrev pub held_after_bind : ℕ → Held → Held
 held_after_bind h k = cond (not (is_observable k.stream.demand.identity.kind) && (k.room && is_none (held_by h k.stream.machine.live))) (bound_by k.pending h k) k
 
+-- after a record through a handle of this set's entry, if there is a set; what was prepared is given up
+abbrev pub with_update : Option AttributeSet → Amount → Held → Held
+with_update o v k = record {
+  stream = record {
+    demand = k.stream.demand;
+    machine = through o (sample_of (aggregate_of k.stream.demand) v) k.stream.machine;
+    start = k.stream.start;
+    reported = k.stream.reported;
+    recorded = if_held o (wrap (k.stream.recorded + size (aggregate_of k.stream.demand) v)) k.stream.recorded;
+    exported = k.stream.exported;
+  };
+  resets = k.resets;
+  pending = None;
+  room = k.room;
+}
+
+-- after a record of a value through the handle with this number, if it is live. A drained stream has no handles, and a
+-- stream of the other number type doesn't change
+abbrev pub held_after_update : ℕ → NumberValue → Held → Held
+held_after_update h value k = cond (not (is_drained k.stream.demand) && beq (is_signed_value value) k.stream.demand.identity.signed) (with_update (held_by h k.stream.machine.live) (amount_of value) k) k
+
 -- after the end of the handle with this number, if it is live; what was prepared is given up
 abbrev pub without_handle : ℕ → Held → Held
 without_handle h k = record {
@@ -158,9 +183,9 @@ without_handle h k = record {
   room = k.room;
 }
 
--- the same, if something is prepared. A drained stream has no handles
+-- the same; a drained stream has no handles
 abbrev pub held_after_unbind : ℕ → Held → Held
-held_after_unbind h k = cond (not (is_drained k.stream.demand) && is_some k.pending) (without_handle h k) k
+held_after_unbind h k = cond (is_drained k.stream.demand) k (without_handle h k)
 
 -- ======== collections ========
 -- how collections cut the stream's history into windows

@@ -2,9 +2,9 @@
 
 ghost use Rattle.std.specs.Prelude.{◌≡◌, ◌<◌, [], All, slice_get, OnOk, IsOk, IsOkUnless};
 ghost use Rattle.otel_model.specs.Calls.{or_else};
-ghost use Rattle.otel_pipeline.specs.Handles.{AreReadyToBind, ArePreparedHeld, bound_each, unbound_each};
+ghost use Rattle.otel_pipeline.specs.Handles.{AreReadyToBind, bound_each, updated_each, unbound_each};
 ghost use Rattle.otel_pipeline.specs.Known.{IsKnownIfThere};
-ghost use Rattle.otel_pipeline.specs.Pipelines.{AreNumbers, ArePrepared, all_without_pending, committed_each, all_after_collection};
+ghost use Rattle.otel_pipeline.specs.Pipelines.{AreNumbers, ArePrepared, all_without_pending, committed_each, measured_each, all_after_collection};
 
 use crate::stream::Stream;
 use otel_common::attributes::KeyValue;
@@ -70,19 +70,23 @@ pub(crate) fn commit_bind_each(streams: &mut Vec<Stream>, feeds: &[usize], handl
     }
 }
 
-/// Prepares a record through this handle, or the handle's end, in each of these streams.
+/// Takes in a record through this handle in each of these streams.
 #[inline(always)]
-pub(crate) fn prepare_held_each(streams: &mut Vec<Stream>, feeds: &[usize], handle: u64)
-    requires { AreNumbers (all_without_pending streams.old.items) feeds.now }
-    ensures same { all_without_pending streams.new.items ≡ all_without_pending streams.old.items }
-    ensures prepared { ArePreparedHeld handle streams.new.items feeds.now }
+pub(crate) fn record_held_each(
+    streams: &mut Vec<Stream>,
+    feeds: &[usize],
+    handle: u64,
+    value: NumberValue,
+)
+    requires { AreNumbers streams.old.items feeds.now }
+    ensures { streams.new.items ≡ updated_each handle value feeds.now streams.old.items }
 {
     for k in feeds {
-        streams[*k].prepare_held(handle);
+        streams[*k].record_held(handle, value);
     }
 }
 
-/// Ends this handle in each of these streams in which its end is prepared.
+/// Ends this handle in each of these streams.
 pub(crate) fn unbind_each(streams: &mut Vec<Stream>, feeds: &[usize], handle: u64)
     requires { AreNumbers streams.old.items feeds.now }
     ensures { streams.new.items ≡ unbound_each handle feeds.now streams.old.items }
@@ -109,5 +113,16 @@ pub(crate) fn commit_each(streams: &mut Vec<Stream>, feeds: &[usize], value: Num
 {
     for k in feeds {
         streams[*k].commit(value);
+    }
+}
+
+/// Takes in a record without attributes in each of these streams.
+#[inline(always)]
+pub(crate) fn record_none_each(streams: &mut Vec<Stream>, feeds: &[usize], value: NumberValue)
+    requires { AreNumbers streams.old.items feeds.now }
+    ensures { streams.new.items ≡ measured_each value feeds.now streams.old.items }
+{
+    for k in feeds {
+        streams[*k].record_none(value);
     }
 }

@@ -5,16 +5,17 @@ ghost use Rattle.otel_model.specs.Calls as model;
 ghost use Rattle.otel_model.specs.Machine.{part_after_call};
 ghost use Rattle.std.specs.Option.{option_map};
 ghost use Rattle.otel_pipeline.specs.Collections.{IsCollectedFrom};
-ghost use Rattle.otel_pipeline.specs.Handles.{AreObservableFor, IsReadyToBindAt, IsPreparedHeldAt, part_after_bind, part_after_unbind};
+ghost use Rattle.otel_pipeline.specs.Handles.{AreObservableFor, FeedsSynchronous, IsHeldByFed, IsReadyToBindAt, part_after_bind};
 ghost use Rattle.otel_pipeline.specs.Known.{is_known_at};
 ghost use Rattle.otel_pipeline.specs.Observations.{AreTypedFor, observed_of};
-ghost use Rattle.otel_pipeline.specs.Pipelines.{part_of, has_stream_at, piped_after_build, part_after_record, IsBuildableIn, IsPlanned, IsReadyFor, IsPreparedFor};
+ghost use Rattle.otel_pipeline.specs.Pipelines.{part_of, has_stream_at, number_of, piped_after_build, part_after_record, FeedsType, IsBuildableIn, IsPlanned, IsReadyFor, IsPreparedFor};
+ghost use Rattle.otel_aggregate.specs.Any.{is_signed_value};
 ghost use Rattle.otel_pipeline.specs.Views.{views_answering};
 
 use crate::about::About;
 use crate::each_stream::{
-    commit_bind_each, commit_each, prepare_bind_each, prepare_each, prepare_held_each, streams_fed,
-    unbind_each,
+    commit_bind_each, commit_each, prepare_bind_each, prepare_each, record_held_each,
+    record_none_each, streams_fed, unbind_each,
 };
 use crate::observing::collect_observed;
 use crate::plan::Plan;
@@ -51,8 +52,9 @@ pub struct Pipeline {
 
 impl Model for Pipeline {
     ghost use Rattle.std.specs.Prelude.{◌≡◌, ◌+◌, ◌&&◌, nat_lt, nat_le, All, vec_len, vec_capacity};
+    ghost use Rattle.std.specs.List.{AllByRecursion};
     ghost use Rattle.indexmap.specs.IndexSet.{spare};
-    ghost use Rattle.otel_pipeline.specs.Pipelines.{Piped, AreNumbers, AreAnswered, many_added, stream_identities};
+    ghost use Rattle.otel_pipeline.specs.Pipelines.{Piped, AreNumbers, AreAnswered, AreFedOnce, many_added, stream_identities};
 
     ghost Value = { Piped };
 
@@ -64,7 +66,7 @@ impl Model for Pipeline {
       room = nat_le (many_added p.plan) (spare p.identities) && (nat_le (vec_len p.streams + many_added p.plan) (vec_capacity p.streams) && nat_lt (vec_len p.feeds) (vec_capacity p.feeds));
     } };
 
-    ghost invariant = { λ p. (p.identities.keys ≡ stream_identities p.streams.items) × All (AreNumbers p.streams.items) p.feeds.items × AreAnswered p.answers p.streams.items };
+    ghost invariant = { λ p. (p.identities.keys ≡ stream_identities p.streams.items) × All (AreNumbers p.streams.items) p.feeds.items × AreAnswered p.answers p.streams.items × AllByRecursion AreFedOnce p.feeds.items };
 }
 
 impl Drop for Pipeline {
@@ -196,6 +198,23 @@ impl Pipeline {
         );
     }
 
+    /// Makes a record without attributes in the streams that the instrument feeds. Looks nothing up, and takes no
+    /// memory.
+    #[inline(always)]
+    pub fn record_none(&mut self, instrument: usize, value: NumberValue)
+        requires { FeedsType instrument (is_signed_value value) (part_of self.old) }
+        ensures { part_of self.new ≡ part_after_call 0 (model.Call.Record instrument (number_of value) []) (part_of self.old) }
+    {
+        // These two tell the prover that no identity occurs twice.
+        kind_laws();
+        let _ = self.identities.len();
+        record_none_each(
+            &mut self.streams,
+            streams_fed(&self.feeds, instrument),
+            value,
+        );
+    }
+
     /// Prepares a bind to these attributes in the streams that the instrument feeds, and makes room for its handle
     /// there. What the reader has stays unchanged.
     ///
@@ -226,28 +245,35 @@ impl Pipeline {
         );
     }
 
-    /// Prepares a record through a handle, or the handle's end, in the streams that its instrument feeds. What the
-    /// reader has stays unchanged. Looks up nothing but the handle, once in each of these streams, and takes no
-    /// memory.
+    /// Makes a record through a handle in the streams that its instrument feeds. Looks up nothing but the handle, once
+    /// in each of these streams, and takes no memory.
     #[inline(always)]
-    pub fn prepare_held(&mut self, instrument: usize, handle: u64)
-        ensures same { part_of self.new ≡ part_of self.old }
-        ensures prepared { IsPreparedHeldAt instrument handle self.new }
+    pub fn record_held(&mut self, instrument: usize, handle: u64, value: NumberValue)
+        requires typed { FeedsType instrument (is_signed_value value) (part_of self.old) }
+        requires synchronous { FeedsSynchronous instrument (part_of self.old) }
+        requires held { IsHeldByFed instrument handle (part_of self.old) }
+        ensures { part_of self.new ≡ part_after_call 0 (model.Call.RecordBound handle (number_of value)) (part_of self.old) }
     {
         // These two tell the prover that no identity occurs twice.
         kind_laws();
         let _ = self.identities.len();
-        prepare_held_each(
+        record_held_each(
             &mut self.streams,
             streams_fed(&self.feeds, instrument),
             handle,
+            value,
         );
     }
 
-    /// Ends the handle, whose end was prepared, in the streams that its instrument feeds. Takes no memory.
+    /// Ends a handle in the streams that its instrument feeds. Takes no memory.
     pub fn unbind(&mut self, instrument: usize, handle: u64)
-        ensures { part_of self.new ≡ part_after_unbind instrument handle self.old }
+        requires synchronous { FeedsSynchronous instrument (part_of self.old) }
+        requires held { IsHeldByFed instrument handle (part_of self.old) }
+        ensures { part_of self.new ≡ part_after_call 0 (model.Call.Unbind handle) (part_of self.old) }
     {
+        // These two tell the prover that no identity occurs twice.
+        kind_laws();
+        let _ = self.identities.len();
         unbind_each(
             &mut self.streams,
             streams_fed(&self.feeds, instrument),

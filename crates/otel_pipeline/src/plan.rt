@@ -32,13 +32,13 @@ pub(crate) struct Plan {
 
 impl Model for Plan {
     ghost use Rattle.std.specs.Prelude.{◌≡◌};
-    ghost use Rattle.otel_pipeline.specs.Pipelines.{Planned, stream_identities};
+    ghost use Rattle.otel_pipeline.specs.Pipelines.{AreFedOnce, Planned, stream_identities};
 
     ghost Value = { Planned };
 
     ghost view = { λ p. record { feeds = p.feeds.items; added = p.added.items } };
 
-    ghost invariant = { λ p. p.identities.keys ≡ stream_identities p.added.items };
+    ghost invariant = { λ p. (p.identities.keys ≡ stream_identities p.added.items) × AreFedOnce p.feeds.items };
 }
 
 /// Adds an identity that isn't there yet, for which there is room.

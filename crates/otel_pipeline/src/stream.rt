@@ -6,9 +6,9 @@ ghost use Rattle.otel_model.specs.Calls.{is_observable};
 ghost use Rattle.otel_model.specs.Collections.{number_of_points};
 ghost use Rattle.otel_model.specs.Sent.{set_for};
 ghost use Rattle.otel_pipeline.specs.Known.{is_known_to};
-ghost use Rattle.otel_pipeline.specs.Handles.{IsReadyToBind, IsPreparedHeld};
+ghost use Rattle.otel_pipeline.specs.Handles.{IsReadyToBind};
 ghost use Rattle.otel_pipeline.specs.Observations.{IsSavedOf, held_after_restore, saved_by};
-ghost use Rattle.otel_pipeline.specs.Streams.{IsMakeable, new_held, without_pending, held_after_commit, held_after_bind, held_after_unbind, held_after_collection, shown_metric, if_points};
+ghost use Rattle.otel_pipeline.specs.Streams.{IsMakeable, new_held, without_pending, held_after_commit, held_after_none, held_after_bind, held_after_update, held_after_unbind, held_after_collection, shown_metric, if_points};
 
 use crate::aggregations::{settings_of, size_of};
 use crate::saved::SavedStream;
@@ -152,6 +152,16 @@ impl Stream {
         }
     }
 
+    /// Takes in a record without attributes, if the value has the stream's number type. Takes no memory.
+    #[inline(always)]
+    pub(crate) fn record_none(&mut self, value: NumberValue)
+        ensures { self.new ≡ held_after_none value self.old }
+    {
+        if self.aggregate.measure_none(value) {
+            self.recorded = self.recorded.wrapping_add(size_of(&self.demand, value));
+        }
+    }
+
     /// Prepares a bind to these attributes, and makes room for its handle. What the stream shows stays unchanged.
     pub(crate) fn prepare_bind(&mut self, attributes: &[KeyValue]) -> Result<(), Fault>
         ensures same { without_pending self.new ≡ without_pending self.old }
@@ -172,23 +182,22 @@ impl Stream {
         }
     }
 
-    /// Prepares a record through a handle, or the handle's end, if the stream has the handle. What the stream shows
-    /// stays unchanged. Takes no memory.
+    /// Takes in a record through a handle, if the stream has the handle and the value has the stream's number type.
+    /// Takes no memory.
     #[inline(always)]
-    pub(crate) fn prepare_held(&mut self, handle: u64)
-        ensures same { without_pending self.new ≡ without_pending self.old }
-        ensures ready { IsPreparedHeld handle self.new }
+    pub(crate) fn record_held(&mut self, handle: u64, value: NumberValue)
+        ensures { self.new ≡ held_after_update handle value self.old }
     {
-        self.aggregate.prepare_held(handle);
+        if self.aggregate.update_bound(handle, value) {
+            self.recorded = self.recorded.wrapping_add(size_of(&self.demand, value));
+        }
     }
 
-    /// Ends the handle, if its end is prepared. Takes no memory.
+    /// Ends the handle, if the stream has it. Takes no memory.
     pub(crate) fn unbind(&mut self, handle: u64)
         ensures { self.new ≡ held_after_unbind handle self.old }
     {
-        if self.aggregate.is_prepared() {
-            self.aggregate.unbind(handle);
-        }
+        self.aggregate.unbind(handle);
     }
 
     /// Ends a collection, which gave the stream's points, at the moment `now`, in nanoseconds since 1970.

@@ -3,3 +3,4 @@ pub mod RisingKeys
 pub mod Referenced
 pub mod Cursors
 pub mod Placing
+pub mod Searching

@@ -26,6 +26,10 @@ abbrev pub is_above : Option (List ℕ) → List ℕ → Bool
 is_above None key = true
 is_above (Some last) key = is_lt (key_cmp last key)
 
+-- whether the key of an attribute is less than that of the next one
+abbrev pub is_below : KeyValue → KeyValue → Bool
+is_below p next = is_lt (key_cmp p.key next.key)
+
 -- whether a key is no greater than that of the attribute, if there is one
 abbrev pub is_at_most : List ℕ → Option KeyValue → Bool
 is_at_most key None = true

@@ -8,7 +8,7 @@ ghost use Rattle.std.specs.Hash.{same_Alike};
 ghost use Rattle.otel_common.specs.Canonical.{canon};
 ghost use Rattle.otel_common.specs.Equality.{set_eq, set_eq-Decides, key_value_eq_equiv};
 ghost use Rattle.otel_common.specs.Hashes.{key_value_writes};
-ghost use Rattle.otel_sets.specs.Keys.{held_in, shown};
+ghost use Rattle.otel_sets.specs.Keys.{held_in, is_below, shown};
 
 use crate::references::References;
 use crate::set_attributes::{
@@ -207,7 +207,14 @@ impl<'a> SetKey<'a> {
     pub fn is_canonical(&self) -> bool
         ensures { result ≡ set_eq (canon self.now) self.now }
     {
-        is_canonical(self.attributes())
+        match self.whole() {
+            Some(attributes) => attributes.is_sorted_by(
+                |attribute: &KeyValue, next: &KeyValue| -> bool
+                    ensures { result ≡ is_below attribute.now next.now }
+                { attribute.key < next.key },
+            ),
+            None => is_canonical(self.attributes()),
+        }
     }
 
     /// The set: another owner of it if the key owns one, without a copy and without memory; otherwise a copy.
@@ -215,10 +222,13 @@ impl<'a> SetKey<'a> {
         ensures set { IfOk result (λ set. set ≡ self.now) }
         ensures only_memory { IsOkUnless result Fault.OutOfMemory }
     {
-        if let Form::Owned(set) = &self.form {
-            return Ok(set.share()?);
+        match &self.form {
+            Form::Owned(set) => Ok(set.share()?),
+            Form::Given(attributes) => {
+                Ok(SharedItems::new(Vec::from_clones(alloc, *attributes)?)?)
+            }
+            _ => Ok(SharedItems::new(copies_of(alloc, self.attributes())?)?),
         }
-        Ok(SharedItems::new(copies_of(alloc, self.attributes())?)?)
     }
 }
 

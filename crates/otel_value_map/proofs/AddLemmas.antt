@@ -1,6 +1,6 @@
 -- A new key and its slot.
-use Rattle.std.proofs.Common.{ℕ, ◌≡◌, Bool, true, false, cond, ◌||◌, List, [], ◌∷◌, ◌++◌, Option, Some, None, is_some, map, refl, sym, ap, subst, ◌∙◌, nat_eq, true≢false, eqb-true}
-use Rattle.std.specs.List.{AllByRecursion, IsDistinct, list_any}
+use Rattle.std.proofs.Common.{ℕ, ◌≡◌, Bool, true, false, cond, List, [], ◌∷◌, ◌++◌, Option, Some, None, is_some, map, refl, sym, ap, subst, ◌∙◌, nat_eq, true≢false, eqb-true}
+use Rattle.std.specs.List.{AllByRecursion, IsDistinct}
 use Rattle.std.specs.Map.{lookup, keys_of, values_of}
 use Rattle.std.specs.Set.{is_member}
 use Rattle.std.proofs.lemmas.Cmp.{nat_eq_equiv}
@@ -14,6 +14,7 @@ use Rattle.otel_value_map.specs.Slots.{Kept, Look, SameLook, Keyed, with_slot, e
 use Rattle.otel_value_map.specs.Keyed.{Fits, Links, IsKept, IsNew, IsSpelling, is_lasting, is_counted, with_spelling}
 use Rattle.otel_value_map.specs.Numbers.{number_of, KeepNumbers}
 use Rattle.otel_value_map.proofs.KeyedLemmas.{set_eq-self, set_eq_equiv, same_number, entries-same, fits-as, linked-set}
+use Rattle.otel_value_map.proofs.SlotLemmas.{any_none}
 
 -- a filled slot is none that is free
 fits-apart : (look : Look) (n m : ℕ) → is_some (look m) ≡ true → look n ≡ None → nat_eq n m ≡ false
@@ -26,10 +27,6 @@ fits-apart look n m filled vacant = by (nat_eq n m) refl
 all_apart : (look : Look) (n : ℕ) (es : List Keyed) → AllByRecursion (Fits look) es → look n ≡ None → AllByRecursion (λ y. nat_eq n y ≡ false) (values_of es)
 all_apart look n [] h vacant = tt
 all_apart look n (x ∷ es) h vacant = (fits-apart look n x.1 h.0.filled vacant, all_apart look n es h.1 vacant)
-
-any_none : (n : ℕ) (ys : List ℕ) → AllByRecursion (λ y. nat_eq n y ≡ false) ys → list_any (nat_eq n) ys ≡ false
-any_none n [] h = refl
-any_none n (y ∷ ys) h = ap (λ b. b || list_any (nat_eq n) ys) h.0 ∙ any_none n ys h.1
 
 fits-same : (look other : Look) (n : ℕ) (es : List Keyed) → AllByRecursion (λ y. nat_eq n y ≡ false) (values_of es) → ((m : ℕ) → nat_eq n m ≡ false → other m ≡ look m) → AllByRecursion (Fits look) es → AllByRecursion (Fits other) es
 fits-same look other n [] h s fits = tt

@@ -5,6 +5,7 @@ pub mod KeyedLemmas
 pub mod TouchLemmas
 pub mod AddLemmas
 pub mod LeftLemmas
+pub mod SettledLemmas
 pub mod ShownLemmas
 pub mod PlanLemmas
 pub mod PlaceLemmas

@@ -16,7 +16,7 @@ use crate::slots::Slot;
 use crate::table::Table;
 use otel_common::attributes::KeyValue;
 use otel_common::faults::Fault;
-use otel_common::keys::Key;
+use otel_sets::allowed_keys::AllowedKeys;
 use otel_sets::references::{References, few_references, many_references};
 use otel_sets::set_attributes::SetAttributes;
 use otel_sets::set_key::SetKey;
@@ -217,7 +217,7 @@ fn plan_many<A: Aggregator>(
     table: &Table<A>,
     few: bool,
     list: &SetKey,
-    allow: Option<&[Key]>,
+    allow: Option<&AllowedKeys>,
     attributes: &[KeyValue],
 ) -> Result<Pending, Fault>
     requires list { list.now ≡ allowed_part (option_copied allow) attributes.now }
@@ -255,7 +255,7 @@ pub fn plan<A: Aggregator>(
     table: &Table<A>,
     few: bool,
     list: &SetKey,
-    allow: Option<&[Key]>,
+    allow: Option<&AllowedKeys>,
     attributes: &[KeyValue],
 ) -> Result<Pending, Fault>
     requires list { list.now ≡ allowed_part (option_copied allow) attributes.now }

@@ -1,8 +1,8 @@
 //! What is kept of the records of each set, in slots.
 
-ghost use Rattle.std.specs.Prelude.{◌≡◌, ◌<◌, ◌-◌, ◌^◌, ℕ, false, IfSome, None, Some};
+ghost use Rattle.std.specs.Prelude.{◌≡◌, ◌<◌, ◌-◌, ◌^◌, false, IfSome, None, Some, is_some};
 ghost use Rattle.slab.specs.Slab.{get, HasRoomFor};
-ghost use Rattle.otel_value_map.specs.Slots.{SameLook, look_in, kept_of, new_kept, with_slot, at_slot, written, held, released, forgotten, remains, left_of};
+ghost use Rattle.otel_value_map.specs.Slots.{SameLook, look_in, kept_of, new_kept, with_slot, at_slot, changed_at, written, held, released, forgotten, left_of};
 
 use crate::aggregator::Aggregator;
 use slab::Slab;
@@ -74,19 +74,41 @@ pub fn release<A: Aggregator>(slots: &mut Slab<Slot<A>>, number: usize)
     }
 }
 
-/// Forgets all records, and frees the slots that had none since the last time, that no handle holds and that don't
-/// last.
-pub fn evict<A: Aggregator>(slots: &mut Slab<Slot<A>>)
-    ensures look { (n : ℕ) → look_in A.meaning slots.new n ≡ left_of (look_in A.meaning slots.old n) }
+/// Forgets the records in the slot with this number.
+pub fn forget<A: Aggregator>(slots: &mut Slab<Slot<A>>, number: usize)
+    ensures look { SameLook (look_in A.meaning slots.new) (at_slot number forgotten (look_in A.meaning slots.old)) }
 {
-    slots.retain(
-        |_number: usize, slot: &mut Slot<A>| -> bool
-            ensures { (result ≡ remains (kept_of A.meaning slot.old)) × (kept_of A.meaning slot.new ≡ forgotten (kept_of A.meaning slot.old)) }
-        {
-            let stays = slot.updated || slot.handles > 0 || slot.lasting;
-            slot.updated = false;
-            slot.aggregator.reset();
-            stays
-        },
-    );
+    if let Some(slot) = slots.get_mut(number) {
+        slot.updated = false;
+        slot.aggregator.reset();
+    }
+}
+
+/// Frees the slot with this number.
+pub fn free<A: Aggregator>(slots: &mut Slab<Slot<A>>, number: usize)
+    ensures look { SameLook (look_in A.meaning slots.new) (changed_at (λ _. None) number (look_in A.meaning slots.old)) }
+{
+    slots.try_remove(number);
+}
+
+/// Whether evictions spare the slot with this number: it was updated since it was made or last reset, a live handle holds
+/// it, or it lasts.
+fn is_spared<A: Aggregator>(slots: &Slab<Slot<A>>, number: usize) -> bool
+    ensures { result ≡ is_some (left_of (look_in A.meaning slots.now number)) }
+{
+    match slots.get(number) {
+        None => false,
+        Some(slot) => slot.updated || slot.handles > 0 || slot.lasting,
+    }
+}
+
+/// Forgets the records in the slot with this number if evictions spare it, and otherwise frees it.
+pub fn settle<A: Aggregator>(slots: &mut Slab<Slot<A>>, number: usize)
+    ensures look { SameLook (look_in A.meaning slots.new) (changed_at left_of number (look_in A.meaning slots.old)) }
+{
+    if is_spared(slots, number) {
+        forget(slots, number);
+    } else {
+        free(slots, number);
+    }
 }

@@ -2,7 +2,7 @@
 
 ghost use Rattle.std.specs.Prelude.{◌≡◌, ◌<◌, ◌≤◌, ◌+◌, ◌-◌, ◌*◌, ◌^◌, ◌∷◌, [], ◌++◌, ◌||◌, None, Some, IfOk, IsOk, OnOk, IsOkUnless, IfSome, map, filter, is_some, length, cond, nat_eq, false, true, ℕ};
 ghost use Rattle.std.specs.Option.{option_map};
-ghost use Rattle.std.specs.Map.{lookup, keys_of};
+ghost use Rattle.std.specs.Map.{lookup, keys_of, values_of};
 ghost use Rattle.std.specs.Set.{is_member};
 ghost use Rattle.indexmap.specs.IndexMap.{spare};
 ghost use Rattle.otel_common.specs.Canonical.{canon};
@@ -12,14 +12,14 @@ ghost use Rattle.otel_model_stream.specs.Sets.{AttributeSet, none_set, over_set}
 ghost use Rattle.otel_model_stream.specs.Observed.{fold_in};
 ghost use Rattle.otel_model_stream.specs.Totals.{points_total};
 ghost use Rattle.otel_model_stream.specs.Entries.{point_of_entry, new_entry, has, write, take_handle, drop_handle, at_entry, new_table, evicted_table, drained_table, points, number_counted};
-ghost use Rattle.std.specs.List.{AllByRecursion};
+ghost use Rattle.std.specs.List.{AllByRecursion, IsDistinct};
 ghost use Rattle.otel_value_map.specs.Keyed.{Fits, found, IsNew, IsSpelling, with_spelling};
 ghost use Rattle.otel_value_map.specs.Numbers.{number_of, handles_at, entry_without_handles, without_handles, AreNamed, AreNumbered, KeepLeft, IsNumberOf, is_number};
-ghost use Rattle.otel_value_map.specs.Slots.{HasForm, look_in, kept_of, forgotten, entry_of, entry_at, copies};
+ghost use Rattle.otel_value_map.specs.Slots.{HasForm, SameLook, look_in, kept_of, changed_each, left_of, entry_of, entry_at, copies};
 
 use crate::aggregator::Aggregator;
 use crate::hashing::SetHashBuilder;
-use crate::slots::{Slot, evict, fill, hold, release, touch};
+use crate::slots::{Slot, fill, forget, free, hold, release, settle, touch};
 use indexmap::IndexMap;
 use otel_common::attributes::KeyValue;
 use otel_common::faults::Fault;
@@ -104,11 +104,26 @@ fn add_key(map: &mut Numbered, key: SetKey<'static>, number: usize)
     map.insert(key, number).unwrap();
 }
 
+/// Maps that have no room for more keys than this keep it.
+const SMALL: usize = 64;
+
+/// Gives memory back if a map has far fewer keys than there is room for, since clearing a map and removing from it take
+/// time for that room. For what stays, it takes memory anew; if that is refused, the room stays.
+fn trim(map: &mut Numbered)
+    ensures { map.new.entries ≡ map.old.entries }
+{
+    let room = map.capacity();
+    if room > SMALL && map.len() < room / 8 {
+        map.shrink_to(2 * map.len());
+    }
+}
+
 /// Removes the keys that lead to free slots.
 fn keep_filled<A: Aggregator>(map: &mut Numbered, slots: &Slab<Slot<A>>)
     ensures { map.new.entries ≡ filter (λ e. is_some (look_in A.meaning slots.now e.1)) map.old.entries }
 {
     map.retain(|_key, number| slots.contains(*number));
+    trim(map);
 }
 
 /// The point of the empty set, whose slot has this number, if that slot was updated.
@@ -208,19 +223,24 @@ fn count_counted<A: Aggregator>(slots: &Slab<Slot<A>>, sets: &Numbered) -> usize
     count
 }
 
-/// Forgets all records, and frees all slots but the one with this number.
-fn clear_but<A: Aggregator>(slots: &mut Slab<Slot<A>>, number: usize)
-    ensures { look_in A.meaning slots.new number ≡ option_map forgotten (look_in A.meaning slots.old number) }
+/// Forgets the records in the slots of the sets, or frees those that evictions don't spare.
+fn settle_each<A: Aggregator>(slots: &mut Slab<Slot<A>>, sets: &Numbered)
+    requires apart { IsDistinct nat_eq (values_of sets.now.entries) }
+    ensures look { SameLook (look_in A.meaning slots.new) (changed_each left_of sets.now.entries (look_in A.meaning slots.old)) }
 {
-    slots.retain(
-        |other: usize, slot: &mut Slot<A>| -> bool
-            ensures { (result ≡ nat_eq other number) × (kept_of A.meaning slot.new ≡ forgotten (kept_of A.meaning slot.old)) }
-        {
-            slot.updated = false;
-            slot.aggregator.reset();
-            other == number
-        },
-    );
+    for (_, number) in sets.iter() {
+        settle(slots, *number);
+    }
+}
+
+/// Frees the slots of the sets.
+fn free_each<A: Aggregator>(slots: &mut Slab<Slot<A>>, sets: &Numbered)
+    requires apart { IsDistinct nat_eq (values_of sets.now.entries) }
+    ensures look { SameLook (look_in A.meaning slots.new) (changed_each (λ _. None) sets.now.entries (look_in A.meaning slots.old)) }
+{
+    for (_, number) in sets.iter() {
+        free(slots, *number);
+    }
 }
 
 /// The aggregator in the slot with this number, if the slot was updated.
@@ -379,7 +399,8 @@ impl<A: Aggregator> Table<A> {
         ensures numbers { KeepLeft (evicted_table self.old.table).entries self.old.numbers self.new.numbers }
         ensures given { keys_of self.new.given ≡ filter (λ l. has (canon l) (evicted_table self.old.table).entries) (keys_of self.old.given) }
     {
-        evict(&mut self.slots);
+        settle(&mut self.slots, self.none);
+        settle_each(&mut self.slots, &self.sets);
         keep_filled(&mut self.sets, &self.slots);
         keep_filled(&mut self.given, &self.slots);
     }
@@ -430,15 +451,18 @@ impl<A: Aggregator> Table<A> {
         hold(&mut self.slots, number);
     }
 
-    /// Forgets all records, and all entries but that of the empty set. Keeps the memory that it took for entries, for
-    /// later ones.
+    /// Forgets all records, and all entries but that of the empty set. Keeps memory for about as many entries as it had,
+    /// for later ones.
     pub fn drain(&mut self)
         ensures table { self.new.table ≡ drained_table self.old.table }
         ensures none { self.new.numbers.none ≡ self.old.numbers.none }
         ensures sets { self.new.numbers.sets ≡ [] }
         ensures given { self.new.given ≡ [] }
     {
-        clear_but(&mut self.slots, self.none);
+        free_each(&mut self.slots, &self.sets);
+        forget(&mut self.slots, self.none);
+        trim(&mut self.sets);
+        trim(&mut self.given);
         self.sets.clear();
         self.given.clear();
     }

@@ -8,7 +8,7 @@ ghost use Rattle.otel_model_stream.specs.Maps.{new_map, with_place, measured_map
 ghost use Rattle.otel_model_stream.specs.Laws.{AreKnown};
 ghost use Rattle.otel_model_stream.specs.Observed.{fold_in};
 ghost use Rattle.otel_model_stream.specs.Folds.{wrap};
-ghost use Rattle.otel_model_stream.specs.Sets.{AttributeSet, allowed_part, set_of};
+ghost use Rattle.otel_model_stream.specs.Sets.{AttributeSet, allowed_part, none_set, set_of};
 ghost use Rattle.otel_model_stream.specs.Totals.{points_total};
 ghost use Rattle.otel_value_map.specs.Held.{known_of};
 ghost use Rattle.otel_value_map.specs.Faults.{IsBindFault};
@@ -24,8 +24,8 @@ use crate::slots::Slot;
 use crate::table::Table;
 use otel_common::attributes::KeyValue;
 use otel_common::faults::Fault;
-use otel_common::keys::Key;
 use otel_common::lists::SharedItems;
+use otel_sets::allowed_keys::AllowedKeys;
 use otel_sets::references::{References, kept_references};
 use otel_sets::set_attributes::SetAttributes;
 use otel_sets::set_key::SetKey;
@@ -135,7 +135,7 @@ impl<A: Aggregator> ValueMap<A> {
     fn prepare_list(
         &mut self,
         list: &SetKey,
-        allow: Option<&[Key]>,
+        allow: Option<&AllowedKeys>,
         attributes: &[KeyValue],
     ) -> Result<(), Fault>
         requires { list.now ≡ allowed_part (option_copied allow) attributes.now }
@@ -161,7 +161,7 @@ impl<A: Aggregator> ValueMap<A> {
     fn prepare_unknown(
         &mut self,
         list: &SetKey,
-        allow: Option<&[Key]>,
+        allow: Option<&AllowedKeys>,
         attributes: &[KeyValue],
     ) -> Result<(), Fault>
         requires list { list.now ≡ allowed_part (option_copied allow) attributes.now }
@@ -267,7 +267,11 @@ impl<A: Aggregator> ValueMap<A> {
     /// It looks up what is kept without copying it, as given, by references to up to 16 attributes that it finds once,
     /// and otherwise by sorted references.
     #[inline(never)]
-    pub fn prepare_allowed(&mut self, allow: &[Key], attributes: &[KeyValue]) -> Result<(), Fault>
+    pub fn prepare_allowed(
+        &mut self,
+        allow: &AllowedKeys,
+        attributes: &[KeyValue],
+    ) -> Result<(), Fault>
         ensures same { self.new.state ≡ self.old.state }
         ensures numbers { self.new.numbers ≡ self.old.numbers }
         ensures given { self.new.given ≡ self.old.given }
@@ -290,7 +294,11 @@ impl<A: Aggregator> ValueMap<A> {
     /// Does what `prepare_allowed` does where too many attributes are kept for references without memory. Asks the
     /// allow-list anew whenever it goes over them.
     #[inline(never)]
-    fn prepare_many_allowed(&mut self, allow: &[Key], attributes: &[KeyValue]) -> Result<(), Fault>
+    fn prepare_many_allowed(
+        &mut self,
+        allow: &AllowedKeys,
+        attributes: &[KeyValue],
+    ) -> Result<(), Fault>
         ensures same { self.new.state ≡ self.old.state }
         ensures numbers { self.new.numbers ≡ self.old.numbers }
         ensures given { self.new.given ≡ self.old.given }
@@ -303,21 +311,6 @@ impl<A: Aggregator> ValueMap<A> {
     {
         let kept = SetAttributes::kept(Some(allow), attributes);
         self.prepare_list(&SetKey::held(&kept), Some(allow), attributes)
-    }
-
-    /// Prepares a record at the entry with this number, in place of one that was prepared before. Looks nothing up and
-    /// takes no memory.
-    pub fn prepare_at(&mut self, number: usize)
-        requires { (s : AttributeSet) × (number_of s self.old.numbers ≡ Some number) }
-        ensures same { self.new.state ≡ self.old.state }
-        ensures numbers { self.new.numbers ≡ self.old.numbers }
-        ensures given { self.new.given ≡ self.old.given }
-        ensures ready { (s : AttributeSet) → number_of s self.old.numbers ≡ Some number → self.new.pending ≡ Some s }
-        ensures spelling { self.new.spelling ≡ [] }
-    {
-        // Tells the prover that the number names its entry.
-        self.table.told_numbers();
-        self.pending.put_at(number);
     }
 
     /// Gives up the prepared record or bind, if there is one.
@@ -347,6 +340,19 @@ impl<A: Aggregator> ValueMap<A> {
     {
         let entry = self.place();
         self.table.touch(entry, value);
+    }
+
+    /// Takes in a record for the empty set, which always has an entry. Looks nothing up, takes no memory, and gives up
+    /// what was prepared.
+    pub fn measure_none(&mut self, value: A::PreComputedValue)
+        ensures measured { self.new.state ≡ measured_map none_set (A.sample value) self.old.state }
+        ensures numbers { self.new.numbers ≡ self.old.numbers }
+        ensures given { self.new.given ≡ self.old.given }
+        ensures spent { self.new.pending ≡ None }
+    {
+        self.pending.give_up();
+        let none = self.table.none();
+        self.table.touch(none, value);
     }
 
     /// Takes in a record for the canonical form of the attributes. Takes memory where `prepare` does. If it admits their
@@ -524,7 +530,7 @@ impl<A: Aggregator> ValueMap<A> {
     }
 
     /// Forgets all records, and all entries but that of the empty set. A prepared record is given up. The map keeps
-    /// the memory that it took for entries, for later ones.
+    /// memory for about as many entries as it had, for later ones.
     pub fn drain(&mut self)
         ensures state { self.new.state ≡ drained_map self.old.state }
         ensures none { self.new.numbers.none ≡ self.old.numbers.none }

@@ -1,17 +1,30 @@
-use Rattle.std.proofs.Common.{◌∙◌, ap, sym, subst, map}
-use Rattle.std.specs.List.{AllByRecursion as EachOf}
+use Rattle.std.proofs.Common.{arith, ◌∙◌, sym}
+use Rattle.std.proofs.lemmas.Simd.{map-map}
+use Rattle.otel_aggregate.specs.Any.{is_signed_value}
 use Rattle.otel_model.specs.Calls as model
 use Rattle.otel_model.specs.Machine.{part_after_call}
 use Rattle.otel_pipeline.specs.Handles.{FeedsSynchronous, IsHeldByFed}
+use Rattle.otel_pipeline.specs.Pipelines.{FeedsType, Piped, part_of}
+use Rattle.otel_pipeline.proofs.PipelinesLemmas.{done-none, done-more, done-all}
 use Rattle.otel_core.specs.Correspondence.{number_of}
-use Rattle.otel_core.specs.States.{FeedType}
-use Rattle.otel_core.proofs.Held.{all_updated}
+use Rattle.otel_core.proofs.Held.{each-left}
 use Rattle.otel_core.proofs.each_pipeline.record_held.Goals as goal
 
+pub loop-i-init : goal.loop-i-init
+loop-i-init c = done-none part_of (λ (p : Piped). part_after_call 0 (model.Call.RecordBound c.args.handle (number_of c.args.value)) (part_of p)) c.args.pipelines.now
+
+-- what holds of all readers holds of this one, which is as it was
+pub record_held-requires-clause-typed : goal.record_held-requires-clause-typed
+record_held-requires-clause-typed c = each-left (FeedsType c.args.instrument (is_signed_value c.args.value)) (part_after_call 0 (model.Call.RecordBound c.args.handle (number_of c.args.value))) c.args.pipelines.now c.loop-i.pipelines c.loop-i.i c.index-pipelines-i.result (omega arith) c.loop-i.invariant c.requires.typed
+
+pub record_held-requires-clause-synchronous : goal.record_held-requires-clause-synchronous
+record_held-requires-clause-synchronous c = each-left (FeedsSynchronous c.args.instrument) (part_after_call 0 (model.Call.RecordBound c.args.handle (number_of c.args.value))) c.args.pipelines.now c.loop-i.pipelines c.loop-i.i c.index-pipelines-i.result (omega arith) c.loop-i.invariant c.requires.synchronous
+
+pub record_held-requires-clause-held : goal.record_held-requires-clause-held
+record_held-requires-clause-held c = each-left (IsHeldByFed c.args.instrument c.args.handle) (part_after_call 0 (model.Call.RecordBound c.args.handle (number_of c.args.value))) c.args.pipelines.now c.loop-i.pipelines c.loop-i.i c.index-pipelines-i.result (omega arith) c.loop-i.invariant c.requires.held
+
+pub loop-i-preserved : goal.loop-i-preserved
+loop-i-preserved c = done-more part_of (λ (p : Piped). part_after_call 0 (model.Call.RecordBound c.args.handle (number_of c.args.value)) (part_of p)) c.args.pipelines.now c.loop-i.pipelines c.loop-i.i c.index-pipelines-i.result c.record_held.new.self (omega arith) c.record_held.ensures c.loop-i.invariant
+
 pub returns : goal.returns
-returns c =
-    let same = c.prepare_held_all.ensures.same in
-    c.commit_all.ensures
-    ∙ (all_updated c.args.instrument c.args.handle c.args.value c.prepare_held_all.new.pipelines c.prepare_held_all.ensures.prepared
-    (subst (FeedType c.args.instrument (number_of c.args.value)) (sym same) c.requires.typed) (subst (EachOf (FeedsSynchronous c.args.instrument)) (sym same) c.requires.synchronous) (subst (EachOf (IsHeldByFed c.args.instrument c.args.handle)) (sym same) c.requires.held)
-    ∙ ap (map (part_after_call 0 (model.Call.RecordBound c.args.handle (number_of c.args.value)))) same)
+returns c = done-all part_of (λ (p : Piped). part_after_call 0 (model.Call.RecordBound c.args.handle (number_of c.args.value)) (part_of p)) c.args.pipelines.now c.loop-i.pipelines c.loop-i.i (omega arith) c.loop-i.invariant ∙ sym (map-map (part_after_call 0 (model.Call.RecordBound c.args.handle (number_of c.args.value))) part_of c.args.pipelines.now)

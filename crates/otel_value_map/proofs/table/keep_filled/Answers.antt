@@ -7,6 +7,6 @@ use Rattle.otel_value_map.proofs.table.keep_filled.Goals as goal
 
 pub returns : goal.returns
 returns g c =
-    filter_same_pairs _ (λ e. is_some (look_in g.A.Aggregator.meaning c.args.slots.now e.1)) _ (λ k v b w f call.
+    c.trim.ensures ∙ filter_same_pairs _ (λ e. is_some (look_in g.A.Aggregator.meaning c.args.slots.now e.1)) _ (λ k v b w f call.
     let there : b ≡ is_some (get c.args.slots.now v) = search rules in
     search (rules, there ∙ sym (is_some-map (kept_of g.A.Aggregator.meaning) (get c.args.slots.now v)))) _ _ c.retain.ensures.filtered

@@ -7,6 +7,7 @@ use Rattle.indexmap.specs.IndexSet.{spare}
 use Rattle.otel_model.specs.Streams.{is_delta}
 use Rattle.otel_pipeline.specs.Pipelines.{Planned, IsPlanOf, identity_of, many_added, stream_identities}
 use Rattle.otel_pipeline.specs.Streams.{Held}
+use Rattle.otel_pipeline.proofs.Once.{fed-push}
 use Rattle.otel_pipeline.proofs.PipelineLemmas.{part-same}
 use Rattle.otel_pipeline.proofs.Plans.{appended-keys, numbers-built, each-append, room-parts, built-is, some_plan}
 use Rattle.otel_pipeline.proofs.pipeline.Pipeline.build.Goals as goal
@@ -17,7 +18,7 @@ unwrap-requires c =
     let held : c.self.inside.plan ≡ Some c.in-Some.plan = sym c.in-Some.ensures.value in
     let room = room-parts (leb (many_added c.self.inside.plan) (spare c.self.inside.identities)) (leb (vec_len c.self.inside.streams + many_added c.self.inside.plan) (vec_capacity c.self.inside.streams)) (ltb (vec_len c.self.inside.feeds) (vec_capacity c.self.inside.feeds)) (rw (← c.self.view_is) at c.requires.room) in
     let fits : many_added c.self.inside.plan ≤ spare c.self.inside.identities = leb-true _ _ room.0 in
-    let many : length c.plan.inside.identities.keys ≡ many_added c.self.inside.plan = ap length c.plan.invariant ∙ (length-map c.plan.inside.added.items identity_of ∙ (ap (λ (p : Planned). length p.added) c.plan.view_is ∙ ap many_added (sym held))) in
+    let many : length c.plan.inside.identities.keys ≡ many_added c.self.inside.plan = ap length c.plan.invariant.0 ∙ (length-map c.plan.inside.added.items identity_of ∙ (ap (λ (p : Planned). length p.added) c.plan.view_is ∙ ap many_added (sym held))) in
     c.append.ensures.succeeds (omega (arith, many, fits))
 
 pub push_reserved-requires : goal.push_reserved-requires
@@ -42,11 +43,12 @@ invariant_of-self-2 c =
     let meets : IsPlanOf answers ks c.requires.now c.requires.demands (record { feeds = c.plan.inside.feeds.items; added = ms }) = subst (IsPlanOf answers ks c.requires.now c.requires.demands) seen (rw (← c.self.view_is) at c.requires.meets) in
     let streams : c.append-2.new.self.items ≡ ks ++ ms = rw c.unwrap-2.ensures at c.append-2.ensures.items in
     let keys : c.append.new.self.keys ≡ stream_identities (ks ++ ms) =
-    (rw c.unwrap.ensures at c.append.ensures.keys) ∙ appended-keys _ c.kind_laws.ensures.equal ks ms c.self.inside.identities.keys c.plan.inside.identities.keys c.self.invariant.0 c.plan.invariant meets.apart in
+    (rw c.unwrap.ensures at c.append.ensures.keys) ∙ appended-keys _ c.kind_laws.ensures.equal ks ms c.self.inside.identities.keys c.plan.inside.identities.keys c.self.invariant.0 c.plan.invariant.0 meets.apart in
     rw (streams, c.push_reserved.ensures.items, c.from.ensures) (
       keys,
       numbers-built ks ms c.self.inside.feeds.items c.plan.inside.feeds.items c.self.invariant.1 meets.numbers,
       each-append (λ resets d. resets ≡ is_delta answers d) ks ms c.self.invariant.2 meets.answered,
+      fed-push c.self.inside.feeds.items c.plan.inside.feeds.items c.self.invariant.3 c.plan.invariant.1,
     )
 
 -- what is carried out is what was planned

@@ -40,6 +40,7 @@ invariant_of-self c =
           (λ (e : all_without_pending new ≡ all_without_pending finished). answered-settled (λ resets d. resets ≡ is_delta answers d) new finished e (answered-finished (λ resets d. resets ≡ is_delta answers d) c.args.now observed (answered-observed answers feeds os old c.self.invariant.2)))
           (λ (e : all_without_pending new ≡ all_without_pending old). answered-settled (λ resets d. resets ≡ is_delta answers d) new old e c.self.invariant.2)
           c.collect_observed.ensures.streams c.collect_observed.ensures.undone,
+      c.self.invariant.3,
     )
 
 -- what takes observations in is observable

@@ -16,4 +16,5 @@ invariant_of-self c =
       c.self.invariant.0 ∙ same,
       numbers-kept old new c.self.inside.feeds.items (length-from old new same) c.self.invariant.1,
       subst (AreAnswered answers) (sym c.commit_each.ensures) (answered-committed (λ resets d. resets ≡ is_delta answers d) c.args.value fed old c.self.invariant.2),
+      c.self.invariant.3,
     )

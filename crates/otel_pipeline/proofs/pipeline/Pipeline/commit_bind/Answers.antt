@@ -18,4 +18,5 @@ invariant_of-self c =
       c.self.invariant.0 ∙ same,
       numbers-kept old new c.self.inside.feeds.items (length-from old new same) c.self.invariant.1,
       subst (AreAnswered answers) (sym c.commit_bind_each.ensures) (answered-each (λ resets d. resets ≡ is_delta answers d) (held_after_bind c.args.handle) (binds c.args.handle) fed old c.self.invariant.2),
+      c.self.invariant.3,
     )

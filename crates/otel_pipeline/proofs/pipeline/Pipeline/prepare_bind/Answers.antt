@@ -22,6 +22,7 @@ invariant_of-self c =
       c.self.invariant.0 ∙ same,
       numbers-kept old new c.self.inside.feeds.items (length-from old new same) c.self.invariant.1,
       answered-settled (λ resets d. resets ≡ is_delta answers d) new old c.prepare_bind_each.ensures.same c.self.invariant.2,
+      c.self.invariant.3,
     )
 
 -- the keys are the identities of the streams, also afterwards

@@ -1,9 +1,14 @@
-use Rattle.std.proofs.Common.{◌≡◌, ◌∙◌, ap, sym, subst}
+use Rattle.std.proofs.Common.{◌≡◌, ◌∙◌, ap, sym, subst, List, [], ℕ, slice_get}
+use Rattle.std.specs.List.{IsDistinct}
+use Rattle.otel_model.specs.Calls.{or_else}
+use Rattle.otel_model.specs.Demands.{identity_eq}
 use Rattle.otel_model.specs.Streams.{is_delta}
-use Rattle.otel_pipeline.specs.Pipelines.{stream_identities, AreAnswered}
+use Rattle.otel_pipeline.specs.Pipelines.{stream_identities, AreAnswered, part_by}
+use Rattle.otel_pipeline.specs.Handles.{unbound_each}
 use Rattle.otel_pipeline.specs.Streams.{held_after_unbind}
-use Rattle.otel_pipeline.proofs.Handles.{unbinds}
+use Rattle.otel_pipeline.proofs.Handles.{unbind-sent, unbinds}
 use Rattle.otel_pipeline.proofs.Answered.{answered-each}
+use Rattle.otel_pipeline.proofs.Identities.{distinct-same}
 use Rattle.otel_pipeline.proofs.PipelineLemmas.{demands-changed, identities-same, length-from, numbers-kept}
 use Rattle.otel_pipeline.proofs.pipeline.Pipeline.unbind.Goals as goal
 
@@ -18,4 +23,16 @@ invariant_of-self c =
       c.self.invariant.0 ∙ same,
       numbers-kept old new c.self.inside.feeds.items (length-from old new same) c.self.invariant.1,
       subst (AreAnswered answers) (sym c.unbind_each.ensures) (answered-each (λ resets d. resets ≡ is_delta answers d) (held_after_unbind c.args.handle) (unbinds c.args.handle) fed old c.self.invariant.2),
+      c.self.invariant.3,
     )
+
+-- the end of the handle is sent to the streams that the instrument feeds
+pub returns : goal.returns
+returns c =
+    let answers = c.self.inside.answers in
+    let old = c.self.inside.streams.items in
+    let feeds : List (List ℕ) = c.self.inside.feeds.items in
+    let n = c.args.instrument in
+    let apart : IsDistinct identity_eq (stream_identities old) = subst (IsDistinct identity_eq) c.self.invariant.0 (distinct-same _ c.kind_laws.ensures.equal c.self.inside.identities.keys c.len.ensures.unique) in
+    let made : c.unbind_each.new.streams.items ≡ unbound_each c.args.handle (or_else (slice_get feeds n) []) old = c.unbind_each.ensures ∙ ap (λ ns. unbound_each c.args.handle ns old) (c.streams_fed.ensures ∙ ap (λ f. or_else (slice_get f n) []) c.deref.ensures.value) in
+    rw (← c.self.view_is) (ap (λ ks. part_by answers ks feeds) made ∙ unbind-sent answers old feeds n apart c.self.invariant.1 c.self.invariant.3 c.args.handle (rw (← c.self.view_is) at c.requires.synchronous) (rw (← c.self.view_is) at c.requires.held))

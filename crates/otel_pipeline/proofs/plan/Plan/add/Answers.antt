@@ -9,7 +9,7 @@ use Rattle.otel_pipeline.proofs.plan.Plan.add.Goals as goal
 pub add_key-requires-clause-absent : goal.add_key-requires-clause-absent
 add_key-requires-clause-absent c =
     let x : Identity = c.in_ok-identity.identity in
-    let keys : c.reserve.new.self.keys ≡ stream_identities c.self.inside.added.items = c.in_ok-reserve.ensures.keys ∙ c.self.invariant in
+    let keys : c.reserve.new.self.keys ≡ stream_identities c.self.inside.added.items = c.in_ok-reserve.ensures.keys ∙ c.self.invariant.0 in
     let same : x ≡ c.args.demand.identity = ap (λ (p : Identity × Held). p.0) c.in_ok-identity.ensures.stream in
     let absent : list_any (identity_eq c.args.demand.identity) (stream_identities c.self.inside.added.items) ≡ false = rw (← c.self.view_is) at c.requires.absent in
     absent-same _ c.kind_laws.ensures.equal x c.reserve.new.self.keys ((λ i. list_any (identity_eq (same i)) (keys i)) ∙ absent)

@@ -1,0 +1,52 @@
+-- Numbers of which none occurs twice.
+use Rattle.std.proofs.Common.{◌≡◌, ℕ, zero, suc, ◌+◌, ◌==◌, Bool, true, false, cond, ◌||◌, List, [], ◌∷◌, ◌++◌, fold, slice_get, refl, sym, ◌∙◌, ap, arith, eq-eqb, ne_eqb, true≢false}
+use Rattle.std.specs.List.{AllByRecursion}
+use Rattle.otel_model_stream.specs.Totals.{has_number}
+use Rattle.otel_model.specs.Calls.{or_else}
+use Rattle.otel_model.specs.Machine.{changed_at}
+use Rattle.otel_pipeline.specs.Observations.{changed_in}
+use Rattle.otel_pipeline.specs.Pipelines.{AreFedOnce}
+use Rattle.otel_pipeline.proofs.Commits.{mapped-none, mapped-unseen}
+
+-- ======== one number more ========
+neither : (a b : Bool) → (a || b) ≡ false → (a ≡ false) × (b ≡ false)
+neither true b e = absurd (true≢false e)
+neither false b e = (refl, e)
+
+absent-push : (ns : List ℕ) (m n : ℕ) → has_number m ns ≡ false → (n == m) ≡ false → has_number m (ns ++ n ∷ []) ≡ false
+absent-push [] m n h e = ap (λ b. b || false) e
+absent-push (k ∷ ns) m n h e = let p = neither (k == m) (has_number m ns) h in λ i. p.0 i || absent-push ns m n p.1 e i
+
+pub once-push : (ns : List ℕ) (n : ℕ) → AreFedOnce ns → has_number n ns ≡ false → AreFedOnce (ns ++ n ∷ [])
+once-push [] n once new = (refl, tt)
+once-push (m ∷ ns) n once new =
+    let p = neither (m == n) (has_number n ns) new in
+    (absent-push ns m n once.0 (ne_eqb n m (λ q. true≢false (sym (eq-eqb m n (sym q)) ∙ p.0))), once-push ns n once.1 p.1)
+
+-- ======== what instruments feed ========
+pub fed-push : (feeds : List (List ℕ)) (ns : List ℕ) → AllByRecursion AreFedOnce feeds → AreFedOnce ns → AllByRecursion AreFedOnce (feeds ++ ns ∷ [])
+fed-push [] ns all once = (once, tt)
+fed-push (ms ∷ feeds) ns all once = (all.0, fed-push feeds ns all.1 once)
+
+pub fed-once : (feeds : List (List ℕ)) (n : ℕ) → AllByRecursion AreFedOnce feeds → AreFedOnce (or_else (slice_get feeds n) [])
+fed-once [] n all = tt
+fed-once (ns ∷ feeds) zero all = all.0
+fed-once (ns ∷ feeds) (suc n) all = fed-once feeds n all.1
+
+-- ======== f at each number ========
+-- where a number doesn't occur again, it is f at its element
+mapped-once : {X : Type 0} (f : X → X) (ns : List ℕ) (k i n : ℕ) (xs : List X) → n ≡ i + k → has_number n ns ≡ false → changed_in ns f i (changed_at k f xs) ≡ changed_in (n ∷ ns) f i xs
+mapped-once f ns zero i n [] e new = refl
+mapped-once f ns (suc k) i n [] e new = refl
+mapped-once f ns zero i n (x ∷ xs) e new =
+    let same : n ≡ i = omega arith in
+    let here : (n == i) ≡ true = eq-eqb n i same in
+    let away : has_number i ns ≡ false = ap (λ m. has_number m ns) (sym same) ∙ new in
+    λ j. (ap (λ b. cond b (f (f x)) (f x)) away ∙ ap (λ b. cond (b || has_number i ns) (f x) x) (sym here)) j ∷ sym (mapped-unseen f n ns (suc i) xs (omega arith)) j
+mapped-once f ns (suc k) i n (x ∷ xs) e new =
+    λ j. cond (sym (ne_eqb n i (λ q. omega arith)) j || has_number i ns) (f x) x ∷ mapped-once f ns k (suc i) n xs (omega arith) new j
+
+-- f at one number after another
+pub fold-once : {X : Type 0} (f : X → X) (ns : List ℕ) (xs : List X) → AreFedOnce ns → fold (λ ys n. changed_at n f ys) xs ns ≡ changed_in ns f 0 xs
+fold-once f [] xs once = sym (mapped-none f 0 xs)
+fold-once f (n ∷ ns) xs once = fold-once f ns (changed_at n f xs) once.1 ∙ mapped-once f ns n 0 n xs (omega arith) once.0
