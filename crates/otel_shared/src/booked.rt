@@ -17,7 +17,7 @@ ghost use Rattle.otel_shared.specs.Pending.{call_in, bits_in, is_record, IsDone,
 ghost use Rattle.otel_shared.specs.Workers.{pending_of, records_of, values_of, worker_identity};
 ghost use Rattle.otel_stream.specs.Requests.{wanted_by};
 
-use crate::account::Account;
+use crate::account::{Account, check_book, check_workers};
 use crate::pending::PendingRecord;
 use crate::worker::Worker;
 use otel_callback::observation::Observed;
@@ -30,9 +30,6 @@ use otel_stream::view::View;
 use std::alloc::Global;
 use std::collections::VecDeque;
 use std::sync::ledger::{Blank, Book, Share};
-
-/// How many records a book takes.
-const MOST_RECORDS: u64 = u64::MAX;
 
 /// What a worker is told once all its records have been accepted.
 #[derive(Clone, Copy, Debug, PartialEq, Eq)]
@@ -200,9 +197,7 @@ impl<C: Account, S: Account> Booked<C, S> {
         ensures fault { IfErr result (λ f. (f ≡ Fault.Exhausted) × (self.new ≡ self.old)) }
         ensures kept { (self.new.core ≡ self.old.core) × (self.new.records.total ≡ self.old.records.total) × (self.new.values.total ≡ self.old.values.total) }
     {
-        if self.opened == u32::MAX {
-            return Err(Fault::Exhausted);
-        }
+        check_workers(self.opened)?;
         let records = self.spare_records.split_off(1, 0);
         let values = self.spare_values.split_off(1, 0);
         self.opened += 1;
@@ -291,9 +286,7 @@ impl<C: Account, S: Account> Booked<C, S> {
         let Some(first) = worker.pending.front() else {
             return Ok(false);
         };
-        if self.accepted == MOST_RECORDS {
-            return Err(Fault::LedgerFull);
-        }
+        check_book(self.accepted)?;
         if let Err(fault) = make(&mut self.core, first) {
             return Err(fault);
         }
@@ -342,6 +335,3 @@ impl<C: Account, S: Account> Booked<C, S> {
         Ok(core)
     }
 }
-
-#[cfg(test)]
-mod tests;

@@ -4,7 +4,9 @@ ghost use Rattle.std.specs.Prelude.{◌≡◌, ◌%◌, ◌^◌};
 ghost use Rattle.otel_model_laws.specs.Books.{count_in, sum_in};
 ghost use Rattle.otel_provider.specs.Providers.{state_of};
 
-use crate::counted::{add, build_counters, fault_of_reply, fault_of_submission};
+use crate::counted::{
+    add, build_counters, fault_of_call, fault_of_submission, open_worker, submit,
+};
 use crate::four::read_settled;
 use crate::handed::settled;
 use otel_common::faults::Fault;
@@ -52,17 +54,17 @@ fn stopped<P: Parts, C: Account, S: Account>(
     for instrument in [0, 9, 0] {
         add(alloc, worker, instrument, 1)?;
     }
-    let fault = fault_of_submission(&locked.submit(worker));
+    let fault = fault_of_submission(locked, worker);
     let submitted = worker.submitted();
     let pending = worker.pending() as u64;
     let taken = instrument_of(worker.take_first());
-    let receipt = locked.submit(worker)?;
+    let accepted = submit(locked, worker)?;
     Ok([
         fault,
         submitted,
         pending,
         taken,
-        receipt.accepted,
+        accepted,
         worker.pending() as u64,
         worker.submitted(),
     ])
@@ -74,11 +76,11 @@ fn nothing<P: Parts, C: Account, S: Account>(
     locked: &mut Locked<P, C, S>,
     worker: &mut Worker<C, S>,
 ) -> Result<[u64; 7], Fault> {
-    let before = locked.submit(worker)?;
+    let before = submit(locked, worker)?;
     add(alloc, worker, 0, 1)?;
-    let one = locked.submit(worker)?;
-    let after = locked.submit(worker)?;
-    Ok([before.accepted, one.accepted, after.accepted, 0, 0, 0, 0])
+    let one = submit(locked, worker)?;
+    let after = submit(locked, worker)?;
+    Ok([before, one, after, 0, 0, 0, 0])
 }
 
 /// The number of the fault of a refused settlement, otherwise 0.
@@ -118,18 +120,22 @@ fn records_by_call<P: Parts, C: Account, S: Account>(
     alloc: Global,
     locked: &mut Locked<P, C, S>,
 ) -> [u64; 2] {
-    let plain = Call::Record {
-        instrument: 0,
-        value: NumberValue::U64(1),
-        attributes: Items::from(Vec::new(alloc)),
-    };
-    let bound = Call::RecordBound {
-        handle: 0,
-        value: NumberValue::U64(1),
-    };
     [
-        fault_of_reply(&locked.call(&plain)),
-        fault_of_reply(&locked.call(&bound)),
+        fault_of_call(
+            locked,
+            Call::Record {
+                instrument: 0,
+                value: NumberValue::U64(1),
+                attributes: Items::from(Vec::new(alloc)),
+            },
+        ),
+        fault_of_call(
+            locked,
+            Call::RecordBound {
+                handle: 0,
+                value: NumberValue::U64(1),
+            },
+        ),
     ]
 }
 
@@ -143,7 +149,7 @@ fn missing<P: Parts, C: Account, S: Account>(
 {
     let mut locked = locked;
     let [plain, bound] = records_by_call(alloc, &mut locked);
-    let last = locked.open_worker()?;
+    let last = open_worker(&mut locked)?;
     let workers = vec![in alloc; worker]?;
     let [first, second] = settle_twice(locked, workers, last)?;
     Ok([plain, bound, first, second, 0, 0, 0])
@@ -159,9 +165,21 @@ fn dropped<P: Parts, C: Account, S: Account>(
 {
     let mut locked = locked;
     drop(worker);
-    let last = locked.open_worker()?;
+    let last = open_worker(&mut locked)?;
     let [first, second] = settle_twice(locked, Vec::new(alloc), last)?;
     Ok([first, second, 0, 0, 0, 0, 0])
+}
+
+/// Submits a record of 5, and adds one of 7 that waits: the number of the receipt, and how many wait.
+fn one_waits<P: Parts, C: Account, S: Account>(
+    alloc: Global,
+    locked: &mut Locked<P, C, S>,
+    worker: &mut Worker<C, S>,
+) -> Result<(u64, u64), Fault> {
+    add(alloc, worker, 0, 5)?;
+    let accepted = submit(locked, worker)?;
+    add(alloc, worker, 0, 7)?;
+    Ok((accepted, worker.pending() as u64))
 }
 
 /// A settlement with a record that is still in the worker's list, and what the provider collects then.
@@ -174,14 +192,11 @@ fn waiting<P: Parts, C: Account, S: Account>(
 {
     let mut locked = locked;
     let mut worker = worker;
-    add(alloc, &mut worker, 0, 5)?;
-    let receipt = locked.submit(&mut worker)?;
-    add(alloc, &mut worker, 0, 7)?;
-    let pending = worker.pending() as u64;
+    let (accepted, pending) = one_waits(alloc, &mut locked, &mut worker)?;
     let workers = vec![in alloc; worker]?;
     let mut provider = settled(locked, workers)?;
     let (value, _) = read_settled(alloc, &mut provider)?;
-    Ok([receipt.accepted, pending, value, 0, 0, 0, 0])
+    Ok([accepted, pending, value, 0, 0, 0, 0])
 }
 
 /// Makes two counters, opens a worker, and does with it what the case says.
@@ -197,7 +212,7 @@ fn alone<P: Parts, C: Account, S: Account>(
 {
     let mut locked = Locked::<P, C, S>::new(provider, records, values);
     build_counters(alloc, &mut locked)?;
-    let mut worker = locked.open_worker()?;
+    let mut worker = open_worker(&mut locked)?;
     match case {
         Case::Stopped => stopped(alloc, &mut locked, &mut worker),
         Case::Nothing => nothing(alloc, &mut locked, &mut worker),

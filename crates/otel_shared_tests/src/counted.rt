@@ -10,10 +10,25 @@ use otel_data::collections::{Metric, ResourceMetrics};
 use otel_data::numbers::NumberValue;
 use otel_provider::parts::Parts;
 use otel_shared::account::Account;
-use otel_shared::booked::Receipt;
 use otel_shared::locked::Locked;
 use otel_shared::worker::Worker;
 use std::alloc::Global;
+
+/// The number of the fault of a refused call, otherwise 0.
+fn fault_of_reply(reply: &Reply) -> u64 {
+    match reply {
+        Reply::Refused(fault) => u64::from(fault.number()),
+        _ => 0,
+    }
+}
+
+/// The number of the fault of a call that is refused, otherwise 0.
+pub fn fault_of_call<P: Parts, C: Account, S: Account>(
+    locked: &mut Locked<P, C, S>,
+    call: Call,
+) -> u64 {
+    fault_of_reply(&locked.call(&call))
+}
 
 /// Builds a counter of the first meter.
 fn build_counter<P: Parts, C: Account, S: Account>(
@@ -30,7 +45,7 @@ fn build_counter<P: Parts, C: Account, S: Account>(
         boundaries: None,
         now: 100,
     };
-    let _ = locked.call(&build);
+    let _ = fault_of_call(locked, build);
     Ok(())
 }
 
@@ -41,7 +56,7 @@ pub fn build_counters<P: Parts, C: Account, S: Account>(
 ) -> Result<(), Fault> {
     let name = String::from_str(alloc, "app")?;
     let scope = InstrumentationScope::builder(alloc, name).build()?;
-    let _ = locked.call(&Call::Meter { scope });
+    let _ = fault_of_call(locked, Call::Meter { scope });
     build_counter(alloc, locked, "a")?;
     build_counter(alloc, locked, "b")
 }
@@ -56,6 +71,13 @@ pub fn add<C: Account, S: Account>(
     worker.add(instrument, NumberValue::U64(value), Vec::new(alloc))
 }
 
+/// Opens a worker.
+pub fn open_worker<P: Parts, C: Account, S: Account>(
+    locked: &mut Locked<P, C, S>,
+) -> Result<Worker<C, S>, Fault> {
+    locked.open_worker()
+}
+
 /// Opens so many workers.
 pub fn open_workers<P: Parts, C: Account, S: Account>(
     alloc: Global,
@@ -64,33 +86,36 @@ pub fn open_workers<P: Parts, C: Account, S: Account>(
 ) -> Result<Vec<Worker<C, S>>, Fault> {
     let mut workers = Vec::new(alloc);
     for _ in 0..number {
-        let worker = locked.open_worker()?;
+        let worker = open_worker(locked)?;
         workers.push(worker)?;
     }
     Ok(workers)
 }
 
-/// The number of the fault of a refused submission, otherwise 0.
-pub fn fault_of_submission(answer: &Result<Receipt, Fault>) -> u64 {
-    match answer {
+/// Submits a worker's records, and answers the number of the receipt.
+pub fn submit<P: Parts, C: Account, S: Account>(
+    locked: &mut Locked<P, C, S>,
+    worker: &mut Worker<C, S>,
+) -> Result<u64, Fault> {
+    Ok(locked.submit(worker)?.accepted)
+}
+
+/// The number of the fault of a submission that is refused, otherwise 0.
+pub fn fault_of_submission<P: Parts, C: Account, S: Account>(
+    locked: &mut Locked<P, C, S>,
+    worker: &mut Worker<C, S>,
+) -> u64 {
+    match submit(locked, worker) {
         Ok(_) => 0,
         Err(fault) => u64::from(fault.number()),
     }
 }
 
-/// The number of the fault of a refused record, otherwise 0.
-pub fn fault_of_record(answer: &Result<(), Fault>) -> u64 {
+/// The number of the fault of a refusal, otherwise 0.
+pub fn fault_of(answer: Result<(), Fault>) -> u64 {
     match answer {
         Ok(()) => 0,
         Err(fault) => u64::from(fault.number()),
-    }
-}
-
-/// The number of the fault of a refused call, otherwise 0.
-pub fn fault_of_reply(reply: &Reply) -> u64 {
-    match reply {
-        Reply::Refused(fault) => u64::from(fault.number()),
-        _ => 0,
     }
 }
 

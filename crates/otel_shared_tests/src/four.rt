@@ -87,7 +87,7 @@ pub fn gathered<C: Account, S: Account>(
 }
 
 /// Has each worker do its rounds in a thread of its own, and gives them back with the greatest receipt.
-fn in_threads<
+pub fn in_threads<
     P: Parts + Send + Sync,
     C: Account + Send + Sync,
     S: Account + Send + Sync,

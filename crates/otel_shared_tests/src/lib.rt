@@ -11,6 +11,8 @@ mod four;
 #[cfg(test)]
 mod handed;
 #[cfg(test)]
+mod limits;
+#[cfg(test)]
 mod tests;
 #[cfg(test)]
 mod typed;

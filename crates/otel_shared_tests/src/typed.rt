@@ -4,9 +4,10 @@ ghost use Rattle.std.specs.Prelude.{◌≡◌, ◌%◌, ◌^◌};
 ghost use Rattle.otel_model_laws.specs.Books.{count_in, sum_in};
 ghost use Rattle.otel_provider.specs.Providers.{state_of};
 
-use crate::counted::{fault_of_record, read};
+use crate::counted::{fault_of, open_worker, read, submit};
 use otel_common::faults::Fault;
 use otel_provider::bound::Bound;
+use otel_provider::meters::Meter;
 use otel_provider::parts::{Boxed, Parts};
 use otel_provider::provider::{Provider, SdkMeterProvider};
 use otel_provider::synchronous::{Counter, Gauge};
@@ -24,15 +25,33 @@ struct Instruments {
     gauge: Gauge<i64>,
 }
 
+/// The counter of a meter.
+fn counter_of<P: Parts>(
+    alloc: Global,
+    provider: &mut Provider<P>,
+    meter: Meter,
+) -> Result<Counter<u64>, Fault> {
+    let name = String::from_str(alloc, "a")?;
+    meter.u64_counter(name).build(provider, 100)
+}
+
+/// The gauge of a meter.
+fn gauge_of<P: Parts>(
+    alloc: Global,
+    provider: &mut Provider<P>,
+    meter: Meter,
+) -> Result<Gauge<i64>, Fault> {
+    let name = String::from_str(alloc, "gauge")?;
+    meter.i64_gauge(name).build(provider, 100)
+}
+
 impl Instruments {
     /// Makes them.
     fn build<P: Parts>(alloc: Global, provider: &mut Provider<P>) -> Result<Instruments, Fault> {
-        let counter = String::from_str(alloc, "a")?;
-        let gauge = String::from_str(alloc, "gauge")?;
         let meter = provider.meter("app")?;
         Ok(Instruments {
-            counter: meter.u64_counter(counter).build(provider, 100)?,
-            gauge: meter.i64_gauge(gauge).build(provider, 100)?,
+            counter: counter_of(alloc, provider, meter)?,
+            gauge: gauge_of(alloc, provider, meter)?,
         })
     }
 }
@@ -54,14 +73,31 @@ fn add_three<C: Account, S: Account>(
     instruments: Instruments,
     handle: &Bound<u64>,
 ) -> [u64; 3] {
-    let counted = worker.add_to(&instruments.counter, 1, Vec::new(alloc));
-    let recorded = worker.record_at(&instruments.gauge, -1, Vec::new(alloc));
-    let bound = worker.add_through(handle, 2);
     [
-        fault_of_record(&counted),
-        fault_of_record(&recorded),
-        fault_of_record(&bound),
+        fault_of(worker.add_to(&instruments.counter, 1, Vec::new(alloc))),
+        fault_of(worker.record_at(&instruments.gauge, -1, Vec::new(alloc))),
+        fault_of(worker.add_through(handle, 2)),
     ]
+}
+
+/// Has a worker record with these instruments and this handle.
+fn record_three<P: Parts, C: Account, S: Account>(
+    alloc: Global,
+    locked: &mut Locked<P, C, S>,
+    worker: &mut Worker<C, S>,
+    instruments: Instruments,
+    handle: &Bound<u64>,
+) -> Result<Shown, Fault> {
+    let faults = add_three(alloc, worker, instruments, handle);
+    let pending = worker.pending();
+    let accepted = submit(locked, worker)?;
+    let (value, _) = read(alloc, locked, 200)?;
+    Ok(Shown {
+        faults,
+        pending,
+        accepted,
+        value,
+    })
 }
 
 /// Hands a provider over, and has a worker record with these instruments and this handle.
@@ -77,17 +113,8 @@ fn recorded<P: Parts, C: Account, S: Account>(
     requires values { (values.name ≡ S.name) × (values.parts ≡ S.parts) × (values.parts ≡ 4294967295) × (S.before ≡ sum_in (state_of provider) % 2 ^ 64) }
 {
     let mut locked = Locked::<P, C, S>::new(provider, records, values);
-    let mut worker = locked.open_worker()?;
-    let faults = add_three(alloc, &mut worker, instruments, handle);
-    let pending = worker.pending();
-    let accepted = locked.submit(&mut worker)?.accepted;
-    let (value, _) = read(alloc, &mut locked, 200)?;
-    Ok(Shown {
-        faults,
-        pending,
-        accepted,
-        value,
-    })
+    let mut worker = open_worker(&mut locked)?;
+    record_three(alloc, &mut locked, &mut worker, instruments, handle)
 }
 
 /// The same at a provider of boxes. No ledger is named in the signature.

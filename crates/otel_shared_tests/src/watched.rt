@@ -5,7 +5,7 @@ ghost use Rattle.otel_model_laws.specs.Books.{count_in, sum_in};
 ghost use Rattle.otel_provider.specs.Providers.{state_of};
 
 use crate::counted::{build_counters, open_workers, read};
-use crate::four::work_and_return;
+use crate::four;
 use otel_common::faults::Fault;
 use otel_provider::parts::{Boxed, Parts};
 use otel_provider::provider::{Provider, SdkMeterProvider};
@@ -16,7 +16,6 @@ use std::alloc::Global;
 use std::marker::Brand;
 use std::sync::ledger::Blank;
 use std::sync::{Mutex, Wait};
-use std::thread;
 use std::thread::{Threads, join};
 
 /// What a thread sees that collects: whether no value was less than the one before, and the last values.
@@ -61,12 +60,7 @@ fn both<
     S: Account + Send + Sync,
     R: Threads + Wait + Sync,
 >(rt: &R, alloc: Global, shared: &SharedProvider<P, C, S>, workers: Vec<Worker<C, S>>) -> bool {
-    let done = thread::map_vec(
-        rt,
-        workers,
-        &|worker| work_and_return(rt, alloc, shared, worker, 50),
-    );
-    done.is_ok()
+    four::in_threads(rt, alloc, shared, workers, 50).is_ok()
 }
 
 /// Has two threads record, and a third collect.

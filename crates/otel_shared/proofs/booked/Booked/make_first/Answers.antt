@@ -8,7 +8,7 @@ use Rattle.otel_shared.proofs.booked.Booked.make_first.Goals as goal
 pub returns-in-Err-clause-fault : goal.returns-in-Err-clause-fault
 returns-in-Err-clause-fault g c =
     let refused = c.in-Err.ensures.refused in
-    let stops = stops_refused _ _ _ _ _ c.in-Some.ensures.item.3.0 c.in-Some.ensures.lookup c.if-self.false refused.0 in (
+    let stops = stops_refused _ _ _ _ _ c.in-Some.ensures.item.3.0 c.in-Some.ensures.lookup c.in_ok-check_book.ensures.room refused.0 in (
       subst (λ st. StopsBy st c.args.worker.now.pending.items c.args.self.now.records.total c.in-Err.fault) (sym refused.1)
           (subst (λ n. StopsBy c.args.self.now.core c.args.worker.now.pending.items n c.in-Err.fault) (sym c.args.self.now.counted) stops),
       refl,
@@ -19,4 +19,4 @@ returns-in-Err-clause-fault g c =
 
 -- not because the book is full
 pub returns-in-Err-clause-full : goal.returns-in-Err-clause-full
-returns-in-Err-clause-full g c = λ is. c.args.self.now.counted ∙ full-only _ _ _ _ (stops_refused _ _ _ _ _ c.in-Some.ensures.item.3.0 c.in-Some.ensures.lookup c.if-self.false c.in-Err.ensures.refused.0) is
+returns-in-Err-clause-full g c = λ is. c.args.self.now.counted ∙ full-only _ _ _ _ (stops_refused _ _ _ _ _ c.in-Some.ensures.item.3.0 c.in-Some.ensures.lookup c.in_ok-check_book.ensures.room c.in-Err.ensures.refused.0) is
