@@ -16,14 +16,19 @@ pub fn attributes_of(alloc: Global, word: &str) -> Result<Vec<KeyValue>, Refusal
     ensures attributes { IfOk result (λ attributes. ReadsAttributes word.now attributes.items) }
     ensures meaningless { IfErr result (λ refusal. refusal ≡ Refusal.BadCommand → StandsForNothing ReadsAttributes word.now) }
 {
-    let mut attributes = Vec::new(alloc);
     if word == "-" {
-        return Ok(attributes);
+        return Ok(Vec::new(alloc));
     }
+    let mut attributes = Vec::with_capacity(alloc, parts_of(word))?;
     for pair in word.split(',') {
         attributes.push(attribute_of(alloc, pair)?)?;
     }
     Ok(attributes)
+}
+
+/// How many parts a word has that are separated by commas.
+fn parts_of(word: &str) -> usize {
+    word.split(',').count()
 }
 
 /// Reads a key and a value, which the pair's first `=` separates.

@@ -109,18 +109,16 @@ fn write_spread<W: Write, T: Copy + Display>(
     let sum = point.sum();
     write!(output, " {count} {sum} ")?;
     write_or_none(output, point.min())?;
-    write!(output, " ")?;
     write_or_none(output, point.max())?;
-    write!(output, " ")?;
     write_counts(output, point.bucket_counts())?;
     writeln!(output)
 }
 
-/// Prints a number, or `none` if there is none.
+/// Prints a number, or `none` if there is none, and a space.
 fn write_or_none<W: Write, T: Copy + Display>(output: &mut W, number: Option<T>) -> io::Result<()> {
     match number {
-        Some(number) => write!(output, "{number}"),
-        None => write!(output, "none"),
+        Some(number) => write!(output, "{number} "),
+        None => write!(output, "none "),
     }
 }
 

@@ -34,19 +34,30 @@ fn run_script<R: Read + Drop, W: Write + Drop>(
     input: R,
     output: W,
 ) -> Result<(), Failure> {
-    let bytes = read_all(alloc, input)?;
-    let replies = replies_to(alloc, bytes.as_slice())?;
+    let script = read_script(alloc, input)?;
+    let replies = replies_of(alloc, script)?;
     write_replies(alloc, output, replies.as_slice())
+}
+
+/// Reads all that the reader has, and keeps only the script that it says.
+fn read_script<R: Read + Drop>(alloc: Global, input: R) -> Result<Script, Failure> {
+    let bytes = read_all(alloc, input)?;
+    script_of(alloc, bytes.as_slice())
 }
 
 /// Makes the calls of a script on a new provider with the script's readers and views, and returns the replies. All lines
 /// are checked before any call is made.
 pub fn replies_to(alloc: Global, script: &[u8]) -> Result<Vec<Reply>, Failure> {
+    replies_of(alloc, script_of(alloc, script)?)
+}
+
+/// The same for a script that has been read.
+fn replies_of(alloc: Global, script: Script) -> Result<Vec<Reply>, Failure> {
     let Script {
         readers,
         views,
         calls,
-    } = script_of(alloc, script)?;
+    } = script;
     let mut builder = SdkMeterProvider::builder(alloc);
     for reader in readers {
         builder = builder.with_reader(Box::new(alloc, reader)?)?;

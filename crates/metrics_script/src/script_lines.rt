@@ -52,7 +52,9 @@ pub fn script_of(alloc: Global, input: &[u8]) -> Result<Script, Failure> {
     if !reading.is_started || !reading.observations.is_empty() {
         return Err(Failure::BadLine(number));
     }
-    Ok(reading.script)
+    let mut script = reading.script;
+    script.calls.shrink_to_fit();
+    Ok(script)
 }
 
 /// The line without the byte that ends it.
@@ -98,18 +100,28 @@ impl Reading {
                 Ok(())
             }
             ["collect", reader, now] => {
-                let observations = replace(&mut self.observations, Vec::new(alloc));
+                let mut observations = replace(&mut self.observations, Vec::new(alloc));
+                observations.shrink_to_fit();
                 let call = collect_of(reader, now, observations)?;
-                self.script.calls.push(call)?;
-                Ok(())
+                self.add_call(call)
             }
             _ if self.observations.is_empty() => {
                 let call = call_of(alloc, words)?;
-                self.script.calls.push(call)?;
-                Ok(())
+                self.add_call(call)
             }
             _ => Err(Refusal::BadCommand),
         }
+    }
+
+    /// Adds a call to the list. Most of what a script takes is this list, so it grows by a quarter, and not to twice its
+    /// length.
+    fn add_call(&mut self, call: Call) -> Result<(), Refusal> {
+        let calls = &mut self.script.calls;
+        if calls.len() == calls.capacity() {
+            calls.reserve_exact(calls.len() / 4 + 16)?;
+        }
+        calls.push(call)?;
+        Ok(())
     }
 
     /// Takes in the words of a line before `go`, or of `go` itself.

@@ -26,7 +26,7 @@ returns-in_err-attribute_of-clause-meaningless c =
     let same = c.into_iter-pair-iterator.ensures.into_iter_gives in
     let road = YieldsList-from_str_split 44 c.args.word.now (lit< tt) (ap split_text same ∙ c.split-pair-items.ensures.text) (ap split_has_more same ∙ c.split-pair-items.ensures.has_more) (ap split_pattern same ∙ c.split-pair-items.ensures.pattern) in
     let turn = YieldsList-turn road c.loop-pair.yielded _ c.loop-pair.yielded_by _ _ _ c.in-Some.is c.next.ensures.steps in
-    let answer = err_from_is_err_and c.from_residual.result c.from_residual.ensures.1 in
+    let answer = err_from_is_err_and c.from_residual-in_err-attribute_of.result c.from_residual-in_err-attribute_of.ensures.1 in
     rw (answer.1, answer.2) (λ bad attributes reads.
     let all = rw (← c.if-eq.ensures) at reads in
     unpaired IsAttributeWord _ attributes _ _ turn.0 turn.1 (c.in_err-attribute_of.ensures.meaningless bad) all)
