@@ -1,9 +1,11 @@
 #!/bin/sh
-# Prints how many instructions a call takes in each case, or in the cases that are named: measure.sh [CASE..]
+# Prints how many instructions a call takes in each case, and how long threads take that record at one provider; or only
+# the cases that are named: measure.sh [CASE..]
 #
-# A case is three scripts (src/main.rt says what each is for). Valgrind counts what `counted_calls` or `counted_adds`
-# does, with all that it calls, in the program as `rt run` builds it. That is done for two numbers of calls, and the
-# difference of the instructions is divided by that of the calls. Needs rt and valgrind.
+# A case is three scripts (src/main.rt says what each is for). Valgrind counts what the functions named `counted_..` do,
+# with all that they call, in the program as `rt run` builds it. That is done for two numbers of calls, and the
+# difference of the instructions is divided by that of the calls. The case `threads` is timed, so it wants a machine
+# with nothing else to do. Needs rt and valgrind.
 set -eu
 cd "$(dirname "$0")"
 wanted="$*"
@@ -37,9 +39,14 @@ first() {
     printf '%s\n' "$@" go
 }
 
-# The next script up to its first call. `typed add` may be given.
+# The next script up to its first call.
 next() {
-    printf '%s\n' --- "$@" go
+    printf '%s\n' --- go
+}
+
+# The third script up to its first call, after the line that says how its records are made, if there is one.
+last() {
+    printf '%s\n' --- ${made_by:+"$made_by"} go
 }
 
 # The first script, with an instrument of this sort, and these readers and views.
@@ -58,17 +65,49 @@ known() {
     instrument "$sort" "$@"
     echo "record 0 u:1 $before"
     next
-    next
+    last
     echo "record 0 u:1 $then"
 }
 
 # Records through a handle.
 bound() {
     instrument u64_counter "$@"
-    echo "bind 0 $(attributes 0 1 2 3)"
+    echo "bind 0 $rising"
     next
+    last
+    if [ "$made_by" ]; then
+        echo "record 0 u:1 $rising"
+    else
+        echo "recordbound 0 u:1"
+    fi
+}
+
+# Ends of handles, the oldest first, of this many and one that is bound before each.
+ends() {
+    instrument u64_counter "$one"
+    lines 0 "$1" "bind 0 $rising"
     next
-    echo "recordbound 0 u:1"
+    echo "bind 0 $rising"
+    last
+    lines 0 100 "unbind %d"
+}
+
+# Records of 10 attributes, of which a view keeps 8. It names this many keys, these 8 last.
+allowed() {
+    others=$(lines 8 "$1" "other%07d," | tr -d '\n')
+    keys=$(attributes 0 1 2 3 4 5 6 7 | sed 's/=s:value[0-9]*//g')
+    known u64_counter "$ten" "$ten" "$one" "view * keys=$others$keys"
+}
+
+# Collections of 100 sets, after one of this many sets, which are gone since.
+after_burst() {
+    instrument u64_counter "reader delta limit=1000000"
+    lines 0 "$1" "record 0 u:1 number=i:%d"
+    echo "collect 0 200"
+    next
+    lines 0 100 "record 0 u:1 number=i:%d"
+    last
+    echo "collect 0 300"
 }
 
 # Collections of all sets up to the limit, all of which are recorded again before each collection.
@@ -76,52 +115,59 @@ collections() {
     instrument "$@"
     next
     sets 0 2000
-    next
+    last
     echo "collect 0 200"
 }
 
-# The scripts of a case.
+# The scripts of a case. A case `typed_..` is the case of the rest of its name with instruments and handles as values.
 case_named() {
     counter=u64_counter
     one="reader cumulative"
     rising=$(attributes 0 1 2 3)
     falling=$(attributes 3 2 1 0)
+    ten=$(attributes 0 1 2 3 4 5 6 7 8 9)
     case $1 in
+        typed_bound*) made_by="typed bound" ;;
+        typed_*) made_by="typed add" ;;
+        worker_bound*) made_by="worker bound" ;;
+        worker*) made_by="worker add" ;;
+        *) made_by= ;;
+    esac
+    case $1 in
+        *_submit) counted=counted_submit ;;
+        *) counted="counted_calls counted_adds counted_bound_adds counted_worker_adds counted_worker_bound_adds counted_submit" ;;
+    esac
+    case ${1#typed_} in
         known0) known $counter - - "$one" ;;
         known1) known $counter "$(attributes 0)" "$(attributes 0)" "$one" ;;
-        known4) known $counter "$rising" "$rising" "$one" ;;
-        known10)
-            ten=$(attributes 0 1 2 3 4 5 6 7 8 9)
-            known $counter "$ten" "$ten" "$one"
+        known4 | worker4 | worker4_submit | worker_bound4 | worker_bound4_submit | threads)
+            known $counter "$rising" "$rising" "$one"
             ;;
+        known10) known $counter "$ten" "$ten" "$one" ;;
         known4_first_order) known $counter "$falling" "$falling" "$one" ;;
         known4_other_order) known $counter "$rising" "$falling" "$one" ;;
         known4_two_readers) known $counter "$rising" "$rising" "$one" "$one" ;;
         known4_two_kept) known $counter "$rising" "$rising" "$one" "view * keys=attribute00,attribute01" ;;
         bound4) bound "$one" ;;
         bound4_two_readers) bound "$one" "$one" ;;
-        typed4)
-            instrument $counter "$one"
-            echo "record 0 u:1 $rising"
-            next
-            next "typed add"
-            echo "record 0 u:1 $rising"
-            ;;
         histogram4) known u64_histogram "$rising" "$rising" "$one" ;;
         gauge4) known u64_gauge "$rising" "$rising" "$one" ;;
         new4)
             instrument $counter "$one"
             next
-            next
+            last
             sets 0 2000
             ;;
         past_limit4)
             instrument $counter "$one"
             sets 0 2500
             next
-            next
+            last
             sets 2000 2500
             ;;
+        end*) ends "${1#end}" ;;
+        allow*) allowed "${1#allow}" ;;
+        burst*) after_burst "${1#burst}" ;;
         collect_cumulative) collections $counter "$one" ;;
         collect_delta) collections $counter "reader delta" ;;
         collect_histogram) collections u64_histogram "$one" ;;
@@ -130,7 +176,7 @@ case_named() {
             echo "meter meter"
             lines 0 10000 "build 0 $counter instrument%06d 100"
             next
-            next
+            last
             lines 10000 12000 "build 0 $counter instrument%06d 100"
             ;;
         collect_meters)
@@ -139,7 +185,7 @@ case_named() {
             lines 0 10000 "build %d $counter instrument%06d 100"
             lines 0 10000 "record %d u:1 $rising"
             next
-            next
+            last
             echo "collect 0 200"
             ;;
     esac
@@ -147,18 +193,28 @@ case_named() {
 
 # The instructions of a number of calls of the case whose scripts were made.
 instructions() {
-    valgrind --tool=callgrind --callgrind-out-file="$counts" --collect-atstart=no \
-        --toggle-collect='*counted_calls*' --toggle-collect='*counted_adds*' \
+    toggles=
+    for function in $counted; do
+        toggles="$toggles --toggle-collect=*$function*"
+    done
+    set -f
+    valgrind --tool=callgrind --callgrind-out-file="$counts" --collect-atstart=no $toggles \
         out/otel_bench "$1" <"$scripts" >/dev/null 2>&1
+    set +f
     sed -n 's/^\(summary\|totals\): *\([0-9][0-9]*\).*/\2/p' "$counts" | head -n 1
+}
+
+# Whether a case is wanted.
+is_wanted() {
+    case " ${wanted:-$1} " in
+        *" $1 "*) ;;
+        *) return 1 ;;
+    esac
 }
 
 # A line of the table: a case, a smaller and a greater number of calls, and of how many parts a call is.
 row() {
-    case " ${wanted:-$1} " in
-        *" $1 "*) ;;
-        *) return 0 ;;
-    esac
+    is_wanted "$1" || return 0
     case_named "$1" >"$scripts"
     fewer=$(instructions "$2")
     more=$(instructions "$3")
@@ -166,23 +222,56 @@ row() {
         'BEGIN { printf "%-24s %12.0f\n", name, work / parts }'
 }
 
-row known0 1000 11000 1
-row known1 1000 11000 1
-row known4 1000 11000 1
-row known10 1000 11000 1
-row known4_first_order 1000 11000 1
-row known4_other_order 1000 11000 1
-row bound4 1000 11000 1
-row bound4_two_readers 1000 11000 1
-row known4_two_readers 1000 11000 1
-row known4_two_kept 1000 11000 1
-row typed4 1000 11000 1
-row histogram4 1000 11000 1
-row gauge4 1000 11000 1
-row new4 0 2000 1
-row past_limit4 1000 6000 1
-row collect_cumulative 1 3 2000
-row collect_delta 1 3 2000
-row collect_histogram 1 3 2000
+# How long 1, 2 and 4 threads take that make a million records each, one after another under the lock and by workers, in
+# seconds of one run, and how often the second goes into the first.
+threads() {
+    is_wanted threads || return 0
+    case_named threads | awk '$0 == "---" && ++scripts == 1 { getline; next } { print }' >"$scripts"
+    out/otel_bench threads 1000000 <"$scripts" | awk '
+        { seconds[$1, $2] = $4; records[$1, $2] = $3 }
+        END {
+            printf "%-24s %12s %12s %12s\n", "threads", "lock", "worker", "ratio"
+            for (way = 0; way < 2; way++) for (n = 1; n <= 4; n *= 2) {
+                end = way ? "_bound" : ""
+                lock = seconds["lock" end, n]
+                worker = seconds["worker" end, n]
+                name = (way ? "through a handle" : "4 known attributes") ", " n
+                printf "%-24s %12.3f %12.3f %12.2f\n", name, lock, worker, lock / worker
+                if (records["lock" end, n] != 1000000 * n || records["worker" end, n] != 1000000 * n)
+                    print "records are missing"
+            }
+        }'
+}
+
+for name in known0 known1 known4 known10 known4_first_order known4_other_order known4_two_readers known4_two_kept \
+    bound4 bound4_two_readers; do
+    row $name 1000 11000 1
+    row typed_$name 1000 11000 1
+done
+for name in histogram4 gauge4; do
+    row $name 1000 11000 1
+done
+for name in new4 typed_new4; do
+    row $name 0 2000 1
+done
+for name in past_limit4 typed_past_limit4; do
+    row $name 1000 6000 1
+done
+for name in worker4 worker4_submit worker_bound4 worker_bound4_submit; do
+    row $name 10 60 100
+done
+for name in end2000 end4000 end8000; do
+    row $name 20 100 1
+done
+for name in allow8 allow2000 allow4000 allow8000; do
+    row $name 10 60 1
+done
+for name in burst5000 burst10000 burst20000; do
+    row $name 1 3 1
+done
+for name in collect_cumulative collect_delta collect_histogram; do
+    row $name 1 3 2000
+done
 row build 500 1500 1
 row collect_meters 0 1 10000
+threads

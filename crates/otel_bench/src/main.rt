@@ -1,18 +1,28 @@
 //! Makes the calls of a script on a provider, so that the instructions of one call can be counted (`measure.sh`).
 //!
-//! The only argument says how many calls are counted. Standard input has three scripts as `metrics_run` takes them, with
+//! The argument says how many calls are counted. Standard input has three scripts as `metrics_run` takes them, with
 //! a line `---` between each two. The first says which readers and views the provider has, and what is done once. The
 //! calls of the second are made before each counted call; it may have none. Those of the third are counted: they are
-//! made in turn, starting over after the last. If a line `typed add` comes before the third script, a counter as a value
-//! adds 1 instead, with the attributes of the script's first record.
+//! made in turn, starting over after the last. A line before the third script says how its records are made instead:
+//!
+//! - `typed add`: a counter as a value adds 1 with the attributes of each record in turn;
+//! - `typed bound`: a handle as a value, with the attributes of the first record, adds 1;
+//! - `worker add`, `worker bound`: a worker of the shared provider hands in batches of 100 such records, with the
+//!   attributes of the first one. The argument says how many batches.
 //!
 //! How many of the counted calls were carried out is printed. After a further `---` come three scripts more, for another
 //! provider.
+//!
+//! With the arguments `threads` and a number, it prints how many seconds 1, 2 and 4 threads take that make this many
+//! records each. Standard input has two scripts then: what is done once, and the record.
 #![tactic(auto)]
 
 mod counted;
 mod scripts;
+mod targets;
+mod threads;
 mod typed;
+mod workers;
 
 use anyhow::{Error, bail};
 use counted::counted_rounds;
@@ -20,7 +30,9 @@ use opentelemetry_sdk::metrics::provider::{Call, Parts, Provider};
 use scripts::{calls_of, provider_of};
 use std::alloc::Global;
 use std::{env, io};
+use threads::time_threads;
 use typed::count_typed;
+use workers::count_by_worker;
 
 /// Makes the calls of this script, of which this many are counted, each after the calls between. Returns how many of the
 /// counted ones were carried out.
@@ -56,6 +68,9 @@ fn count_on_new(alloc: Global, scripts: &[&str], times: u64) -> Result<u64, Erro
         bail!("a script is missing");
     };
     let mut provider = provider_of(alloc, first)?;
+    if let Some(text) = counted.strip_prefix("worker ") {
+        return count_by_worker(alloc, provider, text, times);
+    }
     count(alloc, &mut provider, between, counted, times)
 }
 
@@ -69,17 +84,18 @@ fn count_all(rt: &impl Print, alloc: Global, scripts: &str, times: u64) -> Resul
     Ok(())
 }
 
-/// Reads how many calls are counted.
-fn times_of(words: &[String]) -> Result<u64, Error> {
-    let [times] = words else {
-        bail!("the argument is how many calls are counted");
-    };
-    Ok(times.as_str().parse::<u64>()?)
-}
-
 fn main(rt: HostRuntime) -> Result<(), Error> {
     let words: Vec<String> = env::args(&rt)?.skip(1).collect(rt.alloc())?;
-    let times = times_of(words.as_slice())?;
     let scripts = io::read_to_string(rt.alloc(), rt.reader())?;
-    count_all(&rt, rt.alloc(), scripts.as_str(), times)
+    match words.as_slice() {
+        [times] => {
+            let times = times.as_str().parse::<u64>()?;
+            count_all(&rt, rt.alloc(), scripts.as_str(), times)
+        }
+        [name, records] if name.as_str() == "threads" => {
+            let records = records.as_str().parse::<u64>()?;
+            time_threads(&rt, rt.alloc(), scripts.as_str(), records)
+        }
+        _ => bail!("the argument is how many calls are counted"),
+    }
 }
