@@ -1,74 +1,102 @@
 //! Calls of meters, instruments and handles as values.
 
-use crate::set_up::Instruments;
+use crate::callbacks::Counting;
+use crate::set_up::Swept;
 use opentelemetry_sdk::common::{Fault, KeyValue};
 use opentelemetry_sdk::metrics::meter::{
-    AsyncInstrumentBuilder, Bound, InstrumentBuilder, Meter, NumberType, Synchronous,
+    AsyncInstrumentBuilder, Bound, Counter, Gauge, Histogram, InstrumentBuilder, Meter, NumberType,
+    Synchronous, UpDownCounter,
 };
 use opentelemetry_sdk::metrics::provider::InstrumentSort::{
     self, I64Gauge, I64ObservableUpDownCounter, I64UpDownCounter, U64Counter, U64Gauge,
     U64Histogram, U64ObservableCounter, U64ObservableGauge,
 };
 use opentelemetry_sdk::metrics::provider::{Parts, Provider};
-use std::alloc::{AllocError, Global};
+use std::alloc::Global;
 
-/// What a builder is given, made before the call under test.
-#[derive(Drop)]
-pub struct Words {
-    name: String,
-    description: String,
-    unit: String,
-    boundaries: Vec<i64>,
+/// Instruments as values, which have the streams of the instruments that were made first.
+#[derive(Clone, Copy)]
+pub struct Instruments {
+    pub limited: Counter<u64>,
+    pub allowed: UpDownCounter<i64>,
+    pub spread: Histogram<u64>,
+    pub heat: Gauge<i64>,
 }
 
-impl Words {
-    /// The words of a new instrument.
-    pub fn new(alloc: Global) -> Result<Words, AllocError> {
-        Ok(Words {
-            name: String::from_str(alloc, "more")?,
-            description: String::from_str(alloc, "d")?,
-            unit: String::from_str(alloc, "ms")?,
-            boundaries: [1, 5].to_vec(alloc)?,
-        })
-    }
+/// The meter of all instruments.
+fn meter_at<P: Parts>(provider: &mut Provider<P>) -> Result<Meter, Fault> {
+    provider.meter("app")
+}
+
+/// Builds an instrument.
+fn built<K, T, P: Parts>(
+    provider: &mut Provider<P>,
+    builder: InstrumentBuilder<K, T>,
+) -> Result<Synchronous<K, T>, Fault> {
+    builder.build(provider, 180)
+}
+
+/// Makes the instruments.
+pub fn instruments_at<P: Parts>(
+    alloc: Global,
+    provider: &mut Provider<P>,
+) -> Result<Instruments, Fault> {
+    let meter = meter_at(provider)?;
+    let name = String::from_str(alloc, "limited")?;
+    let limited = built(provider, meter.u64_counter(name))?;
+    let name = String::from_str(alloc, "allowed")?;
+    let allowed = built(provider, meter.i64_up_down_counter(name))?;
+    let name = String::from_str(alloc, "spread")?;
+    let spread = built(provider, meter.u64_histogram(name))?;
+    let name = String::from_str(alloc, "heat")?;
+    let heat = built(provider, meter.i64_gauge(name))?;
+    Ok(Instruments {
+        limited,
+        allowed,
+        spread,
+        heat,
+    })
 }
 
 /// Builds an instrument with all that can be set.
 fn build<K, T, P: Parts>(
+    alloc: Global,
     provider: &mut Provider<P>,
     builder: InstrumentBuilder<K, T>,
-    description: String,
-    unit: String,
 ) -> Result<(), Fault> {
-    builder
-        .with_description(description)
-        .with_unit(unit)
-        .build(provider, 180)?;
+    let description = String::from_str(alloc, "d")?;
+    let builder = builder.with_description(description);
+    let unit = String::from_str(alloc, "ms")?;
+    built(provider, builder.with_unit(unit))?;
     Ok(())
 }
 
-/// Builds a synchronous instrument of this sort.
-pub fn build_synchronous<P: Parts>(
+/// Builds a histogram with all that can be set.
+fn build_histogram<P: Parts>(
+    alloc: Global,
     provider: &mut Provider<P>,
     meter: Meter,
-    sort: InstrumentSort,
-    words: Words,
+    name: String,
 ) -> Result<(), Fault> {
-    let Words {
-        name,
-        description,
-        unit,
-        boundaries,
-    } = words;
+    let builder = meter.u64_histogram(name);
+    let boundaries = [1, 5].to_vec(alloc)?;
+    build(alloc, provider, builder.with_boundaries(boundaries))
+}
+
+/// Builds a synchronous instrument of this sort, with all that can be set.
+pub fn build_synchronous<P: Parts>(
+    alloc: Global,
+    provider: &mut Provider<P>,
+    sort: InstrumentSort,
+) -> Result<(), Fault> {
+    let meter = meter_at(provider)?;
+    let name = String::from_str(alloc, "more")?;
     match sort {
-        U64Counter => build(provider, meter.u64_counter(name), description, unit),
-        I64UpDownCounter => build(provider, meter.i64_up_down_counter(name), description, unit),
-        U64Gauge => build(provider, meter.u64_gauge(name), description, unit),
-        I64Gauge => build(provider, meter.i64_gauge(name), description, unit),
-        _ => {
-            let builder = meter.u64_histogram(name).with_boundaries(boundaries);
-            build(provider, builder, description, unit)
-        }
+        U64Counter => build(alloc, provider, meter.u64_counter(name)),
+        I64UpDownCounter => build(alloc, provider, meter.i64_up_down_counter(name)),
+        U64Gauge => build(alloc, provider, meter.u64_gauge(name)),
+        I64Gauge => build(alloc, provider, meter.i64_gauge(name)),
+        _ => build_histogram(alloc, provider, meter, name),
     }
 }
 
@@ -78,7 +106,7 @@ fn observe_unsigned<K, P: Parts>(
     builder: AsyncInstrumentBuilder<K, u64, P>,
     callback: P::ObserveU64,
 ) -> Result<(), Fault> {
-    builder.with_callback(callback)?.build(provider, 180)?;
+    builder.with_callback(callback)?.build(provider, 170)?;
     Ok(())
 }
 
@@ -88,30 +116,35 @@ fn observe_signed<K, P: Parts>(
     builder: AsyncInstrumentBuilder<K, i64, P>,
     callback: P::ObserveI64,
 ) -> Result<(), Fault> {
-    builder.with_callback(callback)?.build(provider, 180)?;
+    builder.with_callback(callback)?.build(provider, 170)?;
     Ok(())
 }
 
-/// Builds an observable instrument of this sort.
-pub fn build_observable<P: Parts>(
-    provider: &mut Provider<P>,
-    meter: Meter,
+/// Builds an observable instrument of this sort and name with a callback.
+pub fn build_observable(
+    alloc: Global,
+    provider: &mut Provider<Swept>,
     sort: InstrumentSort,
-    name: String,
-    unsigned: P::ObserveU64,
-    signed: P::ObserveI64,
+    name: &str,
+    callback: Counting,
 ) -> Result<(), Fault> {
+    let meter = meter_at(provider)?;
+    let name = String::from_str(alloc, name)?;
     match sort {
         U64ObservableCounter => {
-            observe_unsigned(provider, meter.u64_observable_counter(name), unsigned)
+            observe_unsigned(provider, meter.u64_observable_counter(name), callback)
         }
         U64ObservableGauge => {
-            observe_unsigned(provider, meter.u64_observable_gauge(name), unsigned)
+            observe_unsigned(provider, meter.u64_observable_gauge(name), callback)
         }
         I64ObservableUpDownCounter => {
-            observe_signed(provider, meter.i64_observable_up_down_counter(name), signed)
+            observe_signed(
+                provider,
+                meter.i64_observable_up_down_counter(name),
+                callback,
+            )
         }
-        _ => observe_signed(provider, meter.i64_observable_gauge(name), signed),
+        _ => observe_signed(provider, meter.i64_observable_gauge(name), callback),
     }
 }
 

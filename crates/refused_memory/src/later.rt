@@ -1,0 +1,123 @@
+//! What a provider answers after the call under test, as text.
+
+use crate::outcomes::is_refused;
+use crate::set_up::calls_of;
+use anyhow::{Error, bail};
+use opentelemetry_sdk::metrics::data::ResourceMetrics;
+use opentelemetry_sdk::metrics::provider::{Call, Parts, Provider};
+use std::alloc::Global;
+
+/// Calls after the call under test: collections of each reader, records and binds of known and of new sets, and further
+/// collections.
+const LATER: &str = "\
+collect 0 250
+collect 1 250
+collect 2 250
+record 0 u:100 a=i:1
+record 0 u:100 z=i:9
+record 1 i:100 b=s:new
+record 2 u:100 a=i:1
+record 2 u:100 z=i:9
+record 3 u:100 z=i:9
+record 4 i:100 a=i:1
+record 5 u:100 z=i:9
+recordbound 0 u:100
+recordbound 1 u:100
+recordbound 2 u:100
+observe 6 u:200 a=i:1
+observe 7 i:200 z=i:9
+observe 8 u:200 a=i:1
+collect 0 300
+collect 1 300
+collect 2 300
+unbind 1
+meter late
+build 0 u64_counter more 310
+build 0 u64_counter late 310
+build 1 u64_counter late 310
+bind 0 y=i:9
+bind 3 z=i:9
+record 3 u:100 y=i:9
+record 3 u:100 a=i:1
+record 4 i:100 y=i:9
+record 4 i:100 a=i:1
+record 13 u:100 a=i:1
+record 14 u:100 a=i:1
+record 15 u:100 a=i:1
+record 16 u:100 a=i:1
+recordbound 3 u:100
+collect 0 400
+collect 1 400
+collect 2 400
+collect 1 500";
+
+/// Calls after the collections that follow these.
+const LAST: &str = "\
+flush
+shutdown
+collect 0 700
+record 0 u:100 a=i:1
+meter last";
+
+/// Makes a call, and writes the reply.
+fn write_call<P: Parts>(
+    provider: &mut Provider<P>,
+    text: &mut String,
+    call: &Call,
+) -> Result<(), Error> {
+    let reply = provider.step(call);
+    if is_refused(&reply) {
+        bail!("a later call was refused");
+    }
+    writeln!(text, "{reply:?}")?;
+    Ok(())
+}
+
+/// Makes the calls of these lines, and writes the replies.
+fn write_lines<P: Parts>(
+    alloc: Global,
+    provider: &mut Provider<P>,
+    text: &mut String,
+    lines: &str,
+) -> Result<(), Error> {
+    for call in &calls_of(alloc, lines)? {
+        write_call(provider, text, call)?;
+    }
+    Ok(())
+}
+
+/// Makes a collection with callbacks, and writes it.
+fn write_collection<P: Parts>(
+    provider: &mut Provider<P>,
+    text: &mut String,
+    reader: usize,
+    metrics: &mut ResourceMetrics,
+) -> Result<(), Error> {
+    let answer = provider.collect(reader, 600, metrics);
+    writeln!(text, "{answer:?} {metrics:?}")?;
+    Ok(())
+}
+
+/// Makes collections with callbacks, and writes them.
+fn write_collections<P: Parts>(
+    alloc: Global,
+    provider: &mut Provider<P>,
+    text: &mut String,
+) -> Result<(), Error> {
+    let mut metrics = ResourceMetrics::default(alloc);
+    for reader in [0, 1, 2, 1] {
+        write_collection(provider, text, reader, &mut metrics)?;
+    }
+    Ok(())
+}
+
+/// Writes what a provider answers later.
+pub fn write_later<P: Parts>(
+    alloc: Global,
+    provider: &mut Provider<P>,
+    text: &mut String,
+) -> Result<(), Error> {
+    write_lines(alloc, provider, text, LATER)?;
+    write_collections(alloc, provider, text)?;
+    write_lines(alloc, provider, text, LAST)
+}
