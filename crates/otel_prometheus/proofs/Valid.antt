@@ -1,0 +1,364 @@
+-- The lines of a collection may be spelled, whatever its texts are.
+use Rattle.std.proofs.Common.{◌≡◌, ℕ, suc, ◌+◌, ◌%◌, ◌^◌, ℤ, Bool, true, false, cond, ◌&&◌, ◌||◌, ◌==◌, List, [], ◌∷◌, ◌++◌, flat_map, map, fold, Option, Some, None, take, drop, position, refl, sym, ap, ◌∙◌, codes}
+use Rattle.std.proofs.lemmas.Bool.{true≢false}
+use Rattle.std.specs.Char.{is_ascii_digit}
+use Rattle.std.specs.Cmp.Lexicographic.{slice_cmp}
+use Rattle.std.specs.List.{list_all, ends_with}
+use Rattle.std.specs.Option.{option_map}
+use Rattle.std.specs.Ordering.{nat_cmp}
+use Rattle.std.specs.declared.cmp.Ordering.{Ordering}
+use Rattle.std.specs.declared.cmp.Ordering.TheVariants.{Less, Equal, Greater}
+use Rattle.otel_common.specs.Equality.{bytes_eq}
+use Rattle.otel_common.specs.declared.attributes.KeyValue.{KeyValue}
+use Rattle.otel_common.specs.declared.scopes.InstrumentationScope.{InstrumentationScope}
+use Rattle.otel_data.specs.declared.aggregated.AggregatedMetrics.{AggregatedMetrics}
+use Rattle.otel_data.specs.declared.aggregated.AggregatedMetrics.TheVariants.{U64, I64}
+use Rattle.otel_data.specs.declared.aggregated.MetricData.{MetricData}
+use Rattle.otel_data.specs.declared.aggregated.MetricData.TheVariants.{Gauge, Sum, Histogram}
+use Rattle.otel_data.specs.declared.collections.Metric.{Metric}
+use Rattle.otel_data.specs.declared.collections.ResourceMetrics.{ResourceMetrics}
+use Rattle.otel_data.specs.declared.collections.ScopeMetrics.{ScopeMetrics}
+use Rattle.otel_data.specs.declared.points.HistogramDataPoint.{HistogramDataPoint}
+use Rattle.otel_exposition.specs.Lines.{Line, help, kind, sample, finish, IsLine, AreLines}
+use Rattle.otel_exposition.specs.Names.{name_of}
+use Rattle.otel_exposition.specs.Numbers.{unsigned, signed}
+use Rattle.otel_exposition.specs.Samples.{Pair, Sample, IsSample, IsNumber, AreLabels, IsLabelName, IsMetricName, AreAll, is_letter, is_label_byte, is_metric_letter, is_metric_byte, joined, labels_text}
+use Rattle.otel_exposition.specs.declared.formats.Format.{Format}
+use Rattle.otel_exposition.specs.declared.formats.Format.TheVariants.{Prometheus, OpenMetrics}
+use Rattle.otel_exposition.proofs.NameLemmas.{label_name, metric_name}
+use Rattle.otel_exposition.proofs.NumberLemmas.{unsigned_fits, signed_fits}
+use Rattle.otel_prometheus.specs.Collections.{belongs, metric_series, scope_series, family_series, kind_word, kind_end, help_lines, front_lines, family_samples, family_lines, target_kind, target_lines, end_lines, lines_of}
+use Rattle.otel_prometheus.specs.Families.{families, is_refused, with_heading, with_metric, with_scope}
+use Rattle.otel_prometheus.specs.Headings.{own_text, with_end, heading_with, base_name, heading_of, same_heading, kind_eq, is_last_value, content_kind}
+use Rattle.otel_prometheus.specs.Labels.{placed, with_label, own_name, label_of, with_attributes, text_label, version_label, scope_labels, point_labels}
+use Rattle.otel_prometheus.specs.Points.{value_end, bound_text, bucket, buckets, sum_samples, count_sample, histogram_samples, number_series, gauge_series, sum_series, histogram_series, data_series, content_series}
+use Rattle.otel_prometheus.specs.Series.{Series, is_seen, kept}
+use Rattle.otel_prometheus.specs.Units.{word_at, times, decimal_sizes, binary_sizes, measures, rates, or_other, unit_word, or_name, is_count, worded, ratio, unit_parts, unit_suffix}
+use Rattle.otel_prometheus.specs.Values.{value_text}
+use Rattle.otel_prometheus.specs.declared.families.Family.{Family}
+use Rattle.otel_prometheus.specs.declared.headings.Heading.{Heading}
+use Rattle.otel_prometheus.specs.declared.headings.Kind.{Kind}
+use Rattle.otel_prometheus.specs.declared.headings.Kind.TheVariants as kinds
+use Rattle.otel_prometheus.specs.declared.settings.Settings.{Settings}
+
+-- ======== bytes ========
+both : (a b : Bool) → (a && b) ≡ true → (a ≡ true) × (b ≡ true)
+both true b e = (refl, e)
+both false b e = absurd (true≢false (sym e))
+
+all_of : (test : ℕ → Bool) (bs : List ℕ) → list_all test bs ≡ true → AreAll test bs
+all_of test [] e = tt
+all_of test (b ∷ bs) e = let h = both (test b) (list_all test bs) e in (h.0, all_of test bs h.1)
+
+all_append : (test : ℕ → Bool) (a b : List ℕ) → AreAll test a → AreAll test b → AreAll test (a ++ b)
+all_append test [] b h k = k
+all_append test (c ∷ a) b h k = (h.0, all_append test a b h.1 k)
+
+all_choice : (test : ℕ → Bool) (t : Bool) (a b : List ℕ) → AreAll test a → AreAll test b → AreAll test (cond t a b)
+all_choice test true a b h k = h
+all_choice test false a b h k = k
+
+one_of : (a b : Bool) → a ≡ true → (a || b) ≡ true
+one_of true b e = refl
+one_of false b e = absurd (true≢false (sym e))
+
+-- what may stand in the name of a label may stand in that of a metric
+wider : (bs : List ℕ) → AreAll is_label_byte bs → AreAll is_metric_byte bs
+wider [] h = tt
+wider (b ∷ bs) h = (one_of (is_label_byte b) (b == 58) h.0, wider bs h.1)
+
+label_bytes : (n : List ℕ) → IsLabelName n → AreAll is_metric_byte n
+label_bytes [] h = absurd h
+label_bytes (b ∷ bs) h = (one_of (is_label_byte b) (b == 58) (one_of (is_letter b) (is_ascii_digit b) h.0), wider bs h.1)
+
+longer_name : (n s : List ℕ) → IsMetricName n → AreAll is_metric_byte s → IsMetricName (n ++ s)
+longer_name [] s h k = absurd h
+longer_name (b ∷ bs) s h k = (h.0, all_append is_metric_byte bs s h.1 k)
+
+-- ======== units ========
+abbrev AllIn : Option (List ℕ) → Type 0
+AllIn None = Unit {0}
+AllIn (Some w) = AreAll is_metric_byte w
+
+chosen_word : (test : Bool) (w : List ℕ) (o : Option (List ℕ)) → AreAll is_metric_byte w → AllIn o → AllIn (cond test (Some w) o)
+chosen_word true w o h k = h
+chosen_word false w o h k = k
+
+word_in : (t : List (List ℕ × List ℕ)) (u : List ℕ) → list_all (λ entry. list_all is_metric_byte entry.1) t ≡ true → AllIn (word_at t u)
+word_in [] u e = tt
+word_in (entry ∷ t) u e =
+    let h = both (list_all is_metric_byte entry.1) (list_all (λ entry. list_all is_metric_byte entry.1) t) e in
+    chosen_word (bytes_eq u entry.0) entry.1 (word_at t u) (all_of is_metric_byte entry.1 h.0) (word_in t u h.1)
+
+other_in : (a b : Option (List ℕ)) → AllIn a → AllIn b → AllIn (or_other a b)
+other_in None b h k = k
+other_in (Some w) b h k = h
+
+unit_word_in : (u : List ℕ) → AllIn (unit_word u)
+unit_word_in u =
+    other_in (word_at times u) (or_other (word_at decimal_sizes u) (or_other (word_at binary_sizes u) (word_at measures u))) (word_in times u refl)
+    (other_in (word_at decimal_sizes u) (or_other (word_at binary_sizes u) (word_at measures u)) (word_in decimal_sizes u refl)
+    (other_in (word_at binary_sizes u) (word_at measures u) (word_in binary_sizes u refl) (word_in measures u refl)))
+
+name_in : (o : Option (List ℕ)) (u : List ℕ) → AllIn o → AreAll is_metric_byte (or_name o u)
+name_in None u h = label_bytes (name_of is_label_byte u) (label_name u)
+name_in (Some w) u h = h
+
+worded_in : (front : List ℕ) (o : Option (List ℕ)) (u : List ℕ) → AreAll is_metric_byte front → AllIn o → AreAll is_metric_byte (worded front o u)
+worded_in front o u h k = all_choice is_metric_byte (is_count u) [] (front ++ or_name o u) tt (all_append is_metric_byte front (or_name o u) h (name_in o u k))
+
+ratio_in : (over under : List ℕ) → AreAll is_metric_byte (ratio over under)
+ratio_in over under =
+    all_append is_metric_byte (worded (codes "_") (unit_word over) over) (worded (codes "_per_") (word_at rates under) under)
+    (worded_in (codes "_") (unit_word over) over (refl, tt) (unit_word_in over))
+    (worded_in (codes "_per_") (word_at rates under) under (all_of is_metric_byte (codes "_per_") refl) (word_in rates under refl))
+
+parts_in : (u : List ℕ) (o : Option ℕ) → AreAll is_metric_byte (unit_parts u o)
+parts_in u None = worded_in (codes "_") (unit_word u) u (refl, tt) (unit_word_in u)
+parts_in u (Some i) = ratio_in (take i u) (drop (suc i) u)
+
+suffix_in : (t : Bool) (u : List ℕ) → AreAll is_metric_byte (unit_suffix t u)
+suffix_in true u = all_choice is_metric_byte (bytes_eq u (codes "1")) (codes "_ratio") (unit_parts u (position (λ b. b == 47) u)) (all_of is_metric_byte (codes "_ratio") refl) (parts_in u (position (λ b. b == 47) u))
+suffix_in false u = parts_in u (position (λ b. b == 47) u)
+
+-- ======== names ========
+ended_name : (t : Bool) (n s : List ℕ) → IsMetricName n → AreAll is_metric_byte s → IsMetricName (cond t n (n ++ s))
+ended_name true n s h k = h
+ended_name false n s h k = longer_name n s h k
+
+family_name : (k : Kind) (m : Metric) → IsMetricName (base_name k m)
+family_name k m =
+    ended_name (ends_with ◌==◌ (name_of is_metric_byte (own_text k m.name)) (unit_suffix (is_last_value m.content) m.unit))
+    (name_of is_metric_byte (own_text k m.name)) (unit_suffix (is_last_value m.content) m.unit)
+    (metric_name (own_text k m.name)) (suffix_in (is_last_value m.content) m.unit)
+
+-- ======== labels ========
+valid_placed : (o : Ordering) (p l : Pair) (ls rest : List Pair) → IsLabelName p.0 → IsLabelName l.0 → AreLabels ls → AreLabels rest → AreLabels (placed o p l ls rest)
+valid_placed Less p l ls rest h k m n = (h, (k, m))
+valid_placed Equal p l ls rest h k m n = (k, m)
+valid_placed Greater p l ls rest h k m n = (k, n)
+
+valid_label : (ls : List Pair) (p : Pair) → AreLabels ls → IsLabelName p.0 → AreLabels (with_label ls p)
+valid_label [] p h k = (k, tt)
+valid_label (l ∷ ls) p h k = valid_placed (slice_cmp nat_cmp p.0 l.0) p l ls (with_label ls p) k h.0 h.1 (valid_label ls p h.1 k)
+
+valid_choice : (t : Bool) (a b : List ℕ) → IsLabelName a → IsLabelName b → IsLabelName (cond t a b)
+valid_choice true a b h k = h
+valid_choice false a b h k = k
+
+abbrev is_name : List ℕ → Bool
+is_name [] = false
+is_name (b ∷ bs) = is_letter b && list_all is_label_byte bs
+
+literal : (n : List ℕ) → is_name n ≡ true → IsLabelName n
+literal [] e = absurd (true≢false (sym e))
+literal (b ∷ bs) e = let h = both (is_letter b) (list_all is_label_byte bs) e in (h.0, all_of is_label_byte bs h.1)
+
+valid_own : (t : Bool) (n : List ℕ) → IsLabelName n → IsLabelName (own_name t n)
+valid_own true n h = valid_choice (bytes_eq n (codes "le")) (codes "exported_le") n (literal (codes "exported_le") refl) h
+valid_own false n h = h
+
+valid_attributes : (t : Bool) (ls : List Pair) (ps : List KeyValue) → AreLabels ls → AreLabels (with_attributes t ls ps)
+valid_attributes t ls [] h = h
+valid_attributes t ls (p ∷ ps) h = valid_attributes t (with_label ls (label_of t p)) ps (valid_label ls (label_of t p) h (valid_own t (name_of is_label_byte p.key) (label_name p.key)))
+
+labels_append : (a b : List Pair) → AreLabels a → AreLabels b → AreLabels (a ++ b)
+labels_append [] b h k = k
+labels_append (l ∷ a) b h k = (h.0, labels_append a b h.1 k)
+
+labels_choice : (t : Bool) (a b : List Pair) → AreLabels a → AreLabels b → AreLabels (cond t a b)
+labels_choice true a b h k = h
+labels_choice false a b h k = k
+
+valid_text : (n v : List ℕ) → IsLabelName n → AreLabels (text_label n v)
+valid_text n [] h = tt
+valid_text n (b ∷ bs) h = (h, tt)
+
+valid_version : (o : Option (List ℕ)) → AreLabels (version_label o)
+valid_version None = tt
+valid_version (Some v) = valid_text (codes "otel_scope_version") v (literal (codes "otel_scope_version") refl)
+
+valid_scope : (s : Settings) (scope : InstrumentationScope) → AreLabels (scope_labels s scope)
+valid_scope s scope =
+    labels_choice s.has_scope_labels (text_label (codes "otel_scope_name") scope.name ++ version_label scope.version) []
+    (labels_append (text_label (codes "otel_scope_name") scope.name) (version_label scope.version) (valid_text (codes "otel_scope_name") scope.name (literal (codes "otel_scope_name") refl)) (valid_version scope.version))
+    tt
+
+valid_point : (s : Settings) (t : Bool) (scope : InstrumentationScope) (ps : List KeyValue) → AreLabels (point_labels s t scope ps)
+valid_point s t scope ps = valid_attributes t (scope_labels s scope) ps (valid_scope s scope)
+
+-- ======== samples ========
+abbrev AreSamples : List Sample → Type 0
+AreSamples [] = Unit {0}
+AreSamples (x ∷ xs) = IsSample x × AreSamples xs
+
+abbrev AreSeries : List Series → Type 0
+AreSeries [] = Unit {0}
+AreSeries (x ∷ xs) = AreSamples x.samples × AreSeries xs
+
+samples_append : (a b : List Sample) → AreSamples a → AreSamples b → AreSamples (a ++ b)
+samples_append [] b h k = k
+samples_append (x ∷ a) b h k = (h.0, samples_append a b h.1 k)
+
+series_append : (a b : List Series) → AreSeries a → AreSeries b → AreSeries (a ++ b)
+series_append [] b h k = k
+series_append (x ∷ a) b h k = (h.0, series_append a b h.1 k)
+
+series_map : {A : Type 0} (f : A → Series) → ((x : A) → AreSamples (f x).samples) → (xs : List A) → AreSeries (map f xs)
+series_map f h [] = tt
+series_map f h (x ∷ xs) = (h x, series_map f h xs)
+
+series_flat : {A : Type 0} (f : A → List Series) → ((x : A) → AreSeries (f x)) → (xs : List A) → AreSeries (flat_map f xs)
+series_flat f h [] = tt
+series_flat f h (x ∷ xs) = series_append (f x) (flat_map f xs) (h x) (series_flat f h xs)
+
+series_choice : (t : Bool) (a : List Series) → AreSeries a → AreSeries (cond t a [])
+series_choice true a h = h
+series_choice false a h = tt
+
+kept_one : (t : Bool) (x : Series) (a b : List Series) → AreSamples x.samples → AreSeries a → AreSeries b → AreSeries (cond t a (x ∷ b))
+kept_one true x a b h k m = k
+kept_one false x a b h k m = (h, m)
+
+valid_kept : (seen : List (List ℕ)) (xs : List Series) → AreSeries xs → AreSeries (kept seen xs)
+valid_kept seen [] h = tt
+valid_kept seen (x ∷ xs) h =
+    kept_one (is_seen (labels_text x.labels) seen) x (kept seen xs) (kept (seen ++ labels_text x.labels ∷ []) xs) h.0
+    (valid_kept seen xs h.1) (valid_kept (seen ++ labels_text x.labels ∷ []) xs h.1)
+
+samples_of : (xs : List Series) → AreSeries xs → AreSamples (flat_map (λ x. x.samples) xs)
+samples_of [] h = tt
+samples_of (x ∷ xs) h = samples_append x.samples (flat_map (λ x. x.samples) xs) h.0 (samples_of xs h.1)
+
+lines_of-samples : (xs : List Sample) → AreSamples xs → AreLines (map sample xs)
+lines_of-samples [] h = tt
+lines_of-samples (x ∷ xs) h = (h.0, lines_of-samples xs h.1)
+
+valid_bucket : (n : List ℕ) (ls : List Pair) (bound : List ℕ) (count : ℕ) → IsMetricName n → AreLabels ls → IsSample (bucket n ls bound count)
+valid_bucket n ls bound count h k = record {
+  name = longer_name n (codes "_bucket") h (all_of is_metric_byte (codes "_bucket") refl);
+  labels = labels_append ls ((codes "le", bound) ∷ []) k (literal (codes "le") refl, tt);
+  value = unsigned_fits count;
+}
+
+valid_buckets : (f : Format) (n : List ℕ) (ls : List Pair) (before : ℕ) (bounds : List ℤ) (counts : List ℕ) → IsMetricName n → AreLabels ls → AreSamples (buckets f n ls before bounds counts)
+valid_buckets f n ls before [] counts h k = tt
+valid_buckets f n ls before (b ∷ bounds) [] h k = tt
+valid_buckets f n ls before (b ∷ bounds) (c ∷ counts) h k =
+    (valid_bucket n ls (bound_text f b) ((before + c) % 2 ^ 64) h k, valid_buckets f n ls ((before + c) % 2 ^ 64) bounds counts h k)
+
+valid_sum : (t : Bool) (n : List ℕ) (ls : List Pair) (z : ℤ) → IsMetricName n → AreLabels ls → IsNumber z → AreSamples (sum_samples t n ls z)
+valid_sum true n ls z h k m = (record { name = longer_name n (codes "_sum") h (all_of is_metric_byte (codes "_sum") refl); labels = k; value = m }, tt)
+valid_sum false n ls z h k m = tt
+
+valid_count : (n : List ℕ) (ls : List Pair) (count : ℕ) → IsMetricName n → AreLabels ls → IsSample (count_sample n ls count)
+valid_count n ls count h k = record { name = longer_name n (codes "_count") h (all_of is_metric_byte (codes "_count") refl); labels = k; value = unsigned_fits count }
+
+end_in : (k : Kind) → AreAll is_metric_byte (value_end k)
+end_in kinds.Counter = all_of is_metric_byte (codes "_total") refl
+end_in kinds.Gauge = tt
+end_in kinds.Histogram = tt
+
+module _ {T : Type 0} (integer : T → ℤ) (fits : (x : T) → IsNumber (integer x)) where
+  valid_histogram : (f : Format) (t : Bool) (n : List ℕ) (ls : List Pair) (p : HistogramDataPoint T) → IsMetricName n → AreLabels ls → AreSamples (histogram_samples integer f t n ls p)
+  valid_histogram f t n ls p h k =
+      samples_append (buckets f n ls 0 p.bounds p.bucket_counts) (bucket n ls (codes "+Inf") p.count ∷ (sum_samples t n ls (integer p.sum) ++ count_sample n ls p.count ∷ [])) (valid_buckets f n ls 0 p.bounds p.bucket_counts h k)
+      (valid_bucket n ls (codes "+Inf") p.count h k, samples_append (sum_samples t n ls (integer p.sum)) (count_sample n ls p.count ∷ []) (valid_sum t n ls (integer p.sum) h k (fits p.sum)) (valid_count n ls p.count h k, tt))
+
+  valid_number : (s : Settings) (scope : InstrumentationScope) (g : Heading) (ps : List KeyValue) (v : T) → IsMetricName g.name → AreSamples (number_series integer s scope g ps v).samples
+  valid_number s scope g ps v h = (record { name = longer_name g.name (value_end g.kind) h (end_in g.kind); labels = valid_point s false scope ps; value = fits v }, tt)
+
+  valid_data : (s : Settings) (t : Bool) (scope : InstrumentationScope) (g : Heading) (d : MetricData T) → IsMetricName g.name → AreSeries (data_series integer s t scope g d)
+  valid_data s t scope g (Gauge d) h = series_map (gauge_series integer s scope g) (λ p. valid_number s scope g p.attributes p.value h) d.data_points
+  valid_data s t scope g (Sum d) h = series_map (sum_series integer s scope g) (λ p. valid_number s scope g p.attributes p.value h) d.data_points
+  valid_data s t scope g (Histogram d) h =
+      series_map (histogram_series integer s t scope g) (λ p. valid_histogram s.format t g.name (point_labels s true scope p.attributes) p h (valid_point s true scope p.attributes)) d.data_points
+
+valid_content : (s : Settings) (scope : InstrumentationScope) (g : Heading) (d : AggregatedMetrics) → IsMetricName g.name → AreSeries (content_series s scope g d)
+valid_content s scope g (U64 d) h = valid_data unsigned unsigned_fits s true scope g d h
+valid_content s scope g (I64 d) h = valid_data signed signed_fits s false scope g d h
+
+valid_family : (s : Settings) (c : ResourceMetrics) (g : Heading) → IsMetricName g.name → AreSamples (family_samples s c g)
+valid_family s c g h =
+    samples_of (kept [] (family_series s c g)) (valid_kept [] (family_series s c g)
+    (series_flat (scope_series s g) (λ sm. series_flat (metric_series s g sm.scope) (λ m. series_choice (belongs g (heading_of m)) (content_series s sm.scope g m.content) (valid_content s sm.scope g m.content h)) sm.metrics) c.scope_metrics))
+
+-- ======== lines ========
+lines_append : (a b : List Line) → AreLines a → AreLines b → AreLines (a ++ b)
+lines_append [] b h k = k
+lines_append (x ∷ a) b h k = (h.0, lines_append a b h.1 k)
+
+valid_help : (n t : List ℕ) → IsMetricName n → AreLines (help_lines n t)
+valid_help n [] h = tt
+valid_help n (b ∷ bs) h = (h, tt)
+
+word_of_letters : (k : Kind) → AreAll is_letter (kind_word k)
+word_of_letters kinds.Counter = all_of is_letter (codes "counter") refl
+word_of_letters kinds.Gauge = all_of is_letter (codes "gauge") refl
+word_of_letters kinds.Histogram = all_of is_letter (codes "histogram") refl
+
+kind_end_in : (f : Format) (k : Kind) → AreAll is_metric_byte (kind_end f k)
+kind_end_in Prometheus kinds.Counter = all_of is_metric_byte (codes "_total") refl
+kind_end_in Prometheus kinds.Gauge = tt
+kind_end_in Prometheus kinds.Histogram = tt
+kind_end_in OpenMetrics k = tt
+
+valid_front : (f : Format) (x : Family) → IsMetricName x.heading.name → AreLines (front_lines f x)
+valid_front f x h =
+    let n = longer_name x.heading.name (kind_end f x.heading.kind) h (kind_end_in f x.heading.kind) in
+    lines_append (help_lines (x.heading.name ++ kind_end f x.heading.kind) x.help) (kind (x.heading.name ++ kind_end f x.heading.kind) (kind_word x.heading.kind) ∷ []) (valid_help (x.heading.name ++ kind_end f x.heading.kind) x.help n) ((n, word_of_letters x.heading.kind), tt)
+
+valid_lines : (s : Settings) (c : ResourceMetrics) (x : Family) → IsMetricName x.heading.name → AreLines (family_lines s c x)
+valid_lines s c x h = lines_append (front_lines s.format x) (map sample (family_samples s c x.heading)) (valid_front s.format x h) (lines_of-samples (family_samples s c x.heading) (valid_family s c x.heading h))
+
+valid_target_kind : (f : Format) → IsLine (target_kind f)
+valid_target_kind Prometheus = ((refl, all_of is_metric_byte (codes "arget_info") refl), all_of is_letter (codes "gauge") refl)
+valid_target_kind OpenMetrics = ((refl, all_of is_metric_byte (codes "arget") refl), all_of is_letter (codes "info") refl)
+
+valid_target : (f : Format) (ls : List Pair) → AreLabels ls → AreLines (target_lines f ls)
+valid_target f [] h = tt
+valid_target f (l ∷ ls) h =
+    (valid_target_kind f, (record { name = (refl, all_of is_metric_byte (codes "arget_info") refl); labels = h; value = unsigned_fits 1 }, tt))
+
+valid_end : (f : Format) → AreLines (end_lines f)
+valid_end Prometheus = tt
+valid_end OpenMetrics = (tt, tt)
+
+-- ======== families ========
+abbrev AreFamilies : List Family → Type 0
+AreFamilies [] = Unit {0}
+AreFamilies (x ∷ xs) = IsMetricName x.heading.name × AreFamilies xs
+
+families_append : (a b : List Family) → AreFamilies a → AreFamilies b → AreFamilies (a ++ b)
+families_append [] b h k = k
+families_append (x ∷ a) b h k = (h.0, families_append a b h.1 k)
+
+families_choice : (t : Bool) (a b : List Family) → AreFamilies a → AreFamilies b → AreFamilies (cond t a b)
+families_choice true a b h k = h
+families_choice false a b h k = k
+
+one_family : (fs : List Family) (m : Metric) (o : Option Kind) → AreFamilies fs → AreFamilies (with_heading fs m (option_map (heading_with m) o))
+one_family fs m None h = h
+one_family fs m (Some k) h =
+    families_choice (is_refused fs (heading_with m k)) fs (fs ++ record { heading = heading_with m k; help = m.description } ∷ []) h
+    (families_append fs (record { heading = heading_with m k; help = m.description } ∷ []) h (family_name k m, tt))
+
+more_families : (fs : List Family) (ms : List Metric) → AreFamilies fs → AreFamilies (fold with_metric fs ms)
+more_families fs [] h = h
+more_families fs (m ∷ ms) h = more_families (with_metric fs m) ms (one_family fs m (content_kind m.content) h)
+
+all_families : (fs : List Family) (ss : List ScopeMetrics) → AreFamilies fs → AreFamilies (fold with_scope fs ss)
+all_families fs [] h = h
+all_families fs (s ∷ ss) h = all_families (with_scope fs s) ss (more_families fs s.metrics h)
+
+lines_flat : (s : Settings) (c : ResourceMetrics) (xs : List Family) → AreFamilies xs → AreLines (flat_map (family_lines s c) xs)
+lines_flat s c [] h = tt
+lines_flat s c (x ∷ xs) h = lines_append (family_lines s c x) (flat_map (family_lines s c) xs) (valid_lines s c x h.0) (lines_flat s c xs h.1)
+
+no_families : AreFamilies []
+no_families = tt
+
+pub valid : (s : Settings) (c : ResourceMetrics) → AreLines (lines_of s c)
+valid s c =
+    lines_append (target_lines s.format (with_attributes false [] c.resource.attributes)) (flat_map (family_lines s c) (families c) ++ end_lines s.format) (valid_target s.format (with_attributes false [] c.resource.attributes) (valid_attributes false [] c.resource.attributes tt))
+    (lines_append (flat_map (family_lines s c) (families c)) (end_lines s.format) (lines_flat s c (families c) (all_families [] c.scope_metrics no_families)) (valid_end s.format))

@@ -1,0 +1,11 @@
+pub mod Collections
+pub mod Families
+pub mod Headings
+pub mod Labels
+pub mod Laws
+pub mod Places
+pub mod Points
+pub mod Series
+pub mod Totals
+pub mod Units
+pub mod Values

@@ -1,0 +1,87 @@
+-- Points as series of samples.
+use Rattle.std.specs.Prelude.{ℕ, ◌+◌, ◌%◌, ◌^◌, ℤ, List, [], ◌∷◌, ◌++◌, Bool, true, false, cond, codes, map}
+use Rattle.std.specs.Fmt.{signed_decimal}
+use Rattle.otel_common.specs.declared.attributes.KeyValue.{KeyValue}
+use Rattle.otel_common.specs.declared.scopes.InstrumentationScope.{InstrumentationScope}
+use Rattle.otel_data.specs.declared.aggregated.AggregatedMetrics.{AggregatedMetrics}
+use Rattle.otel_data.specs.declared.aggregated.AggregatedMetrics.TheVariants as number_types
+use Rattle.otel_data.specs.declared.aggregated.MetricData.{MetricData}
+use Rattle.otel_data.specs.declared.aggregated.MetricData.TheVariants as aggregations
+use Rattle.otel_data.specs.declared.points.GaugeDataPoint.{GaugeDataPoint}
+use Rattle.otel_data.specs.declared.points.HistogramDataPoint.{HistogramDataPoint}
+use Rattle.otel_data.specs.declared.points.SumDataPoint.{SumDataPoint}
+use Rattle.otel_exposition.specs.Numbers.{unsigned, signed}
+use Rattle.otel_exposition.specs.Samples.{Pair, Sample}
+use Rattle.otel_exposition.specs.declared.formats.Format.{Format}
+use Rattle.otel_exposition.specs.declared.formats.Format.TheVariants as formats
+use Rattle.otel_prometheus.specs.Labels.{point_labels}
+use Rattle.otel_prometheus.specs.Series.{Series}
+use Rattle.otel_prometheus.specs.declared.headings.Heading.{Heading}
+use Rattle.otel_prometheus.specs.declared.headings.Kind.{Kind}
+use Rattle.otel_prometheus.specs.declared.headings.Kind.TheVariants as kinds
+use Rattle.otel_prometheus.specs.declared.settings.Settings.{Settings}
+
+-- the name of a counter's samples ends with `_total`
+abbrev pub value_end : Kind → List ℕ
+value_end kinds.Counter = codes "_total"
+value_end kinds.Gauge = []
+value_end kinds.Histogram = []
+
+-- ======== histograms ========
+-- a bound of a bucket; in OpenMetrics it is written as a float
+abbrev pub bound_text : Format → ℤ → List ℕ
+bound_text formats.Prometheus z = signed_decimal z
+bound_text formats.OpenMetrics z = signed_decimal z ++ codes ".0"
+
+-- how many values are at most the bound
+abbrev pub bucket : List ℕ → List Pair → List ℕ → ℕ → Sample
+bucket name labels bound count = record { name = name ++ codes "_bucket"; labels = labels ++ (codes "le", bound) ∷ []; value = unsigned count }
+
+-- a bucket for each bound, each with the values of those before it
+abbrev pub buckets : Format → List ℕ → List Pair → ℕ → List ℤ → List ℕ → List Sample
+buckets f name labels before [] counts = []
+buckets f name labels before (b ∷ bounds) [] = []
+buckets f name labels before (b ∷ bounds) (n ∷ counts) =
+    bucket name labels (bound_text f b) ((before + n) % 2 ^ 64) ∷ buckets f name labels ((before + n) % 2 ^ 64) bounds counts
+
+-- a sum that may fall is not shown
+abbrev pub sum_samples : Bool → List ℕ → List Pair → ℤ → List Sample
+sum_samples has_sum name labels z = cond has_sum (record { name = name ++ codes "_sum"; labels = labels; value = z } ∷ []) []
+
+abbrev pub count_sample : List ℕ → List Pair → ℕ → Sample
+count_sample name labels count = record { name = name ++ codes "_count"; labels = labels; value = unsigned count }
+
+module _ {T : Type 0} (integer : T → ℤ) where
+  abbrev pub histogram_samples : Format → Bool → List ℕ → List Pair → HistogramDataPoint T → List Sample
+  histogram_samples f has_sum name labels p =
+      buckets f name labels 0 p.bounds p.bucket_counts
+      ++ (bucket name labels (codes "+Inf") p.count ∷ (sum_samples has_sum name labels (integer p.sum) ++ count_sample name labels p.count ∷ []))
+
+  -- ======== points ========
+  abbrev pub number_series : Settings → InstrumentationScope → Heading → List KeyValue → T → Series
+  number_series s scope h attributes value = record {
+    labels = point_labels s false scope attributes;
+    samples = record { name = h.name ++ value_end h.kind; labels = point_labels s false scope attributes; value = integer value } ∷ [];
+  }
+
+  abbrev pub gauge_series : Settings → InstrumentationScope → Heading → GaugeDataPoint T → Series
+  gauge_series s scope h p = number_series s scope h p.attributes p.value
+
+  abbrev pub sum_series : Settings → InstrumentationScope → Heading → SumDataPoint T → Series
+  sum_series s scope h p = number_series s scope h p.attributes p.value
+
+  abbrev pub histogram_series : Settings → Bool → InstrumentationScope → Heading → HistogramDataPoint T → Series
+  histogram_series s has_sum scope h p = record {
+    labels = point_labels s true scope p.attributes;
+    samples = histogram_samples s.format has_sum h.name (point_labels s true scope p.attributes) p;
+  }
+
+  abbrev pub data_series : Settings → Bool → InstrumentationScope → Heading → MetricData T → List Series
+  data_series s has_sum scope h (aggregations.Gauge g) = map (gauge_series s scope h) g.data_points
+  data_series s has_sum scope h (aggregations.Sum d) = map (sum_series s scope h) d.data_points
+  data_series s has_sum scope h (aggregations.Histogram d) = map (histogram_series s has_sum scope h) d.data_points
+
+-- a series for each point; a sum of signed values may fall
+abbrev pub content_series : Settings → InstrumentationScope → Heading → AggregatedMetrics → List Series
+content_series s scope h (number_types.U64 d) = data_series unsigned s true scope h d
+content_series s scope h (number_types.I64 d) = data_series signed s false scope h d

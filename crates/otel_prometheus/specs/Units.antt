@@ -1,0 +1,70 @@
+-- Units in names of metrics (Prometheus and OpenMetrics Compatibility, "Metric Metadata").
+use Rattle.std.specs.Prelude.{ℕ, suc, ◌==◌, ◌||◌, List, [], ◌∷◌, ◌++◌, Bool, true, false, cond, Option, Some, None, codes, take, drop, position}
+use Rattle.std.specs.List.{list_any}
+use Rattle.otel_common.specs.Equality.{bytes_eq}
+use Rattle.otel_exposition.specs.Names.{name_of}
+use Rattle.otel_exposition.specs.Samples.{is_label_byte}
+
+-- the word at a key
+abbrev pub word_at : List (List ℕ × List ℕ) → List ℕ → Option (List ℕ)
+word_at [] unit = None
+word_at (entry ∷ entries) unit = cond (bytes_eq unit entry.0) (Some entry.1) (word_at entries unit)
+
+-- words for units of the Unified Code for Units of Measure
+abbrev pub times : List (List ℕ × List ℕ)
+times =
+    (codes "d", codes "days") ∷ (codes "h", codes "hours") ∷ (codes "min", codes "minutes") ∷ (codes "s", codes "seconds")
+    ∷ (codes "ms", codes "milliseconds") ∷ (codes "us", codes "microseconds") ∷ (codes "ns", codes "nanoseconds") ∷ []
+
+abbrev pub decimal_sizes : List (List ℕ × List ℕ)
+decimal_sizes =
+    (codes "By", codes "bytes") ∷ (codes "KBy", codes "kilobytes") ∷ (codes "MBy", codes "megabytes") ∷ (codes "GBy", codes "gigabytes") ∷ (codes "TBy", codes "terabytes") ∷ []
+
+abbrev pub binary_sizes : List (List ℕ × List ℕ)
+binary_sizes = (codes "KiBy", codes "kibibytes") ∷ (codes "MiBy", codes "mebibytes") ∷ (codes "GiBy", codes "gibibytes") ∷ (codes "TiBy", codes "tibibytes") ∷ []
+
+abbrev pub measures : List (List ℕ × List ℕ)
+measures =
+    (codes "m", codes "meters") ∷ (codes "V", codes "volts") ∷ (codes "A", codes "amperes") ∷ (codes "J", codes "joules") ∷ (codes "W", codes "watts")
+    ∷ (codes "g", codes "grams") ∷ (codes "Cel", codes "celsius") ∷ (codes "Hz", codes "hertz") ∷ (codes "%", codes "percent") ∷ []
+
+-- words behind `per`
+abbrev pub rates : List (List ℕ × List ℕ)
+rates =
+    (codes "s", codes "second") ∷ (codes "m", codes "minute") ∷ (codes "h", codes "hour") ∷ (codes "d", codes "day")
+    ∷ (codes "w", codes "week") ∷ (codes "mo", codes "month") ∷ (codes "y", codes "year") ∷ []
+
+abbrev pub or_other : {A : Type 0} → Option A → Option A → Option A
+or_other None other = other
+or_other (Some w) other = Some w
+
+abbrev pub unit_word : List ℕ → Option (List ℕ)
+unit_word unit = or_other (word_at times unit) (or_other (word_at decimal_sizes unit) (or_other (word_at binary_sizes unit) (word_at measures unit)))
+
+-- a unit with no word stands for itself, as a name
+abbrev pub or_name : Option (List ℕ) → List ℕ → List ℕ
+or_name None unit = name_of is_label_byte unit
+or_name (Some w) unit = w
+
+-- nothing, `1` and what has a note in braces, as `{packet}`, count things
+abbrev pub is_count : List ℕ → Bool
+is_count [] = true
+is_count (b ∷ bs) = bytes_eq (b ∷ bs) (codes "1") || list_any (λ c. c == 123) (b ∷ bs)
+
+-- the word of a unit behind this front; nothing for a count
+abbrev pub worded : List ℕ → Option (List ℕ) → List ℕ → List ℕ
+worded front word unit = cond (is_count unit) [] (front ++ or_name word unit)
+
+-- `a/b` is a per b
+abbrev pub ratio : List ℕ → List ℕ → List ℕ
+ratio over under = worded (codes "_") (unit_word over) over ++ worded (codes "_per_") (word_at rates under) under
+
+-- with the place of the slash
+abbrev pub unit_parts : List ℕ → Option ℕ → List ℕ
+unit_parts unit None = worded (codes "_") (unit_word unit) unit
+unit_parts unit (Some i) = ratio (take i unit) (drop (suc i) unit)
+
+-- what a unit adds to a name; `1` is a ratio where the last value is kept
+abbrev pub unit_suffix : Bool → List ℕ → List ℕ
+unit_suffix is_last_value unit =
+    cond (is_last_value) (cond (bytes_eq unit (codes "1")) (codes "_ratio") (unit_parts unit (position (λ b. b == 47) unit))) (unit_parts unit (position (λ b. b == 47) unit))

@@ -1,0 +1,316 @@
+//! Expositions: the text of a whole collection.
+
+ghost use Rattle.std.specs.Prelude.{◌≡◌, ◌++◌, ◌%◌, ◌^◌, [], false, Some, OnOk, IfOk, map, flat_map};
+ghost use Rattle.otel_exposition.specs.Lines.{sample, spelled, text_of};
+ghost use Rattle.otel_exposition.specs.Reading.{read};
+ghost use Rattle.otel_prometheus.specs.Collections.{metric_series, scope_series, family_series, kind_word, kind_end, help_lines, front_lines, family_samples, family_lines, target_kind, target_lines, end_lines, lines_of, doubled_points, left_out_of};
+ghost use Rattle.otel_prometheus.specs.Totals.{total};
+ghost use Rattle.otel_prometheus.specs.Families.{families};
+ghost use Rattle.otel_prometheus.specs.Labels.{with_attributes};
+ghost use Rattle.otel_prometheus.specs.Series.{spelled_series, doubled};
+
+use crate::families::{Family, conflicting_points, delta_points, families};
+use crate::headings::{Heading, Kind, heading_of, is_same_heading};
+use crate::labels::add_resource;
+use crate::laws::says_lines;
+use crate::points::add_content;
+use crate::series::{Series, push_all};
+use crate::settings::Settings;
+use otel_common::resource::Resource;
+use otel_common::scopes::InstrumentationScope;
+use otel_data::collections::{Metric, ResourceMetrics, ScopeMetrics};
+use otel_exposition::comments::{push_finish, push_help, push_kind};
+use otel_exposition::formats::Format;
+use otel_exposition::labels::Label;
+use otel_exposition::samples::push_sample;
+use std::alloc::{AllocError, Global};
+
+/// How many points a text leaves out, each modulo 2^64.
+#[derive(Clone, Copy, Debug, PartialEq, Eq)]
+pub struct LeftOut {
+    /// Points that cover one collection alone: their reader asks for delta temporality.
+    pub delta: u64,
+    /// Points of metrics whose name is that of a family of another type, or may be that of one of its samples.
+    pub conflicting: u64,
+    /// Points whose labels are those of an earlier point of their family.
+    pub doubled: u64,
+}
+
+/// The text of a collection, and what it leaves out.
+#[derive(Debug, Drop)]
+pub struct Exposition {
+    /// The text.
+    pub text: Vec<u8>,
+    /// How many points the text leaves out.
+    pub left_out: LeftOut,
+}
+
+/// Adds a series for each point of a metric, if it belongs to the family of this heading.
+fn add_metric(
+    alloc: Global,
+    settings: Settings,
+    heading: &Heading,
+    scope: &InstrumentationScope,
+    metric: &Metric,
+    out: &mut Vec<Series>,
+) -> Result<(), AllocError>
+    ensures { OnOk result (out.new.items ≡ out.old.items ++ map spelled_series (metric_series settings heading.now scope.now metric.now)) }
+{
+    let Some(own) = heading_of(alloc, metric)? else {
+        return Ok(());
+    };
+    if !is_same_heading(heading, &own) {
+        return Ok(());
+    }
+    add_content(alloc, settings, scope, heading, metric.data(), out)?;
+    Ok(())
+}
+
+/// Adds a series for each point of those metrics of a scope that belong to the family.
+#[tactic(auto, using(crate::proofs::SeriesLemmas::map_spelled_append))]
+fn add_scope(
+    alloc: Global,
+    settings: Settings,
+    heading: &Heading,
+    scope: &InstrumentationScope,
+    metrics: &[Metric],
+    out: &mut Vec<Series>,
+) -> Result<(), AllocError>
+    ensures { OnOk result (out.new.items ≡ out.old.items ++ map spelled_series (flat_map (metric_series settings heading.now scope.now) metrics.now)) }
+{
+    for metric in metrics {
+        add_metric(alloc, settings, heading, scope, metric, out)?;
+    }
+    Ok(())
+}
+
+/// Returns a series for each point of each metric of the family.
+#[tactic(auto, using(crate::proofs::SeriesLemmas::map_spelled_append))]
+fn family_series(
+    alloc: Global,
+    settings: Settings,
+    scopes: &[ScopeMetrics],
+    heading: &Heading,
+) -> Result<Vec<Series>, AllocError>
+    ensures { IfOk result (λ found. found.items ≡ map spelled_series (flat_map (scope_series settings heading.now) scopes.now)) }
+{
+    let mut found = Vec::new(alloc);
+    for one in scopes {
+        let metrics = one.metrics().as_slice();
+        add_scope(alloc, settings, heading, one.scope(), metrics, &mut found)?;
+    }
+    Ok(found)
+}
+
+/// The word for a type.
+fn kind_word(kind: Kind) -> &'static str
+    ensures { result.now ≡ kind_word kind }
+{
+    match kind {
+        Kind::Counter => "counter",
+        Kind::Gauge => "gauge",
+        Kind::Histogram => "histogram",
+    }
+}
+
+/// What follows the name of a family where its type stands.
+fn kind_end(format: Format, kind: Kind) -> &'static str
+    ensures { result.now ≡ kind_end format kind }
+{
+    match (format, kind) {
+        (Format::Prometheus, Kind::Counter) => "_total",
+        (Format::Prometheus, Kind::Gauge) => "",
+        (Format::Prometheus, Kind::Histogram) => "",
+        (Format::OpenMetrics, _) => "",
+    }
+}
+
+/// Appends the help text, if there is one.
+fn push_help_line(
+    out: &mut Vec<u8>,
+    format: Format,
+    name: &str,
+    text: &str,
+) -> Result<(), AllocError>
+    ensures { OnOk result (out.new.items ≡ out.old.items ++ text_of format (help_lines name.now text.now)) }
+{
+    let Some(_) = text.as_bytes().split_first() else {
+        return Ok(());
+    };
+    push_help(out, format, name, text)?;
+    Ok(())
+}
+
+/// Appends the help text and the type of a family.
+#[tactic(auto, using(crate::proofs::SeriesLemmas::text_of_append))]
+fn push_front(
+    alloc: Global,
+    out: &mut Vec<u8>,
+    format: Format,
+    family: &Family,
+) -> Result<(), AllocError>
+    ensures { OnOk result (out.new.items ≡ out.old.items ++ text_of format (front_lines format family.now)) }
+{
+    let mut name = String::from_str(alloc, family.heading.name.as_str())?;
+    name.push_str(kind_end(format, family.heading.kind))?;
+    push_help_line(out, format, name.as_str(), family.help.as_str())?;
+    push_kind(out, name.as_str(), kind_word(family.heading.kind))?;
+    Ok(())
+}
+
+/// Appends the samples of a family. Returns how many series it leaves out, modulo 2^64.
+#[tactic(auto, using(crate::proofs::SeriesLemmas::family_text, crate::proofs::SeriesLemmas::family_doubled))]
+fn push_samples(
+    alloc: Global,
+    settings: Settings,
+    out: &mut Vec<u8>,
+    collected: &ResourceMetrics,
+    heading: &Heading,
+) -> Result<u64, AllocError>
+    ensures text { OnOk result (out.new.items ≡ out.old.items ++ text_of settings.format (map sample (family_samples settings collected.now heading.now))) }
+    ensures doubled { IfOk result (λ count. count ≡ doubled [] (family_series settings collected.now heading.now) % 2 ^ 64) }
+{
+    let scopes = collected.scope_metrics().as_slice();
+    let series = family_series(alloc, settings, scopes, heading)?;
+    let count = push_all(alloc, out, series.as_slice())?;
+    Ok(count)
+}
+
+/// Appends the lines of a family. Returns how many series it leaves out, modulo 2^64.
+#[tactic(auto, using(crate::proofs::SeriesLemmas::text_of_append))]
+fn push_family(
+    alloc: Global,
+    settings: Settings,
+    out: &mut Vec<u8>,
+    collected: &ResourceMetrics,
+    family: &Family,
+) -> Result<u64, AllocError>
+    ensures text { OnOk result (out.new.items ≡ out.old.items ++ text_of settings.format (family_lines settings collected.now family.now)) }
+    ensures doubled { IfOk result (λ count. count ≡ doubled [] (family_series settings collected.now family.now.heading) % 2 ^ 64) }
+{
+    push_front(alloc, out, settings.format, family)?;
+    let count = push_samples(alloc, settings, out, collected, &family.heading)?;
+    Ok(count)
+}
+
+/// Appends the lines of families. Returns how many series they leave out, modulo 2^64.
+#[tactic(auto, using(crate::proofs::SeriesLemmas::text_of_append, crate::proofs::SeriesLemmas::counted_rest))]
+fn push_families(
+    alloc: Global,
+    settings: Settings,
+    out: &mut Vec<u8>,
+    collected: &ResourceMetrics,
+    families: &[Family],
+) -> Result<u64, AllocError>
+    ensures text { OnOk result (out.new.items ≡ out.old.items ++ text_of settings.format (flat_map (family_lines settings collected.now) families.now)) }
+    ensures doubled { IfOk result (λ count. count ≡ total (λ f. doubled [] (family_series settings collected.now f.heading)) families.now % 2 ^ 64) }
+{
+    let mut count = 0u64;
+    for family in families {
+        let own = push_family(alloc, settings, out, collected, family)?;
+        count = count.wrapping_add(own);
+    }
+    Ok(count)
+}
+
+/// Appends the type of what says what the resource is.
+fn push_target_kind(out: &mut Vec<u8>, format: Format) -> Result<(), AllocError>
+    ensures { OnOk result (out.new.items ≡ out.old.items ++ spelled format (target_kind format)) }
+{
+    match format {
+        Format::Prometheus => {
+            push_kind(out, "target_info", "gauge")?;
+            Ok(())
+        }
+        Format::OpenMetrics => {
+            push_kind(out, "target", "info")?;
+            Ok(())
+        }
+    }
+}
+
+/// Appends labels as what says what the resource is, unless there are none.
+fn push_target_labels(out: &mut Vec<u8>, format: Format, labels: &[Label]) -> Result<(), AllocError>
+    ensures { OnOk result (out.new.items ≡ out.old.items ++ text_of format (target_lines format labels.now)) }
+{
+    let Some(_) = labels.split_first() else {
+        return Ok(());
+    };
+    push_target_kind(out, format)?;
+    push_sample(out, "target_info", "", labels, 1u64)?;
+    Ok(())
+}
+
+/// Appends what says what the resource is.
+fn push_target(
+    alloc: Global,
+    out: &mut Vec<u8>,
+    format: Format,
+    resource: &Resource,
+) -> Result<(), AllocError>
+    ensures { OnOk result (out.new.items ≡ out.old.items ++ text_of format (target_lines format (with_attributes false [] resource.now.attributes))) }
+{
+    let mut labels = Vec::new(alloc);
+    add_resource(alloc, &mut labels, resource)?;
+    push_target_labels(out, format, labels.as_slice())?;
+    Ok(())
+}
+
+/// Appends the end of a text.
+fn push_end(out: &mut Vec<u8>, format: Format) -> Result<(), AllocError>
+    ensures { OnOk result (out.new.items ≡ out.old.items ++ text_of format (end_lines format)) }
+{
+    match format {
+        Format::Prometheus => Ok(()),
+        Format::OpenMetrics => {
+            push_finish(out)?;
+            Ok(())
+        }
+    }
+}
+
+/// Appends the text of a collection. Returns how many series it leaves out, modulo 2^64.
+#[tactic(auto, using(crate::proofs::SeriesLemmas::text_of_append))]
+fn push_collection(
+    alloc: Global,
+    settings: Settings,
+    out: &mut Vec<u8>,
+    collected: &ResourceMetrics,
+    standing: &[Family],
+) -> Result<u64, AllocError>
+    requires { standing.now ≡ families collected.now }
+    ensures text { OnOk result (out.new.items ≡ out.old.items ++ text_of settings.format (lines_of settings collected.now)) }
+    ensures doubled { IfOk result (λ count. count ≡ doubled_points settings collected.now % 2 ^ 64) }
+{
+    push_target(alloc, out, settings.format, collected.resource())?;
+    let count = push_families(alloc, settings, out, collected, standing)?;
+    push_end(out, settings.format)?;
+    Ok(count)
+}
+
+/// Returns the text of a collection, and what it leaves out: no point is left out that isn't counted. Refused only for
+/// want of memory.
+///
+/// It takes a time that grows with the number of points, and with the square of the number of metrics.
+pub fn exposition_of(
+    alloc: Global,
+    settings: Settings,
+    collected: &ResourceMetrics,
+) -> Result<Exposition, AllocError>
+    ensures text { IfOk result (λ e. e.text.items ≡ text_of settings.format (lines_of settings collected.now)) }
+    ensures left_out { IfOk result (λ e. e.left_out ≡ left_out_of settings collected.now) }
+    ensures reads_back { IfOk result (λ e. read e.text.items ≡ Some (lines_of settings collected.now)) }
+{
+    says_lines();
+    let families = families(alloc, collected)?;
+    let delta = delta_points(alloc, collected)?;
+    let conflicting = conflicting_points(alloc, families.as_slice(), collected)?;
+    let mut text = Vec::new(alloc);
+    let doubled = push_collection(alloc, settings, &mut text, collected, families.as_slice())?;
+    let left_out = LeftOut {
+        delta,
+        conflicting,
+        doubled,
+    };
+    Ok(Exposition { text, left_out })
+}

@@ -1,0 +1,206 @@
+//! The names and types of families.
+
+ghost use Rattle.std.specs.Prelude.{◌≡◌, ◌==◌, IfOk, OnOk};
+ghost use Rattle.std.specs.String.{string_bytes};
+ghost use Rattle.otel_prometheus.specs.Headings.{if_cumulative, points_kind, content_kind, keeps_last, is_last_value, kind_eq, without_end, own_text, with_end, base_name, heading_of, same_heading, is_sample_end, may_be_sample, clashes, is_reserved};
+
+use crate::units::unit_suffix;
+use otel_common::metrics::Temporality;
+use otel_common::strings::StringValue;
+use otel_data::aggregated::{AggregatedMetrics, MetricData};
+use otel_data::collections::Metric;
+use otel_exposition::names::metric_name;
+use std::alloc::{AllocError, Global};
+
+/// The type of a family.
+#[derive(Clone, Copy, Debug)]
+pub(crate) enum Kind {
+    /// A sum that doesn't fall but where it starts anew.
+    Counter,
+    /// A value.
+    Gauge,
+    /// How values spread.
+    Histogram,
+}
+
+/// The name and the type of a family. The name of a counter is without `_total`.
+#[derive(Debug, Drop)]
+pub(crate) struct Heading {
+    pub(crate) name: StringValue,
+    pub(crate) kind: Kind,
+}
+
+/// The type, if the points cover all records since the stream was made.
+fn if_cumulative(temporality: Temporality, kind: Kind) -> Option<Kind>
+    ensures { result ≡ if_cumulative temporality kind }
+{
+    match temporality {
+        Temporality::Cumulative => Some(kind),
+        Temporality::Delta => None,
+        Temporality::LowMemory => None,
+    }
+}
+
+/// The type of the family of these points; none if they can't be shown.
+fn points_kind<T>(points: &MetricData<T>) -> Option<Kind>
+    ensures { result ≡ points_kind points.now }
+{
+    match points {
+        MetricData::Gauge(_) => Some(Kind::Gauge),
+        MetricData::Sum(sum) => {
+            let kind = if sum.is_monotonic() {
+                Kind::Counter
+            } else {
+                Kind::Gauge
+            };
+            if_cumulative(sum.temporality(), kind)
+        }
+        MetricData::Histogram(histogram) => {
+            if_cumulative(histogram.temporality(), Kind::Histogram)
+        }
+    }
+}
+
+/// The type of the family of these points of either number type; none if they can't be shown.
+fn content_kind(content: &AggregatedMetrics) -> Option<Kind>
+    ensures { result ≡ content_kind content.now }
+{
+    match content {
+        AggregatedMetrics::U64(points) => points_kind(points),
+        AggregatedMetrics::I64(points) => points_kind(points),
+    }
+}
+
+/// Whether the points are last values.
+fn keeps_last<T>(points: &MetricData<T>) -> bool
+    ensures { result ≡ keeps_last points.now }
+{
+    match points {
+        MetricData::Gauge(_) => true,
+        MetricData::Sum(_) => false,
+        MetricData::Histogram(_) => false,
+    }
+}
+
+/// Whether the points, of either number type, are last values.
+fn is_last_value(content: &AggregatedMetrics) -> bool
+    ensures { result ≡ is_last_value content.now }
+{
+    match content {
+        AggregatedMetrics::U64(points) => keeps_last(points),
+        AggregatedMetrics::I64(points) => keeps_last(points),
+    }
+}
+
+/// Whether the types are the same.
+fn is_same_kind(a: Kind, b: Kind) -> bool
+    ensures { result ≡ kind_eq a b }
+{
+    match (a, b) {
+        (Kind::Counter, Kind::Counter) => true,
+        (Kind::Gauge, Kind::Gauge) => true,
+        (Kind::Histogram, Kind::Histogram) => true,
+        _ => false,
+    }
+}
+
+/// The text without this end, if it has it.
+fn without_end<'a>(text: &'a [u8], end: &[u8]) -> &'a [u8]
+    ensures { result.now ≡ without_end end.now text.now }
+{
+    if text.ends_with(end) {
+        return &text[..text.len() - end.len()];
+    }
+    text
+}
+
+/// The name of a metric without what a family of this type adds to it.
+fn own_text(kind: Kind, text: &[u8]) -> &[u8]
+    ensures { result.now ≡ own_text kind text.now }
+{
+    match kind {
+        Kind::Counter => without_end(text, b"_total"),
+        Kind::Gauge => text,
+        Kind::Histogram => text,
+    }
+}
+
+/// Appends an end to a text, unless it has it.
+fn add_end(text: &mut String, end: &str) -> Result<(), AllocError>
+    ensures { OnOk result (string_bytes text.new ≡ with_end (string_bytes text.old) end.now) }
+{
+    if text.as_str().as_bytes().ends_with(end.as_bytes()) {
+        return Ok(());
+    }
+    text.push_str(end)
+}
+
+/// Returns the name of the family of a metric.
+fn base_name(alloc: Global, metric: &Metric, kind: Kind) -> Result<String, AllocError>
+    ensures { IfOk result (λ name. string_bytes name ≡ base_name kind metric.now) }
+{
+    let mut name = metric_name(alloc, own_text(kind, metric.name().as_bytes()))?;
+    let is_last_value = is_last_value(metric.data());
+    let suffix = unit_suffix(alloc, metric.unit().as_bytes(), is_last_value)?;
+    add_end(&mut name, suffix.as_str())?;
+    Ok(name)
+}
+
+/// Returns the heading of a metric; none if it can't be shown.
+pub(crate) fn heading_of(alloc: Global, metric: &Metric) -> Result<Option<Heading>, AllocError>
+    ensures { IfOk result (λ heading. heading ≡ heading_of metric.now) }
+{
+    match content_kind(metric.data()) {
+        Some(kind) => {
+            let name = StringValue::from(base_name(alloc, metric, kind)?);
+            Ok(Some(Heading { name, kind }))
+        }
+        None => Ok(None),
+    }
+}
+
+/// Whether the headings are the same.
+pub(crate) fn is_same_heading(a: &Heading, b: &Heading) -> bool
+    ensures { result ≡ same_heading a.now b.now }
+{
+    is_same_kind(a.kind, b.kind) && a.name == b.name
+}
+
+/// Whether a family of this type adds this end to its name in names of samples.
+fn is_sample_end(kind: Kind, end: &[u8]) -> bool
+    ensures { result ≡ is_sample_end kind end.now }
+{
+    match kind {
+        Kind::Counter => end == b"_total".as_slice() || end == b"_created".as_slice(),
+        Kind::Gauge => false,
+        Kind::Histogram => {
+            end == b"_bucket".as_slice()
+                || end == b"_sum".as_slice()
+                || end == b"_count".as_slice()
+                || end == b"_created".as_slice()
+        }
+    }
+}
+
+/// Whether the name of the second may be that of a sample of the first.
+fn may_be_sample(a: &Heading, b: &Heading) -> bool
+    ensures { result ≡ may_be_sample a.now b.now }
+{
+    let long = b.name.as_str().as_bytes();
+    let short = a.name.as_str().as_bytes();
+    long.starts_with(short) && is_sample_end(a.kind, &long[short.len()..])
+}
+
+/// Whether the two can't stand in one text, or are the same.
+pub(crate) fn clashes(a: &Heading, b: &Heading) -> bool
+    ensures { result ≡ clashes a.now b.now }
+{
+    a.name == b.name || may_be_sample(a, b) || may_be_sample(b, a)
+}
+
+/// Whether the name is that of what says what the resource is.
+pub(crate) fn is_reserved(name: &[u8]) -> bool
+    ensures { result ≡ is_reserved name.now }
+{
+    name == b"target".as_slice() || name == b"target_info".as_slice()
+}

@@ -1,0 +1,88 @@
+//! Series of samples, each with the labels of one point.
+
+ghost use Rattle.std.specs.Prelude.{◌≡◌, ◌++◌, ◌+◌, ◌%◌, ◌^◌, [], ◌∷◌, ℕ, List, OnOk, IfOk};
+ghost use Rattle.otel_exposition.specs.Samples.{Pair, labels_text};
+ghost use Rattle.otel_prometheus.specs.Series.{kept_text, doubled_texts};
+
+use indexmap::IndexSet;
+use otel_common::lists::Items;
+use std::alloc::{AllocError, Global};
+use std::marker::Model;
+
+/// The samples of a point: the spelled labels, and the lines. Contracts see it as the pair of both.
+#[derive(Debug, Drop)]
+pub(crate) struct Series {
+    labels: Vec<u8>,
+    lines: Vec<u8>,
+}
+
+impl Model for Series {
+    ghost use Rattle.std.specs.Prelude.{List, ℕ};
+
+    ghost Value = { List ℕ × List ℕ };
+
+    ghost view = { λ s. (s.labels.items, s.lines.items) };
+}
+
+impl Series {
+    /// Makes a series of its spelled labels and its lines.
+    pub(crate) fn new(labels: Vec<u8>, lines: Vec<u8>) -> Series
+        ensures { result ≡ (labels.items, lines.items) }
+    {
+        Series { labels, lines }
+    }
+
+    /// The spelled labels.
+    fn labels(&self) -> &[u8]
+        ensures { result.now ≡ self.now.0 }
+    {
+        self.labels.as_slice()
+    }
+
+    /// The lines.
+    fn lines(&self) -> &[u8]
+        ensures { result.now ≡ self.now.1 }
+    {
+        self.lines.as_slice()
+    }
+}
+
+/// Appends the lines of a series, unless its labels were seen. Returns 1 if they were, and else 0.
+fn push_series(
+    alloc: Global,
+    out: &mut Vec<u8>,
+    seen: &mut IndexSet<Items<u8>>,
+    series: &Series,
+) -> Result<u64, AllocError>
+    ensures text { (rest : List Pair) → OnOk result (out.new.items ++ kept_text seen.new.keys rest ≡ out.old.items ++ kept_text seen.old.keys (series.now ∷ rest)) }
+    ensures doubled { (rest : List Pair) → IfOk result (λ n. doubled_texts seen.old.keys (series.now ∷ rest) ≡ n + doubled_texts seen.new.keys rest) }
+{
+    let labels = Items::from(Vec::from_slice(alloc, series.labels())?);
+    let Ok((_, is_new)) = seen.insert_full(labels) else {
+        return Err(AllocError);
+    };
+    if !is_new {
+        return Ok(1);
+    }
+    out.extend_from_slice(series.lines())?;
+    Ok(0)
+}
+
+/// Appends the lines of series. Of those with the same labels the first stands. Returns how many the others are, modulo
+/// 2^64.
+#[tactic(auto, using(crate::proofs::SeriesLemmas::counted))]
+pub(crate) fn push_all(
+    alloc: Global,
+    out: &mut Vec<u8>,
+    series: &[Series],
+) -> Result<u64, AllocError>
+    ensures text { OnOk result (out.new.items ≡ out.old.items ++ kept_text [] series.now) }
+    ensures doubled { IfOk result (λ count. count ≡ doubled_texts [] series.now % 2 ^ 64) }
+{
+    let mut seen = IndexSet::new(alloc);
+    let mut count = 0u64;
+    for one in series {
+        count = count.wrapping_add(push_series(alloc, out, &mut seen, one)?);
+    }
+    Ok(count)
+}

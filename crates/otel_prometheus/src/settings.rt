@@ -1,0 +1,27 @@
+//! Settings of a text.
+
+ghost use Rattle.std.specs.Prelude.{◌≡◌, true};
+
+use otel_exposition::formats::Format;
+
+/// How a collection is shown.
+#[derive(Clone, Copy, Debug, PartialEq, Eq)]
+pub struct Settings {
+    /// The form of the text.
+    pub format: Format,
+    /// Whether each sample has the name and the version of its scope as labels `otel_scope_name` and
+    /// `otel_scope_version`.
+    pub has_scope_labels: bool,
+}
+
+impl Settings {
+    /// The settings of a text of this form, with labels for scopes.
+    pub fn new(format: Format) -> Settings
+        ensures { result ≡ record { format = format; has_scope_labels = true } }
+    {
+        Settings {
+            format,
+            has_scope_labels: true,
+        }
+    }
+}

@@ -1,0 +1,89 @@
+//! Values of attributes as texts.
+
+ghost use Rattle.std.specs.Prelude.{◌≡◌, ◌++◌, OnOk, IfOk};
+ghost use Rattle.json.specs.Json.{boolean, string};
+ghost use Rattle.json.specs.Print.{print};
+ghost use Rattle.json.specs.Tree.{json_tokens};
+ghost use Rattle.otel_prometheus.specs.Values.{array_of, whole, items_json, value_text};
+
+use itoa::Buffer;
+use json::Writer;
+use otel_common::attributes::{Array, Value};
+use otel_common::strings::StringValue;
+use std::alloc::{AllocError, Global};
+
+/// Writes an array of booleans.
+fn write_bools(out: &mut Writer, items: &[bool]) -> Result<(), AllocError>
+    ensures tokens { OnOk result (out.new.tokens ≡ out.old.tokens ++ json_tokens (array_of boolean items.now)) }
+    ensures before { out.new.before ≡ out.old.before }
+{
+    out.begin_array()?;
+    for item in items {
+        out.boolean(*item)?;
+    }
+    out.end_array()?;
+    Ok(())
+}
+
+/// Writes an array of integers.
+fn write_integers(out: &mut Writer, items: &[i64]) -> Result<(), AllocError>
+    ensures tokens { OnOk result (out.new.tokens ≡ out.old.tokens ++ json_tokens (array_of whole items.now)) }
+    ensures before { out.new.before ≡ out.old.before }
+{
+    out.begin_array()?;
+    for item in items {
+        out.i64(*item)?;
+    }
+    out.end_array()?;
+    Ok(())
+}
+
+/// Writes an array of strings.
+fn write_strings(out: &mut Writer, items: &[StringValue]) -> Result<(), AllocError>
+    ensures tokens { OnOk result (out.new.tokens ≡ out.old.tokens ++ json_tokens (array_of string items.now)) }
+    ensures before { out.new.before ≡ out.old.before }
+{
+    out.begin_array()?;
+    for item in items {
+        out.string(item.as_str())?;
+    }
+    out.end_array()?;
+    Ok(())
+}
+
+/// Writes an array.
+fn write_array(out: &mut Writer, array: &Array) -> Result<(), AllocError>
+    ensures tokens { OnOk result (out.new.tokens ≡ out.old.tokens ++ json_tokens (items_json array.now)) }
+    ensures before { out.new.before ≡ out.old.before }
+{
+    match array {
+        Array::Bool(items) => write_bools(out, items.as_slice()),
+        Array::I64(items) => write_integers(out, items.as_slice()),
+        Array::String(items) => write_strings(out, items.as_slice()),
+    }
+}
+
+/// Returns an array as JSON.
+fn array_text(alloc: Global, array: &Array) -> Result<Vec<u8>, AllocError>
+    ensures { IfOk result (λ text. text.items ≡ print (json_tokens (items_json array.now))) }
+{
+    let mut out = Writer::new(Vec::new(alloc));
+    write_array(&mut out, array)?;
+    Ok(out.into_inner())
+}
+
+/// Returns the value of an attribute as text: a string as it is, a number in decimal, an array as JSON.
+pub(crate) fn value_text(alloc: Global, value: &Value) -> Result<Vec<u8>, AllocError>
+    ensures { IfOk result (λ text. text.items ≡ value_text value.now) }
+{
+    match value {
+        Value::Bool(true) => Vec::from_slice(alloc, b"true"),
+        Value::Bool(false) => Vec::from_slice(alloc, b"false"),
+        Value::I64(value) => {
+            let mut buffer = Buffer::new();
+            Vec::from_slice(alloc, buffer.format(*value).as_bytes())
+        }
+        Value::String(value) => Vec::from_slice(alloc, value.as_str().as_bytes()),
+        Value::Array(array) => array_text(alloc, array),
+    }
+}
