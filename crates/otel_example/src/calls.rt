@@ -1,16 +1,9 @@
-//! What the parts of the program share: counters, attributes whose value is a text, and a collection of a reader.
+//! What the parts of the program share: counters, and what is added to them.
 
-use opentelemetry_sdk::common::{Fault, Key, KeyValue, StringValue, Value};
-use opentelemetry_sdk::metrics::data::ResourceMetrics;
+use opentelemetry_sdk::common::{Fault, KeyValue};
 use opentelemetry_sdk::metrics::meter::{Counter, Meter};
 use opentelemetry_sdk::metrics::provider::{Parts, Provider};
 use std::alloc::Global;
-
-/// An attribute whose value is a text.
-pub fn text(alloc: Global, key: &str, text: &str) -> Result<KeyValue, Fault> {
-    let value = Value::String(StringValue::new(alloc, text)?);
-    Ok(KeyValue::new(Key::new(alloc, key)?, value))
-}
 
 /// A counter of a meter, made at a moment.
 pub fn counter<P: Parts>(
@@ -32,18 +25,6 @@ pub fn add_one<P: Parts>(
     key: &str,
     value: &str,
 ) -> Result<(), Fault> {
-    let attributes = [text(alloc, key, value)?];
+    let attributes = [KeyValue::text(alloc, key, value)?];
     counter.add(provider, 1, &attributes)
-}
-
-/// What a reader's streams have at a moment.
-pub fn collect<P: Parts>(
-    alloc: Global,
-    provider: &mut Provider<P>,
-    reader: usize,
-    now: u64,
-) -> Result<ResourceMetrics, Fault> {
-    let mut collected = ResourceMetrics::default(alloc);
-    provider.collect(reader, now, &mut collected)?;
-    Ok(collected)
 }

@@ -2,9 +2,8 @@
 
 ghost use Rattle.std.specs.Prelude.{◌≡◌, ◌∷◌, [], map, IfOk};
 
-use crate::calls::text;
 use opentelemetry_sdk::Resource;
-use opentelemetry_sdk::common::{Fault, Items, KeyValue, StringValue, Value};
+use opentelemetry_sdk::common::{Fault, KeyValue, StringValue, Value};
 use opentelemetry_sdk::metrics::callback::{Observation, ObserveU64};
 use opentelemetry_sdk::metrics::meter::{Bound, Histogram, Meter};
 use opentelemetry_sdk::metrics::provider::{Parts, Provider, SdkMeterProvider};
@@ -51,11 +50,7 @@ impl ObserveU64 for Waiting {
     ghost observes = { λ before after left answer. (after ≡ before) × IfOk answer (λ _. map (λ o. o.value) left ≡ before.requests ∷ []) };
 
     fn observe(&mut self, out: &mut Vec<Observation<u64>>) -> Result<(), Fault> {
-        let attributes = Items::from(Vec::new(self.alloc));
-        out.push(Observation {
-            value: self.requests,
-            attributes,
-        })?;
+        out.push(Observation::new(self.alloc, self.requests))?;
         Ok(())
     }
 }
@@ -112,13 +107,8 @@ fn record_all<P: Parts>(
 ) -> Result<(), Fault> {
     let handle = latency.bind(provider, attributes)?;
     let recorded = record_each(provider, &handle, durations);
-    match handle.unbind(provider) {
-        Ok(()) => recorded,
-        Err((handle, fault)) => {
-            let _ = handle.into_number();
-            Err(fault)
-        }
-    }
+    handle.end(provider)?;
+    recorded
 }
 
 /// Serves two requests of a path: counts them, and how long each took.
@@ -127,7 +117,7 @@ pub fn serve_two<P: Parts>(alloc: Global, provider: &mut Provider<P>) -> Result<
     let meter = provider.meter("shop")?;
     let requests = meter.u64_counter(name).build(provider, 100)?;
     let latency = latency_of(alloc, provider, meter)?;
-    let path = [text(alloc, "path", "/cart")?];
+    let path = [KeyValue::text(alloc, "path", "/cart")?];
     requests.add(provider, 2, &path)?;
     record_all(provider, latency, &path, &[7, 250])
 }

@@ -6,7 +6,6 @@ mod calls;
 mod counted;
 mod first;
 mod parts;
-mod printing;
 mod shop;
 mod stand;
 mod views;
@@ -20,13 +19,22 @@ use opentelemetry_sdk::common::Fault;
 use opentelemetry_sdk::metrics::provider::{Parts, Provider};
 use opentelemetry_sdk::metrics::{ManualReader, Temporality};
 use parts::{boxed_provider, plain_provider};
-use printing::{print_collected, print_collection};
 use shop::Shop;
 use stand::{count_a_day, provider_with_views};
 use std::alloc::Global;
 use std::sync::Wait;
 use std::thread::Threads;
 use workers::{counter_of_requests, share_plain};
+
+/// Prints what the first reader of a provider collects at a moment.
+fn print_collection<P: Parts>(
+    rt: &impl Print,
+    provider: &mut Provider<P>,
+    now: u64,
+) -> Result<(), Error> {
+    print!(rt; "collected\n{}", provider.collected(0, now)?)?;
+    Ok(())
+}
 
 /// Serves two requests while others wait, and prints what was counted.
 fn serve<P: Parts>(
@@ -37,7 +45,7 @@ fn serve<P: Parts>(
 ) -> Result<(), Error> {
     serve_two(alloc, provider)?;
     watch_queue(alloc, provider, waiting)?;
-    print_collection(rt, alloc, provider, 200)
+    print_collection(rt, provider, 200)
 }
 
 /// A service that serves two requests.
@@ -59,7 +67,8 @@ fn serve_paths<P: Parts>(
     for path in paths {
         shop.serve(alloc, path)?;
     }
-    print_collected(rt, &shop.collect(alloc, 0, now)?)
+    print!(rt; "collected\n{}", shop.collected(0, now)?)?;
+    Ok(())
 }
 
 /// Readers in boxes, which may differ in type. The provider goes on when the shop is closed.
@@ -97,7 +106,7 @@ fn print_day<P: Parts>(
     provider: &mut Provider<P>,
 ) -> Result<(), Error> {
     count_a_day(alloc, provider)?;
-    print_collection(rt, alloc, provider, 200)
+    print_collection(rt, provider, 200)
 }
 
 /// Views that rename a stream, drop one, keep two attributes of five, set a limit and change buckets.
@@ -123,7 +132,7 @@ fn print_two<P: Parts>(
     provider: &mut Provider<P>,
 ) -> Result<(), Error> {
     count_two(alloc, provider)?;
-    print_collection(rt, alloc, provider, 200)
+    print_collection(rt, provider, 200)
 }
 
 /// Requests that are counted by the batch.
@@ -137,7 +146,7 @@ fn in_threads<R: Print + Threads + Wait + Sync>(rt: &R, alloc: Global) -> Result
     let mut provider = plain_provider(alloc, ManualReader::default())?;
     let requests = counter_of_requests(alloc, &mut provider)?;
     let mut provider = share_plain(rt, alloc, provider, requests)?;
-    print_collection(rt, alloc, &mut provider, 200)
+    print_collection(rt, &mut provider, 200)
 }
 
 fn main(rt: HostRuntime) -> Result<(), Error> {

@@ -1,18 +1,18 @@
 //! The views, readers and callbacks that the program uses.
 
-use crate::views::OfName;
 use opentelemetry_sdk::common::Fault;
 use opentelemetry_sdk::metrics::ManualReader;
 use opentelemetry_sdk::metrics::callback::NoCallback;
+use opentelemetry_sdk::metrics::instrument::SelectorView;
 use opentelemetry_sdk::metrics::provider::{Parts, Provider, SdkMeterProvider};
 use opentelemetry_sdk::metrics::reader::MetricReader;
 use std::alloc::Global;
 
-/// Views that are all an `OfName`, readers that are all a `ManualReader`, and no callbacks.
+/// Views that all go by a selector, readers that are all a `ManualReader`, and no callbacks.
 pub struct OnlyManual;
 
 impl Parts for OnlyManual {
-    type View = OfName;
+    type View = SelectorView;
 
     type Reader = ManualReader;
 

@@ -1,6 +1,6 @@
 //! A shop that keeps a provider and counts at it.
 
-use crate::calls::{add_one, collect, counter};
+use crate::calls::{add_one, counter};
 use opentelemetry_sdk::common::Fault;
 use opentelemetry_sdk::metrics::data::ResourceMetrics;
 use opentelemetry_sdk::metrics::meter::Counter;
@@ -38,13 +38,8 @@ impl<P: Parts> Shop<P> {
     }
 
     /// What a reader's streams have at a moment.
-    pub fn collect(
-        &mut self,
-        alloc: Global,
-        reader: usize,
-        now: u64,
-    ) -> Result<ResourceMetrics, Fault> {
-        collect(alloc, &mut self.provider, reader, now)
+    pub fn collected(&mut self, reader: usize, now: u64) -> Result<ResourceMetrics, Fault> {
+        self.provider.collected(reader, now)
     }
 
     /// The provider, to go on with.

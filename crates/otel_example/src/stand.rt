@@ -1,11 +1,12 @@
 //! A stand that counts at a provider with views.
 
-use crate::calls::{add_one, counter, text};
+use crate::calls::{add_one, counter};
 use crate::parts::OnlyManual;
-use crate::views::{OfName, dropped, few_points, other_buckets, renamed, two_attributes};
+use crate::views::{dropped, few_points, other_buckets, renamed, two_attributes};
 use anyhow::Error;
 use opentelemetry_sdk::common::{Fault, KeyValue};
 use opentelemetry_sdk::metrics::ManualReader;
+use opentelemetry_sdk::metrics::instrument::SelectorView;
 use opentelemetry_sdk::metrics::meter::Meter;
 use opentelemetry_sdk::metrics::provider::{Parts, Provider, ProviderBuilder};
 use std::alloc::Global;
@@ -20,7 +21,7 @@ fn order(alloc: Global, cart: &str) -> Result<Vec<KeyValue>, Fault> {
         ("browser", "lynx"),
         ("page", "7"),
     ] {
-        attributes.push(text(alloc, key, value)?)?;
+        attributes.push(KeyValue::text(alloc, key, value)?)?;
     }
     Ok(attributes)
 }
@@ -68,7 +69,7 @@ pub fn count_a_day<P: Parts>(alloc: Global, provider: &mut Provider<P>) -> Resul
 /// The builder with a view more.
 fn with_view(
     builder: ProviderBuilder<OnlyManual>,
-    view: Result<OfName, Error>,
+    view: Result<SelectorView, Error>,
 ) -> Result<ProviderBuilder<OnlyManual>, Error> {
     Ok(builder.with_view(view?)?)
 }

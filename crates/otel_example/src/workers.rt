@@ -4,9 +4,9 @@ ghost use Rattle.std.specs.Prelude.{◌≡◌, ◌%◌, ◌^◌};
 ghost use Rattle.otel_model_laws.specs.Books.{count_in, sum_in};
 ghost use Rattle.otel_provider.specs.Providers.{state_of};
 
-use crate::calls::{counter, text};
+use crate::calls::counter;
 use crate::parts::OnlyManual;
-use opentelemetry_sdk::common::Fault;
+use opentelemetry_sdk::common::{Fault, KeyValue};
 use opentelemetry_sdk::metrics::meter::Counter;
 use opentelemetry_sdk::metrics::provider::{Parts, Provider};
 use opentelemetry_sdk::metrics::shared::{Account, Locked, MOST_WORKERS, SharedProvider, Worker};
@@ -24,7 +24,7 @@ fn add_requests<C: Account, S: Account>(
     worker: &mut Worker<C, S>,
 ) -> Result<(), Fault> {
     for path in ["/cart", "/", "/cart"] {
-        let attributes = vec![in alloc; text(alloc, "path", path)?]?;
+        let attributes = vec![in alloc; KeyValue::text(alloc, "path", path)?]?;
         worker.add_to(&requests, 1, attributes)?;
     }
     Ok(())
