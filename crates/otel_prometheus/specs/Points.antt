@@ -51,11 +51,16 @@ sum_samples has_sum name labels z = cond has_sum (record { name = name ++ codes 
 abbrev pub count_sample : List ℕ → List Pair → ℕ → Sample
 count_sample name labels count = record { name = name ++ codes "_count"; labels = labels; value = unsigned count }
 
+-- OpenMetrics has a count only beside a sum
+abbrev pub count_samples : Format → Bool → List ℕ → List Pair → ℕ → List Sample
+count_samples formats.Prometheus has_sum name labels count = count_sample name labels count ∷ []
+count_samples formats.OpenMetrics has_sum name labels count = cond has_sum (count_sample name labels count ∷ []) []
+
 module _ {T : Type 0} (integer : T → ℤ) where
   abbrev pub histogram_samples : Format → Bool → List ℕ → List Pair → HistogramDataPoint T → List Sample
   histogram_samples f has_sum name labels p =
       buckets f name labels 0 p.bounds p.bucket_counts
-      ++ (bucket name labels (codes "+Inf") p.count ∷ (sum_samples has_sum name labels (integer p.sum) ++ count_sample name labels p.count ∷ []))
+      ++ (bucket name labels (codes "+Inf") p.count ∷ (sum_samples has_sum name labels (integer p.sum) ++ count_samples f has_sum name labels p.count))
 
   -- ======== points ========
   abbrev pub number_series : Settings → InstrumentationScope → Heading → List KeyValue → T → Series

@@ -2,7 +2,7 @@
 
 ghost use Rattle.std.specs.Prelude.{◌≡◌, ◌++◌, OnOk, IfOk, codes};
 ghost use Rattle.otel_exposition.specs.Samples.{sample_text};
-ghost use Rattle.otel_prometheus.specs.Points.{bound_text, bucket, buckets, sum_samples, count_sample, histogram_samples, value_end};
+ghost use Rattle.otel_prometheus.specs.Points.{bound_text, bucket, buckets, sum_samples, count_samples, histogram_samples, value_end};
 ghost use Rattle.otel_prometheus.specs.Series.{samples_text};
 
 use crate::headings::Kind;
@@ -101,6 +101,28 @@ fn push_total<T: Number>(
     Ok(())
 }
 
+/// Appends the sample of a count. OpenMetrics has one only beside a sum.
+fn push_count(
+    format: Format,
+    out: &mut Vec<u8>,
+    name: &str,
+    labels: &[Label],
+    count: u64,
+    has_sum: bool,
+) -> Result<(), AllocError>
+    ensures { OnOk result (out.new.items ≡ out.old.items ++ samples_text (count_samples format has_sum name.now labels.now count)) }
+{
+    match format {
+        Format::Prometheus => push_sample(out, name, "_count", labels, count),
+        Format::OpenMetrics => {
+            if has_sum {
+                push_sample(out, name, "_count", labels, count)?;
+            }
+            Ok(())
+        }
+    }
+}
+
 /// Appends the samples of a point of a histogram.
 #[tactic(auto, using(crate::proofs::SeriesLemmas::samples_text_append))]
 pub(crate) fn push_histogram_point<T: Number>(
@@ -119,6 +141,5 @@ pub(crate) fn push_histogram_point<T: Number>(
     push_buckets(alloc, format, out, name, labels, bounds, counts)?;
     push_bucket(out, name, labels, b"+Inf", point.count())?;
     push_total(out, name, labels, point.sum(), has_sum)?;
-    push_sample(out, name, "_count", labels, point.count())?;
-    Ok(())
+    push_count(format, out, name, labels, point.count(), has_sum)
 }
