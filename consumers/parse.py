@@ -25,7 +25,7 @@ def main():
     if len(found) != len(wanted):
         sys.exit(f'{len(wanted)} samples are written')
     for sample, line in zip(found, wanted):
-        if float(line.rsplit(' ', 1)[1]) != sample.value:
+        if float(line.rsplit(' ', 1)[1]) != float(sample.value):
             sys.exit(f'{line} is read as {sample}')
 
 
