@@ -119,6 +119,15 @@ collections() {
     echo "collect 0 200"
 }
 
+# Exports of a collection of all sets up to the limit.
+exports() {
+    made_by="export $1"
+    instrument u64_counter "$one"
+    sets 0 2000
+    next
+    last
+}
+
 # The scripts of a case. A case `typed_..` is the case of the rest of its name with instruments and handles as values.
 case_named() {
     counter=u64_counter
@@ -135,7 +144,7 @@ case_named() {
     esac
     case $1 in
         *_submit) counted=counted_submit ;;
-        *) counted="counted_calls counted_adds counted_bound_adds counted_worker_adds counted_worker_bound_adds counted_submit" ;;
+        *) counted="counted_calls counted_adds counted_bound_adds counted_worker_adds counted_worker_bound_adds counted_submit counted_expositions counted_lines" ;;
     esac
     case ${1#typed_} in
         known0) known $counter - - "$one" ;;
@@ -171,6 +180,7 @@ case_named() {
         collect_cumulative) collections $counter "$one" ;;
         collect_delta) collections $counter "reader delta" ;;
         collect_histogram) collections u64_histogram "$one" ;;
+        export_*) exports "${1#export_}" ;;
         build)
             first "$one"
             echo "meter meter"
@@ -270,6 +280,9 @@ for name in burst5000 burst10000 burst20000; do
     row $name 1 3 1
 done
 for name in collect_cumulative collect_delta collect_histogram; do
+    row $name 1 3 2000
+done
+for name in export_prometheus export_openmetrics export_otlp; do
     row $name 1 3 2000
 done
 row build 500 1500 1

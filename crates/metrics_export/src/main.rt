@@ -4,12 +4,10 @@
 
 use metrics_script::failures::Failure;
 use metrics_script::script::replies_to;
+use opentelemetry_sdk::exporter::otlp::request_line;
+use opentelemetry_sdk::exporter::prometheus::{Format, Settings, exposition_of};
 use opentelemetry_sdk::metrics::data::ResourceMetrics;
 use opentelemetry_sdk::metrics::provider::Reply;
-use otel_exposition::formats::Format;
-use otel_otlp::requests::request_line;
-use otel_prometheus::expositions::exposition_of;
-use otel_prometheus::settings::Settings;
 use std::alloc::Global;
 use std::env;
 use std::io::{Read, Write};

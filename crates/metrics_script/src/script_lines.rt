@@ -4,8 +4,9 @@ use crate::calls::{call_of, collect_of, observed_of};
 use crate::failures::Failure;
 use crate::readers::reader_of;
 use crate::refusals::Refusal;
-use crate::views::{NamedView, view_of};
+use crate::views::view_of;
 use opentelemetry_sdk::metrics::ManualReader;
+use opentelemetry_sdk::metrics::instrument::SelectorView;
 use opentelemetry_sdk::metrics::provider::{Call, Observed};
 use std::alloc::{AllocError, Global};
 use std::mem::replace;
@@ -14,7 +15,7 @@ use std::mem::replace;
 #[derive(Drop)]
 pub struct Script {
     pub readers: Vec<ManualReader>,
-    pub views: Vec<NamedView>,
+    pub views: Vec<SelectorView>,
     pub calls: Vec<Call>,
 }
 

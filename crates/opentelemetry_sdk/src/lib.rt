@@ -6,7 +6,9 @@
 //! - [`common`]: attributes and their canonical sets, instrumentation scopes, faults;
 //! - [`resource`]: what all the metrics of a provider come from;
 //! - [`metrics`]: the provider and its calls, checks of instruments, views and settings of streams, readers, the data
-//!   of a collection, aggregation, a provider that threads share.
+//!   of a collection, aggregation, a provider that threads share;
+//! - [`exporter`]: a collection as text that Prometheus reads, or as a line of OTLP JSON;
+//! - [`error`]: one error for functions that make streams and call a provider; and the macro [`attributes!`].
 //!
 //! A builder makes a provider from views and readers in boxes. Then calls are made on the provider, and each of them
 //! has a reply. A refused call changes nothing, except for a flush or a shutdown in which readers failed. Here a
@@ -38,7 +40,11 @@
 //! point has the value 7.
 #![tactic(auto)]
 
+mod attributes;
+pub mod error;
+pub mod exporter;
 pub mod metrics;
 
+pub use attributes::AttributeValue;
 pub use otel_common::resource::Resource;
 pub use otel_common::{common, resource};

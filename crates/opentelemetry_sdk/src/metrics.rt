@@ -3,6 +3,7 @@
 pub mod callback;
 pub mod instrument;
 pub mod meter;
+mod plain;
 pub mod provider;
 pub mod reader;
 pub mod shared;

@@ -8,7 +8,8 @@
 //! - `typed add`: a counter as a value adds 1 with the attributes of each record in turn;
 //! - `typed bound`: a handle as a value, with the attributes of the first record, adds 1;
 //! - `worker add`, `worker bound`: a worker of the shared provider hands in batches of 100 such records, with the
-//!   attributes of the first one. The argument says how many batches.
+//!   attributes of the first one. The argument says how many batches;
+//! - `export prometheus`, `export openmetrics`, `export otlp`: what the first reader collects is printed so, in memory.
 //!
 //! How many of the counted calls were carried out is printed. After a further `---` come three scripts more, for another
 //! provider.
@@ -18,6 +19,7 @@
 #![tactic(auto)]
 
 mod counted;
+mod exports;
 mod scripts;
 mod targets;
 mod threads;
@@ -26,6 +28,7 @@ mod workers;
 
 use anyhow::{Error, bail};
 use counted::counted_rounds;
+use exports::count_exports;
 use opentelemetry_sdk::metrics::provider::{Call, Parts, Provider};
 use scripts::{calls_of, provider_of};
 use std::alloc::Global;
@@ -70,6 +73,9 @@ fn count_on_new(alloc: Global, scripts: &[&str], times: u64) -> Result<u64, Erro
     let mut provider = provider_of(alloc, first)?;
     if let Some(text) = counted.strip_prefix("worker ") {
         return count_by_worker(alloc, provider, text, times);
+    }
+    if let Some(exporter) = counted.strip_prefix("export ") {
+        return count_exports(alloc, &mut provider, exporter, times);
     }
     count(alloc, &mut provider, between, counted, times)
 }

@@ -3,25 +3,15 @@
 use crate::counted::prepare;
 use anyhow::Error;
 use metrics_script::script_lines::{Script, script_of};
-use metrics_script::views::NamedView;
 use opentelemetry_sdk::common::Fault;
-use opentelemetry_sdk::metrics::ManualReader;
 use opentelemetry_sdk::metrics::callback::NoCallback;
-use opentelemetry_sdk::metrics::provider::{Call, Parts, Provider, ProviderBuilder};
+use opentelemetry_sdk::metrics::instrument::SelectorView;
+use opentelemetry_sdk::metrics::provider::{Call, Provider, ProviderBuilder};
+use opentelemetry_sdk::metrics::{ManualReader, provider};
 use std::alloc::Global;
 
-/// Views and readers of one type each, without boxes.
-pub struct Plain;
-
-impl Parts for Plain {
-    type View = NamedView;
-
-    type Reader = ManualReader;
-
-    type ObserveU64 = NoCallback;
-
-    type ObserveI64 = NoCallback;
-}
+/// Parts without boxes and callbacks.
+pub type Plain = provider::Plain<NoCallback, NoCallback>;
 
 /// Reads the calls of a script.
 pub fn calls_of(alloc: Global, script: &str) -> Result<Vec<Call>, Error> {
@@ -44,7 +34,7 @@ fn with_readers(
 /// Returns the builder with these views.
 fn with_views(
     builder: ProviderBuilder<Plain>,
-    views: Vec<NamedView>,
+    views: Vec<SelectorView>,
 ) -> Result<ProviderBuilder<Plain>, Fault> {
     let mut builder = builder;
     for view in views {
@@ -57,7 +47,7 @@ fn with_views(
 fn provider_with(
     alloc: Global,
     readers: Vec<ManualReader>,
-    views: Vec<NamedView>,
+    views: Vec<SelectorView>,
 ) -> Result<Provider<Plain>, Fault> {
     let builder = with_readers(Provider::builder(alloc), readers)?;
     with_views(builder, views)?.build()

@@ -2,8 +2,8 @@
 //! the lock.
 
 ghost use Rattle.std.specs.Prelude.{◌≡◌, ◌%◌, ◌^◌};
-ghost use Rattle.otel_model_laws.specs.Books.{count_in, sum_in};
-ghost use Rattle.otel_provider.specs.Providers.{state_of};
+ghost use Rattle.opentelemetry_sdk.specs.Books.{count_in, sum_in};
+ghost use Rattle.opentelemetry_sdk.specs.Providers.{state_of};
 
 use crate::scripts::{Plain, calls_of, provider_of};
 use crate::targets::{Target, attributes_of, counter_of};

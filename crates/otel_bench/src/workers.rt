@@ -1,8 +1,8 @@
 //! Records by a worker of a provider that threads share.
 
 ghost use Rattle.std.specs.Prelude.{◌≡◌, ◌%◌, ◌^◌};
-ghost use Rattle.otel_model_laws.specs.Books.{count_in, sum_in};
-ghost use Rattle.otel_provider.specs.Providers.{state_of};
+ghost use Rattle.opentelemetry_sdk.specs.Books.{count_in, sum_in};
+ghost use Rattle.opentelemetry_sdk.specs.Providers.{state_of};
 
 use crate::scripts::{Plain, calls_of};
 use crate::targets::{Target, attributes_of, counter_of};

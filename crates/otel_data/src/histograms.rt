@@ -1,9 +1,14 @@
 //! The points of a histogram.
 
 ghost use Rattle.std.specs.Prelude.{◌≡◌};
+ghost use Rattle.std.specs.Cmp.Lexicographic.{pointwise};
+ghost use Rattle.std.specs.List.{find};
+ghost use Rattle.std.specs.Option.{option_map};
 ghost use Rattle.std.specs.Slice.Iter.{iter_rest};
+ghost use Rattle.otel_common.specs.Equality.{key_value_eq};
 
 use crate::points::HistogramDataPoint;
+use otel_common::attributes::KeyValue;
 use otel_common::lists::Items;
 use otel_common::metrics::Temporality;
 use std::slice::Iter;
@@ -53,6 +58,19 @@ impl<T> Histogram<T> {
         ensures { iter_rest result ≡ self.now.data_points }
     {
         self.data_points.as_slice().iter()
+    }
+
+    /// The point with exactly these attributes, each key once and the keys in byte order, if there is one. Goes over
+    /// the points up to it.
+    pub fn point(&self, attributes: &[KeyValue]) -> Option<&HistogramDataPoint<T>>
+        ensures { option_map (λ found. found.now) result ≡ find (λ point. pointwise key_value_eq point.attributes attributes.now) self.now.data_points }
+    {
+        for point in self.data_points.as_slice() {
+            if point.attributes().as_slice() == attributes {
+                return Some(point);
+            }
+        }
+        None
     }
 
     /// The moment from which records are included in the points, in nanoseconds since 1970.

@@ -2,17 +2,17 @@
 use Rattle.std.proofs.Common.{◌≡◌, ◌∙◌, ⊎_elim, ℕ, zero, suc, ◌+◌, ◌%◌, ◌^◌, List, [], ◌∷◌, Option, Some, None, Result, Ok, Err, refl, ap}
 use Rattle.std.specs.Prelude.{OnOk, OnErr, slice_get}
 use Rattle.std.proofs.lemmas.Bool.{false≢true}
-use Rattle.otel_common.specs.declared.attributes.KeyValue.{KeyValue}
-use Rattle.otel_common.specs.declared.faults.Fault.{Fault}
-use Rattle.otel_model.specs.Calls as model
-use Rattle.otel_model.specs.Demands.{Views}
-use Rattle.otel_model.specs.Machine.{instrument_after_record, accepted_after, changed_at}
-use Rattle.otel_model.specs.Refusals.{record_refusal}
-use Rattle.otel_model.specs.State.{InstrumentState, State}
-use Rattle.otel_model.specs.Steps.{Step, reply_by, after_by}
-use Rattle.otel_model.proofs.Single.{step_cases}
-use Rattle.otel_core.specs.Correspondence.{fault_of}
-use Rattle.otel_provider.specs.Typed.{record_reply}
+use Rattle.opentelemetry_sdk.specs.KeyValue.{KeyValue}
+use Rattle.opentelemetry_sdk.specs.Fault.{Fault}
+use Rattle.opentelemetry_sdk.specs.Calls as model
+use Rattle.opentelemetry_sdk.specs.Demands.{Views}
+use Rattle.opentelemetry_sdk.specs.Machine.{instrument_after_record, accepted_after, changed_at}
+use Rattle.opentelemetry_sdk.specs.Refusals.{record_refusal}
+use Rattle.opentelemetry_sdk.specs.State.{InstrumentState, State}
+use Rattle.opentelemetry_sdk.specs.Steps.{Step, reply_by, after_by}
+use Rattle.opentelemetry_sdk.proofs.Single.{step_cases}
+use Rattle.opentelemetry_sdk.specs.Correspondence.{fault_of}
+use Rattle.opentelemetry_sdk.specs.Typed.{record_reply}
 use Rattle.otel_example.specs.Totals.{sum_of, total_of}
 
 -- the instrument of a record that isn't refused is there, and its sum grows

@@ -1,6 +1,6 @@
 -- What an instrument's records add up to, read off a provider's state.
 use Rattle.std.specs.Prelude.{ℕ, Option, None, Some, slice_get}
-use Rattle.otel_model.specs.State.{InstrumentState, State}
+use Rattle.opentelemetry_sdk.specs.State.{InstrumentState, State}
 
 -- the sum that the instrument keeps; 0 if there is none
 abbrev pub sum_of : Option InstrumentState → ℕ

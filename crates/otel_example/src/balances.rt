@@ -1,7 +1,7 @@
 //! What a provider keeps between calls, for a function that may make none.
 
-ghost use Rattle.otel_model_laws.specs.Lawful.{Balances};
-ghost use Rattle.otel_provider.specs.Providers.{state_of};
+ghost use Rattle.opentelemetry_sdk.specs.Lawful.{Balances};
+ghost use Rattle.opentelemetry_sdk.specs.Providers.{state_of};
 
 use opentelemetry_sdk::common::Fault;
 use opentelemetry_sdk::metrics::meter::Counter;

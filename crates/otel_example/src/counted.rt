@@ -2,8 +2,8 @@
 
 ghost use Rattle.std.specs.Prelude.{◌≡◌, ◌+◌, ◌%◌, ◌^◌, OnOk, OnErr};
 ghost use Rattle.otel_example.specs.Totals.{total_of};
-ghost use Rattle.otel_provider.specs.Providers.{state_of};
-ghost use Rattle.otel_provider.specs.Typed.{IsInstrumentOf, instrument_number};
+ghost use Rattle.opentelemetry_sdk.specs.Providers.{state_of};
+ghost use Rattle.opentelemetry_sdk.specs.Typed.{IsInstrumentOf, instrument_number};
 
 use opentelemetry_sdk::common::{Fault, KeyValue};
 use opentelemetry_sdk::metrics::meter::{Counter, keeps_identity};

@@ -1,25 +1,14 @@
-//! The views, readers and callbacks that the program uses.
+//! The parts of the providers that the program uses.
 
 use opentelemetry_sdk::common::Fault;
 use opentelemetry_sdk::metrics::ManualReader;
 use opentelemetry_sdk::metrics::callback::NoCallback;
-use opentelemetry_sdk::metrics::instrument::SelectorView;
-use opentelemetry_sdk::metrics::provider::{Parts, Provider, SdkMeterProvider};
+use opentelemetry_sdk::metrics::provider::{Plain, Provider, SdkMeterProvider};
 use opentelemetry_sdk::metrics::reader::MetricReader;
 use std::alloc::Global;
 
-/// Views that all go by a selector, readers that are all a `ManualReader`, and no callbacks.
-pub struct OnlyManual;
-
-impl Parts for OnlyManual {
-    type View = SelectorView;
-
-    type Reader = ManualReader;
-
-    type ObserveU64 = NoCallback;
-
-    type ObserveI64 = NoCallback;
-}
+/// Parts without boxes and callbacks.
+pub type OnlyManual = Plain<NoCallback, NoCallback>;
 
 /// A provider with one reader in a box.
 pub fn boxed_provider(

@@ -1,8 +1,8 @@
 //! Four threads that count requests at one provider, each with a worker of its own.
 
 ghost use Rattle.std.specs.Prelude.{◌≡◌, ◌%◌, ◌^◌};
-ghost use Rattle.otel_model_laws.specs.Books.{count_in, sum_in};
-ghost use Rattle.otel_provider.specs.Providers.{state_of};
+ghost use Rattle.opentelemetry_sdk.specs.Books.{count_in, sum_in};
+ghost use Rattle.opentelemetry_sdk.specs.Providers.{state_of};
 
 use crate::calls::counter;
 use crate::parts::OnlyManual;

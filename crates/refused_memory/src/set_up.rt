@@ -4,29 +4,19 @@ use crate::callbacks::Counting;
 use crate::typed::{Instruments, build_observable, instruments_at};
 use anyhow::{Error, bail};
 use metrics_script::script_lines::{Script, script_of};
-use metrics_script::views::NamedView;
 use opentelemetry_sdk::Resource;
 use opentelemetry_sdk::common::{Fault, Key, KeyValue, StringValue, Value};
 use opentelemetry_sdk::metrics::ManualReader;
 use opentelemetry_sdk::metrics::data::ResourceMetrics;
+use opentelemetry_sdk::metrics::instrument::SelectorView;
 use opentelemetry_sdk::metrics::provider::InstrumentSort::{
     I64ObservableUpDownCounter, U64ObservableCounter, U64ObservableGauge,
 };
-use opentelemetry_sdk::metrics::provider::{Call, Parts, Provider, ProviderBuilder, Reply};
+use opentelemetry_sdk::metrics::provider::{Call, Parts, Plain, Provider, ProviderBuilder, Reply};
 use std::alloc::{AllocError, Global};
 
 /// The parts of the provider, without boxes.
-pub struct Swept;
-
-impl Parts for Swept {
-    type View = NamedView;
-
-    type Reader = ManualReader;
-
-    type ObserveU64 = Counting;
-
-    type ObserveI64 = Counting;
-}
+pub type Swept = Plain<Counting, Counting>;
 
 /// How many callbacks the provider has.
 pub const CALLBACKS: u64 = 3;
@@ -128,7 +118,7 @@ pub fn resource(alloc: Global) -> Result<Resource, Fault> {
 pub struct Materials {
     resource: Resource,
     readers: Vec<ManualReader>,
-    views: Vec<NamedView>,
+    views: Vec<SelectorView>,
 }
 
 impl Drop for Materials {

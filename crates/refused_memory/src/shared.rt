@@ -1,8 +1,8 @@
 //! Makes a call at a provider that threads could share, or at a worker, and compares what follows with a twin.
 
 ghost use Rattle.std.specs.Prelude.{◌≡◌, ◌%◌, ◌^◌};
-ghost use Rattle.otel_model_laws.specs.Books.{count_in, sum_in};
-ghost use Rattle.otel_provider.specs.Providers.{state_of};
+ghost use Rattle.opentelemetry_sdk.specs.Books.{count_in, sum_in};
+ghost use Rattle.opentelemetry_sdk.specs.Providers.{state_of};
 
 use crate::given::Given;
 use crate::later::write_later;

@@ -1,5 +1,6 @@
 //! The provider, its calls and their replies.
 
+pub use crate::metrics::plain::Plain;
 pub use otel_callback::laws::copied_observed;
 pub use otel_callback::observation::Observed;
 pub use otel_core::calls::{Call, Reply};

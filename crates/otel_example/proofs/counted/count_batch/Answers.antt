@@ -1,9 +1,9 @@
 use Rattle.std.proofs.Common.{◌∙◌, sym}
-use Rattle.otel_data.specs.declared.numbers.NumberValue.TheVariants.{U64}
-use Rattle.otel_model.specs.Calls as model
-use Rattle.otel_core.specs.Correspondence.{number_of}
-use Rattle.otel_provider.specs.Providers.{state_of, views_of}
-use Rattle.otel_provider.specs.Typed.{instrument_number, record_reply}
+use Rattle.opentelemetry_sdk.specs.NumberValue.TheVariants.{U64}
+use Rattle.opentelemetry_sdk.specs.Calls as model
+use Rattle.opentelemetry_sdk.specs.Correspondence.{number_of}
+use Rattle.opentelemetry_sdk.specs.Providers.{state_of, views_of}
+use Rattle.opentelemetry_sdk.specs.Typed.{instrument_number, record_reply}
 use Rattle.otel_example.proofs.Batches.{total_grown, record_unchanged}
 use Rattle.otel_example.proofs.counted.count_batch.Goals as goal
 

@@ -1,0 +1,24 @@
+-- Words of the crates below, for the contracts of programs.
+pub use Rattle.otel_callback.specs.Runs
+pub use Rattle.otel_common.specs.declared.attributes.KeyValue
+pub use Rattle.otel_common.specs.declared.faults.Fault
+pub use Rattle.otel_core.specs.Checks
+pub use Rattle.otel_core.specs.Correspondence
+pub use Rattle.otel_core.specs.Known
+pub use Rattle.otel_core.specs.Readers
+pub use Rattle.otel_data.specs.declared.numbers.NumberValue
+pub use Rattle.otel_model.specs.Calls
+pub use Rattle.otel_model.specs.Demands
+pub use Rattle.otel_model.specs.Laws
+pub use Rattle.otel_model.specs.Machine
+pub use Rattle.otel_model.specs.Refusals
+pub use Rattle.otel_model.specs.State
+pub use Rattle.otel_model.specs.Steps
+pub use Rattle.otel_model_laws.specs.Books
+pub use Rattle.otel_model_laws.specs.Lawful
+pub use Rattle.otel_provider.specs.Callbacks
+pub use Rattle.otel_provider.specs.Providers
+pub use Rattle.otel_provider.specs.Typed
+pub use Rattle.otel_shared.specs.Pending
+pub use Rattle.otel_shared.specs.Shared
+pub use Rattle.otel_shared.specs.Workers

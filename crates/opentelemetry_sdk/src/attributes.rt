@@ -1,0 +1,59 @@
+//! Lists of attributes, written out.
+
+ghost use Rattle.std.specs.Prelude.{◌≡◌, IfOk, IsOkUnless};
+ghost use Rattle.otel_common.specs.declared.attributes.Value.{Value};
+ghost use Rattle.otel_common.specs.declared.attributes.Value.TheVariants as made;
+ghost use Rattle.otel_common.specs.declared.faults.Fault.TheVariants.{OutOfMemory};
+
+use otel_common::attributes::Value;
+use otel_common::faults::Fault;
+use otel_common::strings::StringValue;
+use std::alloc::Global;
+
+/// What `attributes!` takes as the value of an attribute: a text, a whole number or a boolean (Common specification,
+/// "Attribute").
+pub trait AttributeValue {
+    /// The value of the attribute.
+    ghost value: { Self → Value };
+
+    /// Makes the value of an attribute, and copies a text. Refused only for want of memory.
+    fn into_value(self, alloc: Global) -> Result<Value, Fault>
+        ensures made { IfOk result (λ made. made ≡ value self) }
+        ensures only_memory { IsOkUnless result OutOfMemory };
+}
+
+impl AttributeValue for &str {
+    ghost value = { λ text. made.String text.now };
+
+    fn into_value(self, alloc: Global) -> Result<Value, Fault> {
+        Ok(Value::String(StringValue::new(alloc, self)?))
+    }
+}
+
+impl AttributeValue for i64 {
+    ghost value = { λ number. made.I64 number };
+
+    fn into_value(self, _alloc: Global) -> Result<Value, Fault> {
+        Ok(Value::I64(self))
+    }
+}
+
+impl AttributeValue for bool {
+    ghost value = { λ flag. made.Bool flag };
+
+    fn into_value(self, _alloc: Global) -> Result<Value, Fault> {
+        Ok(Value::Bool(self))
+    }
+}
+
+/// An array of attributes: `attributes![in alloc; "path" => "/cart", "items" => 3, "paid" => true]`. Names and texts are
+/// copied. Without memory for them, the function that it stands in returns, as with `?`.
+#[macro_export]
+macro_rules! attributes {
+    (in $alloc:expr; $($name:expr => $value:expr),+ $(,)?) => {
+        [$($crate::common::KeyValue::new(
+            $crate::common::Key::new($alloc, $name)?,
+            $crate::AttributeValue::into_value($value, $alloc)?,
+        )),+]
+    };
+}
