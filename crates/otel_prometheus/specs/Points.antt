@@ -1,6 +1,7 @@
 -- Points as series of samples.
-use Rattle.std.specs.Prelude.{ℕ, ◌+◌, ◌%◌, ◌^◌, ℤ, List, [], ◌∷◌, ◌++◌, Bool, true, false, cond, codes, map}
+use Rattle.std.specs.Prelude.{ℕ, ◌+◌, ◌%◌, ◌^◌, ◌&&◌, ℤ, pos, int_le, List, [], ◌∷◌, ◌++◌, Bool, true, false, cond, codes, map}
 use Rattle.std.specs.Fmt.{signed_decimal}
+use Rattle.std.specs.List.{list_all}
 use Rattle.otel_common.specs.declared.attributes.KeyValue.{KeyValue}
 use Rattle.otel_common.specs.declared.scopes.InstrumentationScope.{InstrumentationScope}
 use Rattle.otel_data.specs.declared.aggregated.AggregatedMetrics.{AggregatedMetrics}
@@ -44,6 +45,10 @@ buckets f name labels before (b ∷ bounds) [] = []
 buckets f name labels before (b ∷ bounds) (n ∷ counts) =
     bucket name labels (bound_text f b) ((before + n) % 2 ^ 64) ∷ buckets f name labels ((before + n) % 2 ^ 64) bounds counts
 
+-- whether no bound is below 0; OpenMetrics has no sum beside one that is
+abbrev pub are_natural : List ℤ → Bool
+are_natural bounds = list_all (λ bound. int_le (pos 0) bound) bounds
+
 -- a sum that may fall is not shown
 abbrev pub sum_samples : Bool → List ℕ → List Pair → ℤ → List Sample
 sum_samples has_sum name labels z = cond has_sum (record { name = name ++ codes "_sum"; labels = labels; value = z } ∷ []) []
@@ -60,7 +65,7 @@ module _ {T : Type 0} (integer : T → ℤ) where
   abbrev pub histogram_samples : Format → Bool → List ℕ → List Pair → HistogramDataPoint T → List Sample
   histogram_samples f has_sum name labels p =
       buckets f name labels 0 p.bounds p.bucket_counts
-      ++ (bucket name labels (codes "+Inf") p.count ∷ (sum_samples has_sum name labels (integer p.sum) ++ count_samples f has_sum name labels p.count))
+      ++ (bucket name labels (codes "+Inf") p.count ∷ (sum_samples (has_sum && are_natural p.bounds) name labels (integer p.sum) ++ count_samples f (has_sum && are_natural p.bounds) name labels p.count))
 
   -- ======== points ========
   abbrev pub number_series : Settings → InstrumentationScope → Heading → List KeyValue → T → Series

@@ -2,7 +2,7 @@
 
 ghost use Rattle.std.specs.Prelude.{◌≡◌, ◌++◌, OnOk, IfOk, codes};
 ghost use Rattle.otel_exposition.specs.Samples.{sample_text};
-ghost use Rattle.otel_prometheus.specs.Points.{bound_text, bucket, buckets, sum_samples, count_samples, histogram_samples, value_end};
+ghost use Rattle.otel_prometheus.specs.Points.{are_natural, bound_text, bucket, buckets, sum_samples, count_samples, histogram_samples, value_end};
 ghost use Rattle.otel_prometheus.specs.Series.{samples_text};
 
 use crate::headings::Kind;
@@ -84,6 +84,19 @@ fn push_buckets(
     Ok(())
 }
 
+/// Whether no bound is below 0.
+fn are_natural(bounds: &[i64]) -> bool
+    ensures { result ≡ are_natural bounds.now }
+{
+    for bound in bounds {
+        let is_natural = 0 <= *bound;
+        if !is_natural {
+            return false;
+        }
+    }
+    true
+}
+
 /// Appends the sample of a sum, if it is shown.
 fn push_total<T: Number>(
     out: &mut Vec<u8>,
@@ -138,6 +151,7 @@ pub(crate) fn push_histogram_point<T: Number>(
 {
     let bounds = point.bounds().as_slice();
     let counts = point.bucket_counts().as_slice();
+    let has_sum = has_sum && are_natural(bounds);
     push_buckets(alloc, format, out, name, labels, bounds, counts)?;
     push_bucket(out, name, labels, b"+Inf", point.count())?;
     push_total(out, name, labels, point.sum(), has_sum)?;
