@@ -31,7 +31,7 @@ use Rattle.otel_prometheus.specs.Collections.{belongs, metric_series, scope_seri
 use Rattle.otel_prometheus.specs.Families.{families, is_refused, with_heading, with_metric, with_scope}
 use Rattle.otel_prometheus.specs.Headings.{own_text, with_end, heading_with, base_name, heading_of, same_heading, kind_eq, is_last_value, content_kind}
 use Rattle.otel_prometheus.specs.Labels.{placed, with_label, own_name, label_of, with_attributes, text_label, version_label, scope_labels, point_labels}
-use Rattle.otel_prometheus.specs.Points.{value_end, bound_text, bucket, buckets, sum_samples, count_sample, count_samples, histogram_samples, number_series, gauge_series, sum_series, histogram_series, data_series, content_series}
+use Rattle.otel_prometheus.specs.Points.{are_natural, value_end, bound_text, bucket, buckets, sum_samples, count_sample, count_samples, histogram_samples, number_series, gauge_series, sum_series, histogram_series, data_series, content_series}
 use Rattle.otel_prometheus.specs.Series.{Series, is_seen, kept}
 use Rattle.otel_prometheus.specs.Units.{word_at, times, decimal_sizes, binary_sizes, measures, rates, or_other, unit_word, or_name, is_count, worded, ratio, unit_parts, unit_suffix}
 use Rattle.otel_prometheus.specs.Values.{value_text}
@@ -267,8 +267,9 @@ end_in kinds.Histogram = tt
 module _ {T : Type 0} (integer : T → ℤ) (fits : (x : T) → IsNumber (integer x)) where
   valid_histogram : (f : Format) (t : Bool) (n : List ℕ) (ls : List Pair) (p : HistogramDataPoint T) → IsMetricName n → AreLabels ls → AreSamples (histogram_samples integer f t n ls p)
   valid_histogram f t n ls p h k =
-      samples_append (buckets f n ls 0 p.bounds p.bucket_counts) (bucket n ls (codes "+Inf") p.count ∷ (sum_samples t n ls (integer p.sum) ++ count_samples f t n ls p.count)) (valid_buckets f n ls 0 p.bounds p.bucket_counts h k)
-      (valid_bucket n ls (codes "+Inf") p.count h k, samples_append (sum_samples t n ls (integer p.sum)) (count_samples f t n ls p.count) (valid_sum t n ls (integer p.sum) h k (fits p.sum)) (valid_counts f t n ls p.count h k))
+      let has = t && are_natural p.bounds in
+      samples_append (buckets f n ls 0 p.bounds p.bucket_counts) (bucket n ls (codes "+Inf") p.count ∷ (sum_samples has n ls (integer p.sum) ++ count_samples f has n ls p.count)) (valid_buckets f n ls 0 p.bounds p.bucket_counts h k)
+      (valid_bucket n ls (codes "+Inf") p.count h k, samples_append (sum_samples has n ls (integer p.sum)) (count_samples f has n ls p.count) (valid_sum has n ls (integer p.sum) h k (fits p.sum)) (valid_counts f has n ls p.count h k))
 
   valid_number : (s : Settings) (scope : InstrumentationScope) (g : Heading) (ps : List KeyValue) (v : T) → IsMetricName g.name → AreSamples (number_series integer s scope g ps v).samples
   valid_number s scope g ps v h = (record { name = longer_name g.name (value_end g.kind) h (end_in g.kind); labels = valid_point s false scope ps; value = fits v }, tt)
