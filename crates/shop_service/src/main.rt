@@ -1,6 +1,8 @@
 //! A service: two threads serve requests of a shop, which are counted, timed and observed.
 #![tactic(auto)]
 
+ghost use Rattle.std.specs.Prelude.{⊤};
+
 use anyhow::Result;
 use opentelemetry_sdk::attributes;
 use opentelemetry_sdk::common::Fault;
