@@ -1,17 +1,20 @@
 -- Why a submission stops before the first of the records that are left.
-use Rattle.std.proofs.Common.{◌≡◌, ℕ, ◌<◌, ◌≢◌, List, [], ◌∷◌, length, get_or, subst, inl, inr, arith}
+use Rattle.std.proofs.Common.{◌≡◌, ◌∙◌, ℕ, ◌+◌, ◌<◌, ◌≢◌, List, ◌∷◌, length, get_or, drop, sym, ap, subst, inl, inr}
+use Rattle.std.proofs.lemmas.List.{drop_more}
 use Rattle.otel_common.specs.declared.faults.Fault.{Fault}
 use Rattle.otel_common.specs.declared.faults.Fault.TheVariants.{LedgerFull}
 use Rattle.otel_model.specs.State.{State}
 use Rattle.otel_shared.specs.Pending.{call_in, IsRefused, StopsBy}
 use Rattle.otel_shared.specs.declared.pending.PendingRecord.{PendingRecord}
 
+-- the record at a place is the first of those that are left there
+pub first_left : (ps : List PendingRecord) (n : ℕ) (p : PendingRecord) → n < length ps → p ≡ get_or ps n p → drop n ps ≡ p ∷ drop (n + 1) ps
+first_left ps n p lt is = drop_more ps n p lt ∙ ap (λ q. q ∷ drop (n + 1) ps) (sym is)
+
 -- the record is refused
-pub stops_refused : (st : State) (ps : List PendingRecord) (p : PendingRecord) (booked : ℕ) (f : Fault) → 0 < length ps → p ≡ get_or ps 0 p → booked ≢ 18446744073709551615 → IsRefused st (call_in p) f → StopsBy st ps booked f
-stops_refused st [] p booked f some is room refused = absurd (omega arith)
-stops_refused st (q ∷ ps) p booked f some is room refused = inr (room, subst (λ x. IsRefused st (call_in x) f) is refused)
+pub stops_refused : (st : State) (ps : List PendingRecord) (n : ℕ) (p : PendingRecord) (booked : ℕ) (f : Fault) → n < length ps → p ≡ get_or ps n p → booked ≢ 18446744073709551615 → IsRefused st (call_in p) f → StopsBy st (drop n ps) booked f
+stops_refused st ps n p booked f lt is room refused = subst (λ qs. StopsBy st qs booked f) (sym (first_left ps n p lt is)) (inr (room, refused))
 
 -- the book has no room for it
-pub stops_full : (st : State) (ps : List PendingRecord) (booked : ℕ) (f : Fault) → 0 < length ps → booked ≡ 18446744073709551615 → f ≡ LedgerFull → StopsBy st ps booked f
-stops_full st [] booked f some full is = absurd (omega arith)
-stops_full st (q ∷ ps) booked f some full is = inl (full, is)
+pub stops_full : (st : State) (ps : List PendingRecord) (n : ℕ) (p : PendingRecord) (booked : ℕ) (f : Fault) → n < length ps → p ≡ get_or ps n p → booked ≡ 18446744073709551615 → f ≡ LedgerFull → StopsBy st (drop n ps) booked f
+stops_full st ps n p booked f lt is full why = subst (λ qs. StopsBy st qs booked f) (sym (first_left ps n p lt is)) (inl (full, why))

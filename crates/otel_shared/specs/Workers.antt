@@ -1,12 +1,12 @@
 -- What a worker has. `C` is the ledger of the numbers of records, `S` that of the sums of their values.
-use Rattle.std.specs.Prelude.{ℕ, List}
+use Rattle.std.specs.Prelude.{ℕ, List, drop}
 use Rattle.otel_shared.specs.declared.account.Account as account
 use Rattle.otel_shared.specs.declared.pending.PendingRecord.{PendingRecord}
 use Rattle.otel_shared.specs.declared.worker.Worker.{Worker}
 
--- the records that wait to be made, in order
+-- the records that wait to be made, in order: those of the list but the ones at its front that are made
 abbrev pub pending_of : {C S : Type 0} {c : account.Ghosts C} {s : account.Ghosts S} → Worker C S c s → List PendingRecord
-pending_of w = w.pending.items
+pending_of w = drop w.made w.pending.items
 
 -- its share of the book: how many of its records were accepted
 abbrev pub records_of : {C S : Type 0} {c : account.Ghosts C} {s : account.Ghosts S} → Worker C S c s → ℕ

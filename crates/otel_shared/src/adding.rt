@@ -18,7 +18,8 @@ use otel_provider::synchronous::{Adds, Records, Synchronous};
 
 /// Records by number. Nothing is checked here: `Locked::submit` is refused if a record can't be made.
 ///
-/// Each takes memory once in a while, for the list.
+/// Each takes memory once in a while, for the list. Before that it frees the attributes of the records that were made:
+/// `Locked::submit` leaves that to it, so that nobody waits for it at the lock.
 impl<C: Account, S: Account> Worker<C, S> {
     /// Adds a record to the end of the list: a value, in the instrument's unit, with attributes in any order, for the
     /// instrument of this number.
@@ -52,6 +53,18 @@ impl<C: Account, S: Account> Worker<C, S> {
         self.push(PendingRecord::Bound { handle, value })
     }
 
+    /// Frees the records that are made.
+    fn free_made(&mut self)
+        ensures none { self.new.made ≡ 0 }
+        ensures pending { pending_of self.new ≡ pending_of self.old }
+        ensures kept { (records_of self.new ≡ records_of self.old) × (values_of self.new ≡ values_of self.old) × (worker_identity self.new ≡ worker_identity self.old) }
+    {
+        while self.made > 0 {
+            let _ = self.pending.pop_front();
+            self.made -= 1;
+        }
+    }
+
     /// Puts a record at the end of the list.
     fn push(&mut self, added: PendingRecord) -> Result<(), Fault>
         ensures added { OnOk result (pending_of self.new ≡ pending_of self.old ++ added ∷ []) }
@@ -59,6 +72,7 @@ impl<C: Account, S: Account> Worker<C, S> {
         ensures only_memory { IsOkUnless result Fault.OutOfMemory }
         ensures kept { (records_of self.new ≡ records_of self.old) × (values_of self.new ≡ values_of self.old) × (worker_identity self.new ≡ worker_identity self.old) }
     {
+        self.free_made();
         if self.pending.push_back(added).is_err() {
             return Err(Fault::OutOfMemory);
         }
@@ -144,7 +158,7 @@ impl<C: Account, S: Account> Worker<C, S> {
     pub fn pending(&self) -> usize
         ensures { result ≡ length (pending_of self.now) }
     {
-        self.pending.len()
+        self.pending.len() - self.made
     }
 
     /// How many records of this worker were accepted.
@@ -155,13 +169,15 @@ impl<C: Account, S: Account> Worker<C, S> {
     }
 
     /// Takes the first record out of the list, as the call that would make it, for instance if `Locked::submit` is
-    /// refused because of it. `None` only if there is none.
+    /// refused because of it. `None` only if there is none. It frees the attributes of records that were made, as `add`
+    /// does.
     pub fn take_first(&mut self) -> Option<Call>
         ensures first { IfSome result (λ call. map call_in (pending_of self.old) ≡ call_of call ∷ map call_in (pending_of self.new)) }
         ensures rest { pending_of self.new ≡ drop 1 (pending_of self.old) }
         ensures none { IfNone result (pending_of self.old ≡ []) }
         ensures kept { (records_of self.new ≡ records_of self.old) × (values_of self.new ≡ values_of self.old) × (worker_identity self.new ≡ worker_identity self.old) }
     {
+        self.free_made();
         match self.pending.pop_front() {
             Some(first) => Some(first.into_call()),
             None => None,

@@ -204,6 +204,7 @@ impl<C: Account, S: Account> Booked<C, S> {
         Ok(Worker {
             identity: self.core.identity(),
             pending: VecDeque::new(self.core.allocator()),
+            made: 0,
             submitted: 0,
             records,
             values,
@@ -254,7 +255,7 @@ impl<C: Account, S: Account> Booked<C, S> {
         make_collection(&mut self.core, reader, now, observations)
     }
 
-    /// Makes the records of a worker, in order, up to the first that is refused.
+    /// Makes the records of a worker, in order, up to the first that is refused. Frees none.
     pub(crate) fn submit(&mut self, worker: &mut Worker<C, S>) -> Result<Receipt, Fault>
         ensures grew { (records_of worker.old ≤ records_of worker.new) × (values_of worker.old ≤ values_of worker.new) }
         ensures made { Submits self.old.core (pending_of worker.old) self.new.core (pending_of worker.new) (records_of worker.new - records_of worker.old) (values_of worker.new - values_of worker.old) }
@@ -273,7 +274,7 @@ impl<C: Account, S: Account> Booked<C, S> {
     }
 
     /// Makes the first record of a worker, if there is one, and answers whether there was.
-    #[tactic(auto, using(crate::proofs::Lists::stops_refused, crate::proofs::Lists::stops_full))]
+    #[tactic(auto, using(crate::proofs::Lists::first_left, crate::proofs::Lists::stops_refused, crate::proofs::Lists::stops_full))]
     fn make_first(&mut self, worker: &mut Worker<C, S>) -> Result<bool, Fault>
         ensures none { IfOk result (λ more. more ≡ false → (pending_of worker.old ≡ []) × (pending_of worker.new ≡ []) × (self.new.core ≡ self.old.core) × (records_of worker.new ≡ records_of worker.old) × (values_of worker.new ≡ values_of worker.old)) }
         ensures made { IfOk result (λ more. more ≡ true → Makes self.old.core (pending_of worker.old) self.new.core (pending_of worker.new) (values_of worker.old) (values_of worker.new) × (records_of worker.new ≡ records_of worker.old + 1)) }
@@ -283,7 +284,7 @@ impl<C: Account, S: Account> Booked<C, S> {
         ensures book { (self.new.records.total + records_of worker.old ≡ self.old.records.total + records_of worker.new) × (self.new.values.total + values_of worker.old ≡ self.old.values.total + values_of worker.new) }
         ensures kept { (self.new.opened ≡ self.old.opened) × (worker_identity worker.new ≡ worker_identity worker.old) }
     {
-        let Some(first) = worker.pending.front() else {
+        let Some(first) = worker.pending.get(worker.made) else {
             return Ok(false);
         };
         check_book(self.accepted)?;
@@ -297,7 +298,7 @@ impl<C: Account, S: Account> Booked<C, S> {
         self.values.add(&mut worker.values, value);
         self.accepted += 1;
         worker.submitted += 1;
-        let _ = worker.pending.pop_front();
+        worker.made += 1;
         Ok(true)
     }
 

@@ -176,7 +176,8 @@ impl<P: Parts, C: Account, S: Account> Locked<P, C, S> {
     }
 
     /// Makes the records of a worker, in order, up to the first that is refused. Those that are made leave the list;
-    /// the others stay, in order.
+    /// the others stay, in order. The attributes of those that are made are freed outside the lock: by the next call of
+    /// the worker that adds or takes out a record, or when it is dropped.
     ///
     /// Each costs what it costs as a step of a provider. With nothing in the list it is never refused. Before each
     /// record, it is refused with `LedgerFull` if the book has 2^64 - 1 records, otherwise with the fault of the

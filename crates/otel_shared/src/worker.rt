@@ -1,6 +1,6 @@
 //! Workers.
 
-ghost use Rattle.std.specs.Prelude.{◌≡◌};
+ghost use Rattle.std.specs.Prelude.{◌≡◌, ◌≤◌, length};
 
 use crate::account::Account;
 use crate::pending::PendingRecord;
@@ -10,17 +10,23 @@ use std::sync::ledger::Share;
 /// What one thread records with: a list of records that wait to be made at a shared provider, and a share of its book,
 /// which is how many records of this worker the provider has accepted, and the sum of their values.
 ///
-/// Records are added to the list without the lock, and `Locked::submit` makes them. A worker can be handed to a thread.
+/// Records are added to the list without the lock, and `Locked::submit` makes them under it. The attributes of those
+/// that are made are freed outside the lock: by the worker's next call that adds or takes out a record, or when it is
+/// dropped. A worker can be handed to a thread.
 ///
 /// A worker that is dropped takes its share along. From then on `Locked::settle` is refused.
 pub struct Worker<C: Account, S: Account> {
     /// Of the provider that opened it.
     pub(crate) identity: u64,
+    /// The records that are made and not yet freed, and after them those that wait to be made.
     pub(crate) pending: VecDeque<PendingRecord>,
+    /// How many records at the front of the list are made.
+    pub(crate) made: usize,
     /// How many records of this worker were accepted.
     pub(crate) submitted: u64,
     pub(crate) records: Share<C>,
     pub(crate) values: Share<S>,
+    ghost within: { made ≤ length pending.items },
     ghost counted: { records.amount ≡ submitted },
     ghost one_record_part: { records.parts ≡ 1 },
     ghost one_value_part: { values.parts ≡ 1 },
@@ -32,6 +38,7 @@ impl<C: Account, S: Account> Drop for Worker<C, S> {
         let Worker {
             identity: _,
             pending: _pending,
+            made: _,
             submitted: _,
             records: _records,
             values: _values,
@@ -48,6 +55,7 @@ impl<C: Account, S: Account> Worker<C, S> {
         let Worker {
             identity: _,
             pending: _pending,
+            made: _,
             submitted: _,
             records,
             values,
