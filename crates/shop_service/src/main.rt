@@ -64,13 +64,13 @@ impl Requests {
 fn serve<R: Print + Threads + Wait + Sync>(rt: &R, alloc: Global, mut shop: Shop) -> Result<()> {
     let requests = Requests::open(alloc, &mut shop)?;
     let shop = Mutex::new(shop);
-    let (cart, home) = join(
+    let (first, second) = join(
         rt,
         || requests.serve(alloc, &mut shop.lock(rt), "/cart"),
-        || requests.serve(alloc, &mut shop.lock(rt), "/"),
+        || requests.serve(alloc, &mut shop.lock(rt), "/cart"),
     );
     let mut shop = shop.into_inner();
-    cart.and(home).and(requests.close(&mut shop))?;
+    first.and(second).and(requests.close(&mut shop))?;
     Ok(print!(rt; "{}{}", shop.collected(0, 200)?, shop.collected(1, 200)?)?)
 }
 
