@@ -288,8 +288,9 @@ fn push_collection(
     Ok(count)
 }
 
-/// Returns the text of a collection, and what it leaves out: no point is left out that isn't counted. Refused only for
-/// want of memory.
+/// Returns the text of a collection, and what it leaves out: no point is left out that isn't counted. The text has no
+/// moments, and in OpenMetrics no UNIT lines and no `_created` samples; it has the sum of a histogram only if its values
+/// are unsigned and no bound is below 0. Refused only for want of memory.
 ///
 /// It takes a time that grows with the number of points, and with the square of the number of metrics.
 pub fn exposition_of(
