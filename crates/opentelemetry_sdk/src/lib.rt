@@ -10,34 +10,21 @@
 //! - [`exporter`]: a collection as text that Prometheus reads, or as a line of OTLP JSON;
 //! - [`error`]: one error for functions that make streams and call a provider; and the macro [`attributes!`].
 //!
-//! A builder makes a provider from views and readers in boxes. Then calls are made on the provider, and each of them
-//! has a reply. A refused call changes nothing, except for a flush or a shutdown in which readers failed. Here a
-//! counter takes in two records and is collected:
+//! A builder makes a provider from views and readers. Meters, instruments and handles belong to it, and their calls name
+//! it. A refused call changes nothing, except for a flush or a shutdown in which readers failed. Here a counter takes in
+//! a record and is collected, which prints `requests path=/cart: 3`:
 //!
 //! ```
-//! let reader = Box::new(alloc, ManualReader::default())?;
-//! let mut provider = SdkMeterProvider::builder(alloc).with_reader(reader)?.build()?;
-//! let scope = InstrumentationScope::builder(alloc, String::from_str(alloc, "app")?).build()?;
-//! let calls = vec![in alloc;
-//!     Call::Meter { scope },
-//!     Call::Build {
-//!         meter: Some(0),
-//!         sort: InstrumentSort::U64Counter,
-//!         name: StringValue::new(alloc, "requests")?,
-//!         description: None,
-//!         unit: None,
-//!         boundaries: None,
-//!         now: 100,
-//!     },
-//!     Call::Record { instrument: 0, value: NumberValue::U64(3), attributes: Items::from(Vec::new(alloc)) },
-//!     Call::Record { instrument: 0, value: NumberValue::U64(4), attributes: Items::from(Vec::new(alloc)) },
-//!     Call::Collect { reader: 0, now: 200, observations: Items::from(Vec::new(alloc)) }
-//! ]?;
-//! let replies = provider.run(alloc, calls.as_slice())?;
+//! let mut shop = Provider::<Plain<NoCallback, NoCallback>>::builder(alloc)
+//!     .with_reader(ManualReader::default())?
+//!     .build()?;
+//! let name = String::from_str(alloc, "requests")?;
+//! let requests = shop.meter("shop")?.u64_counter(name).build(&mut shop, 100)?;
+//! requests.add(&mut shop, 3, &attributes![in alloc; "path" => "/cart"])?;
+//! print!(rt; "{}", shop.collected(0, 200)?)?;
 //! ```
 //!
-//! The replies are `Meter(Some(0))`, `Instrument(0)`, `Done`, `Done` and `Collected(..)`, whose only
-//! point has the value 7.
+//! The same calls can be made as data, one by `step` or a list of them by `run`, on whose clauses the promises stand.
 #![tactic(auto)]
 
 mod attributes;
