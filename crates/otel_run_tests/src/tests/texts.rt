@@ -1,7 +1,12 @@
-//! Which units and bounds are good, and the texts of the others.
+//! Which units and bounds are good, and the texts of the others; the texts of errors and of attributes.
 
+use super::support::{assert_text, provider};
+use opentelemetry_sdk::attributes;
+use opentelemetry_sdk::error::SdkError;
 use opentelemetry_sdk::metrics::MetricError;
 use opentelemetry_sdk::metrics::meter::{validate_bucket_boundaries, validate_instrument_unit};
+use opentelemetry_sdk::metrics::provider::{Parts, Provider};
+use opentelemetry_sdk::metrics::reader::CardinalityLimit;
 use std::alloc::Global;
 use std::process::Abort;
 use std::test::Fail;
@@ -76,5 +81,61 @@ fn bounds(rt: HostRuntime) -> Result<(), Fail> {
             answer,
         )?;
     }
+    Ok(())
+}
+
+/// Makes a limit, and shuts a provider down twice.
+fn limited<P: Parts>(provider: &mut Provider<P>, limit: usize) -> Result<(), SdkError> {
+    let _ = CardinalityLimit::new(limit)?;
+    provider.shutdown()?;
+    Ok(provider.shutdown()?)
+}
+
+/// Asserts with which error a limit or a second shutdown is refused.
+fn assert_refused<P: Parts>(
+    rt: &impl Abort,
+    alloc: Global,
+    provider: &mut Provider<P>,
+    limit: usize,
+    wanted: &str,
+) -> Result<(), Fail> {
+    let Err(error) = limited(provider, limit) else {
+        return Ok(assert_text(rt, "nothing", wanted));
+    };
+    Ok(assert_text(rt, format!(in alloc; "{error}")?.as_str(), wanted))
+}
+
+/// Asserts the errors of a limit that is refused and of one that is good.
+fn assert_both<P: Parts>(
+    rt: &impl Abort,
+    alloc: Global,
+    provider: &mut Provider<P>,
+) -> Result<(), Fail> {
+    assert_refused(
+        rt,
+        alloc,
+        provider,
+        0,
+        "Cardinality limit must be greater than 0",
+    )?;
+    assert_refused(rt, alloc, provider, 1, "already shut down")
+}
+
+/// One error holds faults of streams and of calls.
+#[test]
+fn one_error(rt: HostRuntime) -> Result<(), Fail> {
+    let mut provider = provider(rt.alloc())?;
+    assert_both(&rt, rt.alloc(), &mut provider)
+}
+
+/// Attributes of each sort of value, written out.
+#[test]
+fn attributes_written_out(rt: HostRuntime) -> Result<(), Fail> {
+    let alloc = rt.alloc();
+    let mut text = String::new(alloc);
+    for attribute in &attributes![in alloc; "path" => "/cart", "items" => -3i64, "paid" => true] {
+        write!(text, "{attribute} ")?;
+    }
+    assert_text(&rt, text.as_str(), "path=/cart items=-3 paid=true ");
     Ok(())
 }
