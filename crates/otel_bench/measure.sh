@@ -121,11 +121,10 @@ collections() {
 
 # Exports of a collection of all sets up to the limit.
 exports() {
-    made_by="export $1"
     instrument u64_counter "$one"
     sets 0 2000
     next
-    last
+    printf '%s\n' --- "export $1"
 }
 
 # The scripts of a case. A case `typed_..` is the case of the rest of its name with instruments and handles as values.
