@@ -1,12 +1,11 @@
 //! Readers and writers that fail.
 
-use super::assert_prints;
+use super::{Outcome, assert_outcome, assert_prints};
 use metrics_script::script::script;
 use std::alloc::Global;
 use std::io;
 use std::io::{ErrorKind, Read, Write};
 use std::process::Abort;
-use std::test::Fail;
 
 /// Gives some bytes and then fails.
 #[derive(Drop)]
@@ -31,9 +30,9 @@ struct FailingWriter {
     room: usize,
     /// Whether `flush` fails.
     is_stuck: bool,
-    failures: u32,
-    /// How many calls came after one that failed.
-    calls_after_failure: u32,
+    has_failed: bool,
+    /// Whether a call came after one that failed.
+    was_called_again: bool,
 }
 
 impl FailingWriter {
@@ -42,30 +41,18 @@ impl FailingWriter {
             taken: Vec::new(alloc),
             room,
             is_stuck,
-            failures: 0,
-            calls_after_failure: 0,
+            has_failed: false,
+            was_called_again: false,
         }
-    }
-
-    /// Counts the call if an earlier one failed.
-    fn count_call(&mut self) {
-        if self.failures > 0 {
-            self.calls_after_failure = self.calls_after_failure.saturating_add(1);
-        }
-    }
-
-    /// Counts a failure and returns its error.
-    fn failure(&mut self) -> io::Error {
-        self.failures = self.failures.saturating_add(1);
-        ErrorKind::BrokenPipe.into()
     }
 }
 
 impl Write for FailingWriter {
     fn write(&mut self, buf: &[u8]) -> io::Result<usize> {
-        self.count_call();
+        self.was_called_again |= self.has_failed;
         if self.room < buf.len() {
-            return Err(self.failure());
+            self.has_failed = true;
+            return Err(ErrorKind::BrokenPipe.into());
         }
         self.room -= buf.len();
         self.taken.extend_from_slice(buf)?;
@@ -73,122 +60,139 @@ impl Write for FailingWriter {
     }
 
     fn flush(&mut self) -> io::Result<()> {
-        self.count_call();
+        self.was_called_again |= self.has_failed;
         if self.is_stuck {
-            return Err(self.failure());
+            self.has_failed = true;
+            return Err(ErrorKind::BrokenPipe.into());
         }
         Ok(())
     }
 }
 
-const SCRIPT: &[u8] = b"go\nmeter a\nmeter b\n";
+const SCRIPT: &str = "go\nmeter a\nmeter b\n";
 
-/// A script, and what it prints.
-#[derive(Drop)]
-struct Example {
-    script: String,
-    output: String,
-}
-
-/// A script that prints more than two of the program's buffers hold.
-fn long_example(alloc: Global) -> Result<Example, Fail> {
-    let mut script = String::from_str(alloc, "go\n")?;
-    let mut output = String::new(alloc);
-    for number in 0..2000u32 {
-        let line = format!(in alloc; "meter a{number}\n")?;
-        script.push_str(line.as_str())?;
-        let line = format!(in alloc; "meter {number}\n")?;
-        output.push_str(line.as_str())?;
-    }
-    Ok(Example { script, output })
+/// Asserts that the program ends with this status and this message, and runs nothing, if a read fails in mid-stream.
+fn assert_read_fails(rt: &impl Abort, alloc: Global, kind: ErrorKind, status: u8, message: &str) {
+    let input = FailingReader {
+        bytes: SCRIPT.as_bytes(),
+        kind,
+    };
+    let mut output = Vec::new(alloc);
+    let mut errors = Vec::new(alloc);
+    let ended = script(alloc, input, &mut output, &mut errors);
+    let outcome = Outcome {
+        status: ended,
+        output,
+        errors,
+    };
+    assert_outcome(rt, message, &outcome, status, "", message);
 }
 
 /// If a read fails in mid-stream, nothing is run.
 #[test]
-fn read_fails(rt: HostRuntime) -> Result<(), Fail> {
-    for (kind, status, text) in [
-        (ErrorKind::Other, 4, "input or output failed\n"),
-        (ErrorKind::OutOfMemory, 3, "out of memory\n"),
-    ] {
-        let mut output = Vec::new(rt.alloc());
-        let mut errors = Vec::new(rt.alloc());
-        let input = FailingReader {
-            bytes: SCRIPT,
-            kind,
+fn read_fails(rt: HostRuntime) {
+    let kind = ErrorKind::Other;
+    assert_read_fails(&rt, rt.alloc(), kind, 4, "input or output failed\n");
+    let kind = ErrorKind::OutOfMemory;
+    assert_read_fails(&rt, rt.alloc(), kind, 3, "out of memory\n");
+}
+
+/// A writer, and how many bytes it has taken when it fails.
+struct Failing {
+    room: usize,
+    is_stuck: bool,
+    least: usize,
+    most: usize,
+}
+
+/// Asserts that the writer failed, wasn't called again, and took the beginning of this output.
+fn assert_took(rt: &impl Abort, writer: &FailingWriter, whole: &str, case: &Failing) {
+    assert!(rt; writer.has_failed && !writer.was_called_again);
+    let taken = writer.taken.as_slice();
+    assert!(rt; whole.as_bytes().starts_with(taken));
+    assert!(rt; case.least <= taken.len() && taken.len() <= case.most);
+}
+
+/// Asserts that this script prints this output, and that with each writer it ends with the status of a failed write, and
+/// standard error says so.
+fn assert_writes_fail(rt: &impl Abort, alloc: Global, input: &str, whole: &str, cases: &[Failing]) {
+    assert_prints(rt, alloc, "no write fails", input, whole);
+    for case in cases {
+        let mut writer = FailingWriter::new(alloc, case.room, case.is_stuck);
+        let mut errors = Vec::new(alloc);
+        let status = script(alloc, input.as_bytes(), &mut writer, &mut errors);
+        assert_took(rt, &writer, whole, case);
+        let outcome = Outcome {
+            status,
+            output: Vec::new(alloc),
+            errors,
         };
-        assert_eq!(rt; script(rt.alloc(), input, &mut output, &mut errors), status);
-        assert!(rt; output.is_empty());
-        assert_eq!(rt; str::from_utf8(errors.as_slice())?, text);
+        assert_outcome(
+            rt,
+            "a write fails",
+            &outcome,
+            4,
+            "",
+            "input or output failed\n",
+        );
     }
-    Ok(())
 }
 
-/// Asserts that this script ends with the status of a failed write, that standard error says so, and that the writer
-/// wasn't called again after the failure.
-fn assert_fails(
-    rt: &impl Abort,
-    alloc: Global,
-    input: &[u8],
-    output: &mut FailingWriter,
-) -> Result<(), Fail> {
-    let mut errors = Vec::new(alloc);
-    assert_eq!(rt; script(alloc, input, &mut *output, &mut errors), 4);
-    assert_eq!(rt; output.failures, 1);
-    assert_eq!(rt; output.calls_after_failure, 0);
-    assert_eq!(rt;
-        str::from_utf8(errors.as_slice())?,
-        "input or output failed\n"
-    );
-    Ok(())
-}
-
-/// If the first write fails, nothing is written.
+/// If the first write fails, nothing is written. If the writer fails to pass on what it took, all of it was written.
 #[test]
-fn write_fails(rt: HostRuntime) -> Result<(), Fail> {
-    let mut output = FailingWriter::new(rt.alloc(), 3, false);
-    assert_fails(&rt, rt.alloc(), SCRIPT, &mut output)?;
-    assert!(rt; output.taken.is_empty());
-    Ok(())
+fn write_fails(rt: HostRuntime) {
+    let cases = &[
+        Failing {
+            room: 3,
+            is_stuck: false,
+            least: 0,
+            most: 0,
+        },
+        Failing {
+            room: 100,
+            is_stuck: true,
+            least: 16,
+            most: 16,
+        },
+    ];
+    assert_writes_fail(&rt, rt.alloc(), SCRIPT, "meter 0\nmeter 1\n", cases);
 }
 
-/// If a later write fails, what was written before it is the beginning of the output.
+/// If a later write fails, what was written before it is the beginning of the output, which is longer than two of the
+/// program's buffers.
 #[test]
-fn later_write_fails(rt: HostRuntime) -> Result<(), Fail> {
-    let example = long_example(rt.alloc())?;
-    let input = example.script.as_bytes();
-    let whole = example.output.as_bytes();
-    assert_prints(&rt, rt.alloc(), input, example.output.as_str());
-    for room in [10_000, 18_000] {
-        let mut output = FailingWriter::new(rt.alloc(), room, false);
-        assert_fails(&rt, rt.alloc(), input, &mut output)?;
-        assert!(rt; !output.taken.is_empty());
-        assert!(rt; output.taken.len() < whole.len());
-        assert!(rt; whole.starts_with(output.taken.as_slice()));
+fn later_write_fails(rt: HostRuntime) {
+    let mut script = String::new(rt.alloc());
+    let mut output = String::new(rt.alloc());
+    script.push_str("go\n").expect(&rt, "memory");
+    for number in 0..2000u32 {
+        writeln!(script, "meter a{number}").expect(&rt, "memory");
+        writeln!(output, "meter {number}").expect(&rt, "memory");
     }
-    Ok(())
-}
-
-/// The whole output is written, but the writer fails to pass it on.
-#[test]
-fn flush_fails(rt: HostRuntime) -> Result<(), Fail> {
-    let mut output = FailingWriter::new(rt.alloc(), 100, true);
-    assert_fails(&rt, rt.alloc(), SCRIPT, &mut output)?;
-    assert_eq!(rt;
-        str::from_utf8(output.taken.as_slice())?,
-        "meter 0\nmeter 1\n"
-    );
-    Ok(())
+    assert!(rt; output.len() > 18_000);
+    let cases = &[
+        Failing {
+            room: 10_000,
+            is_stuck: false,
+            least: 1,
+            most: 10_000,
+        },
+        Failing {
+            room: 18_000,
+            is_stuck: false,
+            least: 1,
+            most: 18_000,
+        },
+    ];
+    assert_writes_fail(&rt, rt.alloc(), script.as_str(), output.as_str(), cases);
 }
 
 /// If nothing can be written to standard error, the status is the same.
 #[test]
-fn error_write_fails(rt: HostRuntime) -> Result<(), Fail> {
+fn error_write_fails(rt: HostRuntime) {
     let mut output = Vec::new(rt.alloc());
     let mut errors = FailingWriter::new(rt.alloc(), 0, false);
-    assert_eq!(rt;
-        script(rt.alloc(), b"gone".as_slice(), &mut output, &mut errors),
-        2
-    );
+    let status = script(rt.alloc(), b"gone".as_slice(), &mut output, &mut errors);
+    assert_eq!(rt; status, 2);
     assert!(rt; output.is_empty());
-    Ok(())
 }
