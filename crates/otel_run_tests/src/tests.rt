@@ -1,9 +1,9 @@
 //! Tests of whole runs.
 
 mod callbacks;
-mod failing;
-mod handles;
+mod cases;
 mod numbers;
+mod readers;
 mod refusing;
 mod resources;
 mod seeds;

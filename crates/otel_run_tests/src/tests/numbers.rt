@@ -1,89 +1,106 @@
 //! Numbers and identities of instruments and handles, and what is refused where providers are mixed up.
 
-use super::handles::ended;
-use super::support::{assert_is, identified, provider, replied};
-use super::typed::{added, fault_of};
+use super::cases::{Case, assert_of_provider};
+use super::support::{
+    add, assert_is, build_faults, counter, fault_of, made, meter, provider, step,
+};
 use opentelemetry_sdk::common::Fault;
 use opentelemetry_sdk::metrics::SdkMeterProvider;
-use opentelemetry_sdk::metrics::meter::{Counter, Meter};
+use opentelemetry_sdk::metrics::meter::{Bound, Counter, Meter};
 use opentelemetry_sdk::metrics::provider::{Call, NumberValue, Parts, Provider};
 use std::alloc::Global;
-use std::test::Fail;
+use std::process::Abort;
 
-/// Makes a counter of this name.
-fn counter<P: Parts>(
-    alloc: Global,
-    provider: &mut Provider<P>,
-    meter: Meter,
-    name: &str,
-) -> Result<Counter<u64>, Fault> {
-    meter
-        .u64_counter(String::from_str(alloc, name)?)
-        .build(provider, 100)
+/// Binds a handle without attributes.
+fn bind<P: Parts>(provider: &mut Provider<P>, counter: Counter<u64>) -> Result<Bound<u64>, Fault> {
+    counter.bind(provider, &[])
 }
 
-/// Makes two counters and two handles of the second. Returns number and identity of the second counter, the number of
-/// the first handle, and number, identity and once more number of the second handle.
-fn numbers_of<P: Parts>(alloc: Global, provider: &mut Provider<P>) -> Result<[u64; 6], Fault> {
-    let meter = provider.meter("app")?;
-    counter(alloc, provider, meter, "first")?;
-    let second = counter(alloc, provider, meter, "second")?;
-    let early = second.bind(provider, &[])?.into_number();
-    let late = second.bind(provider, &[])?;
-    let number = late.number();
-    let identity = late.identity();
-    Ok([
-        second.number() as u64,
-        second.identity(),
-        early,
+/// Ends a handle. Returns the number of the fault, or 0 if there is none.
+fn end_fault<P: Parts>(provider: &mut Provider<P>, handle: Bound<u64>) -> u8 {
+    fault_of(handle.end(provider))
+}
+
+/// Makes three handles of a counter, and ends the third. Returns number and identity of the counter, the number of the
+/// first handle, and number, identity and once more number of the second handle; and the fault number of that end.
+fn numbers_of<P: Parts>(
+    provider: &mut Provider<P>,
+    counter: Counter<u64>,
+) -> Result<([u64; 6], u8), Fault> {
+    let first = bind(provider, counter)?.into_number();
+    let second = bind(provider, counter)?;
+    let number = second.number();
+    let identity = second.identity();
+    let numbers = [
+        counter.number() as u64,
+        counter.identity(),
+        first,
         number,
         identity,
-        late.into_number(),
-    ])
+        second.into_number(),
+    ];
+    let third = bind(provider, counter)?;
+    Ok((numbers, end_fault(provider, third)))
 }
 
-/// Instruments and handles are numbered from 0 in the order in which they are made, and have their provider's identity.
-#[test]
-fn numbers(rt: HostRuntime) -> Result<(), Fail> {
-    let mut provider = identified(rt.alloc(), 7)?;
-    let numbers = numbers_of(rt.alloc(), &mut provider);
-    assert_is(&rt, numbers.ok(), Some([1, 7, 0, 1, 7, 1]));
+/// The fault number of a record through the handle of this number.
+fn through<P: Parts>(provider: &mut Provider<P>, handle: u64) -> u8 {
+    let value = NumberValue::U64(1);
+    fault_of(step(provider, &Call::RecordBound { handle, value }))
+}
+
+/// Asserts numbers and identities, and the fault numbers of the end of one handle and of records through each.
+pub fn assert_numbers<P: Parts>(
+    rt: &impl Abort,
+    alloc: Global,
+    provider: &mut Provider<P>,
+) -> Result<(), Fault> {
+    let meter = meter(provider, "app")?;
+    counter(alloc, provider, meter, ("first", None, None), 100)?;
+    let second = counter(alloc, provider, meter, ("second", None, None), 100)?;
+    assert_is(rt, numbers_of(provider, second)?, ([1, 7, 0, 1, 7, 1], 0));
+    assert_is(rt, through(provider, 0), 0);
+    assert_is(rt, through(provider, 1), 0);
+    assert_is(rt, through(provider, 2), 4);
     Ok(())
 }
 
-/// A record through the handle of this number.
-fn through(handle: u64) -> Call {
-    Call::RecordBound {
-        handle,
-        value: NumberValue::U64(1),
+/// Instruments and handles are numbered from 0 in the order in which they are made, and have their provider's identity.
+/// The end of one handle leaves the others live.
+#[test]
+fn numbers(rt: HostRuntime) -> Result<(), Fault> {
+    assert_of_provider(&rt, rt.alloc(), None, &Case::Numbers)
+}
+
+/// The fault numbers of a record through a handle of one provider, and of its end, both asked of another provider; and
+/// of its end at its own, if the other one gives it back.
+fn handle_faults<P: Parts>(
+    own: &mut Provider<P>,
+    other: &mut Provider<P>,
+    hits: Counter<u64>,
+) -> Result<[u8; 3], Fault> {
+    let handle = bind(own, hits)?;
+    let recorded = fault_of(handle.add(other, 5));
+    match handle.unbind(other) {
+        Ok(()) => Ok([recorded, 0, 0]),
+        Err((handle, fault)) => Ok([recorded, fault.number(), end_fault(own, handle)]),
     }
 }
 
-/// Binds two handles and ends the second. Returns the fault number of that end, and those of records through each.
-fn ends_of<P: Parts>(alloc: Global, provider: &mut Provider<P>) -> Result<[u8; 3], Fault> {
-    let meter = provider.meter("app")?;
-    let hits = counter(alloc, provider, meter, "hits")?;
-    let _ = hits.bind(provider, &[])?.into_number();
-    let second = hits.bind(provider, &[])?;
-    Ok([
-        ended(second, provider),
-        replied(provider.step(&through(0))),
-        replied(provider.step(&through(1))),
-    ])
-}
-
-/// The end of one handle leaves another one live.
-#[test]
-fn ends(rt: HostRuntime) -> Result<(), Fail> {
-    let mut provider = provider(rt.alloc())?;
-    let ends = ends_of(rt.alloc(), &mut provider);
-    assert_is(&rt, ends.ok(), Some([0, 0, 4]));
+/// Makes a gauge of `i64` with a handle, and an observable counter.
+fn other_kinds<P: Parts>(alloc: Global, provider: &mut Provider<P>) -> Result<(), Fault> {
+    let meter = meter(provider, "there")?;
+    let name = String::from_str(alloc, "heat")?;
+    let heat = made(provider, meter.i64_gauge(name), 100)?;
+    let _ = heat.bind(provider, &[])?.into_number();
+    let name = String::from_str(alloc, "seen")?;
+    meter.u64_observable_counter(name).build(provider, 100)?;
     Ok(())
 }
 
 /// Binds a handle that stays live. Returns the number of the fault, or 0 if there is none.
-fn bind_fault<P: Parts>(provider: &mut Provider<P>, instrument: Counter<u64>) -> u8 {
-    match instrument.bind(provider, &[]) {
+fn bind_fault<P: Parts>(provider: &mut Provider<P>, counter: Counter<u64>) -> u8 {
+    match bind(provider, counter) {
         Ok(handle) => {
             let _ = handle.into_number();
             0
@@ -92,105 +109,99 @@ fn bind_fault<P: Parts>(provider: &mut Provider<P>, instrument: Counter<u64>) ->
     }
 }
 
-/// The fault numbers of a record through a handle of one provider, and of its end, both asked of another provider.
-fn handle_faults<P: Parts>(
-    own: &mut Provider<P>,
-    other: &mut Provider<P>,
-    hits: Counter<u64>,
-) -> Result<[u8; 2], Fault> {
-    let handle = hits.bind(own, &[])?;
-    let recorded = fault_of(handle.add(other, 5));
-    Ok([recorded, ended(handle, other)])
-}
-
-/// Makes the observable counter `seen`.
-fn observable<P: Parts>(
-    alloc: Global,
-    provider: &mut Provider<P>,
-    meter: Meter,
-) -> Result<(), Fault> {
-    let name = String::from_str(alloc, "seen")?;
-    meter.u64_observable_counter(name).build(provider, 100)?;
-    Ok(())
-}
-
-/// Makes a gauge of `i64` with a handle, and an observable counter.
-fn other_kinds<P: Parts>(alloc: Global, provider: &mut Provider<P>) -> Result<(), Fault> {
-    let meter = provider.meter("there")?;
-    let heat = meter
-        .i64_gauge(String::from_str(alloc, "heat")?)
-        .build(provider, 100)?;
-    let _ = heat.bind(provider, &[])?.into_number();
-    observable(alloc, provider, meter)
-}
-
-/// The fault numbers of records of three counters, and of a bind of the second and of the third, all asked of another
-/// provider.
+/// The fault numbers of records of three counters, of which the first is given, and of a bind of the second and of the
+/// third, all asked of another provider, which is given instruments of other kinds.
 fn record_faults<P: Parts>(
     alloc: Global,
     own: &mut Provider<P>,
     other: &mut Provider<P>,
     meter: Meter,
+    first: Counter<u64>,
 ) -> Result<[u8; 5], Fault> {
-    let first = counter(alloc, own, meter, "first")?;
-    let second = counter(alloc, own, meter, "second")?;
-    let third = counter(alloc, own, meter, "third")?;
+    other_kinds(alloc, other)?;
+    let second = counter(alloc, own, meter, ("second", None, None), 100)?;
+    let third = counter(alloc, own, meter, ("third", None, None), 100)?;
     Ok([
-        fault_of(added(other, first, 5)),
-        fault_of(added(other, second, 5)),
-        fault_of(added(other, third, 5)),
+        fault_of(add(other, first, 5, &[])),
+        fault_of(add(other, second, 5, &[])),
+        fault_of(add(other, third, 5, &[])),
         bind_fault(other, second),
         bind_fault(other, third),
     ])
 }
 
-/// The fault numbers of builds of a counter and of an observable one.
-pub fn build_faults<P: Parts>(
-    alloc: Global,
-    provider: &mut Provider<P>,
-    meter: Meter,
-) -> Result<[u8; 2], Fault> {
-    let counted = fault_of(counter(alloc, provider, meter, "more"));
-    Ok([counted, fault_of(observable(alloc, provider, meter))])
-}
+/// The fault numbers of a record of an instrument at its own provider, and at another one while that has none; of builds
+/// there, while it has no meter; of records and binds; of two handles; and of builds, when it has a meter.
+type Faults = ([u8; 2], [u8; 2], [u8; 5], [[u8; 3]; 2], [u8; 2]);
 
-/// The fault numbers where one provider is asked with values of another one: of builds, while it has no meter; of
-/// records and binds; of two handles, of which it has the number of the first; and of builds, when it has a meter.
-fn mixed_up<P: Parts>(
+/// The fault numbers of two handles of one provider, asked of another one, which has the number of the first.
+fn handles_faults<P: Parts>(
     alloc: Global,
     own: &mut Provider<P>,
     other: &mut Provider<P>,
-) -> Result<([u8; 2], [u8; 5], [[u8; 2]; 2], [u8; 2]), Fault> {
-    let meter = own.meter("app")?;
-    let early = build_faults(alloc, other, meter)?;
-    other_kinds(alloc, other)?;
-    let records = record_faults(alloc, own, other, meter)?;
-    let hits = counter(alloc, own, meter, "hits")?;
+    meter: Meter,
+) -> Result<[[u8; 3]; 2], Fault> {
+    let hits = counter(alloc, own, meter, ("hits", None, None), 100)?;
     let first = handle_faults(own, other, hits)?;
-    let second = handle_faults(own, other, hits)?;
+    Ok([first, handle_faults(own, other, hits)?])
+}
+
+/// The fault numbers where one provider is asked with values of another one.
+fn faults_of<P: Parts>(
+    alloc: Global,
+    own: &mut Provider<P>,
+    other: &mut Provider<P>,
+) -> Result<Faults, Fault> {
+    let meter = meter(own, "app")?;
+    let first = counter(alloc, own, meter, ("first", None, None), 100)?;
+    let recorded = fault_of(add(own, first, 5, &[]));
+    let unknown = fault_of(add(other, first, 5, &[]));
+    let early = build_faults(alloc, other, meter)?;
+    let records = record_faults(alloc, own, other, meter, first)?;
+    let handles = handles_faults(alloc, own, other, meter)?;
     let late = build_faults(alloc, other, meter)?;
-    Ok((early, records, [first, second], late))
+    Ok(([recorded, unknown], early, records, handles, late))
+}
+
+/// The fault numbers where a provider of the identity 0 is asked with values of another one, of this identity.
+fn mixed_up(alloc: Global, identity: u64) -> Result<Faults, Fault> {
+    let mut other = SdkMeterProvider::default(alloc);
+    let mut own = provider(alloc, identity, None)?;
+    faults_of(alloc, &mut own, &mut other)
 }
 
 /// Providers of one identity are asked by number alone: the meter, the instrument or the handle of that number isn't
 /// there, or is another one, perhaps observable or of another number type.
 #[test]
-fn one_identity(rt: HostRuntime) -> Result<(), Fail> {
-    let mut own = provider(rt.alloc())?;
-    let mut other = provider(rt.alloc())?;
-    let faults = mixed_up(rt.alloc(), &mut own, &mut other);
-    let wanted = ([2, 2], [6, 7, 3, 7, 3], [[6, 0], [4, 4]], [0, 0]);
-    assert_is(&rt, faults.ok(), Some(wanted));
+fn one_identity(rt: HostRuntime) -> Result<(), Fault> {
+    let faults = mixed_up(rt.alloc(), 0)?;
+    let handles = [[6, 0, 0], [4, 4, 0]];
+    assert_is(
+        &rt,
+        faults,
+        ([0, 3], [2, 2], [6, 7, 3, 7, 3], handles, [0, 0]),
+    );
     Ok(())
 }
 
-/// A provider of another identity has no such meter, instrument or handle, whatever has the number there.
+/// A provider of another identity has no such meter, instrument or handle, whatever has the number there. A handle that
+/// it refuses is given back (`row_28`).
 #[test]
-fn other_identity(rt: HostRuntime) -> Result<(), Fail> {
-    let mut own = identified(rt.alloc(), 1)?;
-    let mut other = provider(rt.alloc())?;
-    let faults = mixed_up(rt.alloc(), &mut own, &mut other);
-    let wanted = ([2, 2], [3, 3, 3, 3, 3], [[4, 4], [4, 4]], [2, 2]);
-    assert_is(&rt, faults.ok(), Some(wanted));
+fn other_identity(rt: HostRuntime) -> Result<(), Fault> {
+    let faults = mixed_up(rt.alloc(), 1)?;
+    let handles = [[4, 4, 0], [4, 4, 0]];
+    assert_is(
+        &rt,
+        faults,
+        ([0, 3], [2, 2], [3, 3, 3, 3, 3], handles, [2, 2]),
+    );
+    Ok(())
+}
+
+/// A handle that another provider refuses is given back, and ends at its own.
+#[test]
+fn row_28(rt: HostRuntime) -> Result<(), Fault> {
+    let (_, _, _, handles, _) = mixed_up(rt.alloc(), 2)?;
+    assert_is(&rt, handles, [[4, 4, 0], [4, 4, 0]]);
     Ok(())
 }

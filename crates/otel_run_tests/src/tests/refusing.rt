@@ -1,87 +1,151 @@
 //! Views and readers that fail.
 
-ghost use Rattle.std.specs.Prelude.{None};
+ghost use Rattle.std.specs.Prelude.{Some};
 
-use super::numbers::build_faults;
-use super::shutdowns::seen;
-use super::support::{assert_is, replied};
-use super::vectors::provider_of_failing;
-use super::wholes::counter;
-use opentelemetry_sdk::common::{Fault, StringValue};
-use opentelemetry_sdk::metrics::SdkMeterProvider;
+use super::readers::OwnReader;
+use super::shown::assert_collected;
+use super::support::{
+    Request, add, assert_is, assert_requests, build, build_faults, counter, fault_of, meter, step,
+    with_reader,
+};
+use opentelemetry_sdk::common::Fault;
+use opentelemetry_sdk::error::SdkError;
+use opentelemetry_sdk::metrics::Temporality::Cumulative;
+use opentelemetry_sdk::metrics::callback::NoCallback;
 use opentelemetry_sdk::metrics::instrument::{Instrument, Stream};
-use opentelemetry_sdk::metrics::provider::{Call, Parts, Provider, Reply};
+use opentelemetry_sdk::metrics::provider::{Parts, Provider, ProviderBuilder};
 use opentelemetry_sdk::metrics::view::View;
 use std::alloc::Global;
-use std::test::Fail;
+use std::process::Abort;
 
-/// A view that never has memory for its answer.
+/// Gives each instrument a stream, but may find no memory for those that aren't called `hits`.
 #[derive(Drop)]
-struct NoMemory;
+pub struct Scarce {
+    stream: Stream,
+    is_scarce: bool,
+}
 
-impl View for NoMemory {
-    ghost answer = { λ view instrument. None };
+impl View for Scarce {
+    ghost answer = { λ view instrument. Some view.stream };
 
     fn match_inst(&self, inst: &Instrument) -> Result<Option<Stream>, Fault> {
-        let _ = inst;
-        Err(Fault::OutOfMemory)
+        if self.is_scarce && inst.name() != "hits" {
+            return Err(Fault::OutOfMemory);
+        }
+        Ok(Some(self.stream.clone()?))
     }
 }
+
+/// Readers and views of a program's own, and no callbacks.
+pub struct Own;
+
+impl Parts for Own {
+    type View = Scarce;
+
+    type Reader = OwnReader;
+
+    type ObserveU64 = NoCallback;
+
+    type ObserveI64 = NoCallback;
+}
+
+/// A builder with a reader for each of these, which fails where that is true.
+fn readers_failing(alloc: Global, fails: &[bool]) -> Result<ProviderBuilder<Own>, Fault> {
+    let mut builder = Provider::builder(alloc);
+    for fails in fails {
+        builder = with_reader(builder, OwnReader::new(Cumulative, Cumulative, *fails))?;
+    }
+    Ok(builder)
+}
+
+/// Asserts how often each reader of a provider was asked to flush and to shut down.
+fn assert_asked(rt: &impl Abort, provider: Provider<Own>, asked: (u32, u32)) {
+    let (core, views, readers, callbacks) = provider.into_parts();
+    for reader in &readers {
+        assert_is(rt, (reader.flushes, reader.shutdowns), asked);
+    }
+    // Lets them go as one.
+    let _provider: Provider<Own> = Provider::from_parts(core, views, readers, callbacks);
+}
+
+/// Makes requests of a provider whose readers fail where this says so. Asserts what is seen of each answer, and how often
+/// each reader was asked to flush and to shut down.
+pub fn assert_of_failing(
+    rt: &impl Abort,
+    alloc: Global,
+    fails: &[bool],
+    cases: &[(Request, (u8, usize, usize))],
+    asked: (u32, u32),
+) -> Result<(), Fault> {
+    let mut provider = readers_failing(alloc, fails)?.build()?;
+    assert_requests(rt, &mut provider, cases);
+    assert_asked(rt, provider, asked);
+    Ok(())
+}
+
+/// Each flush asks all readers, and so does a shutdown, also those after one that failed, whether asked by a method or
+/// by a call.
+#[test]
+fn readers_fail(rt: HostRuntime) -> Result<(), Fault> {
+    let cases = [
+        (Request::Flush, (10, 2, 0)),
+        (Request::Flush, (10, 2, 0)),
+        (Request::Shutdown, (10, 2, 0)),
+        (Request::Shutdown, (8, 0, 0)),
+    ];
+    assert_of_failing(&rt, rt.alloc(), &[true, false, true], &cases, (2, 1))?;
+    let cases = [
+        (Request::Flush, (10, 2, 1)),
+        (Request::Flush, (10, 2, 1)),
+        (Request::FlushCall, (10, 2, 1)),
+        (Request::ShutdownCall, (10, 2, 1)),
+        (Request::FlushCall, (8, 0, 0)),
+    ];
+    assert_of_failing(&rt, rt.alloc(), &[false, true, true], &cases, (3, 1))
+}
+
+/// A view that gives streams of this name.
+fn view(alloc: Global, name: &str, is_scarce: bool) -> Result<Scarce, SdkError> {
+    let name = String::from_str(alloc, name)?;
+    let stream = Stream::builder().with_name(name).build()?;
+    Ok(Scarce { stream, is_scarce })
+}
+
+/// What each reader collects after builds that were refused.
+const COLLECTED: &str = "resource -\n\
+     scope app None None\n\
+     metric early ()  u64 sum Cumulative monotonic=true 110 200 exemplars=0\n\
+     early: 5\n\
+     metric late ()  u64 sum Cumulative monotonic=true 110 200 exemplars=0\n\
+     late: 5\n";
 
 /// The fault number of the build of a counter as a call.
-fn called<P: Parts>(alloc: Global, provider: &mut Provider<P>) -> Result<u8, Fault> {
-    let name = StringValue::new(alloc, "hits")?;
-    let unit = StringValue::new(alloc, "1")?;
-    let call = counter(0, name, None, unit, 100);
-    Ok(replied(provider.step(&call)))
+fn call_fault<P: Parts>(alloc: Global, provider: &mut Provider<P>) -> Result<u8, Fault> {
+    let call = build(alloc, "more", "1")?;
+    Ok(fault_of(step(provider, &call)))
 }
 
-/// The fault numbers of a build as a call, and of builds of a counter and an observable one as values.
-fn builds<P: Parts>(alloc: Global, provider: &mut Provider<P>) -> Result<(u8, [u8; 2]), Fault> {
-    let meter = provider.meter("app")?;
-    let called = called(alloc, provider)?;
-    Ok((called, build_faults(alloc, provider, meter)?))
+/// Asserts that a refused build leaves nothing behind, as a call or by a builder: the streams that its first view asked
+/// for are as old as the next build.
+fn assert_refused<P: Parts>(
+    rt: &impl Abort,
+    alloc: Global,
+    provider: &mut Provider<P>,
+) -> Result<(), Fault> {
+    let meter = meter(provider, "app")?;
+    assert_is(rt, call_fault(alloc, provider)?, 1);
+    assert_is(rt, build_faults(alloc, provider, meter)?, [1, 1]);
+    let hits = counter(alloc, provider, meter, ("hits", None, None), 110)?;
+    add(provider, hits, 5, &[])?;
+    assert_collected(rt, alloc, provider, 0, 200, COLLECTED)?;
+    assert_collected(rt, alloc, provider, 1, 200, COLLECTED)
 }
 
-/// A build for which a view has no memory is refused.
+/// A view that finds no memory refuses the build at both readers.
 #[test]
-fn view_without_memory(rt: HostRuntime) -> Result<(), Fail> {
-    let view = Box::new(rt.alloc(), NoMemory)?;
-    let builder = SdkMeterProvider::builder(rt.alloc()).with_view(view)?;
-    let mut provider = builder.build()?;
-    let faults = builds(rt.alloc(), &mut provider);
-    assert_is(&rt, faults.ok(), Some((1, [1, 1])));
-    Ok(())
-}
-
-/// What a reply to a flush or a shutdown says, as `seen` does of an answer.
-fn seen_in(reply: Reply) -> (u8, usize, usize) {
-    match reply {
-        Reply::Refused(fault) => seen(Err(fault)),
-        _ => (0, 0, 0),
-    }
-}
-
-/// What is seen of two flushes.
-fn flushes_seen<P: Parts>(provider: &mut Provider<P>) -> [(u8, usize, usize); 2] {
-    let first = seen(provider.force_flush());
-    [first, seen(provider.force_flush())]
-}
-
-/// What is seen of a flush, a shutdown, and a flush after it, as calls.
-fn calls_seen<P: Parts>(provider: &mut Provider<P>) -> [(u8, usize, usize); 3] {
-    let flushed = seen_in(provider.step(&Call::Flush));
-    let shut = seen_in(provider.step(&Call::Shutdown));
-    [flushed, shut, seen_in(provider.step(&Call::Flush))]
-}
-
-/// Of three readers the second and the third fail, in each flush and in a shutdown, whether asked by a method or by a
-/// call.
-#[test]
-fn readers_fail(rt: HostRuntime) -> Result<(), Fail> {
-    let mut provider = provider_of_failing(rt.alloc())?;
-    assert_is(&rt, flushes_seen(&mut provider), [(10, 2, 1), (10, 2, 1)]);
-    let calls = calls_seen(&mut provider);
-    assert_is(&rt, calls, [(10, 2, 1), (10, 2, 1), (8, 0, 0)]);
-    Ok(())
+fn view_without_memory(rt: HostRuntime) -> Result<(), SdkError> {
+    let alloc = rt.alloc();
+    let builder = readers_failing(alloc, &[false, false])?.with_view(view(alloc, "early", false)?)?;
+    let mut provider = builder.with_view(view(alloc, "late", true)?)?.build()?;
+    Ok(assert_refused(&rt, alloc, &mut provider)?)
 }

@@ -1,51 +1,45 @@
 //! The seed of the hashes.
 
-use super::shown::shown;
-use super::support::{assert_text, attributes, collection, text, with_reader};
-use super::wholes::{counter, record, short_scope};
-use opentelemetry_sdk::common::Items;
-use opentelemetry_sdk::metrics::provider::{Call, NumberValue, Reply};
-use opentelemetry_sdk::metrics::{ManualReader, SdkMeterProvider, Temporality};
-use std::alloc::Global;
+use super::cases::{Case, assert_of_provider};
+use super::shown::write_collection;
+use super::support::{attributes, build};
+use opentelemetry_sdk::common::{Fault, InstrumentationScope, Items};
+use opentelemetry_sdk::metrics::provider::{Call, NumberValue, Parts, Provider, Reply};
+use std::alloc::{AllocError, Global};
 use std::process::Abort;
-use std::test::Fail;
 
-/// A provider with a delta reader whose sets are hashed from this seed, if there is one.
-fn seeded(alloc: Global, seed: Option<u64>) -> Result<SdkMeterProvider, Fail> {
-    let reader = ManualReader::builder().with_temporality(Temporality::Delta);
-    let mut builder = SdkMeterProvider::builder(alloc);
-    if let Some(seed) = seed {
-        builder = builder.with_hash_seed(seed);
-    }
-    Ok(with_reader(alloc, builder, reader.build())?.build()?)
+/// A record of a value at the counter.
+fn record(alloc: Global, value: u64, pairs: &[(&str, i64)]) -> Result<Call, Fault> {
+    Ok(Call::Record {
+        instrument: 0,
+        value: NumberValue::U64(value),
+        attributes: attributes(alloc, pairs)?,
+    })
 }
 
-/// Adds records of three sets, of which one comes in two orders and one through a handle, and a collection.
-fn push_records(alloc: Global, calls: &mut Vec<Call>) -> Result<(), Fail> {
-    calls.push(record(0, 1, attributes(alloc, &[("b", 1), ("a", 2)])?))?;
-    calls.push(record(0, 2, attributes(alloc, &[("c", 1)])?))?;
+/// Adds the build of a counter of a meter; records of three sets, of which one comes in two orders and one through a
+/// handle; and a collection.
+fn push_calls(alloc: Global, calls: &mut Vec<Call>) -> Result<(), Fault> {
+    let name = String::from_str(alloc, "app")?;
+    let scope = InstrumentationScope::builder(alloc, name).build()?;
+    calls.push(Call::Meter { scope })?;
+    calls.push(build(alloc, "requests", "")?)?;
+    calls.push(record(alloc, 1, &[("b", 1), ("a", 2)])?)?;
+    calls.push(record(alloc, 2, &[("c", 1)])?)?;
     calls.push(Call::Bind {
         instrument: 0,
-        attributes: Items::from(attributes(alloc, &[("d", 1)])?),
+        attributes: attributes(alloc, &[("d", 1)])?,
     })?;
-    calls.push(record(0, 4, attributes(alloc, &[("a", 2), ("b", 1)])?))?;
+    calls.push(record(alloc, 4, &[("a", 2), ("b", 1)])?)?;
     calls.push(Call::RecordBound {
         handle: 0,
         value: NumberValue::U64(8),
     })?;
-    Ok(calls.push(collection(alloc, 0, 200))?)
-}
-
-/// The build of a counter of a meter, and the records.
-fn calls(alloc: Global) -> Result<Vec<Call>, Fail> {
-    let mut calls = Vec::new(alloc);
-    let scope = short_scope(alloc)?;
-    calls.push(Call::Meter { scope })?;
-    let name = text(alloc, "requests")?;
-    let unit = text(alloc, "")?;
-    calls.push(counter(0, name, None, unit, 100))?;
-    push_records(alloc, &mut calls)?;
-    Ok(calls)
+    Ok(calls.push(Call::Collect {
+        reader: 1,
+        now: 200,
+        observations: Items::from(Vec::new(alloc)),
+    })?)
 }
 
 const REPLIES: &str = "Meter(Some(0))\n\
@@ -55,43 +49,41 @@ const REPLIES: &str = "Meter(Some(0))\n\
      Handle(0)\n\
      Done\n\
      Done\n\
-     resource None attributes=0\n\
-     scope app None None []\n\
-     metric requests ()  u64 sum Delta monotonic=true 100 200\n\
-     [a=2,b=1,] 5 exemplars=0\n\
-     [c=1,] 2 exemplars=0\n\
-     [d=1,] 8 exemplars=0\n";
+     resource -\n\
+     scope app None None\n\
+     metric requests ()  u64 sum Delta monotonic=true 100 200 exemplars=0 exemplars=0 exemplars=0\n\
+     requests a=2 b=1: 5\n\
+     requests c=1: 2\n\
+     requests d=1: 8\n";
 
 /// Writes a reply as text.
-fn write_reply(alloc: Global, text: &mut String, reply: &Reply) -> Result<(), Fail> {
+fn write_reply(text: &mut String, reply: &Reply) -> Result<(), AllocError> {
     match reply {
-        Reply::Collected(collected) => Ok(text.push_str(shown(alloc, collected)?.as_str())?),
-        other => Ok(writeln!(text, "{other:?}")?),
+        Reply::Collected(collected) => write_collection(text, collected),
+        other => writeln!(text, "{other:?}"),
     }
 }
 
 /// Makes the calls, and asserts the replies.
-fn assert_replies(
+pub fn assert_replies<P: Parts>(
     rt: &impl Abort,
     alloc: Global,
-    provider: &mut SdkMeterProvider,
-) -> Result<(), Fail> {
-    let calls = calls(alloc)?;
+    provider: &mut Provider<P>,
+) -> Result<(), Fault> {
+    let mut calls = Vec::new(alloc);
+    push_calls(alloc, &mut calls)?;
     let replies = provider.run(alloc, calls.as_slice())?;
     let mut text = String::new(alloc);
     for reply in replies.as_slice() {
-        write_reply(alloc, &mut text, reply)?;
+        write_reply(&mut text, reply)?;
     }
-    assert_text(rt, text.as_str(), REPLIES);
+    assert_eq!(rt; text.as_str(), REPLIES);
     Ok(())
 }
 
 /// No reply depends on the seed of the hashes.
 #[test]
-fn seeds(rt: HostRuntime) -> Result<(), Fail> {
-    for seed in [None, Some(7)] {
-        let mut provider = seeded(rt.alloc(), seed)?;
-        assert_replies(&rt, rt.alloc(), &mut provider)?;
-    }
-    Ok(())
+fn seeds(rt: HostRuntime) -> Result<(), Fault> {
+    assert_of_provider(&rt, rt.alloc(), None, &Case::Seeds)?;
+    assert_of_provider(&rt, rt.alloc(), Some(7), &Case::Seeds)
 }

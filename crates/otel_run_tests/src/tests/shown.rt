@@ -1,110 +1,85 @@
 //! Collections as text: a line for the resource, and one for each scope, metric and point.
 
-use opentelemetry_sdk::common::{KeyValue, Value};
+use opentelemetry_sdk::common::Fault;
 use opentelemetry_sdk::metrics::data::{
     AggregatedMetrics, Gauge, Histogram, HistogramDataPoint, Metric, MetricData, ResourceMetrics,
     ScopeMetrics, Sum,
 };
 use opentelemetry_sdk::metrics::provider::{Parts, Provider};
-use std::alloc::Global;
-use std::fmt::{Debug, Display};
-use std::slice::Iter;
-use std::test::Fail;
+use opentelemetry_sdk::resource::Resource;
+use std::alloc::{AllocError, Global};
+use std::fmt::Debug;
+use std::process::Abort;
 
-/// Writes an attribute, with a comma after it.
-fn write_attribute(text: &mut String, attribute: &KeyValue) -> Result<(), Fail> {
-    let key = attribute.key.as_str();
-    match &attribute.value {
-        Value::I64(value) => Ok(write!(text, "{key}={value},")?),
-        Value::String(value) => Ok(write!(text, "{key}={},", value.as_str())?),
-        other => Ok(write!(text, "{key}={other:?},")?),
+/// Writes the attributes and the schema URL of a resource, as in `a=b c=d u`; `-` stands for no URL.
+pub fn write_resource(text: &mut String, resource: &Resource) -> Result<(), AllocError> {
+    for (key, value) in resource {
+        write!(text, "{key}={value} ")?;
     }
+    text.push_str(resource.schema_url().unwrap_or("-"))
 }
 
-/// Writes attributes in brackets.
-fn write_attributes(text: &mut String, attributes: Iter<'_, KeyValue>) -> Result<(), Fail> {
-    text.push_str("[")?;
-    for attribute in attributes {
-        write_attribute(text, attribute)?;
-    }
-    Ok(text.push_str("]")?)
-}
-
-/// Writes a line for a point with one value.
-fn write_point<T: Copy + Display>(
-    text: &mut String,
-    attributes: Iter<'_, KeyValue>,
-    value: T,
-    exemplars: usize,
-) -> Result<(), Fail> {
-    write_attributes(text, attributes)?;
-    Ok(writeln!(text, " {value} exemplars={exemplars}")?)
-}
-
-/// Writes the heading of a sum, and a line for each of its points.
-fn write_sum<T: Copy + Display>(text: &mut String, sum: &Sum<T>) -> Result<(), Fail> {
+/// Writes the temporality and the moments of a sum, and how many exemplars each point has.
+fn write_sum<T>(text: &mut String, sum: &Sum<T>) -> Result<(), AllocError> {
     let temporality = sum.temporality();
     let monotonic = sum.is_monotonic();
-    write!(text, "sum {temporality:?} monotonic={monotonic}")?;
-    writeln!(text, " {} {}", sum.start_time(), sum.time())?;
+    let start = sum.start_time();
+    write!(
+        text,
+        "sum {temporality:?} monotonic={monotonic} {start} {}",
+        sum.time()
+    )?;
     for point in sum.data_points() {
-        write_point(
-            text,
-            point.attributes(),
-            point.value(),
-            point.exemplars().len(),
-        )?;
+        write!(text, " exemplars={}", point.exemplars().len())?;
     }
     Ok(())
 }
 
-/// Writes the heading of a gauge, and a line for each of its points.
-fn write_gauge<T: Copy + Display>(text: &mut String, gauge: &Gauge<T>) -> Result<(), Fail> {
-    writeln!(text, "gauge {:?} {}", gauge.start_time(), gauge.time())?;
+/// Writes the moments of a gauge, and how many exemplars each point has.
+fn write_gauge<T>(text: &mut String, gauge: &Gauge<T>) -> Result<(), AllocError> {
+    write!(text, "gauge {:?} {}", gauge.start_time(), gauge.time())?;
     for point in gauge.data_points() {
-        write_point(
-            text,
-            point.attributes(),
-            point.value(),
-            point.exemplars().len(),
-        )?;
+        write!(text, " exemplars={}", point.exemplars().len())?;
     }
     Ok(())
 }
 
-/// Writes a line for a point of a histogram.
-fn write_spread<T: Copy + Display + Debug>(
+/// Writes the least and the greatest value and the bounds of a point, and how many exemplars it has.
+fn write_spread<T: Copy + Debug>(
     text: &mut String,
     point: &HistogramDataPoint<T>,
-) -> Result<(), Fail> {
-    write_attributes(text, point.attributes())?;
-    write!(text, " {} {}", point.count(), point.sum())?;
+) -> Result<(), AllocError> {
     write!(text, " {:?} {:?}", point.min(), point.max())?;
-    write!(text, " bounds={:?}", point.bounds().as_slice())?;
-    write!(text, " counts={:?}", point.bucket_counts().as_slice())?;
-    Ok(writeln!(text, " exemplars={}", point.exemplars().len())?)
+    for bound in point.bounds() {
+        write!(text, " {bound}")?;
+    }
+    write!(text, " exemplars={}", point.exemplars().len())
 }
 
-/// Writes the heading of a histogram, and a line for each of its points.
-fn write_histogram<T: Copy + Display + Debug>(
+/// Writes the temporality and the moments of a histogram, and what isn't printed of each point.
+fn write_histogram<T: Copy + Debug>(
     text: &mut String,
     histogram: &Histogram<T>,
-) -> Result<(), Fail> {
+) -> Result<(), AllocError> {
     let temporality = histogram.temporality();
-    write!(text, "histogram {temporality:?}")?;
-    writeln!(text, " {} {}", histogram.start_time(), histogram.time())?;
+    let start = histogram.start_time();
+    write!(
+        text,
+        "histogram {temporality:?} {start} {}",
+        histogram.time()
+    )?;
     for point in histogram.data_points() {
         write_spread(text, point)?;
     }
     Ok(())
 }
 
-/// Writes the number type of these data, and a line for each point.
-fn write_data<T: Copy + Display + Debug>(
+/// Writes the number type of these data, and what isn't printed of them.
+fn write_data<T: Copy + Debug>(
     text: &mut String,
     number: &str,
     data: &MetricData<T>,
-) -> Result<(), Fail> {
+) -> Result<(), AllocError> {
     write!(text, "{number} ")?;
     match data {
         MetricData::Gauge(gauge) => write_gauge(text, gauge),
@@ -113,54 +88,70 @@ fn write_data<T: Copy + Display + Debug>(
     }
 }
 
-/// Writes a line for a metric, and one for each of its points.
-fn write_metric(text: &mut String, metric: &Metric) -> Result<(), Fail> {
+/// Writes a line for a metric, and what it prints: one for each of its points.
+fn write_metric(text: &mut String, metric: &Metric) -> Result<(), AllocError> {
     let name = metric.name();
     let description = metric.description();
     let unit = metric.unit();
     write!(text, "metric {name} ({description}) {unit} ")?;
     match metric.data() {
-        AggregatedMetrics::U64(data) => write_data(text, "u64", data),
-        AggregatedMetrics::I64(data) => write_data(text, "i64", data),
+        AggregatedMetrics::U64(data) => write_data(text, "u64", data)?,
+        AggregatedMetrics::I64(data) => write_data(text, "i64", data)?,
     }
+    write!(text, "\n{metric}")
 }
 
 /// Writes a line for a scope, and those of its metrics.
-fn write_scope(text: &mut String, scope: &ScopeMetrics) -> Result<(), Fail> {
-    let of = scope.scope();
-    let name = of.name();
-    let version = of.version();
-    let url = of.schema_url();
-    write!(text, "scope {name} {version:?} {url:?} ")?;
-    write_attributes(text, of.attributes())?;
-    writeln!(text)?;
-    for metric in scope.metrics() {
+fn write_scope(text: &mut String, metrics: &ScopeMetrics) -> Result<(), AllocError> {
+    let scope = metrics.scope();
+    let version = scope.version();
+    let url = scope.schema_url();
+    write!(text, "scope {} {version:?} {url:?}", scope.name())?;
+    for attribute in scope.attributes() {
+        write!(text, " {attribute}")?;
+    }
+    text.push_str("\n")?;
+    for metric in metrics.metrics() {
         write_metric(text, metric)?;
     }
     Ok(())
 }
 
-/// A collection as text.
-pub fn shown(alloc: Global, collected: &ResourceMetrics) -> Result<String, Fail> {
-    let attributes = collected.resource().len();
-    let url = collected.resource().schema_url();
-    let mut text = format!(in alloc; "resource {url:?} attributes={attributes}\n")?;
-    for scope in collected.scope_metrics() {
-        write_scope(&mut text, scope)?;
+/// Writes the lines of a collection.
+pub fn write_collection(text: &mut String, collected: &ResourceMetrics) -> Result<(), AllocError> {
+    text.push_str("resource ")?;
+    write_resource(text, collected.resource())?;
+    text.push_str("\n")?;
+    for metrics in collected.scope_metrics() {
+        write_scope(text, metrics)?;
     }
-    Ok(text)
+    Ok(())
 }
 
-/// What a reader of a provider collects at a moment, as text, or the number of the fault.
-pub fn collected<P: Parts>(
+/// Writes what a reader of a provider collects at a moment: the lines of the collection, or the number of the fault.
+fn write_collected<P: Parts>(
+    text: &mut String,
+    provider: &mut Provider<P>,
+    reader: usize,
+    now: u64,
+) -> Result<(), AllocError> {
+    match provider.collected(reader, now) {
+        Ok(metrics) => write_collection(text, &metrics),
+        Err(fault) => writeln!(text, "refused {}", fault.number()),
+    }
+}
+
+/// Asserts what a reader of a provider collects at a moment.
+pub fn assert_collected<P: Parts>(
+    rt: &impl Abort,
     alloc: Global,
     provider: &mut Provider<P>,
     reader: usize,
     now: u64,
-) -> Result<String, Fail> {
-    let mut metrics = ResourceMetrics::default(alloc);
-    match provider.collect(reader, now, &mut metrics) {
-        Ok(()) => shown(alloc, &metrics),
-        Err(fault) => Ok(format!(in alloc; "refused {}\n", fault.number())?),
-    }
+    wanted: &str,
+) -> Result<(), Fault> {
+    let mut text = String::new(alloc);
+    write_collected(&mut text, provider, reader, now)?;
+    assert_eq!(rt; text.as_str(), wanted);
+    Ok(())
 }

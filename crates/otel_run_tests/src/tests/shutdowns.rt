@@ -1,51 +1,61 @@
 //! Flushes and shutdowns.
 
-use super::numbers::build_faults;
-use super::support::{assert_is, provider};
-use opentelemetry_sdk::common::{Fault, InternalFault, OTelSdkResult};
+use super::cases::{Case, assert_of_provider};
+use super::support::{Request, assert_is, assert_requests, build_faults, meter};
+use opentelemetry_sdk::common::Fault;
+use opentelemetry_sdk::error::SdkError;
 use opentelemetry_sdk::metrics::provider::{Parts, Provider};
+use opentelemetry_sdk::metrics::reader::CardinalityLimit;
 use std::alloc::Global;
-use std::test::Fail;
-use std::time::Duration;
+use std::process::Abort;
 
-/// The number of the fault, or 0 if there is none; how many readers failed; and the number of the first of them.
-pub fn seen(answer: OTelSdkResult) -> (u8, usize, usize) {
-    match answer {
-        Ok(()) => (0, 0, 0),
-        Err(Fault::InternalFailure(InternalFault::Readers { failed, first })) => {
-            (10, failed, first)
-        }
-        Err(fault) => (fault.number(), 0, 0),
-    }
+/// Makes a limit, and shuts a provider down.
+fn limited<P: Parts>(provider: &mut Provider<P>, limit: usize) -> Result<(), SdkError> {
+    let _ = CardinalityLimit::new(limit)?;
+    Ok(provider.shutdown()?)
 }
 
-/// What is seen of a flush, a shutdown with a timeout, and a flush after it.
-fn shut_down<P: Parts>(provider: &mut Provider<P>) -> [(u8, usize, usize); 3] {
-    let flushed = seen(provider.force_flush());
-    let shut = seen(provider.shutdown_with_timeout(Duration::from_secs(1)));
-    [flushed, shut, seen(provider.force_flush())]
-}
-
-#[test]
-fn shutdowns(rt: HostRuntime) -> Result<(), Fail> {
-    let mut provider = provider(rt.alloc())?;
-    let seen = shut_down(&mut provider);
-    assert_is(&rt, seen, [(0, 0, 0), (0, 0, 0), (8, 0, 0)]);
+/// Asserts the text of an error.
+fn assert_error(
+    rt: &impl Abort,
+    alloc: Global,
+    answer: Result<(), SdkError>,
+    wanted: &str,
+) -> Result<(), Fault> {
+    let text = match answer {
+        Ok(()) => String::from_str(alloc, "nothing")?,
+        Err(error) => format!(in alloc; "{error}")?,
+    };
+    assert_eq!(rt; text.as_str(), wanted);
     Ok(())
 }
 
-/// The fault numbers of builds of a meter that was asked for after a shutdown.
-fn late_faults<P: Parts>(alloc: Global, provider: &mut Provider<P>) -> Result<[u8; 2], Fault> {
-    provider.shutdown()?;
-    let meter = provider.meter("late")?;
-    build_faults(alloc, provider, meter)
+/// Asserts what comes of flushes and shutdowns, and with which text a limit and a second shutdown are refused. After a
+/// shutdown a meter has no number, and its instruments are built all the same.
+pub fn assert_shut_down<P: Parts>(
+    rt: &impl Abort,
+    alloc: Global,
+    provider: &mut Provider<P>,
+) -> Result<(), Fault> {
+    assert_requests(
+        rt,
+        provider,
+        &[
+            (Request::Flush, (0, 0, 0)),
+            (Request::TimedShutdown, (0, 0, 0)),
+            (Request::Flush, (8, 0, 0)),
+        ],
+    );
+    let zero = "Cardinality limit must be greater than 0";
+    assert_error(rt, alloc, limited(provider, 0), zero)?;
+    assert_error(rt, alloc, limited(provider, 1), "already shut down")?;
+    let late = meter(provider, "late")?;
+    assert_is(rt, build_faults(alloc, provider, late)?, [0, 0]);
+    Ok(())
 }
 
-/// After a shutdown a meter has no number, and its instruments are built all the same.
+/// A provider is shut down once. One error holds faults of streams and of calls.
 #[test]
-fn late_meter(rt: HostRuntime) -> Result<(), Fail> {
-    let mut provider = provider(rt.alloc())?;
-    let faults = late_faults(rt.alloc(), &mut provider);
-    assert_is(&rt, faults.ok(), Some([0, 0]));
-    Ok(())
+fn shutdowns(rt: HostRuntime) -> Result<(), Fault> {
+    assert_of_provider(&rt, rt.alloc(), None, &Case::Shutdowns)
 }

@@ -1,164 +1,123 @@
-//! Meters and instruments as values.
+//! Meters, instruments and bound handles as values.
 
-use super::shown::collected;
-use super::support::{assert_is, assert_text, identified, provider};
+use super::cases::{Case, assert_of_provider};
+use super::shown::assert_collected;
+use super::support::{counter, made, meter};
 use opentelemetry_sdk::common::Fault;
-use opentelemetry_sdk::metrics::SdkMeterProvider;
 use opentelemetry_sdk::metrics::meter::{
-    Adds, Counter, Histogram, Meter, NumberType, Records, Synchronous, UpDownCounter,
+    Counter, Gauge, Histogram, InstrumentBuilder, Meter, NumberType, Synchronous, UpDownCounter,
+    UpDownCounterKind,
 };
 use opentelemetry_sdk::metrics::provider::{Parts, Provider};
 use std::alloc::Global;
 use std::process::Abort;
-use std::test::Fail;
 
-/// The counter `hits`, made at 100.
-pub fn counter<P: Parts>(
-    alloc: Global,
-    provider: &mut Provider<P>,
-    meter: Meter,
-) -> Result<Counter<u64>, Fault> {
-    let name = String::from_str(alloc, "hits")?;
-    meter.u64_counter(name).build(provider, 100)
-}
+/// An instrument of each sort.
+type Instruments = (
+    Counter<u64>,
+    UpDownCounter<i64>,
+    Gauge<u64>,
+    Gauge<i64>,
+    Histogram<u64>,
+);
 
-/// The up-down counter `open`, made at 110.
-pub fn up_down_counter<P: Parts>(
+/// The builder of the up-down counter, with each setting.
+fn up_down(
     alloc: Global,
-    provider: &mut Provider<P>,
     meter: Meter,
-) -> Result<UpDownCounter<i64>, Fault> {
+) -> Result<InstrumentBuilder<UpDownCounterKind, i64>, Fault> {
     let description = String::from_str(alloc, "how many")?;
     let unit = String::from_str(alloc, "1")?;
-    let name = String::from_str(alloc, "open")?;
-    let builder = meter.i64_up_down_counter(name);
-    let builder = builder.with_description(description).with_unit(unit);
-    builder.build(provider, 110)
+    let builder = meter.i64_up_down_counter(String::from_str(alloc, "open")?);
+    Ok(builder.with_description(description).with_unit(unit))
 }
 
-/// The histogram `size`, made at 140.
-pub fn histogram<P: Parts>(
-    alloc: Global,
-    provider: &mut Provider<P>,
-    meter: Meter,
-) -> Result<Histogram<u64>, Fault> {
+/// Makes the instruments with their builders.
+fn instruments<P: Parts>(alloc: Global, provider: &mut Provider<P>) -> Result<Instruments, Fault> {
+    let app = meter(provider, "app")?;
+    let other = meter(provider, "other")?;
+    let hits = counter(alloc, provider, app, ("hits", None, None), 100)?;
+    let open = made(provider, up_down(alloc, app)?, 110)?;
+    let builder = app.u64_gauge(String::from_str(alloc, "load")?);
+    let load = made(provider, builder, 120)?;
+    let builder = app.i64_gauge(String::from_str(alloc, "heat")?);
+    let heat = made(provider, builder, 130)?;
     let boundaries = [10].to_vec(alloc)?;
-    let name = String::from_str(alloc, "size")?;
-    let builder = meter.u64_histogram(name).with_boundaries(boundaries);
-    builder.build(provider, 140)
+    let builder = other.u64_histogram(String::from_str(alloc, "size")?);
+    let size = made(provider, builder.with_boundaries(boundaries), 140)?;
+    Ok((hits, open, load, heat, size))
 }
 
-/// Adds a value without attributes.
-pub fn added<K: Adds, T: NumberType, P: Parts>(
+/// Records a value without attributes at each instrument.
+fn record<P: Parts>(provider: &mut Provider<P>, instruments: Instruments) -> Result<(), Fault> {
+    let (hits, open, load, heat, size) = instruments;
+    hits.add(provider, 5, &[])?;
+    open.add(provider, -7, &[])?;
+    load.record(provider, 9, &[])?;
+    heat.record(provider, -11, &[])?;
+    size.record(provider, 13, &[])
+}
+
+/// Binds a handle without attributes at an instrument, records one value through it, and ends it.
+fn hand<K, T: NumberType, P: Parts>(
     provider: &mut Provider<P>,
     instrument: Synchronous<K, T>,
     value: T,
 ) -> Result<(), Fault> {
-    instrument.add(provider, value, &[])
+    let handle = instrument.bind(provider, &[])?;
+    let recorded = handle.record(provider, value);
+    handle.end(provider)?;
+    recorded
 }
 
-/// Records a value without attributes.
-fn recorded<K: Records, T: NumberType, P: Parts>(
-    provider: &mut Provider<P>,
-    instrument: Synchronous<K, T>,
-    value: T,
-) -> Result<(), Fault> {
-    instrument.record(provider, value, &[])
+/// Records the same values through handles.
+fn hand_all<P: Parts>(provider: &mut Provider<P>, instruments: Instruments) -> Result<(), Fault> {
+    let (hits, open, load, heat, size) = instruments;
+    hand(provider, hits, 5)?;
+    hand(provider, open, -7)?;
+    hand(provider, load, 9)?;
+    hand(provider, heat, -11)?;
+    hand(provider, size, 13)
 }
-
-/// Makes both instruments that add, and adds values.
-fn add<P: Parts>(alloc: Global, provider: &mut Provider<P>, meter: Meter) -> Result<(), Fault> {
-    let hits = counter(alloc, provider, meter)?;
-    added(provider, hits, 5)?;
-    let open = up_down_counter(alloc, provider, meter)?;
-    added(provider, open, -7)
-}
-
-/// Makes both gauges, and records values.
-fn gauge<P: Parts>(alloc: Global, provider: &mut Provider<P>, meter: Meter) -> Result<(), Fault> {
-    let load = meter
-        .u64_gauge(String::from_str(alloc, "load")?)
-        .build(provider, 120)?;
-    recorded(provider, load, 9)?;
-    let heat = meter
-        .i64_gauge(String::from_str(alloc, "heat")?)
-        .build(provider, 130)?;
-    recorded(provider, heat, -11)
-}
-
-/// Makes a histogram, and records a value.
-fn spread<P: Parts>(alloc: Global, provider: &mut Provider<P>, meter: Meter) -> Result<(), Fault> {
-    let size = histogram(alloc, provider, meter)?;
-    recorded(provider, size, 13)
-}
-
-/// What the instruments below collect at 200, as text.
-pub const COLLECTED: &str = "resource None attributes=0\n\
-     scope app None None []\n\
-     metric hits ()  u64 sum Cumulative monotonic=true 100 200\n\
-     [] 5 exemplars=0\n\
-     metric open (how many) 1 i64 sum Cumulative monotonic=false 110 200\n\
-     [] -7 exemplars=0\n\
-     metric load ()  u64 gauge Some(120) 200\n\
-     [] 9 exemplars=0\n\
-     metric heat ()  i64 gauge Some(130) 200\n\
-     [] -11 exemplars=0\n\
-     scope other None None []\n\
-     metric size ()  u64 histogram Cumulative 140 200\n\
-     [] 1 13 Some(13) Some(13) bounds=[10] counts=[0, 1] exemplars=0\n";
 
 /// Asserts what a provider's first reader collects after each instrument has been used.
-fn assert_collected<P: Parts>(
+pub fn assert_used<P: Parts>(
     rt: &impl Abort,
     alloc: Global,
     provider: &mut Provider<P>,
-) -> Result<(), Fail> {
-    let meter = provider.meter("app")?;
-    add(alloc, provider, meter)?;
-    gauge(alloc, provider, meter)?;
-    let other = provider.meter("other")?;
-    spread(alloc, provider, other)?;
-    assert_text(rt, collected(alloc, provider, 0, 200)?.as_str(), COLLECTED);
-    Ok(())
-}
-
-/// Uses each builder and each instrument once.
-#[test]
-fn typed(rt: HostRuntime) -> Result<(), Fail> {
-    let mut provider = provider(rt.alloc())?;
-    assert_collected(&rt, rt.alloc(), &mut provider)
-}
-
-/// The number of the fault, or 0 if there is none.
-pub fn fault_of<T: Drop>(answer: Result<T, Fault>) -> u8 {
-    match answer {
-        Ok(_) => 0,
-        Err(fault) => fault.number(),
+    through_handles: bool,
+) -> Result<(), Fault> {
+    let instruments = instruments(alloc, provider)?;
+    if through_handles {
+        hand_all(provider, instruments)?;
+    } else {
+        record(provider, instruments)?;
     }
+    assert_collected(
+        rt,
+        alloc,
+        provider,
+        0,
+        200,
+        "resource -\n\
+         scope app None None\n\
+         metric hits ()  u64 sum Cumulative monotonic=true 100 200 exemplars=0\n\
+         hits: 5\n\
+         metric open (how many) 1 i64 sum Cumulative monotonic=false 110 200 exemplars=0\n\
+         open: -7\n\
+         metric load ()  u64 gauge Some(120) 200 exemplars=0\n\
+         load: 9\n\
+         metric heat ()  i64 gauge Some(130) 200 exemplars=0\n\
+         heat: -11\n\
+         scope other None None\n\
+         metric size ()  u64 histogram Cumulative 140 200 Some(13) Some(13) 10 exemplars=0\n\
+         size: count 1 sum 13 buckets 0 1\n",
+    )
 }
 
-/// The fault numbers of a record at an instrument's own provider, of one at another provider, and of a build of its
-/// meter there.
-fn faults<P: Parts>(
-    alloc: Global,
-    own: &mut Provider<P>,
-    other: &mut Provider<P>,
-) -> Result<[u8; 3], Fault> {
-    let meter = own.meter("app")?;
-    let hits = counter(alloc, own, meter)?;
-    Ok([
-        fault_of(added(own, hits, 5)),
-        fault_of(added(other, hits, 5)),
-        fault_of(counter(alloc, other, meter)),
-    ])
-}
-
-/// A provider of another identity has no such meter and no such instrument.
+/// Each builder and each instrument is used once; each instrument collects the same through handles as by records.
 #[test]
-fn foreign(rt: HostRuntime) -> Result<(), Fail> {
-    let mut other = SdkMeterProvider::default(rt.alloc());
-    let mut own = identified(rt.alloc(), 1)?;
-    let faults = faults(rt.alloc(), &mut own, &mut other);
-    assert_is(&rt, faults.ok(), Some([0, 3, 2]));
-    Ok(())
+fn typed(rt: HostRuntime) -> Result<(), Fault> {
+    assert_of_provider(&rt, rt.alloc(), None, &Case::Records)?;
+    assert_of_provider(&rt, rt.alloc(), None, &Case::Handles)
 }
