@@ -1,6 +1,10 @@
 //! Each public function of these crates called at least once, and the texts, which no contract states.
 
-mod asked;
+use otel_common::attributes::KeyValue;
+use std::alloc::Global;
+use std::fmt::Display;
+use std::process::Abort;
+
 mod attributes;
 mod callbacks;
 mod data;
@@ -9,4 +13,19 @@ mod readers;
 mod ready;
 mod streams;
 mod texts;
-mod wants;
+
+/// Asserts that a value prints this text.
+fn assert_prints<T: Display>(rt: &impl Abort, alloc: Global, value: &T, text: &str) {
+    let printed = format!(in alloc; "{value}").expect(rt, text);
+    assert_eq!(rt; printed.as_str(), text);
+}
+
+/// Attributes with these keys and values.
+fn attributes_of(rt: &impl Abort, alloc: Global, pairs: &[(&str, i64)]) -> Vec<KeyValue> {
+    let mut attributes = Vec::new(alloc);
+    for (key, value) in pairs {
+        let attribute = KeyValue::int(alloc, key, *value).expect(rt, key);
+        attributes.push(attribute).expect(rt, key);
+    }
+    attributes
+}

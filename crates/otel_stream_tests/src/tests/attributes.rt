@@ -1,5 +1,6 @@
 //! Keys, values, canonical sets and scopes.
 
+use super::attributes_of;
 use otel_common::attributes::{Array, KeyValue, Value};
 use otel_common::canonical::canonical;
 use otel_common::faults::Fault;
@@ -8,36 +9,26 @@ use otel_common::lists::Items;
 use otel_common::scopes::InstrumentationScope;
 use otel_common::strings::StringValue;
 use std::alloc::Global;
-use std::test::Fail;
+use std::process::Abort;
 
-/// Whether a key has this text, equals its copy, and comes before a longer one.
-fn is_key(key: &Key, text: &str, longer: &Key) -> bool {
-    match key.clone() {
-        Ok(copy) => key.as_str() == text && copy == *key && *key < *longer,
-        Err(_) => false,
-    }
-}
-
-/// Whether a text equals another one and comes before the next.
-fn is_text(text: &StringValue, same: &StringValue, next: &StringValue) -> bool {
-    text == same && text < next
-}
-
-/// Whether a text that is taken over from a string is the same as one that is copied.
-fn are_texts(alloc: Global) -> Result<bool, Fault> {
-    let owned = StringValue::from(String::from_str(alloc, "a")?);
-    let same = StringValue::new(alloc, "a")?;
-    let next = StringValue::new(alloc, "b")?;
-    Ok(is_text(&owned, &same, &next))
-}
-
+/// A text that is taken over from a string is the same as one that is copied, and comes before the next.
 #[test]
-fn keys(rt: HostRuntime) -> Result<(), Fail> {
-    assert!(rt; are_texts(rt.alloc()).unwrap_or(false));
-    let key = Key::new(rt.alloc(), "a")?;
-    let longer = Key::new(rt.alloc(), "aa")?;
-    assert!(rt; is_key(&key, "a", &longer));
-    Ok(())
+fn texts(rt: HostRuntime) {
+    let owned = String::from_str(rt.alloc(), "a").expect(&rt, "memory");
+    let owned = StringValue::from(owned);
+    let same = StringValue::new(rt.alloc(), "a").expect(&rt, "memory");
+    assert!(rt; owned == same);
+    let next = StringValue::new(rt.alloc(), "b").expect(&rt, "memory");
+    assert!(rt; owned < next);
+}
+
+/// A key has its text, equals its copy, and comes before a longer one.
+#[test]
+fn keys(rt: HostRuntime) {
+    let key = Key::new(rt.alloc(), "a").expect(&rt, "memory");
+    assert_eq!(rt; key.as_str(), "a");
+    assert!(rt; key.clone().expect(&rt, "memory") == key);
+    assert!(rt; key < Key::new(rt.alloc(), "aa").expect(&rt, "memory"));
 }
 
 /// The array of this number; no two of the four are equal.
@@ -62,120 +53,59 @@ fn value_of(alloc: Global, number: u8) -> Result<Value, Fault> {
     })
 }
 
-/// Whether a value equals its copy, but not another value.
-fn is_equal_to_itself(value: &Value, other: &Value) -> bool {
-    match value.clone() {
-        Ok(copy) => copy == *value && *value != *other,
-        Err(_) => false,
-    }
-}
-
-/// Whether the value of this number equals its copy, but not the next value.
-fn is_apart(alloc: Global, number: u8) -> Result<bool, Fault> {
-    let value = value_of(alloc, number)?;
-    let next = value_of(alloc, number.saturating_add(1))?;
-    Ok(is_equal_to_itself(&value, &next))
-}
-
 /// A value equals its copy, and no two kinds of values are equal.
 #[test]
 fn equal_values(rt: HostRuntime) {
     for number in 0u8..8 {
-        assert!(rt;
-            is_apart(rt.alloc(), number).unwrap_or(false),
+        let value = value_of(rt.alloc(), number).expect(&rt, "memory");
+        let copy = value.clone().expect(&rt, "memory");
+        let next = value_of(rt.alloc(), number + 1).expect(&rt, "memory");
+        assert_eq!(rt;
+            (copy == value, value == next),
+            (true, false),
             "of {number}"
         );
     }
 }
 
-/// Attributes with these keys and values.
-fn attributes(alloc: Global, pairs: &[(&str, i64)]) -> Result<Vec<KeyValue>, Fault> {
-    let mut attributes = Vec::new(alloc);
-    for (key, value) in pairs {
-        attributes.push(KeyValue::new(Key::new(alloc, key)?, Value::I64(*value)))?;
-    }
-    Ok(attributes)
-}
-
-/// Whether the canonical set of some attributes has these.
-fn canonical_is(
-    alloc: Global,
-    given: &[(&str, i64)],
-    wanted: &[(&str, i64)],
-) -> Result<bool, Fault> {
-    let given = attributes(alloc, given)?;
-    let set = canonical(alloc, given.as_slice())?;
-    Ok(set == attributes(alloc, wanted)?)
-}
-
 /// A canonical set has for each key the value of its first occurrence, with the keys in byte order.
 #[test]
 fn canonical_sets(rt: HostRuntime) {
-    let given = [("b", 1), ("a", 2), ("a", 9), ("B", 3)];
-    let wanted = [("B", 3), ("a", 2), ("b", 1)];
-    assert!(rt; canonical_is(rt.alloc(), &given, &wanted).unwrap_or(false));
+    let given = attributes_of(&rt, rt.alloc(), &[("b", 1), ("a", 2), ("a", 9), ("B", 3)]);
+    let wanted = attributes_of(&rt, rt.alloc(), &[("B", 3), ("a", 2), ("b", 1)]);
+    let set = canonical(rt.alloc(), &given).expect(&rt, "memory");
+    assert!(rt; set == wanted);
 }
 
 /// A scope with all four parts.
-fn full_scope(alloc: Global) -> Result<InstrumentationScope, Fault> {
-    let name = String::from_str(alloc, "app")?;
-    let version = String::from_str(alloc, "1.0")?;
-    let url = String::from_str(alloc, "https://example.org")?;
-    let attributes = attributes(alloc, &[("b", 1), ("a", 2), ("b", 3)])?;
+fn full_scope(rt: &impl Abort, alloc: Global, attributes: Vec<KeyValue>) -> InstrumentationScope {
+    let name = String::from_str(alloc, "app").expect(rt, "memory");
+    let version = String::from_str(alloc, "1.0").expect(rt, "memory");
+    let url = String::from_str(alloc, "https://example.org").expect(rt, "memory");
     InstrumentationScope::builder(alloc, name)
         .with_version(version)
         .with_schema_url(url)
         .with_attributes(attributes)
         .build()
-}
-
-/// Whether a scope has the texts of the full one.
-fn has_texts(scope: &InstrumentationScope) -> bool {
-    scope.name() == "app"
-        && scope.version() == Some("1.0")
-        && scope.schema_url() == Some("https://example.org")
-}
-
-/// Whether a scope equals its copy.
-fn is_copied(scope: &InstrumentationScope) -> bool {
-    match scope.clone() {
-        Ok(copy) => copy == *scope,
-        Err(_) => false,
-    }
-}
-
-/// Whether a scope has these attributes.
-fn has(alloc: Global, scope: &InstrumentationScope, wanted: &[(&str, i64)]) -> bool {
-    match attributes(alloc, wanted) {
-        Ok(wanted) => scope.attributes().as_slice() == wanted.as_slice(),
-        Err(_) => false,
-    }
-}
-
-/// Whether a scope has all parts of the full one, and equals its copy.
-fn is_full(alloc: Global, scope: &InstrumentationScope) -> bool {
-    has_texts(scope) && has(alloc, scope, &[("a", 2), ("b", 1), ("b", 3)]) && is_copied(scope)
+        .expect(rt, "memory")
 }
 
 #[test]
-fn scopes(rt: HostRuntime) -> Result<(), Fail> {
-    let scope = full_scope(rt.alloc())?;
-    assert!(rt; is_full(rt.alloc(), &scope));
-    Ok(())
-}
-
-/// Whether a scope has only an empty name, and equals another one.
-fn is_empty(scope: InstrumentationScope, built: &InstrumentationScope) -> bool {
-    scope.name() == ""
-        && scope.version().is_none()
-        && scope.schema_url().is_none()
-        && scope.attributes().len() == 0
-        && *built == scope
+fn scopes(rt: HostRuntime) {
+    let given = attributes_of(&rt, rt.alloc(), &[("b", 1), ("a", 2), ("b", 3)]);
+    let wanted = attributes_of(&rt, rt.alloc(), &[("a", 2), ("b", 1), ("b", 3)]);
+    let scope = full_scope(&rt, rt.alloc(), given);
+    assert!(rt; scope.name() == "app" && scope.version() == Some("1.0"));
+    assert!(rt; scope.schema_url() == Some("https://example.org"));
+    assert!(rt; scope.attributes().as_slice() == wanted.as_slice());
+    assert!(rt; scope.clone().expect(&rt, "memory") == scope);
 }
 
 #[test]
-fn empty_scope(rt: HostRuntime) -> Result<(), Fail> {
-    let built = InstrumentationScope::builder(rt.alloc(), String::new(rt.alloc())).build()?;
-    assert!(rt; is_empty(InstrumentationScope::default(rt.alloc()), &built));
-    Ok(())
+fn empty_scope(rt: HostRuntime) {
+    let scope = InstrumentationScope::default(rt.alloc());
+    assert!(rt; scope.name() == "" && scope.version().is_none());
+    assert!(rt; scope.schema_url().is_none() && scope.attributes().len() == 0);
+    let builder = InstrumentationScope::builder(rt.alloc(), String::new(rt.alloc()));
+    assert!(rt; builder.build().expect(&rt, "memory") == scope);
 }

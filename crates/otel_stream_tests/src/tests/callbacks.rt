@@ -8,9 +8,8 @@ use otel_callback::registered::{Callback, Registered, run_callbacks};
 use otel_common::faults::Fault;
 use otel_common::lists::Items;
 use otel_data::numbers::NumberValue;
-use std::alloc::Global;
+use std::alloc::{AllocError, Global};
 use std::process::Abort;
-use std::test::Fail;
 
 /// Observes how often it was run before.
 #[derive(Drop)]
@@ -58,30 +57,8 @@ impl ObserveI64 for Below {
 /// The callbacks of the tests.
 type Callbacks = [Registered<Box<dyn ObserveU64>, Below>; 3];
 
-/// Three callbacks: one that observes -1 twice, between two that count their runs, the first of them from 7.
-fn three(alloc: Global, fails: bool) -> Result<Callbacks, Fail> {
-    let first: Box<dyn ObserveU64> = Box::new(alloc, Counting { alloc, runs: 7 })?;
-    let last: Box<dyn ObserveU64> = Box::new(alloc, Counting { alloc, runs: 0 })?;
-    let below = Below { alloc, fails };
-    Ok([
-        Registered {
-            instrument: 4,
-            callback: Callback::U64(first),
-        },
-        Registered {
-            instrument: 3,
-            callback: Callback::I64(below),
-        },
-        Registered {
-            instrument: 2,
-            callback: Callback::U64(last),
-        },
-    ])
-}
-
-/// What was observed, as text: each instrument with the value.
-fn shown(alloc: Global, observed: &[Observed]) -> Result<String, Fail> {
-    let mut text = String::new(alloc);
+/// Shows what was observed: each instrument with the value.
+fn show(text: &mut String, observed: &[Observed]) -> Result<(), AllocError> {
     for one in observed {
         let instrument = one.instrument;
         match one.value {
@@ -89,66 +66,58 @@ fn shown(alloc: Global, observed: &[Observed]) -> Result<String, Fail> {
             NumberValue::I64(value) => write!(text, "{instrument} i:{value};")?,
         }
     }
-    Ok(text)
-}
-
-/// Asserts what the callbacks observe in a run.
-fn assert_observes(
-    rt: &impl Abort,
-    alloc: Global,
-    callbacks: &mut Callbacks,
-    wanted: &str,
-) -> Result<(), Fail> {
-    let observed = run_callbacks(alloc, callbacks)?;
-    assert_eq!(rt; shown(alloc, observed.as_slice())?.as_str(), wanted);
     Ok(())
 }
 
-/// Asserts what the callbacks observe in two runs.
-fn assert_observes_twice(
-    rt: &impl Abort,
-    alloc: Global,
-    callbacks: &mut Callbacks,
-) -> Result<(), Fail> {
-    assert_observes(rt, alloc, callbacks, "4 u:7;3 i:-1;3 i:-1;2 u:0;")?;
-    assert_observes(rt, alloc, callbacks, "4 u:8;3 i:-1;3 i:-1;2 u:1;")
+/// Asserts what the callbacks observe in a run.
+fn assert_observed(rt: &impl Abort, alloc: Global, callbacks: &mut Callbacks, wanted: &str) {
+    let mut text = String::new(alloc);
+    let observed = run_callbacks(alloc, callbacks).expect(rt, wanted);
+    show(&mut text, &observed).expect(rt, wanted);
+    assert_eq!(rt; text.as_str(), wanted);
 }
 
-/// Each callback runs once in each run, in order, and keeps the changes that it made to itself.
-#[test]
-fn callbacks_run_in_order(rt: HostRuntime) -> Result<(), Fail> {
-    let mut callbacks = three(rt.alloc(), false)?;
-    assert_observes_twice(&rt, rt.alloc(), &mut callbacks)
-}
-
-/// Whether a run is refused with the fault of the second callback.
-fn is_refused(alloc: Global, callbacks: &mut Callbacks) -> bool {
-    matches!(run_callbacks(alloc, callbacks), Err(Fault::WrongNumber))
-}
-
-/// Lets no callback fail from now on.
-fn mend(callbacks: &mut Callbacks) {
-    for registered in callbacks.iter_mut() {
-        if let Callback::I64(below) = &mut registered.callback {
-            below.fails = false;
-        }
+/// Asserts that a run is refused if the second callback fails, and what is observed in two runs in which none fails.
+fn assert_runs(rt: &impl Abort, alloc: Global, fails: bool, wanted: [&str; 2]) {
+    let first: Box<dyn ObserveU64> = Box::new(alloc, Counting { alloc, runs: 7 }).expect(
+        rt, "memory",
+    );
+    let last: Box<dyn ObserveU64> = Box::new(alloc, Counting { alloc, runs: 0 }).expect(
+        rt, "memory",
+    );
+    let mut callbacks = [
+        Registered {
+            instrument: 4,
+            callback: Callback::U64(first),
+        },
+        Registered {
+            instrument: 3,
+            callback: Callback::I64(Below { alloc, fails }),
+        },
+        Registered {
+            instrument: 2,
+            callback: Callback::U64(last),
+        },
+    ];
+    if fails {
+        let fault = run_callbacks(alloc, &mut callbacks).expect_err(rt, "a refused run");
+        assert!(rt; matches!(fault, Fault::WrongNumber));
+        callbacks[1].callback = Callback::I64(Below {
+            alloc,
+            fails: false,
+        });
+    }
+    for wanted in &wanted {
+        assert_observed(rt, alloc, &mut callbacks, wanted);
     }
 }
 
-/// Asserts that a run is refused, and what the next one observes if no callback fails.
-fn assert_refused_once(
-    rt: &impl Abort,
-    alloc: Global,
-    callbacks: &mut Callbacks,
-) -> Result<(), Fail> {
-    assert!(rt; is_refused(alloc, callbacks));
-    mend(callbacks);
-    assert_observes(rt, alloc, callbacks, "4 u:8;3 i:-1;3 i:-1;2 u:0;")
-}
-
-/// No callback runs after a fault.
+/// Each callback runs once in each run, in order, and keeps the changes that it made to itself. No callback runs after a
+/// fault.
 #[test]
-fn callbacks_after_a_fault(rt: HostRuntime) -> Result<(), Fail> {
-    let mut callbacks = three(rt.alloc(), true)?;
-    assert_refused_once(&rt, rt.alloc(), &mut callbacks)
+fn callbacks_run_in_order(rt: HostRuntime) {
+    let whole = ["4 u:7;3 i:-1;3 i:-1;2 u:0;", "4 u:8;3 i:-1;3 i:-1;2 u:1;"];
+    assert_runs(&rt, rt.alloc(), false, whole);
+    let after_a_fault = ["4 u:8;3 i:-1;3 i:-1;2 u:0;", "4 u:9;3 i:-1;3 i:-1;2 u:1;"];
+    assert_runs(&rt, rt.alloc(), true, after_a_fault);
 }

@@ -1,9 +1,7 @@
 //! Tests each getter, copy and comparison once.
 
-use super::texts::prints;
-use otel_common::attributes::{KeyValue, Value};
-use otel_common::faults::Fault;
-use otel_common::keys::Key;
+use super::assert_prints;
+use otel_common::attributes::KeyValue;
 use otel_common::lists::{Items, SharedItems};
 use otel_common::metrics::Temporality;
 use otel_common::resource::Resource;
@@ -18,199 +16,137 @@ use otel_data::histograms::Histogram;
 use otel_data::points::{GaugeDataPoint, HistogramDataPoint, SumDataPoint};
 use otel_data::sums::Sum;
 use std::alloc::Global;
-use std::test::Fail;
+use std::process::Abort;
 
-fn attributes(alloc: Global) -> Result<SharedItems<KeyValue>, Fault> {
-    let value = Value::String(StringValue::new(alloc, "value")?);
-    let attribute = KeyValue::new(Key::new(alloc, "key")?, value);
-    Ok(SharedItems::new(vec![in alloc; attribute]?)?)
+/// The attributes of the points.
+fn place(rt: &impl Abort, alloc: Global) -> SharedItems<KeyValue> {
+    let attribute = KeyValue::text(alloc, "key", "value").expect(rt, "memory");
+    let attributes = vec![in alloc; attribute].expect(rt, "memory");
+    SharedItems::new(attributes).expect(rt, "memory")
 }
 
 fn exemplar<T>(alloc: Global, value: T) -> Exemplar<T> {
     Exemplar::new(Items::from(Vec::new(alloc)), 50, value, [1; 8], [2; 16])
 }
 
-fn sum_point(alloc: Global, value: u64) -> Result<SumDataPoint<u64>, Fault> {
-    let exemplars = Items::from(vec![in alloc; exemplar(alloc, value)]?);
-    Ok(SumDataPoint::new(attributes(alloc)?, exemplars, value))
+fn sum_point(rt: &impl Abort, alloc: Global, value: u64) -> SumDataPoint<u64> {
+    let exemplars = vec![in alloc; exemplar(alloc, value)].expect(rt, "memory");
+    SumDataPoint::new(place(rt, alloc), Items::from(exemplars), value)
 }
 
-fn gauge_point(alloc: Global, value: i64) -> Result<GaugeDataPoint<i64>, Fault> {
-    let exemplars = Items::from(vec![in alloc; exemplar(alloc, value)]?);
-    Ok(GaugeDataPoint::new(attributes(alloc)?, exemplars, value))
+fn gauge_point(rt: &impl Abort, alloc: Global, value: i64) -> GaugeDataPoint<i64> {
+    let exemplars = vec![in alloc; exemplar(alloc, value)].expect(rt, "memory");
+    GaugeDataPoint::new(place(rt, alloc), Items::from(exemplars), value)
 }
 
-/// A point of three values, of which this is the greatest.
-fn histogram_point(alloc: Global, greatest: u64) -> Result<HistogramDataPoint<u64>, Fault> {
-    let exemplars = Items::from(vec![in alloc; exemplar(alloc, greatest)]?);
-    let bounds = SharedItems::new(vec![in alloc; -5, 10]?)?;
-    let counts = Items::from(vec![in alloc; 1, 0, 2]?);
-    Ok(HistogramDataPoint::new(
-        attributes(alloc)?,
-        exemplars,
-        bounds,
-        counts,
+/// A point of three values, from 2 to this one.
+fn histogram_point(rt: &impl Abort, alloc: Global, greatest: u64) -> HistogramDataPoint<u64> {
+    let exemplars = vec![in alloc; exemplar(alloc, greatest)].expect(rt, "memory");
+    let bounds = Vec::from_slice(alloc, &[-5, 10]).expect(rt, "memory");
+    let counts = Vec::from_slice(alloc, &[1, 0, 2]).expect(rt, "memory");
+    HistogramDataPoint::new(
+        place(rt, alloc),
+        Items::from(exemplars),
+        SharedItems::new(bounds).expect(rt, "memory"),
+        Items::from(counts),
         3,
         Some(2),
         Some(greatest),
         44,
-    ))
-}
-
-fn is_sum_point(point: &SumDataPoint<u64>, value: u64) -> bool {
-    point.value() == value && point.attributes().count() == 1 && point.exemplars().count() == 1
-}
-
-fn is_gauge_point(point: &GaugeDataPoint<i64>, value: i64) -> bool {
-    point.value() == value && point.attributes().count() == 1 && point.exemplars().count() == 1
-}
-
-fn has_lists(point: &HistogramDataPoint<u64>) -> bool {
-    point.attributes().count() == 1
-        && point.exemplars().count() == 1
-        && point.bounds().count() == 2
-        && point.bucket_counts().count() == 3
-}
-
-fn is_histogram_point(point: &HistogramDataPoint<u64>, greatest: u64) -> bool {
-    has_lists(point)
-        && point.count() == 3
-        && point.min() == Some(2)
-        && point.max() == Some(greatest)
-        && point.sum() == 44
-}
-
-/// Whether a point has the expected parts and equals another.
-fn is_this_sum_point(point: &SumDataPoint<u64>, other: &SumDataPoint<u64>) -> bool {
-    equal_points();
-    is_sum_point(point, 7) && point == other
-}
-
-fn is_this_gauge_point(point: &GaugeDataPoint<i64>, other: &GaugeDataPoint<i64>) -> bool {
-    equal_signed_points();
-    is_gauge_point(point, -7) && point == other
-}
-
-fn is_this_histogram_point(
-    point: &HistogramDataPoint<u64>,
-    other: &HistogramDataPoint<u64>,
-) -> bool {
-    equal_points();
-    is_histogram_point(point, 30) && point == other
-}
-
-fn sum_point_is(alloc: Global, value: u64) -> Result<bool, Fault> {
-    let other = sum_point(alloc, value)?;
-    Ok(is_this_sum_point(&sum_point(alloc, 7)?, &other))
-}
-
-fn gauge_point_is(alloc: Global, value: i64) -> Result<bool, Fault> {
-    let other = gauge_point(alloc, value)?;
-    Ok(is_this_gauge_point(&gauge_point(alloc, -7)?, &other))
-}
-
-fn histogram_point_is(alloc: Global, greatest: u64) -> Result<bool, Fault> {
-    let other = histogram_point(alloc, greatest)?;
-    Ok(is_this_histogram_point(&histogram_point(alloc, 30)?, &other))
+    )
 }
 
 #[test]
 fn sum_points(rt: HostRuntime) {
-    assert!(rt; sum_point_is(rt.alloc(), 7).unwrap_or(false));
-    assert!(rt; !sum_point_is(rt.alloc(), 8).unwrap_or(true));
+    equal_points();
+    let point = sum_point(&rt, rt.alloc(), 7);
+    assert!(rt; point.value() == 7 && point.attributes().count() == 1);
+    assert!(rt; point == sum_point(&rt, rt.alloc(), 7));
+    assert!(rt; point != sum_point(&rt, rt.alloc(), 8));
+    assert_eq!(rt; point.exemplars().count(), 1);
+    for exemplar in point.exemplars() {
+        assert!(rt; exemplar.value == 7 && exemplar.time() == 50);
+        assert!(rt; exemplar.filtered_attributes().count() == 0);
+        assert!(rt; exemplar.span_id()[7] == 1 && exemplar.trace_id()[15] == 2);
+    }
 }
 
 #[test]
 fn gauge_points(rt: HostRuntime) {
-    assert!(rt; gauge_point_is(rt.alloc(), -7).unwrap_or(false));
-    assert!(rt; !gauge_point_is(rt.alloc(), 7).unwrap_or(true));
+    equal_signed_points();
+    let point = gauge_point(&rt, rt.alloc(), -7);
+    assert!(rt; point.value() == -7 && point.attributes().count() == 1);
+    assert_eq!(rt; point.exemplars().count(), 1);
+    assert!(rt; point == gauge_point(&rt, rt.alloc(), -7));
+    assert!(rt; point != gauge_point(&rt, rt.alloc(), 7));
 }
 
 #[test]
 fn histogram_points(rt: HostRuntime) {
-    assert!(rt; histogram_point_is(rt.alloc(), 30).unwrap_or(false));
-    assert!(rt; !histogram_point_is(rt.alloc(), 31).unwrap_or(true));
-}
-
-/// Whether an exemplar has the parts that these tests give it.
-fn is_exemplar(exemplar: &Exemplar<u64>) -> bool {
-    exemplar.value == 7
-        && exemplar.time() == 50
-        && exemplar.filtered_attributes().count() == 0
-        && exemplar.span_id()[7] == 1
-        && exemplar.trace_id()[15] == 2
-}
-
-/// Whether a point has one exemplar, with the parts that these tests give it.
-fn has_exemplar(point: &SumDataPoint<u64>) -> bool {
-    matches!(point.exemplars().as_slice(), [exemplar] if is_exemplar(exemplar))
-}
-
-#[test]
-fn exemplars_of_a_point(rt: HostRuntime) -> Result<(), Fail> {
-    let point = sum_point(rt.alloc(), 7)?;
-    assert!(rt; has_exemplar(&point));
-    Ok(())
-}
-
-fn is_copied_sum_point(point: &SumDataPoint<u64>) -> bool {
-    copied_points();
     equal_points();
-    match point.clone() {
-        Ok(copy) => *point == copy,
-        Err(_) => false,
-    }
-}
-
-/// A point of no values.
-fn zero_histogram_point(alloc: Global) -> Result<HistogramDataPoint<u64>, Fault> {
-    let exemplars = Items::from(vec![in alloc; exemplar(alloc, 0)]?);
-    let attributes = attributes(alloc)?;
-    let bounds = SharedItems::new(Vec::new(alloc))?;
-    let counts = Items::from(Vec::new(alloc));
-    Ok(HistogramDataPoint::new(attributes, exemplars, bounds, counts, 0, None, None, 0))
-}
-
-fn is_copied_histogram_point(point: &HistogramDataPoint<u64>) -> bool {
-    copied_points();
-    equal_points();
-    match point.clone() {
-        Ok(copy) => *point == copy,
-        Err(_) => false,
-    }
-}
-
-/// Whether a sum point of zero equals its copy.
-fn is_sum_copied(alloc: Global) -> Result<bool, Fault> {
-    let point = sum_point(alloc, 0)?;
-    Ok(is_copied_sum_point(&point))
-}
-
-/// Whether a histogram point of no values equals its copy.
-fn is_histogram_copied(alloc: Global) -> Result<bool, Fault> {
-    let point = zero_histogram_point(alloc)?;
-    Ok(is_copied_histogram_point(&point))
+    let point = histogram_point(&rt, rt.alloc(), 30);
+    assert!(rt; point.attributes().count() == 1 && point.exemplars().count() == 1);
+    assert!(rt; point.bounds().count() == 2 && point.bucket_counts().count() == 3);
+    assert!(rt; point.count() == 3 && point.sum() == 44);
+    assert!(rt; point.min() == Some(2) && point.max() == Some(30));
+    assert!(rt; point == histogram_point(&rt, rt.alloc(), 30));
+    assert!(rt; point != histogram_point(&rt, rt.alloc(), 31));
 }
 
 #[test]
 fn validate_cloning_data_points(rt: HostRuntime) {
-    assert!(rt; is_sum_copied(rt.alloc()).unwrap_or(false));
-    assert!(rt; is_histogram_copied(rt.alloc()).unwrap_or(false));
+    copied_points();
+    equal_points();
+    let alloc = rt.alloc();
+    let sum = sum_point(&rt, alloc, 0);
+    assert!(rt; sum.clone().expect(&rt, "memory") == sum);
+    let none: HistogramDataPoint<u64> = HistogramDataPoint::new(
+        place(&rt, alloc),
+        Items::from(vec![in alloc; exemplar(alloc, 0)].expect(&rt, "memory")),
+        SharedItems::new(Vec::new(alloc)).expect(&rt, "memory"),
+        Items::from(Vec::new(alloc)),
+        0,
+        None,
+        None,
+        0,
+    );
+    assert!(rt; none.clone().expect(&rt, "memory") == none);
 }
 
-fn sum(alloc: Global) -> Result<Sum<u64>, Fault> {
-    let points = Items::from(vec![in alloc; sum_point(alloc, 7)?]?);
-    Ok(Sum::new(points, 100, 200, Temporality::Delta, true))
+fn sum(rt: &impl Abort, alloc: Global) -> AggregatedMetrics {
+    let points = vec![in alloc; sum_point(rt, alloc, 7)].expect(rt, "memory");
+    MetricData::from(Sum::new(Items::from(points), 100, 200, Temporality::Delta, true)).into()
 }
 
-fn gauge(alloc: Global) -> Result<Gauge<i64>, Fault> {
-    let points = Items::from(vec![in alloc; gauge_point(alloc, -7)?]?);
-    Ok(Gauge::new(points, 300, 400))
+fn gauge(rt: &impl Abort, alloc: Global) -> AggregatedMetrics {
+    let points = vec![in alloc; gauge_point(rt, alloc, -7)].expect(rt, "memory");
+    MetricData::from(Gauge::new(Items::from(points), 300, 400)).into()
 }
 
-fn histogram(alloc: Global) -> Result<Histogram<u64>, Fault> {
-    let points = Items::from(vec![in alloc; histogram_point(alloc, 30)?]?);
-    Ok(Histogram::new(points, 500, 600, Temporality::LowMemory))
+fn histogram(rt: &impl Abort, alloc: Global) -> AggregatedMetrics {
+    let points = vec![in alloc; histogram_point(rt, alloc, 30)].expect(rt, "memory");
+    MetricData::from(Histogram::new(Items::from(points), 500, 600, Temporality::LowMemory)).into()
+}
+
+/// A metric of this name.
+fn metric(rt: &impl Abort, alloc: Global, name: &str, data: AggregatedMetrics) -> Metric {
+    Metric::new(
+        StringValue::new(alloc, name).expect(rt, name),
+        StringValue::new(alloc, "all of them").expect(rt, name),
+        StringValue::new(alloc, "1").expect(rt, name),
+        data,
+    )
+}
+
+/// A collection of three metrics.
+fn collection(rt: &impl Abort, alloc: Global) -> ResourceMetrics {
+    let sum = metric(rt, alloc, "sum", sum(rt, alloc));
+    let gauge = metric(rt, alloc, "gauge", gauge(rt, alloc));
+    let histogram = metric(rt, alloc, "histogram", histogram(rt, alloc));
+    let metrics = vec![in alloc; sum, gauge, histogram].expect(rt, "memory");
+    let scope = ScopeMetrics::new(InstrumentationScope::default(alloc), Items::from(metrics));
+    let scopes = vec![in alloc; scope].expect(rt, "memory");
+    ResourceMetrics::new(Resource::builder_empty(alloc).build(), Items::from(scopes))
 }
 
 fn is_sum(sum: &Sum<u64>) -> bool {
@@ -232,15 +168,7 @@ fn is_histogram(histogram: &Histogram<u64>) -> bool {
         && histogram.temporality() == Temporality::LowMemory
 }
 
-/// The points of a metric of this name.
-fn data(alloc: Global, name: &str) -> Result<AggregatedMetrics, Fault> {
-    Ok(match name {
-        "sum" => MetricData::from(sum(alloc)?).into(),
-        "gauge" => MetricData::from(gauge(alloc)?).into(),
-        _ => MetricData::from(histogram(alloc)?).into(),
-    })
-}
-
+/// Whether these are the points of the metric of this name.
 fn is_data(data: &AggregatedMetrics, name: &str) -> bool {
     match data {
         AggregatedMetrics::U64(MetricData::Sum(sum)) => name == "sum" && is_sum(sum),
@@ -252,114 +180,40 @@ fn is_data(data: &AggregatedMetrics, name: &str) -> bool {
     }
 }
 
-fn metric(alloc: Global, name: &str) -> Result<Metric, Fault> {
-    let text = StringValue::new(alloc, name)?;
-    let description = StringValue::new(alloc, "all of them")?;
-    let unit = StringValue::new(alloc, "1")?;
-    Ok(Metric::new(text, description, unit, data(alloc, name)?))
-}
-
-fn is_metric(metric: &Metric, name: &str) -> bool {
-    metric.name() == name
-        && metric.description() == "all of them"
-        && metric.unit() == "1"
-        && is_data(metric.data(), name)
-}
-
-/// A collection of one metric.
-fn collection(alloc: Global, name: &str) -> Result<ResourceMetrics, Fault> {
-    let metrics = Items::from(vec![in alloc; metric(alloc, name)?]?);
-    let scope = ScopeMetrics::new(InstrumentationScope::default(alloc), metrics);
-    let scopes = Items::from(vec![in alloc; scope]?);
-    Ok(ResourceMetrics::new(Resource::builder_empty(alloc).build(), scopes))
-}
-
-fn is_scope(scope: &ScopeMetrics, name: &str) -> bool {
-    match scope.metrics().as_slice() {
-        [metric] => scope.scope().name() == "" && is_metric(metric, name),
-        _ => false,
+/// Asserts that a collection has its parts: a scope without a name and, in it, three metrics.
+fn assert_collection(rt: &impl Abort, all: &ResourceMetrics) {
+    assert_eq!(rt;
+        (all.resource().is_empty(), all.scope_metrics().count()),
+        (true, 1)
+    );
+    let scope = all.scope("").expect(rt, "the scope");
+    assert!(rt; scope.scope().name() == "" && scope.metrics().count() == 3);
+    for metric in scope.metrics() {
+        assert!(rt; metric.description() == "all of them" && metric.unit() == "1");
+        assert!(rt; is_data(metric.data(), metric.name()), "{}", metric.name());
+        assert!(rt; scope.metric(metric.name()).is_some());
     }
+    assert!(rt; scope.metric("other").is_none() && all.scope("other").is_none());
 }
 
-fn is_collection(all: &ResourceMetrics, name: &str) -> bool {
-    match all.scope_metrics().as_slice() {
-        [scope] => all.resource().is_empty() && is_scope(scope, name),
-        _ => false,
-    }
-}
-
-/// Whether a collection and its copy both have the expected parts.
-fn are_collections(all: &ResourceMetrics, name: &str) -> bool {
-    copied_collection();
-    match all.clone() {
-        Ok(copy) => is_collection(all, name) && is_collection(&copy, name),
-        Err(_) => false,
-    }
-}
-
-/// Whether the scope without a name is found in a collection, and in it the metric of this name, but no other.
-fn is_found(all: &ResourceMetrics, name: &str) -> bool {
-    match all.scope("") {
-        Some(scope) => {
-            scope.metric(name).is_some()
-                && scope.metric("other").is_none()
-                && all.scope("other").is_none()
-        }
-        None => false,
-    }
-}
-
-/// Whether a metric is found by its scope and name, and prints a line for its point.
-fn is_found_and_printed(alloc: Global, name: &str) -> Result<bool, Fault> {
-    let all = collection(alloc, name)?;
-    Ok(
-        is_found(&all, name)
-            && prints(
-                alloc,
-                &all,
-                "histogram key=value: count 3 sum 44 buckets 1 0 2\n",
-            ),
-    )
-}
-
-#[test]
-fn found_by_name(rt: HostRuntime) -> Result<(), Fail> {
-    assert!(rt; is_found_and_printed(rt.alloc(), "histogram")?);
-    Ok(())
-}
-
-/// Whether a collection of one metric and its copy both have the expected parts.
-fn is_copied(alloc: Global, name: &str) -> Result<bool, Fault> {
-    let all = collection(alloc, name)?;
-    Ok(are_collections(&all, name))
-}
-
+/// A collection and its copy have the same parts, and print a line for each point.
 #[test]
 fn collections(rt: HostRuntime) {
-    for name in ["sum", "gauge", "histogram"] {
-        assert!(rt; is_copied(rt.alloc(), name).unwrap_or(false), "of {name}");
-    }
-}
-
-/// Whether a collection has no scopes and an empty resource.
-fn is_empty(all: &ResourceMetrics) -> bool {
-    all.scope_metrics().count() == 0
-        && all.resource().is_empty()
-        && all.resource().len() == 0
-        && all.resource().schema_url().is_none()
-}
-
-fn is_empty_scope(scope: &ScopeMetrics) -> bool {
-    scope.metrics().count() == 0 && scope.scope().name() == ""
-}
-
-/// Whether the defaults are empty.
-fn are_empty(collection: ResourceMetrics, scope: ScopeMetrics) -> bool {
-    is_empty(&collection) && is_empty_scope(&scope)
+    copied_collection();
+    let all = collection(&rt, rt.alloc());
+    let copy = all.clone().expect(&rt, "memory");
+    assert_collection(&rt, &all);
+    assert_collection(&rt, &copy);
+    let lines = "sum key=value: 7\ngauge key=value: -7\n\
+                 histogram key=value: count 3 sum 44 buckets 1 0 2\n";
+    assert_prints(&rt, rt.alloc(), &all, lines);
 }
 
 #[test]
 fn defaults_are_empty(rt: HostRuntime) {
-    let collection = ResourceMetrics::default(rt.alloc());
-    assert!(rt; are_empty(collection, ScopeMetrics::default(rt.alloc())));
+    let all = ResourceMetrics::default(rt.alloc());
+    assert!(rt; all.scope_metrics().count() == 0 && all.resource().is_empty());
+    assert!(rt; all.resource().len() == 0 && all.resource().schema_url().is_none());
+    let scope = ScopeMetrics::default(rt.alloc());
+    assert!(rt; scope.metrics().count() == 0 && scope.scope().name() == "");
 }

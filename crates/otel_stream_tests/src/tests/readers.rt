@@ -1,13 +1,94 @@
-//! The texts of readers, which no contract states, and each preference once.
+//! What readers want of each kind of instrument, also in boxes, and readers that are asked to flush and to shut down.
 
-use otel_common::metrics::Temporality;
+ghost use Rattle.std.specs.Prelude.{◌≡◌, Ok, true, not, is_ok};
+ghost use Rattle.otel_common.specs.declared.metrics.Temporality.TheVariants.{Delta};
+
+use otel_common::faults::{Fault, InternalFault, OTelSdkResult};
+use otel_common::lists::Items;
+use otel_common::metrics::{Aggregation, Temporality};
+use otel_stream::answers::Answers;
+use otel_stream::each_reader::{flush_all, shut_all};
 use otel_stream::instrument::InstrumentKind;
-use otel_stream::laws::{boxed_manual_reader, kind_laws};
+use otel_stream::laws::{boxed_manual_reader, boxed_reader, kind_laws, plain_answers};
+use otel_stream::limit::CardinalityLimit;
 use otel_stream::manual_reader::{ManualReader, ManualReaderBuilder};
 use otel_stream::reader::MetricReader;
-use std::alloc::Global;
-use std::fmt::Debug;
-use std::test::Fail;
+use std::alloc::{AllocError, Global};
+use std::process::Abort;
+use std::time::Duration;
+
+/// A reader that wants delta, leaves limits and aggregations to the provider, and can flush once; its later flushes
+/// fail.
+#[derive(Drop)]
+struct Once {
+    has_flushed: bool,
+}
+
+impl MetricReader for Once {
+    ghost preference = { λ r kind. Delta };
+
+    ghost flushes = { λ before after outcome. (after ≡ record { has_flushed = true }) × (is_ok outcome ≡ not before.has_flushed) };
+
+    ghost shuts = { λ before timeout after outcome. (after ≡ before) × (outcome ≡ Ok tt) };
+
+    fn temporality(&self, kind: InstrumentKind) -> Temporality {
+        let _ = kind;
+        Temporality::Delta
+    }
+
+    fn cardinality_limit(&self, kind: InstrumentKind) -> Option<CardinalityLimit> {
+        let _ = kind;
+        None
+    }
+
+    fn default_aggregation(&self, kind: InstrumentKind) -> Option<&Aggregation> {
+        let _ = kind;
+        None
+    }
+
+    fn force_flush(&mut self) -> OTelSdkResult {
+        if self.has_flushed {
+            return Err(Fault::OutOfMemory);
+        }
+        self.has_flushed = true;
+        Ok(())
+    }
+
+    fn shutdown_with_timeout(&mut self, timeout: Duration) -> OTelSdkResult {
+        let _ = timeout;
+        Ok(())
+    }
+}
+
+/// Asserts that two readers failed to flush, the first of them with the number 1.
+fn assert_failure(rt: &impl Abort, answer: OTelSdkResult) {
+    let Err(Fault::InternalFailure(InternalFault::Readers { failed, first })) = answer else {
+        panic!(rt; "no reader failed");
+    };
+    assert_eq!(rt; (failed, first), (2, 1));
+}
+
+/// Boxes hold what a flush left: all three readers can flush once, two of them fail to from then on, and all can shut
+/// down.
+#[test]
+fn boxes_hold_what_a_flush_left(rt: HostRuntime) {
+    let alloc = rt.alloc();
+    let first: Box<dyn MetricReader> = Box::new(alloc, ManualReader::default()).expect(
+        &rt, "memory",
+    );
+    let second: Box<dyn MetricReader> = Box::new(alloc, Once { has_flushed: false }).expect(
+        &rt, "memory",
+    );
+    let third: Box<dyn MetricReader> = Box::new(alloc, Once { has_flushed: false }).expect(
+        &rt, "memory",
+    );
+    assert_wants(&rt, alloc, &first, CUMULATIVE);
+    let mut readers = [first, second, third];
+    assert!(rt; flush_all(&mut readers).is_ok());
+    assert_failure(&rt, flush_all(&mut readers));
+    assert_failure(&rt, flush_all(&mut readers));
+    assert!(rt; shut_all(&mut readers).is_ok());
+}
 
 /// The seven kinds.
 const KINDS: [InstrumentKind; 7] = [
@@ -20,100 +101,217 @@ const KINDS: [InstrumentKind; 7] = [
     InstrumentKind::ObservableGauge,
 ];
 
-/// The letter of a temporality.
-fn letter_of(temporality: Temporality) -> &'static str {
-    match temporality {
-        Temporality::Cumulative => "C",
-        Temporality::Delta => "D",
-        Temporality::LowMemory => "L",
+/// Shows what a reader wants for each of the seven kinds.
+fn show<R: MetricReader>(text: &mut String, reader: &R) -> Result<(), AllocError> {
+    for kind in &KINDS {
+        let temporality = reader.temporality(*kind);
+        let limit = reader.cardinality_limit(*kind).map(|limit| limit.get());
+        let aggregation = reader.default_aggregation(*kind);
+        writeln!(text, "{temporality:?} {limit:?} {aggregation:?}")?;
+    }
+    Ok(())
+}
+
+/// Shows what a reader answered for each of the seven kinds.
+fn show_answers(text: &mut String, answers: &Answers) -> Result<(), AllocError> {
+    for kind in &KINDS {
+        let temporality = answers.temporality(*kind);
+        let limit = answers.limit(*kind);
+        let aggregation = answers.aggregation(*kind);
+        writeln!(text, "{temporality:?} {limit:?} {aggregation:?}")?;
+    }
+    Ok(())
+}
+
+/// Asserts that a reader wants this, and answers it.
+fn assert_wants<R: MetricReader>(rt: &impl Abort, alloc: Global, reader: &R, wanted: &str) {
+    let mut text = String::new(alloc);
+    show(&mut text, reader).expect(rt, wanted);
+    assert_eq!(rt; text.as_str(), wanted);
+    let mut answered = String::new(alloc);
+    let answers = Answers::of(alloc, reader).expect(rt, wanted);
+    show_answers(&mut answered, &answers).expect(rt, wanted);
+    assert_eq!(rt; answered.as_str(), wanted);
+}
+
+const CUMULATIVE: &str = "Cumulative None None
+Cumulative None None
+Cumulative None None
+Cumulative None None
+Cumulative None None
+Cumulative None None
+Cumulative None None
+";
+
+const DELTA: &str = "Delta None None
+Cumulative None None
+Delta None None
+Delta None None
+Cumulative None None
+Delta None None
+Delta None None
+";
+
+const LOW_MEMORY: &str = "Delta None None
+Cumulative None None
+Delta None None
+Cumulative None None
+Cumulative None None
+Cumulative None None
+Cumulative None None
+";
+
+/// Readers are cumulative by default, and prefer by kind.
+#[test]
+fn readers_have_their_preferences(rt: HostRuntime) {
+    assert_eq!(rt; Temporality::default(), Temporality::Cumulative);
+    assert_wants(&rt, rt.alloc(), &ManualReader::default(), CUMULATIVE);
+    assert_wants(
+        &rt,
+        rt.alloc(),
+        &ManualReaderBuilder::new().build(),
+        CUMULATIVE,
+    );
+    for (temporality, wanted) in [
+        (Temporality::Cumulative, CUMULATIVE),
+        (Temporality::Delta, DELTA),
+        (Temporality::LowMemory, LOW_MEMORY),
+    ] {
+        let reader = ManualReader::builder()
+            .with_temporality(temporality)
+            .build();
+        assert_wants(&rt, rt.alloc(), &reader, wanted);
     }
 }
 
-/// Whether a reader wants these temporalities for the seven kinds, one letter for each.
-pub fn prefers<R: MetricReader>(reader: &R, letters: [&str; 7]) -> bool {
-    let mut does = true;
-    for (kind, letter) in KINDS.iter().zip(letters.iter()) {
-        does = does && letter_of(reader.temporality(*kind)) == *letter;
-    }
-    does
+/// Readers and their builders show their names, which no contract states.
+#[test]
+fn readers_show_their_names(rt: HostRuntime) {
+    let builder = ManualReaderBuilder::default();
+    let shown = format!(in rt.alloc(); "{builder:?} of a {:?}", ManualReader::default());
+    assert_eq!(rt;
+        shown.expect(&rt, "memory").as_str(),
+        "ManualReaderBuilder of a ManualReader"
+    );
 }
 
-const CUMULATIVE: [&str; 7] = ["C", "C", "C", "C", "C", "C", "C"];
+/// A histogram with the bounds 10 and 20.
+fn histogram(rt: &impl Abort, alloc: Global, has_min_max: bool) -> Aggregation {
+    Aggregation::ExplicitBucketHistogram {
+        boundaries: Items::from(Vec::from_slice(alloc, &[10, 20]).expect(rt, "memory")),
+        record_min_max: has_min_max,
+    }
+}
 
-pub const DELTA: [&str; 7] = ["D", "C", "D", "D", "C", "D", "D"];
+/// A limit of this number.
+fn limit(rt: &impl Abort, number: usize) -> CardinalityLimit {
+    CardinalityLimit::new(number).expect(rt, "a limit")
+}
 
-const LOW_MEMORY: [&str; 7] = ["D", "C", "D", "C", "C", "C", "C"];
-
-/// A reader of this temporality.
-fn reader_of(temporality: Temporality) -> ManualReader {
+/// A reader with limits for two kinds, one of them given twice, and the same for aggregations.
+fn given_twice(rt: &impl Abort, alloc: Global) -> ManualReader {
     ManualReader::builder()
-        .with_temporality(temporality)
+        .with_cardinality_limit(InstrumentKind::Counter, limit(rt, 5))
+        .with_default_aggregation(InstrumentKind::Histogram, Aggregation::Sum)
+        .with_cardinality_limit(InstrumentKind::Gauge, limit(rt, 7))
+        .with_default_aggregation(InstrumentKind::Counter, Aggregation::Drop)
+        .with_cardinality_limit(InstrumentKind::Counter, limit(rt, 6))
+        .with_default_aggregation(InstrumentKind::Histogram, histogram(rt, alloc, false))
+        .with_temporality(Temporality::Delta)
         .build()
 }
 
-/// Whether the `Debug` output of a value is this text.
-fn shows<T: Debug>(alloc: Global, value: &T, text: &str) -> bool {
-    match format!(in alloc; "{value:?}") {
-        Ok(shown) => shown.as_str() == text,
-        Err(_) => false,
-    }
+const GIVEN_LAST: &str = "Delta Some(6) Some(Drop)
+Cumulative None None
+Delta None Some(ExplicitBucketHistogram { boundaries: Items { items: [10, 20] }, record_min_max: false })
+Delta None None
+Cumulative None None
+Delta Some(7) None
+Delta None None
+";
+
+/// A reader wants what was given last, in a box too.
+#[test]
+fn boxes_want_what_is_in_them(rt: HostRuntime) {
+    let reader = given_twice(&rt, rt.alloc());
+    assert_wants(&rt, rt.alloc(), &reader, GIVEN_LAST);
+    let boxed: Box<dyn MetricReader> = Box::new(rt.alloc(), reader).expect(&rt, "memory");
+    boxed_reader(&boxed);
+    assert_wants(&rt, rt.alloc(), &boxed, GIVEN_LAST);
 }
 
-/// Whether a reader and its builder show their names.
-fn show_their_names(alloc: Global, builder: ManualReaderBuilder) -> bool {
-    let is_builder = shows(alloc, &builder, "ManualReaderBuilder");
-    let reader = builder.build();
-    is_builder && shows(alloc, &reader, "ManualReader")
-}
+const ALL_DELTA: &str = "Delta None None
+Delta None None
+Delta None None
+Delta None None
+Delta None None
+Delta None None
+Delta None None
+";
 
 #[test]
-fn readers_show_their_names(rt: HostRuntime) {
-    assert!(rt; show_their_names(rt.alloc(), ManualReaderBuilder::default()));
+fn readers_without_limits_answer_none(rt: HostRuntime) {
+    plain_answers();
+    assert_wants(&rt, rt.alloc(), &Once { has_flushed: false }, ALL_DELTA);
+    let boxed: Box<dyn MetricReader> = Box::new(rt.alloc(), Once { has_flushed: false }).expect(
+        &rt, "memory",
+    );
+    assert_wants(&rt, rt.alloc(), &boxed, ALL_DELTA);
+    let reader = ManualReader::builder()
+        .with_temporality(Temporality::Delta)
+        .build();
+    let answer = boxed_manual_reader(rt.alloc(), reader, InstrumentKind::Gauge);
+    assert_eq!(rt; answer.expect(&rt, "memory"), Temporality::Delta);
 }
 
-/// Whether this reader wants these temporalities.
-fn is_preferring(reader: ManualReader, letters: [&str; 7]) -> bool {
-    prefers(&reader, letters)
+/// A reader with a limit and an aggregation of its own for each kind.
+fn with_each(rt: &impl Abort, alloc: Global) -> ManualReader {
+    let bare = Aggregation::ExplicitBucketHistogram {
+        boundaries: Items::from(Vec::new(alloc)),
+        record_min_max: false,
+    };
+    ManualReader::builder()
+        .with_default_aggregation(InstrumentKind::Counter, Aggregation::Drop)
+        .with_default_aggregation(InstrumentKind::UpDownCounter, Aggregation::Default)
+        .with_default_aggregation(InstrumentKind::Histogram, Aggregation::Sum)
+        .with_default_aggregation(InstrumentKind::ObservableCounter, Aggregation::LastValue)
+        .with_default_aggregation(
+            InstrumentKind::ObservableUpDownCounter,
+            histogram(rt, alloc, false),
+        )
+        .with_default_aggregation(InstrumentKind::Gauge, histogram(rt, alloc, true))
+        .with_default_aggregation(InstrumentKind::ObservableGauge, bare)
+        .with_cardinality_limit(InstrumentKind::Counter, limit(rt, 1))
+        .with_cardinality_limit(InstrumentKind::UpDownCounter, limit(rt, 2))
+        .with_cardinality_limit(InstrumentKind::Histogram, limit(rt, 3))
+        .with_cardinality_limit(InstrumentKind::ObservableCounter, limit(rt, 4))
+        .with_cardinality_limit(InstrumentKind::ObservableUpDownCounter, limit(rt, 5))
+        .with_cardinality_limit(InstrumentKind::Gauge, limit(rt, 6))
+        .with_cardinality_limit(InstrumentKind::ObservableGauge, limit(rt, 7))
+        .build()
 }
+
+const EACH: &str = "Cumulative Some(1) Some(Drop)
+Cumulative Some(2) Some(Default)
+Cumulative Some(3) Some(Sum)
+Cumulative Some(4) Some(LastValue)
+Cumulative Some(5) Some(ExplicitBucketHistogram { boundaries: Items { items: [10, 20] }, record_min_max: false })
+Cumulative Some(6) Some(ExplicitBucketHistogram { boundaries: Items { items: [10, 20] }, record_min_max: true })
+Cumulative Some(7) Some(ExplicitBucketHistogram { boundaries: Items { items: [] }, record_min_max: false })
+";
 
 #[test]
-fn readers_have_their_preferences(rt: HostRuntime) {
-    assert!(rt; is_preferring(ManualReader::default(), CUMULATIVE));
-    assert!(rt; is_preferring(ManualReaderBuilder::default().build(), CUMULATIVE));
-    assert!(rt; is_preferring(ManualReaderBuilder::new().build(), CUMULATIVE));
-    assert!(rt; is_preferring(reader_of(Temporality::Cumulative), CUMULATIVE));
-    assert!(rt; is_preferring(reader_of(Temporality::Delta), DELTA));
-    assert!(rt; is_preferring(reader_of(Temporality::LowMemory), LOW_MEMORY));
-}
-
-#[test]
-fn boxes_want_what_is_in_them(rt: HostRuntime) -> Result<(), Fail> {
-    let reader = reader_of(Temporality::Delta);
-    let answer = boxed_manual_reader(rt.alloc(), reader, InstrumentKind::Gauge)?;
-    assert_eq!(rt; answer, Temporality::Delta);
-    Ok(())
-}
-
-/// Readers are cumulative by default, in a box too.
-#[test]
-fn manual_reader(rt: HostRuntime) -> Result<(), Fail> {
-    assert_eq!(rt; Temporality::default(), Temporality::Cumulative);
-    let boxed: Box<dyn MetricReader> = Box::new(rt.alloc(), ManualReader::default())?;
-    assert!(rt; prefers(&boxed, CUMULATIVE));
-    Ok(())
-}
-
-/// Whether a kind equals its copy, and no other kind.
-fn is_equal_to_itself(kind: InstrumentKind, other: InstrumentKind) -> bool {
-    kind_laws();
-    match kind.clone() {
-        Ok(copy) => kind == copy && kind != other,
-        Err(_) => false,
-    }
+fn each_kind_has_its_own(rt: HostRuntime) {
+    assert_wants(&rt, rt.alloc(), &with_each(&rt, rt.alloc()), EACH);
 }
 
 #[test]
 fn kinds_are_equal_to_themselves(rt: HostRuntime) {
+    kind_laws();
     let kind = InstrumentKind::ObservableCounter;
-    assert!(rt; is_equal_to_itself(kind, InstrumentKind::Counter));
+    let copy = kind.clone().expect(&rt, "a copy");
+    assert_eq!(rt;
+        (kind == copy, kind == InstrumentKind::Counter),
+        (true, false)
+    );
 }

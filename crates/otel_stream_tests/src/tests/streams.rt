@@ -1,54 +1,25 @@
 //! Which settings of streams are refused, and with which text.
 
-use super::texts::prints;
-use otel_common::faults::Fault;
+use super::assert_prints;
 use otel_common::keys::Key;
 use otel_common::lists::Items;
 use otel_common::metrics::Aggregation;
 use otel_stream::stream::{Stream, StreamBuilder};
 use otel_stream::stream_fault::StreamFault;
 use std::alloc::Global;
-use std::test::Fail;
+use std::process::Abort;
 
-/// The fault of a builder, if it is refused.
-fn fault_of(builder: StreamBuilder) -> Option<StreamFault> {
-    builder.build().err()
+/// A string of this text.
+fn string(rt: &impl Abort, alloc: Global, text: &str) -> String {
+    String::from_str(alloc, text).expect(rt, text)
 }
 
-/// Whether a fault shows this text; no fault shows `Ok`.
-fn shows(alloc: Global, fault: Option<StreamFault>, text: &str) -> bool {
-    match fault {
-        None => text == "Ok",
-        Some(fault) => prints(alloc, &fault, text),
+/// Asserts that a builder is refused with this text, or builds if it is `Ok`.
+fn assert_builds(rt: &impl Abort, alloc: Global, builder: StreamBuilder, text: &str) {
+    match builder.build() {
+        Ok(_) => assert_eq!(rt; "Ok", text),
+        Err(fault) => assert_prints(rt, alloc, &fault, text),
     }
-}
-
-/// Whether a builder with this name builds.
-fn name_builds(alloc: Global, name: &str) -> bool {
-    match String::from_str(alloc, name) {
-        Ok(name) => fault_of(Stream::builder().with_name(name)).is_none(),
-        Err(_) => false,
-    }
-}
-
-/// Whether the fault of a builder with this unit shows this text; no fault shows `Ok`.
-fn unit_shows(alloc: Global, unit: &str, text: &str) -> bool {
-    match String::from_str(alloc, unit) {
-        Ok(unit) => shows(alloc, fault_of(Stream::builder().with_unit(unit)), text),
-        Err(_) => false,
-    }
-}
-
-fn fault_by_bounds(alloc: Global, bounds: &[i64]) -> Result<Option<StreamFault>, Fault> {
-    let histogram = Aggregation::ExplicitBucketHistogram {
-        boundaries: Items::from(Vec::from_slice(alloc, bounds)?),
-        record_min_max: true,
-    };
-    Ok(fault_of(Stream::builder().with_aggregation(histogram)))
-}
-
-fn fault_by_limit(limit: usize) -> Option<StreamFault> {
-    fault_of(Stream::builder().with_cardinality_limit(limit))
 }
 
 const NAMES: &[&str] = &[
@@ -67,13 +38,13 @@ const NAMES: &[&str] = &[
 ];
 
 #[test]
-fn stream_name_no_validation(rt: HostRuntime) -> Result<(), Fail> {
+fn stream_name_no_validation(rt: HostRuntime) {
     for name in NAMES {
-        assert!(rt; name_builds(rt.alloc(), name), "of {name}");
+        let builder = Stream::builder().with_name(string(&rt, rt.alloc(), name));
+        assert_builds(&rt, rt.alloc(), builder, "Ok");
     }
-    let long = "a".repeat(rt.alloc(), 256)?;
-    assert!(rt; name_builds(rt.alloc(), long.as_str()));
-    Ok(())
+    let long = "a".repeat(rt.alloc(), 256).expect(&rt, "memory");
+    assert_builds(&rt, rt.alloc(), Stream::builder().with_name(long), "Ok");
 }
 
 const UNITS: &[(&str, &str)] = &[
@@ -82,17 +53,18 @@ const UNITS: &[(&str, &str)] = &[
     ("Kb/sec", "Ok"),
     ("%", "Ok"),
     ("", "Ok"),
+    (
+        "0000000000000000000000000000000000000000000000000000000000000000",
+        "unit must be less than 64 characters",
+    ),
 ];
 
 #[test]
-fn stream_unit_validation(rt: HostRuntime) -> Result<(), Fail> {
-    for (unit, answer) in UNITS {
-        assert!(rt; unit_shows(rt.alloc(), unit, answer), "of {unit}");
+fn stream_unit_validation(rt: HostRuntime) {
+    for (unit, text) in UNITS {
+        let builder = Stream::builder().with_unit(string(&rt, rt.alloc(), unit));
+        assert_builds(&rt, rt.alloc(), builder, text);
     }
-    let long = "0".repeat(rt.alloc(), 64)?;
-    let answer = "unit must be less than 64 characters";
-    assert!(rt; unit_shows(rt.alloc(), long.as_str(), answer));
-    Ok(())
 }
 
 const LIMITS: &[(usize, &str)] = &[
@@ -107,104 +79,82 @@ const LIMITS: &[(usize, &str)] = &[
 
 #[test]
 fn stream_cardinality_limit_validation(rt: HostRuntime) {
-    for (limit, answer) in LIMITS {
-        assert!(rt;
-            shows(rt.alloc(), fault_by_limit(*limit), answer),
-            "of {limit}"
+    for (limit, text) in LIMITS {
+        assert_builds(
+            &rt,
+            rt.alloc(),
+            Stream::builder().with_cardinality_limit(*limit),
+            text,
         );
     }
 }
 
-/// Whether the fault of a builder with these bounds shows this text; no fault shows `Ok`.
-fn bounds_show(alloc: Global, bounds: &[i64], text: &str) -> bool {
-    match fault_by_bounds(alloc, bounds) {
-        Ok(fault) => shows(alloc, fault, text),
-        Err(_) => false,
-    }
+/// A builder of a stream of histograms with these bounds.
+fn with_bounds(rt: &impl Abort, alloc: Global, bounds: &[i64]) -> StreamBuilder {
+    let boundaries = Items::from(Vec::from_slice(alloc, bounds).expect(rt, "memory"));
+    Stream::builder().with_aggregation(Aggregation::ExplicitBucketHistogram {
+        boundaries,
+        record_min_max: true,
+    })
 }
+
+const BOUNDS: &[(&[i64], &str)] = &[
+    (&[1, 2, 5, 10, 20, 50, 100], "Ok"),
+    (
+        &[1, 5, 2, 10],
+        "Bucket boundaries must be sorted and not contain any duplicates",
+    ),
+    (
+        &[1, 2, 5, 5, 10],
+        "Bucket boundaries must be sorted and not contain any duplicates",
+    ),
+];
 
 #[test]
 fn stream_histogram_bucket_validation(rt: HostRuntime) {
-    let alloc = rt.alloc();
-    let text = "Bucket boundaries must be sorted and not contain any duplicates";
-    assert!(rt; bounds_show(alloc, &[1, 2, 5, 10, 20, 50, 100], "Ok"));
-    assert!(rt; bounds_show(alloc, &[1, 5, 2, 10], text));
-    assert!(rt; bounds_show(alloc, &[1, 2, 5, 5, 10], text));
-    assert!(rt; fault_by_bounds(alloc, &[1, 5, 2, 10]).ok() == Some(Some(StreamFault::Boundaries)));
+    for (bounds, text) in BOUNDS {
+        let builder = with_bounds(&rt, rt.alloc(), bounds);
+        assert_builds(&rt, rt.alloc(), builder, text);
+    }
+    let fault = with_bounds(&rt, rt.alloc(), &[1, 5, 2, 10]).build().err();
+    assert!(rt; fault == Some(StreamFault::Boundaries));
 }
 
-/// A builder with everything set, from these texts and keys.
-fn with_all(name: String, description: String, unit: String, keys: Vec<Key>) -> StreamBuilder {
+/// A builder with everything set.
+fn full_builder(rt: &impl Abort, alloc: Global) -> StreamBuilder {
+    let key = Key::new(alloc, "a").expect(rt, "memory");
     StreamBuilder::default()
-        .with_name(name)
-        .with_description(description)
-        .with_unit(unit)
-        .with_allowed_attribute_keys(keys)
+        .with_name(string(rt, alloc, "valid_name"))
+        .with_description(string(rt, alloc, "A valid stream"))
+        .with_unit(string(rt, alloc, "ms"))
+        .with_allowed_attribute_keys(vec![in alloc; key].expect(rt, "memory"))
         .with_aggregation(Aggregation::Sum)
         .with_cardinality_limit(100)
 }
 
-fn builder(alloc: Global) -> Result<StreamBuilder, Fault> {
-    let name = String::from_str(alloc, "valid_name")?;
-    let description = String::from_str(alloc, "A valid stream")?;
-    let unit = String::from_str(alloc, "ms")?;
-    let keys = vec![in alloc; Key::new(alloc, "a")?]?;
-    Ok(with_all(name, description, unit, keys))
-}
-
-fn has_texts(stream: &Stream) -> bool {
-    stream.name() == Some("valid_name")
-        && stream.description() == Some("A valid stream")
-        && stream.unit() == Some("ms")
-}
-
-fn has_rest(stream: &Stream) -> bool {
-    stream.aggregation() == Some(&Aggregation::Sum)
-        && stream
-            .allowed_attribute_keys()
-            .is_some_and(|keys| keys.len() == 1)
-        && stream.cardinality_limit() == Some(100)
-        && stream.spec().limit == Some(100)
-}
-
-fn is_valid_build(stream: &Stream) -> bool {
+/// Asserts that a stream has everything that the full builder sets.
+fn assert_full(rt: &impl Abort, stream: &Stream) {
     stream.lawful();
-    has_texts(stream) && has_rest(stream)
+    let texts = (stream.name(), stream.description(), stream.unit());
+    assert_eq!(rt;
+        texts,
+        (Some("valid_name"), Some("A valid stream"), Some("ms"))
+    );
+    assert!(rt; stream.aggregation() == Some(&Aggregation::Sum));
+    assert_eq!(rt; stream.allowed_attribute_keys().expect(rt, "keys").len(), 1);
+    assert_eq!(rt;
+        (stream.cardinality_limit(), stream.spec().limit),
+        (Some(100), Some(100))
+    );
 }
 
-/// Whether a builder builds a stream that has all settings and whose copy has them too.
-fn builds(builder: StreamBuilder) -> bool {
-    match builder.build() {
-        Ok(stream) => is_valid_build(&stream) && copy_is_valid(&stream),
-        Err(_) => false,
-    }
-}
-
-fn copy_is_valid(stream: &Stream) -> bool {
-    match stream.clone() {
-        Ok(copy) => is_valid_build(&copy),
-        Err(_) => false,
-    }
-}
-
-/// Whether a copy of a builder builds a stream that has all settings.
-fn copy_builds(builder: &StreamBuilder) -> bool {
-    match builder.clone() {
-        Ok(copy) => builds(copy),
-        Err(_) => false,
-    }
-}
-
-/// Whether a stream has no name by default.
-fn default_has_no_name() -> bool {
-    Stream::default().name().is_none()
-}
-
-/// Tests each setting once, with its getter.
+/// Each setting once, with its getter, also in copies of the builder and of the stream.
 #[test]
-fn stream_valid_build(rt: HostRuntime) -> Result<(), Fail> {
-    let builder = builder(rt.alloc())?;
-    assert!(rt; copy_builds(&builder));
-    assert!(rt; default_has_no_name());
-    Ok(())
+fn stream_valid_build(rt: HostRuntime) {
+    let builder = full_builder(&rt, rt.alloc());
+    let copy = builder.clone().expect(&rt, "memory");
+    let stream = copy.build().expect(&rt, "a valid stream");
+    assert_full(&rt, &stream);
+    assert_full(&rt, &stream.clone().expect(&rt, "memory"));
+    assert!(rt; Stream::default().name().is_none());
 }

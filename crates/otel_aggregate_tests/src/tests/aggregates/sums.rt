@@ -1,404 +1,319 @@
-//! Sums: what collections give after each of some steps, as whole points.
+//! Sums.
 
-use super::{B, NONE, OVERFLOW, Set, X, Y, Z, attributes};
+use super::super::attributes;
+use super::{Case, Step, Told, assert_cases, assert_steps};
 use otel_aggregate::sum::Sum;
 use otel_common::attributes::KeyValue;
 use otel_common::faults::Fault;
 use otel_common::keys::Key;
-use otel_common::lists::{Items, SharedItems};
+use otel_common::lists::Items;
 use otel_common::metrics::Temporality;
-use otel_data::points::SumDataPoint;
-use otel_data::sums::Sum as SumData;
+use otel_value_map::aggregator::Increment;
 use otel_value_map::hashing::SetHashBuilder;
 use otel_value_map::number::Number;
 use std::alloc::Global;
-use std::test::Fail;
+use std::fmt::Display;
+use std::process::Abort;
 
-/// What a sum is made from, besides its limit. If there is an allow-list, it has one key.
-#[derive(Clone, Copy)]
-struct Kind {
-    temporality: Temporality,
+/// Asserts that a sum for each case follows its steps.
+fn assert_sums<T: Number + Drop + Display>(
+    rt: &impl Abort,
+    alloc: Global,
     is_monotonic: bool,
-    allow: Option<&'static str>,
-}
-
-const CUMULATIVE: Kind = Kind {
-    temporality: Temporality::Cumulative,
-    is_monotonic: true,
-    allow: None,
-};
-
-const DELTA: Kind = Kind {
-    temporality: Temporality::Delta,
-    is_monotonic: true,
-    allow: None,
-};
-
-/// What is done to a sum, or what is checked of it.
-#[derive(Clone, Copy)]
-enum Step {
-    Record(Set, u64),
-    Prepare(Set),
-    TakeIn(u64),
-    IsPrepared(bool),
-    Total(u64),
-    /// The bind of a handle with this number.
-    Bind(u64, Set),
-    /// A record through a live handle.
-    RecordBound(u64, u64),
-    Unbind(u64),
-    /// The points shown between two moments, without a change.
-    Shows(u64, u64, &'static [(Set, u64)]),
-    Finish(u64),
-    /// The points of a collection, between two moments.
-    Gives(u64, u64, &'static [(Set, u64)]),
-}
-
-/// The points of these sets and values, without exemplars.
-fn points<T: Copy + Drop>(
-    alloc: Global,
-    wanted: &[(Set, T)],
-) -> Result<Vec<SumDataPoint<T>>, Fault> {
-    let mut points = Vec::new(alloc);
-    for (set, value) in wanted {
-        let attributes = SharedItems::new(attributes(alloc, *set)?)?;
-        points.push(SumDataPoint::new(attributes, Items::from(Vec::new(alloc)), *value))?;
-    }
-    Ok(points)
-}
-
-/// Whether the data are exactly these points, in order, between these moments.
-pub fn are_sums<T: Copy + Drop + PartialEq>(
-    alloc: Global,
-    data: &SumData<T>,
-    start: u64,
-    now: u64,
-    wanted: &[(Set, T)],
-) -> Result<bool, Fault> {
-    let wanted = points(alloc, wanted)?;
-    let moments = data.start_time() == start && data.time() == now;
-    Ok(moments && data.data_points().as_slice() == wanted.as_slice())
-}
-
-/// Whether the data have the temporality and monotonicity of this kind.
-fn is_of<T>(data: &SumData<T>, kind: Kind) -> bool {
-    data.temporality() == kind.temporality && data.is_monotonic() == kind.is_monotonic
-}
-
-/// Takes in a record.
-fn record<T: Number + Drop>(
-    alloc: Global,
-    sum: &mut Sum<T>,
-    set: Set,
-    value: T,
-) -> Result<bool, Fault> {
-    sum.measure(value, &attributes(alloc, set)?)?;
-    Ok(true)
-}
-
-fn prepare<T: Number + Drop>(alloc: Global, sum: &mut Sum<T>, set: Set) -> Result<bool, Fault> {
-    sum.prepare(&attributes(alloc, set)?)?;
-    Ok(true)
-}
-
-fn bind(alloc: Global, sum: &mut Sum<u64>, handle: u64, set: Set) -> Result<bool, Fault> {
-    sum.bind(handle, &attributes(alloc, set)?)?;
-    Ok(true)
-}
-
-/// Ends a handle, and returns whether it no longer records.
-fn unbind(sum: &mut Sum<u64>, handle: u64) -> bool {
-    sum.unbind(handle);
-    !sum.update_bound(handle, 1)
-}
-
-fn finish<T: Number + Drop>(sum: &mut Sum<T>, now: u64) -> bool {
-    sum.finish(now);
-    true
-}
-
-/// Whether a sum shows these points between two moments.
-fn shows<T: Number + Drop + PartialEq>(
-    alloc: Global,
-    sum: &Sum<T>,
-    kind: Kind,
-    moments: (u64, u64),
-    wanted: &[(Set, T)],
-) -> Result<bool, Fault> {
-    let data = sum.points(alloc, moments.1)?;
-    Ok(are_sums(alloc, &data, moments.0, moments.1, wanted)? && is_of(&data, kind))
-}
-
-/// Whether a collection gives these points between two moments.
-fn gives<T: Number + Drop + PartialEq>(
-    alloc: Global,
-    sum: &mut Sum<T>,
-    kind: Kind,
-    moments: (u64, u64),
-    wanted: &[(Set, T)],
-) -> Result<bool, Fault> {
-    let data = sum.collect(alloc, moments.1)?;
-    Ok(are_sums(alloc, &data, moments.0, moments.1, wanted)? && is_of(&data, kind))
-}
-
-/// Does a step, and returns whether the outcome is as wanted.
-fn goes(alloc: Global, sum: &mut Sum<u64>, kind: Kind, step: &Step) -> Result<bool, Fault> {
-    match step {
-        Step::Record(set, value) => record(alloc, sum, *set, *value),
-        Step::Prepare(set) => prepare(alloc, sum, *set),
-        Step::TakeIn(value) => Ok(sum.commit(*value)),
-        Step::IsPrepared(want) => Ok(sum.is_prepared() == *want),
-        Step::Total(want) => Ok(sum.total() == *want),
-        Step::Bind(handle, set) => bind(alloc, sum, *handle, *set),
-        Step::RecordBound(handle, value) => Ok(sum.update_bound(*handle, *value)),
-        Step::Unbind(handle) => Ok(unbind(sum, *handle)),
-        Step::Shows(start, now, want) => shows(alloc, sum, kind, (*start, *now), *want),
-        Step::Finish(now) => Ok(finish(sum, *now)),
-        Step::Gives(start, now, want) => gives(alloc, sum, kind, (*start, *now), *want),
-    }
-}
-
-/// Makes a sum of this kind without records, at 100.
-fn made<T: Number + Drop>(alloc: Global, kind: Kind, limit: usize) -> Result<Sum<T>, Fault> {
-    let allow = match kind.allow {
-        None => None,
-        Some(key) => Some(Items::from(vec![in alloc; Key::new(alloc, key)?]?)),
-    };
-    Ok(Sum::new(
-        alloc,
-        SetHashBuilder::default(),
-        kind.is_monotonic,
-        kind.temporality,
-        allow,
-        limit,
-        100,
-    )?)
-}
-
-/// Does all steps, and returns whether every outcome is as wanted.
-fn goes_on(alloc: Global, sum: &mut Sum<u64>, kind: Kind, steps: &[Step]) -> Result<bool, Fault> {
-    let mut as_wanted = sum.resets() == (kind.temporality == Temporality::Delta);
-    for step in steps {
-        if !goes(alloc, sum, kind, step)? {
-            as_wanted = false;
-        }
-    }
-    Ok(as_wanted)
-}
-
-/// Whether a sum of this kind and limit, made at 100, follows these steps.
-fn follows(alloc: Global, kind: Kind, limit: usize, steps: &[Step]) -> bool {
-    match made(alloc, kind, limit) {
-        Ok(mut sum) => goes_on(alloc, &mut sum, kind, steps).unwrap_or(false),
-        Err(_) => false,
-    }
-}
-
-#[test]
-fn past_the_limit_the_overflow_entry_is_used(rt: HostRuntime) {
-    let steps = &[
-        Step::Record(X, 1),
-        Step::Record(Y, 2),
-        Step::Record(Z, 4),
-        Step::Record(X, 8),
-        Step::Gives(100, 200, &[(X, 9), (OVERFLOW, 6)]),
-        Step::Gives(100, 200, &[(X, 9), (OVERFLOW, 6)]),
-    ];
-    assert!(rt; follows(rt.alloc(), CUMULATIVE, 1, steps));
-}
-
-#[test]
-fn the_empty_set_comes_first_and_is_not_counted(rt: HostRuntime) {
-    let steps = &[
-        Step::Gives(100, 200, &[]),
-        Step::Record(X, 2),
-        Step::Record(NONE, 1),
-        Step::Record(Y, 4),
-        Step::Gives(100, 200, &[(NONE, 1), (X, 2), (OVERFLOW, 4)]),
-    ];
-    assert!(rt; follows(rt.alloc(), CUMULATIVE, 1, steps));
+    cases: &[Case<T>],
+) {
+    assert_cases::<Increment<T>>(rt, alloc, is_monotonic, cases);
 }
 
 #[test]
 fn row_3(rt: HostRuntime) {
-    let steps = &[
-        Step::Record(X, 1),
-        Step::Record(Y, 2),
-        Step::Record(Z, 4),
-        Step::Record(X, 8),
-        Step::Gives(100, 200, &[(X, 9), (Y, 2), (OVERFLOW, 4)]),
-    ];
-    assert!(rt; follows(rt.alloc(), DELTA, 2, steps));
+    let cases: &[Case<u64>] = &[Case {
+        name: "a third set with a limit of 2",
+        temporality: Temporality::Delta,
+        limit: 2,
+        steps: &[
+            Step::Measure("x=1", &[1]),
+            Step::Measure("y=1", &[2]),
+            Step::Measure("z=1", &[4]),
+            Step::Measure("x=1", &[8]),
+            Step::Collect(
+                200,
+                "100..200 Delta monotonic; x=1 -> 9; y=1 -> 2; otel.metric.overflow=true -> 4",
+            ),
+        ],
+    }];
+    assert_sums(&rt, rt.alloc(), true, cases);
 }
 
 #[test]
 fn row_4(rt: HostRuntime) {
-    let steps = &[
-        Step::Record(X, 1),
-        Step::Gives(100, 200, &[(X, 1)]),
-        Step::Record(Y, 2),
-        Step::Gives(200, 300, &[(OVERFLOW, 2)]),
-        Step::Record(Y, 4),
-        Step::Gives(300, 400, &[(Y, 4)]),
-    ];
-    assert!(rt; follows(rt.alloc(), DELTA, 1, steps));
+    let cases: &[Case<u64>] = &[Case {
+        name: "another set after a collection, with a limit of 1",
+        temporality: Temporality::Delta,
+        limit: 1,
+        steps: &[
+            Step::Measure("x=1", &[1]),
+            Step::Collect(200, "100..200 Delta monotonic; x=1 -> 1"),
+            Step::Measure("y=1", &[2]),
+            Step::Collect(
+                300,
+                "200..300 Delta monotonic; otel.metric.overflow=true -> 2",
+            ),
+            Step::Measure("y=1", &[4]),
+            Step::Collect(400, "300..400 Delta monotonic; y=1 -> 4"),
+        ],
+    }];
+    assert_sums(&rt, rt.alloc(), true, cases);
 }
 
 #[test]
 fn row_7(rt: HostRuntime) {
-    let steps = &[
-        Step::Record(OVERFLOW, 1),
-        Step::Record(X, 2),
-        Step::Gives(100, 200, &[(OVERFLOW, 3)]),
-        Step::Gives(200, 300, &[]),
-        Step::Record(X, 5),
-        Step::Gives(300, 400, &[(OVERFLOW, 5)]),
-    ];
-    assert!(rt; follows(rt.alloc(), DELTA, 1, steps));
+    let cases: &[Case<u64>] = &[Case {
+        name: "the overflow set is recorded",
+        temporality: Temporality::Delta,
+        limit: 1,
+        steps: &[
+            Step::Measure("otel.metric.overflow=true", &[1]),
+            Step::Measure("x=1", &[2]),
+            Step::Collect(
+                200,
+                "100..200 Delta monotonic; otel.metric.overflow=true -> 3",
+            ),
+            Step::Collect(300, "200..300 Delta monotonic"),
+            Step::Measure("x=1", &[5]),
+            Step::Collect(
+                400,
+                "300..400 Delta monotonic; otel.metric.overflow=true -> 5",
+            ),
+        ],
+    }];
+    assert_sums(&rt, rt.alloc(), true, cases);
 }
 
 #[test]
 fn row_22(rt: HostRuntime) {
-    let steps = &[
-        Step::Record(NONE, 1),
-        Step::Record(X, 2),
-        Step::Record(Y, 4),
-        Step::Gives(100, 200, &[(NONE, 1), (X, 2), (OVERFLOW, 4)]),
-    ];
-    assert!(rt; follows(rt.alloc(), DELTA, 1, steps));
+    let cases: &[Case<u64>] = &[Case {
+        name: "the empty set isn't counted",
+        temporality: Temporality::Delta,
+        limit: 1,
+        steps: &[
+            Step::Measure("", &[1]),
+            Step::Measure("x=1", &[2]),
+            Step::Measure("y=1", &[4]),
+            Step::Collect(
+                200,
+                "100..200 Delta monotonic; -> 1; x=1 -> 2; otel.metric.overflow=true -> 4",
+            ),
+        ],
+    }];
+    assert_sums(&rt, rt.alloc(), true, cases);
 }
 
-/// A delta collection starts at the moment of the one before, even if that had no points.
+/// A cumulative sum of signed numbers wraps around, and stays from one collection to the next.
 #[test]
-fn delta_moments(rt: HostRuntime) {
-    let steps = &[
-        Step::Gives(100, 200, &[]),
-        Step::Record(NONE, 1),
-        Step::Gives(200, 300, &[(NONE, 1)]),
-    ];
-    assert!(rt; follows(rt.alloc(), DELTA, 10, steps));
-}
-
-/// The same if the points of the one before add up to 0.
-#[test]
-fn delta_moments_of_zero(rt: HostRuntime) {
-    let steps = &[
-        Step::Record(X, 0),
-        Step::Gives(100, 200, &[(X, 0)]),
-        Step::Gives(200, 300, &[]),
-    ];
-    assert!(rt; follows(rt.alloc(), DELTA, 10, steps));
-}
-
-#[test]
-fn the_order_of_attributes_does_not_matter(rt: HostRuntime) {
-    let steps = &[
-        Step::Record(Set::BThenA, 1),
-        Step::Record(Set::AThenB, 2),
-        Step::Record(Set::TwiceAThenB, 4),
-        Step::Gives(100, 200, &[(Set::AThenB, 7)]),
-    ];
-    assert!(rt; follows(rt.alloc(), CUMULATIVE, 10, steps));
-}
-
-#[test]
-fn an_allow_list_drops_other_keys(rt: HostRuntime) {
-    let kind = Kind {
-        allow: Some("b"),
-        ..CUMULATIVE
-    };
-    let steps = &[
-        Step::Record(Set::BThenA, 1),
-        Step::Record(Set::CThenB, 2),
-        Step::Record(Set::A, 4),
-        Step::Gives(100, 200, &[(NONE, 4), (Set::OneB, 3)]),
-    ];
-    assert!(rt; follows(rt.alloc(), kind, 10, steps));
-}
-
-#[test]
-fn a_record_is_prepared_and_then_taken_in(rt: HostRuntime) {
-    let steps = &[
-        Step::IsPrepared(false),
-        Step::Prepare(X),
-        Step::IsPrepared(true),
-        Step::Gives(100, 200, &[]),
-        Step::TakeIn(5),
-        Step::IsPrepared(false),
-        Step::Shows(100, 300, &[(X, 5)]),
-        Step::Gives(100, 200, &[(X, 5)]),
-    ];
-    assert!(rt; follows(rt.alloc(), CUMULATIVE, 10, steps));
-}
-
-/// A resetting collection gives up a prepared record.
-#[test]
-fn a_delta_collection_gives_up_a_record(rt: HostRuntime) {
-    let steps = &[
-        Step::Prepare(X),
-        Step::Gives(100, 200, &[]),
-        Step::IsPrepared(false),
-    ];
-    assert!(rt; follows(rt.alloc(), DELTA, 10, steps));
+fn row_13(rt: HostRuntime) {
+    let cases: &[Case<i64>] = &[Case {
+        name: "a sum past the greatest number",
+        temporality: Temporality::Cumulative,
+        limit: 10,
+        steps: &[
+            Step::Prepare(""),
+            Step::Commit(9223372036854775807),
+            Step::Measure("", &[1]),
+            Step::Total(9223372036854775808),
+            Step::Points(200, "100..200 Cumulative signed; -> -9223372036854775808"),
+            Step::Finish(200),
+            Step::Collect(300, "100..300 Cumulative signed; -> -9223372036854775808"),
+        ],
+    }];
+    assert_sums(&rt, rt.alloc(), false, cases);
 }
 
 #[test]
 fn sum_aggregation(rt: HostRuntime) {
-    let steps = &[Step::Record(B, 3), Step::Gives(100, 200, &[(B, 3)])];
-    assert!(rt; follows(rt.alloc(), CUMULATIVE, 10, steps));
-    assert!(rt; follows(rt.alloc(), DELTA, 10, steps));
-}
-
-/// Whether a cumulative sum of signed numbers wraps around, and stays from one collection to the next.
-fn wraps_around(alloc: Global, sum: &mut Sum<i64>, kind: Kind) -> Result<bool, Fault> {
-    let want = [(NONE, -9223372036854775808i64)];
-    prepare(alloc, sum, NONE)?;
-    let is_taken = sum.commit(9223372036854775807) && record(alloc, sum, NONE, 1)?;
-    let is_counted = sum.total() == 9223372036854775808 && !sum.resets();
-    let is_shown = shows(alloc, sum, kind, (100, 200), &want)?;
-    sum.finish(200);
-    Ok(is_taken && is_counted && is_shown && gives(alloc, sum, kind, (100, 300), &want)?)
-}
-
-#[test]
-fn row_13(rt: HostRuntime) -> Result<(), Fail> {
-    let kind = Kind {
-        is_monotonic: false,
-        ..CUMULATIVE
-    };
-    let mut sum = made::<i64>(rt.alloc(), kind, 10)?;
-    assert!(rt; wraps_around(rt.alloc(), &mut sum, kind).unwrap_or(false));
-    Ok(())
-}
-
-/// An entry that a live handle holds outlives collections without records and counts toward the limit, until the
-/// handle ends.
-#[test]
-fn a_held_entry_stays(rt: HostRuntime) {
-    let steps = &[
-        Step::Bind(3, X),
-        Step::RecordBound(3, 5),
-        Step::Gives(100, 200, &[(X, 5)]),
-        Step::Gives(200, 300, &[]),
-        Step::Gives(300, 400, &[]),
-        Step::Record(Y, 2),
-        Step::RecordBound(3, 7),
-        Step::Gives(400, 500, &[(X, 7), (OVERFLOW, 2)]),
-        Step::Unbind(3),
-        Step::Gives(500, 600, &[]),
-        Step::Record(Y, 4),
-        Step::Gives(600, 700, &[(Y, 4)]),
+    let cases: &[Case<u64>] = &[
+        Case {
+            name: "cumulative",
+            temporality: Temporality::Cumulative,
+            limit: 10,
+            steps: &[
+                Step::Measure("b=2", &[3]),
+                Step::Collect(200, "100..200 Cumulative monotonic; b=2 -> 3"),
+            ],
+        },
+        Case {
+            name: "delta",
+            temporality: Temporality::Delta,
+            limit: 10,
+            steps: &[
+                Step::Measure("b=2", &[3]),
+                Step::Collect(200, "100..200 Delta monotonic; b=2 -> 3"),
+            ],
+        },
     ];
-    assert!(rt; follows(rt.alloc(), DELTA, 1, steps));
+    assert_sums(&rt, rt.alloc(), true, cases);
+}
+
+const CASES: &[Case<u64>] = &[
+    Case {
+        name: "past the limit the overflow entry is used",
+        temporality: Temporality::Cumulative,
+        limit: 1,
+        steps: &[
+            Step::Measure("x=1", &[1]),
+            Step::Measure("y=1", &[2]),
+            Step::Measure("z=1", &[4]),
+            Step::Measure("x=1", &[8]),
+            Step::Collect(
+                200,
+                "100..200 Cumulative monotonic; x=1 -> 9; otel.metric.overflow=true -> 6",
+            ),
+            Step::Collect(
+                200,
+                "100..200 Cumulative monotonic; x=1 -> 9; otel.metric.overflow=true -> 6",
+            ),
+        ],
+    },
+    Case {
+        name: "the empty set comes first and isn't counted",
+        temporality: Temporality::Cumulative,
+        limit: 1,
+        steps: &[
+            Step::Collect(200, "100..200 Cumulative monotonic"),
+            Step::Measure("x=1", &[2]),
+            Step::Measure("", &[1]),
+            Step::Measure("y=1", &[4]),
+            Step::Collect(
+                200,
+                "100..200 Cumulative monotonic; -> 1; x=1 -> 2; otel.metric.overflow=true -> 4",
+            ),
+        ],
+    },
+    Case {
+        name: "the order of attributes doesn't matter",
+        temporality: Temporality::Cumulative,
+        limit: 10,
+        steps: &[
+            Step::Measure("b=1 a=2", &[1]),
+            Step::Measure("a=2 b=1", &[2]),
+            Step::Measure("a=2 a=9 b=1", &[4]),
+            Step::Collect(200, "100..200 Cumulative monotonic; a=2 b=1 -> 7"),
+        ],
+    },
+    Case {
+        name: "a record is prepared and then taken in",
+        temporality: Temporality::Cumulative,
+        limit: 10,
+        steps: &[
+            Step::IsPrepared(false),
+            Step::Prepare("x=1"),
+            Step::IsPrepared(true),
+            Step::Collect(200, "100..200 Cumulative monotonic"),
+            Step::Commit(5),
+            Step::IsPrepared(false),
+            Step::Points(300, "100..300 Cumulative monotonic; x=1 -> 5"),
+            Step::Collect(200, "100..200 Cumulative monotonic; x=1 -> 5"),
+        ],
+    },
+    Case {
+        name: "a collection starts at the moment of the one before, even if that had no points",
+        temporality: Temporality::Delta,
+        limit: 10,
+        steps: &[
+            Step::Collect(200, "100..200 Delta monotonic"),
+            Step::Measure("", &[1]),
+            Step::Collect(300, "200..300 Delta monotonic; -> 1"),
+        ],
+    },
+    Case {
+        name: "the same if the points of the one before add up to 0",
+        temporality: Temporality::Delta,
+        limit: 10,
+        steps: &[
+            Step::Measure("x=1", &[0]),
+            Step::Collect(200, "100..200 Delta monotonic; x=1 -> 0"),
+            Step::Collect(300, "200..300 Delta monotonic"),
+        ],
+    },
+    Case {
+        name: "a resetting collection gives up a prepared record",
+        temporality: Temporality::Delta,
+        limit: 10,
+        steps: &[
+            Step::Prepare("x=1"),
+            Step::Collect(200, "100..200 Delta monotonic"),
+            Step::IsPrepared(false),
+        ],
+    },
+    Case {
+        name: "an entry that a live handle holds stays and is counted until the handle ends",
+        temporality: Temporality::Delta,
+        limit: 1,
+        steps: &[
+            Step::Bind(3, "x=1"),
+            Step::UpdateBound(3, 5, true),
+            Step::Collect(200, "100..200 Delta monotonic; x=1 -> 5"),
+            Step::Collect(300, "200..300 Delta monotonic"),
+            Step::Collect(400, "300..400 Delta monotonic"),
+            Step::Measure("y=1", &[2]),
+            Step::UpdateBound(3, 7, true),
+            Step::Collect(
+                500,
+                "400..500 Delta monotonic; x=1 -> 7; otel.metric.overflow=true -> 2",
+            ),
+            Step::Unbind(3),
+            Step::UpdateBound(3, 1, false),
+            Step::Collect(600, "500..600 Delta monotonic"),
+            Step::Measure("y=1", &[4]),
+            Step::Collect(700, "600..700 Delta monotonic; y=1 -> 4"),
+        ],
+    },
+];
+
+#[test]
+fn sums(rt: HostRuntime) {
+    assert_sums(&rt, rt.alloc(), true, CASES);
+}
+
+#[test]
+fn an_allow_list_drops_other_keys(rt: HostRuntime) {
+    let keys = vec![in rt.alloc(); Key::new(rt.alloc(), "b").expect(&rt, "memory")];
+    let allow = Items::from(keys.expect(&rt, "memory"));
+    let hasher = SetHashBuilder::default();
+    let made = Sum::new(
+        rt.alloc(),
+        hasher,
+        true,
+        Temporality::Cumulative,
+        Some(allow),
+        10,
+        100,
+    );
+    let mut sum: Sum<u64> = made.expect(&rt, "memory");
+    let steps = &[
+        Step::Measure("b=1 a=2", &[1]),
+        Step::Measure("c=2 b=1", &[2]),
+        Step::Measure("a=1", &[4]),
+        Step::Collect(200, "100..200 Cumulative monotonic; -> 4; b=1 -> 3"),
+    ];
+    assert_steps(&rt, rt.alloc(), &mut sum, steps, "an allow-list");
+}
+
+/// What a collection would give, as text.
+fn told(alloc: Global, sum: &Sum<u64>) -> Result<String, Fault> {
+    let mut text = String::new(alloc);
+    sum.points(alloc, 200)?.tell(&mut text)?;
+    Ok(text)
 }
 
 /// Whether a sum shows a record of 1. If memory is refused, tries again.
 fn still_shows(alloc: Global, sum: &Sum<u64>) -> bool {
-    let wanted = [(X, 1)];
-    match shows(alloc, sum, DELTA, (100, 200), &wanted) {
-        Ok(is_shown) => is_shown,
-        Err(_) => shows(alloc, sum, DELTA, (100, 200), &wanted).unwrap_or(false),
+    for _ in 0..2 {
+        if let Ok(text) = told(alloc, sum) {
+            return text.as_str() == "100..200 Delta monotonic; x=1 -> 1";
+        }
     }
+    false
 }
 
 /// Makes room for a handle, and returns whether the sum shows what it showed before. If memory is refused, tries
@@ -420,58 +335,46 @@ fn binds(alloc: Global, sum: &mut Sum<u64>, handle: u64, attributes: &[KeyValue]
     is_same && sum.bind(handle, attributes).is_ok()
 }
 
-/// The attributes of a set. If memory is refused, tries again.
-fn attributes_of(alloc: Global, set: Set) -> Result<Vec<KeyValue>, Fault> {
-    match attributes(alloc, set) {
+/// The attributes that a text shows. If memory is refused, tries again.
+fn attributes_of(alloc: Global, shown: &str) -> Result<Vec<KeyValue>, Fault> {
+    match attributes(alloc, shown) {
         Ok(given) => Ok(given),
-        Err(_) => attributes(alloc, set),
+        Err(_) => attributes(alloc, shown),
     }
 }
 
 /// Makes a delta sum with a record of 1. If memory is refused, tries again.
-fn recorded(alloc: Global) -> Result<Sum<u64>, Fault> {
-    let mut sum = match made(alloc, DELTA, 10) {
-        Ok(sum) => sum,
-        Err(_) => made(alloc, DELTA, 10)?,
-    };
-    let given = attributes_of(alloc, X)?;
+fn recorded(rt: &impl Abort, alloc: Global) -> Sum<u64> {
+    let given = attributes_of(alloc, "x=1").expect(rt, "memory");
+    let hasher = SetHashBuilder::default();
+    let mut made = Sum::new(alloc, hasher, true, Temporality::Delta, None, 10, 100);
+    if made.is_err() {
+        made = Sum::new(alloc, hasher, true, Temporality::Delta, None, 10, 100);
+    }
+    let mut sum = made.expect(rt, "memory");
     if sum.measure(1, &given).is_err() {
-        sum.measure(1, &given)?;
+        sum.measure(1, &given).expect(rt, "memory");
     }
-    Ok(sum)
+    sum
 }
 
-/// Whether handles are bound to several sets, one of them twice, and a record through each is counted.
-fn binds_all(alloc: Global, sum: &mut Sum<u64>) -> Result<bool, Fault> {
-    let sets = [
-        Y,
-        Set::BThenA,
-        NONE,
-        Z,
-        Set::AThenB,
-        X,
-        Set::CThenB,
-        Set::KIsV,
-    ];
-    let mut are_bound = makes_room(alloc, sum);
-    for (handle, set) in (0u64..).zip(sets) {
-        let given = attributes_of(alloc, set)?;
-        if !binds(alloc, sum, handle, &given) {
-            are_bound = false;
-        }
-    }
-    for handle in 0u64..8 {
-        if !sum.update_bound(handle, 1) {
-            are_bound = false;
-        }
-    }
-    Ok(are_bound && sum.total() == 9)
-}
+/// Sets of attributes, of which two are the same in another order.
+const SETS: &[&str] = &[
+    "y=1", "b=1 a=2", "", "z=1", "a=2 b=1", "x=1", "c=2 b=1", "k=v",
+];
 
-/// A refused handle changes nothing: this passes even if any one request for memory is refused.
+/// A refused handle changes nothing: a handle is bound to each of several sets, and a record through each is counted.
+/// This passes even if any one request for memory is refused.
 #[test]
-fn a_refused_handle_changes_nothing(rt: HostRuntime) -> Result<(), Fail> {
-    let mut sum = recorded(rt.alloc())?;
-    assert!(rt; binds_all(rt.alloc(), &mut sum).unwrap_or(false));
-    Ok(())
+fn a_refused_handle_changes_nothing(rt: HostRuntime) {
+    let mut sum = recorded(&rt, rt.alloc());
+    assert!(rt; makes_room(rt.alloc(), &mut sum));
+    for (handle, shown) in (0u64..).zip(SETS) {
+        let set = attributes_of(rt.alloc(), shown).expect(&rt, shown);
+        assert!(rt; binds(rt.alloc(), &mut sum, handle, &set), "{shown}");
+    }
+    for (handle, shown) in (0u64..).zip(SETS) {
+        assert!(rt; sum.update_bound(handle, 1), "{shown}");
+    }
+    assert_eq!(rt; sum.total(), 9);
 }

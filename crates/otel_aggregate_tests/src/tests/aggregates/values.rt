@@ -7,10 +7,8 @@ use otel_common::keys::Key;
 use otel_common::lists::Items;
 use otel_common::metrics::Temporality;
 use otel_common::strings::StringValue;
-use otel_data::points::SumDataPoint;
 use otel_value_map::hashing::SetHashBuilder;
 use std::alloc::Global;
-use std::test::Fail;
 
 /// The array of this number; no two of the four are equal.
 fn array_of(alloc: Global, number: u8) -> Result<Array, Fault> {
@@ -34,51 +32,30 @@ fn value_of(alloc: Global, number: u8) -> Result<Value, Fault> {
     })
 }
 
-/// Adds 1 for the value of this number, as that of an attribute.
-fn measure_value(alloc: Global, sum: &mut Sum<u64>, number: u8) -> Result<(), Fault> {
-    let value = value_of(alloc, number)?;
-    let set = vec![in alloc; KeyValue::new(Key::new(alloc, "key")?, value)]?;
-    sum.measure(1, set.as_slice())
-}
-
-/// Adds 1 for each of the values, twice.
-fn measure_values(alloc: Global, sum: &mut Sum<u64>) -> Result<(), Fault> {
-    for _ in 0..2 {
-        for number in 0u8..9 {
-            measure_value(alloc, sum, number)?;
-        }
-    }
-    Ok(())
-}
-
-/// Whether there is a point for each of the values, and each has counted twice.
-fn are_counted_twice(points: &[SumDataPoint<u64>]) -> bool {
-    let mut are = points.len() == 9;
-    for point in points {
-        are = are && point.value() == 2;
-    }
-    are
-}
-
-/// Whether a sum counts each of the values twice.
-fn counts_twice(alloc: Global, sum: &mut Sum<u64>) -> Result<bool, Fault> {
-    measure_values(alloc, sum)?;
-    let collected = sum.collect(alloc, 200)?;
-    Ok(are_counted_twice(collected.data_points().as_slice()))
-}
-
 /// Records whose attributes have equal values share a point, whatever the kind of the values.
 #[test]
-fn points_by_value(rt: HostRuntime) -> Result<(), Fail> {
-    let mut sum = Sum::new(
-        rt.alloc(),
-        SetHashBuilder::default(),
+fn points_by_value(rt: HostRuntime) {
+    let alloc = rt.alloc();
+    let hasher = SetHashBuilder::default();
+    let made = Sum::new(
+        alloc,
+        hasher,
         true,
         Temporality::Cumulative,
         None,
         2000,
         100,
-    )?;
-    assert!(rt; counts_twice(rt.alloc(), &mut sum).unwrap_or(false));
-    Ok(())
+    );
+    let mut sum: Sum<u64> = made.expect(&rt, "memory");
+    for number in 0u8..18 {
+        let key = Key::new(alloc, "key").expect(&rt, "memory");
+        let value = value_of(alloc, number % 9).expect(&rt, "memory");
+        sum.measure(1, &[KeyValue::new(key, value)])
+            .expect(&rt, "memory");
+    }
+    let data = sum.collect(alloc, 200).expect(&rt, "memory");
+    assert_eq!(rt; data.data_points().count(), 9);
+    for point in data.data_points() {
+        assert_eq!(rt; point.value(), 2);
+    }
 }

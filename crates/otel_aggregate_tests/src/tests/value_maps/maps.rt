@@ -1,297 +1,353 @@
-//! The map from sets of attributes to aggregators.
+//! The map from sets of attributes to aggregators: what it shows after each of some steps.
 
-use super::{Set, attributes};
+use super::super::{attributes, show_attributes};
+use super::{FEW, FEW_MIXED, MANY, MANY_MIXED};
 use otel_common::attributes::KeyValue;
-use otel_common::faults::Fault;
 use otel_common::lists::SharedItems;
-use otel_value_map::aggregator::Increment;
+use otel_value_map::aggregator::{Aggregator, Increment};
 use otel_value_map::assign::Assign;
 use otel_value_map::hashing::SetHashBuilder;
 use otel_value_map::number::Number;
 use otel_value_map::value_map::ValueMap;
-use std::alloc::Global;
-use std::test::Fail;
+use std::alloc::{AllocError, Global};
+use std::fmt::{Debug, Display};
+use std::process::Abort;
 
-const NONE: Set = &[];
-
-/// The set [a=2, b=1]. `TURNED` has the same attributes in another order.
-const BOTH: Set = &[("a", 2), ("b", 1)];
-
-const TURNED: Set = &[("b", 1), ("a", 2)];
-
-const OTHER: Set = &[("c", 1)];
-
-/// Whether this is the wanted set with the wanted sum.
-fn is_sum<T: Number + Drop + PartialEq>(
-    alloc: Global,
-    given: &(SharedItems<KeyValue>, Increment<T>),
-    want: &(Set, T),
-) -> Result<bool, Fault> {
-    let set = attributes(alloc, want.0)?;
-    Ok(given.0.as_slice() == set.as_slice() && given.1.value == want.1)
+/// An aggregator that keeps one number.
+trait Kept: Aggregator {
+    fn value(&self) -> Self::PreComputedValue;
 }
 
-/// Whether these are the wanted sets and sums, in order.
-fn are_sums<T: Number + Drop + PartialEq>(
+impl<T: Number + Drop> Kept for Increment<T> {
+    fn value(&self) -> T {
+        self.value
+    }
+}
+
+impl<T: Number + Drop> Kept for Assign<T> {
+    fn value(&self) -> T {
+        self.value
+    }
+}
+
+/// What is done to a map with some attributes, or what is checked of them.
+enum Call<'a, T> {
+    Measure(T),
+    /// A record in two phases.
+    Commit(T),
+    /// A prepared record that is given up.
+    GiveUp,
+    /// A record with what the map then shows, after which the map is restored.
+    Undo(T, &'a str),
+    Knows(bool),
+    Get(T),
+}
+
+/// What is done to a map, or what is checked of it.
+enum Step<'a, T> {
+    On(&'a str, Call<'a, T>),
+    Keys(usize),
+    Count(usize),
+    Total(u64),
+    /// What a collection gives that changes nothing.
+    Readonly(&'a str),
+    /// What a resetting collection gives.
+    Reset(&'a str),
+    /// What a draining collection gives.
+    Drain(&'a str),
+}
+
+/// Some steps of a map with this limit.
+struct Case<'a, T> {
+    name: &'a str,
+    limit: usize,
+    steps: &'a [Step<'a, T>],
+}
+
+/// Shows a set and what is kept of it.
+fn show<T: Copy + Display>(
+    text: &mut String,
+    set: &[KeyValue],
+    value: T,
+) -> Result<(), AllocError> {
+    show_attributes(text, set.iter())?;
+    write!(text, "-> {value};")
+}
+
+/// Asserts that a collection gives this.
+fn assert_given<A: Kept>(
+    rt: &impl Abort,
     alloc: Global,
-    given: &[(SharedItems<KeyValue>, Increment<T>)],
-    wanted: &[(Set, T)],
-) -> Result<bool, Fault> {
-    let mut are = given.len() == wanted.len();
-    for (given, want) in given.iter().zip(wanted) {
-        if !is_sum(alloc, given, want)? {
-            are = false;
+    given: &[(SharedItems<KeyValue>, A)],
+    wanted: &str,
+    name: &str,
+)
+where
+    A::PreComputedValue: Display,
+{
+    let mut text = String::new(alloc);
+    for (set, kept) in given {
+        show(&mut text, set.as_slice(), kept.value()).expect(rt, name);
+    }
+    assert_eq!(rt; text.as_str(), wanted, "{name}");
+}
+
+/// Makes a call with some attributes, and asserts that the outcome is as wanted.
+fn assert_call<A: Kept>(
+    rt: &impl Abort,
+    alloc: Global,
+    map: &mut ValueMap<A>,
+    set: &[KeyValue],
+    call: &Call<A::PreComputedValue>,
+    name: &str,
+)
+where
+    A::PreComputedValue: Debug + Display + PartialEq,
+{
+    match call {
+        Call::Measure(value) => map.measure(*value, set).expect(rt, name),
+        Call::Commit(value) => {
+            map.prepare(set).expect(rt, name);
+            assert!(rt; map.is_prepared(), "{name}");
+            map.commit(*value);
+        }
+        Call::GiveUp => {
+            map.prepare(set).expect(rt, name);
+            map.give_up();
+            assert!(rt; !map.is_prepared(), "{name}");
+        }
+        Call::Undo(value, wanted) => {
+            let saved = map.save(alloc).expect(rt, name);
+            map.measure(*value, set).expect(rt, name);
+            let given = map.collect_readonly(alloc).expect(rt, name);
+            assert_given(rt, alloc, &given, wanted, name);
+            map.restore(saved);
+        }
+        Call::Knows(wanted) => assert_eq!(rt; map.knows(set), *wanted, "{name}"),
+        Call::Get(wanted) => {
+            assert_eq!(rt; map.get(set).expect(rt, name).value(), *wanted, "{name}");
         }
     }
-    Ok(are)
 }
 
-/// Takes in a record in two phases, and returns whether it was prepared.
-fn takes_in<T: Number + Drop>(
+/// Does a step, and asserts that the outcome is as wanted.
+fn assert_step<A: Kept>(
+    rt: &impl Abort,
     alloc: Global,
-    map: &mut ValueMap<Increment<T>>,
-    set: Set,
-    value: T,
-) -> Result<bool, Fault> {
-    map.prepare(&attributes(alloc, set)?)?;
-    let is_prepared = map.is_prepared();
-    if is_prepared {
-        map.commit(value);
+    map: &mut ValueMap<A>,
+    step: &Step<A::PreComputedValue>,
+    name: &str,
+)
+where
+    A::PreComputedValue: Debug + Display + PartialEq,
+{
+    match step {
+        Step::On(set, call) => {
+            let set = attributes(alloc, set).expect(rt, name);
+            assert_call(rt, alloc, map, &set, call, name);
+        }
+        Step::Keys(wanted) => assert_eq!(rt; map.keys(), *wanted, "{name}"),
+        Step::Count(wanted) => assert_eq!(rt; map.count(), *wanted, "{name}"),
+        Step::Total(wanted) => assert_eq!(rt; map.total(true), *wanted, "{name}"),
+        Step::Readonly(wanted) => {
+            let given = map.collect_readonly(alloc).expect(rt, name);
+            assert_given(rt, alloc, &given, wanted, name);
+        }
+        Step::Reset(wanted) => {
+            let given = map.collect_and_reset(alloc).expect(rt, name);
+            assert_given(rt, alloc, &given, wanted, name);
+        }
+        Step::Drain(wanted) => {
+            let given = map.drain_and_reset(alloc).expect(rt, name);
+            assert_given(rt, alloc, &given, wanted, name);
+        }
     }
-    Ok(is_prepared)
 }
 
-/// Takes in a record in one call.
-fn record<T: Number + Drop>(
+/// Asserts that a map for each case follows its steps.
+fn assert_maps<A: Kept<InitConfig = ()>>(
+    rt: &impl Abort,
     alloc: Global,
-    map: &mut ValueMap<Increment<T>>,
-    set: Set,
-    value: T,
-) -> Result<(), Fault> {
-    map.measure(value, &attributes(alloc, set)?)
+    cases: &[Case<A::PreComputedValue>],
+)
+where
+    A::PreComputedValue: Debug + Display + PartialEq,
+{
+    for case in cases {
+        let made = ValueMap::new(alloc, SetHashBuilder::default(), (), case.limit);
+        let mut map: ValueMap<A> = made.expect(rt, case.name);
+        for step in case.steps {
+            assert_step(rt, alloc, &mut map, step, case.name);
+        }
+    }
 }
 
-/// Prepares a record and gives it up, and returns whether none is prepared after that.
-fn gives_up<T: Number + Drop>(
-    alloc: Global,
-    map: &mut ValueMap<Increment<T>>,
-    set: Set,
-) -> Result<bool, Fault> {
-    map.prepare(&attributes(alloc, set)?)?;
-    map.give_up();
-    Ok(!map.is_prepared())
-}
+const SUMS: &[Case<u64>] = &[
+    Case {
+        name: "a draining collection empties a map, and a resetting one doesn't",
+        limit: 2,
+        steps: &[
+            Step::On("b=1 a=2", Call::Measure(1)),
+            Step::On("a=2 b=1", Call::Get(1)),
+            Step::Reset("a=2 b=1 -> 1;"),
+            Step::On("", Call::Measure(4)),
+            Step::Drain("-> 4;a=2 b=1 -> 0;"),
+            Step::Readonly(""),
+            Step::Total(0),
+        ],
+    },
+    Case {
+        name: "a map is restored, empty and with sets at and past the limit",
+        limit: 1,
+        steps: &[
+            Step::On("", Call::Undo(8, "-> 8;")),
+            Step::Readonly(""),
+            Step::Total(0),
+            Step::On("a=2 b=1", Call::Undo(8, "a=2 b=1 -> 8;")),
+            Step::Readonly(""),
+            Step::Total(0),
+            Step::On("", Call::Measure(4)),
+            Step::On("c=1", Call::Measure(1)),
+            Step::On("c=1", Call::Undo(8, "-> 4;c=1 -> 9;")),
+            Step::Readonly("-> 4;c=1 -> 1;"),
+            Step::Total(5),
+            Step::On(
+                "a=2 b=1",
+                Call::Undo(8, "-> 4;c=1 -> 1;otel.metric.overflow=true -> 8;"),
+            ),
+            Step::Readonly("-> 4;c=1 -> 1;"),
+            Step::Total(5),
+            Step::On("c=1", Call::Measure(2)),
+            Step::Reset("-> 4;c=1 -> 3;"),
+        ],
+    },
+    Case {
+        name: "a map gives its sets in order, and once, but for a record that is given up",
+        limit: 2,
+        steps: &[
+            Step::On("b=1 a=2", Call::Measure(1)),
+            Step::On("a=2 b=1", Call::Commit(2)),
+            Step::On("c=1", Call::GiveUp),
+            Step::On("", Call::Measure(4)),
+            Step::Readonly("-> 4;a=2 b=1 -> 3;"),
+            Step::Total(7),
+            Step::Reset("-> 4;a=2 b=1 -> 3;"),
+            Step::Reset(""),
+            Step::Readonly(""),
+            Step::Total(0),
+        ],
+    },
+    Case {
+        name: "few keys are found in any order",
+        limit: 9,
+        steps: &[
+            Step::On(FEW_MIXED, Call::Measure(1)),
+            Step::On(FEW, Call::Measure(2)),
+            Step::On("d=4 c=3 b=2 a=1", Call::Measure(4)),
+            Step::Count(1),
+            Step::Total(7),
+        ],
+    },
+    Case {
+        name: "many keys are found in any order",
+        limit: 9,
+        steps: &[
+            Step::On(MANY_MIXED, Call::Measure(1)),
+            Step::On(MANY, Call::Measure(2)),
+            Step::On(
+                "r=18 q=17 p=16 o=15 n=14 m=13 l=12 k=11 j=10 i=9 h=8 g=7 f=6 e=5 d=4 c=3 b=2 a=1",
+                Call::Measure(4),
+            ),
+            Step::Count(1),
+            Step::Total(7),
+        ],
+    },
+];
 
-/// Whether a collection that changes nothing gives these sums, and they add up to `total`.
-fn shows<T: Number + Drop + PartialEq>(
-    alloc: Global,
-    map: &ValueMap<Increment<T>>,
-    wanted: &[(Set, T)],
-    total: u64,
-) -> Result<bool, Fault> {
-    let given = map.collect_readonly(alloc)?;
-    Ok(map.total(true) == total && are_sums(alloc, &given, wanted)?)
-}
-
-/// Whether a resetting collection gives these sums.
-fn gives<T: Number + Drop + PartialEq>(
-    alloc: Global,
-    map: &mut ValueMap<Increment<T>>,
-    wanted: &[(Set, T)],
-) -> Result<bool, Fault> {
-    let given = map.collect_and_reset(alloc)?;
-    are_sums(alloc, &given, wanted)
-}
-
-/// Whether the map finds this sum for the set.
-fn finds(
-    alloc: Global,
-    map: &ValueMap<Increment<u64>>,
-    set: Set,
-    want: u64,
-) -> Result<bool, Fault> {
-    let set = attributes(alloc, set)?;
-    Ok(map.get(&set).is_some_and(|sum| sum.value == want))
-}
-
-/// Whether a draining collection gives these sums and leaves none.
-fn drains(
-    alloc: Global,
-    map: &mut ValueMap<Increment<u64>>,
-    wanted: &[(Set, u64)],
-) -> Result<bool, Fault> {
-    let given = map.drain_and_reset(alloc)?;
-    Ok(are_sums(alloc, &given, wanted)? && shows(alloc, map, &[], 0)?)
-}
-
-/// A map of sums with this limit.
-fn sums<T: Number + Drop>(alloc: Global, limit: usize) -> Result<ValueMap<Increment<T>>, Fault> {
-    ValueMap::new(alloc, SetHashBuilder::default(), (), limit)
-}
-
-/// Whether a new map is emptied by a draining collection, and not by a resetting one.
-fn is_drained(alloc: Global, map: &mut ValueMap<Increment<u64>>) -> Result<bool, Fault> {
-    record(alloc, map, TURNED, 1)?;
-    let is_given = finds(alloc, map, BOTH, 1)? && gives(alloc, map, &[(BOTH, 1)])?;
-    record(alloc, map, NONE, 4)?;
-    Ok(is_given && drains(alloc, map, &[(NONE, 4), (BOTH, 0)])?)
+#[test]
+fn maps_of_sums(rt: HostRuntime) {
+    assert_maps::<Increment<u64>>(&rt, rt.alloc(), SUMS);
 }
 
 #[test]
-fn a_map_drains(rt: HostRuntime) -> Result<(), Fail> {
-    let mut map = sums(rt.alloc(), 2)?;
-    assert!(rt; is_drained(rt.alloc(), &mut map).unwrap_or(false));
-    Ok(())
+fn a_map_of_signed_sums(rt: HostRuntime) {
+    let cases = &[Case {
+        name: "signed sums",
+        limit: 2,
+        steps: &[
+            Step::On("b=1 a=2", Call::Measure(1)),
+            Step::On("", Call::Commit(-4)),
+            Step::On("a=2 b=1", Call::Measure(2)),
+            Step::Readonly("-> -4;a=2 b=1 -> 3;"),
+            Step::Total(18446744073709551615),
+            Step::Reset("-> -4;a=2 b=1 -> 3;"),
+        ],
+    }];
+    assert_maps::<Increment<i64>>(&rt, rt.alloc(), cases);
 }
 
-/// Takes in a record and restores the map, and returns whether it then shows these sums again.
-fn restores(
-    alloc: Global,
-    map: &mut ValueMap<Increment<u64>>,
-    set: Set,
-    wanted: &[(Set, u64)],
-    total: u64,
-) -> Result<bool, Fault> {
-    let saved = map.save(alloc)?;
-    record(alloc, map, set, 8)?;
-    let is_changed = !shows(alloc, map, wanted, total)?;
-    map.restore(saved);
-    Ok(is_changed && shows(alloc, map, wanted, total)?)
-}
-
-/// Whether a new map with a limit of 1 is restored, empty and with sets at and past the limit.
-fn is_restored(alloc: Global, map: &mut ValueMap<Increment<u64>>) -> Result<bool, Fault> {
-    let wanted = [(NONE, 4), (OTHER, 1)];
-    let is_empty = restores(alloc, map, NONE, &[], 0)? && restores(alloc, map, BOTH, &[], 0)?;
-    record(alloc, map, NONE, 4)?;
-    record(alloc, map, OTHER, 1)?;
-    let is_known = restores(alloc, map, OTHER, &wanted, 5)?;
-    let is_past = restores(alloc, map, BOTH, &wanted, 5)?;
-    record(alloc, map, OTHER, 2)?;
-    Ok(is_empty && is_known && is_past && gives(alloc, map, &[(NONE, 4), (OTHER, 3)])?)
-}
-
+/// A set that came unsorted is known in both orders until it is evicted, and in neither from then on.
 #[test]
-fn a_map_is_restored(rt: HostRuntime) -> Result<(), Fail> {
-    let mut map = sums(rt.alloc(), 1)?;
-    assert!(rt; is_restored(rt.alloc(), &mut map).unwrap_or(false));
-    Ok(())
-}
-
-/// Whether a new map takes in some records, of which one is given up.
-fn takes_all(alloc: Global, map: &mut ValueMap<Increment<u64>>) -> Result<bool, Fault> {
-    record(alloc, map, TURNED, 1)?;
-    let is_taken = takes_in(alloc, map, BOTH, 2)? && gives_up(alloc, map, OTHER)?;
-    record(alloc, map, NONE, 4)?;
-    Ok(is_taken)
-}
-
-/// Whether a new map gives its sets in order, and once.
-fn is_in_order(alloc: Global, map: &mut ValueMap<Increment<u64>>) -> Result<bool, Fault> {
-    let wanted = [(NONE, 4), (BOTH, 3)];
-    let is_taken = takes_all(alloc, map)?;
-    let is_shown = shows(alloc, map, &wanted, 7)? && gives(alloc, map, &wanted)?;
-    Ok(is_taken && is_shown && gives(alloc, map, &[])? && shows(alloc, map, &[], 0)?)
-}
-
-#[test]
-fn a_map_gives_its_sets_in_order(rt: HostRuntime) -> Result<(), Fail> {
-    let mut map = sums(rt.alloc(), 2)?;
-    assert!(rt; is_in_order(rt.alloc(), &mut map).unwrap_or(false));
-    Ok(())
-}
-
-/// Whether a new map adds signed numbers.
-fn adds_signed(alloc: Global, map: &mut ValueMap<Increment<i64>>) -> Result<bool, Fault> {
-    let wanted = [(NONE, -4), (BOTH, 3)];
-    record(alloc, map, TURNED, 1)?;
-    let is_taken = takes_in(alloc, map, NONE, -4)?;
-    record(alloc, map, BOTH, 2)?;
-    let is_shown = shows(alloc, map, &wanted, 18446744073709551615)?;
-    Ok(is_taken && is_shown && gives(alloc, map, &wanted)?)
-}
-
-#[test]
-fn a_map_of_signed_sums(rt: HostRuntime) -> Result<(), Fail> {
-    let mut map = sums(rt.alloc(), 2)?;
-    assert!(rt; adds_signed(rt.alloc(), &mut map).unwrap_or(false));
-    Ok(())
-}
-
-/// A map of last values with a limit of 10.
-fn last_values(alloc: Global) -> Result<ValueMap<Assign<i64>>, Fault> {
-    ValueMap::new(alloc, SetHashBuilder::default(), (), 10)
-}
-
-/// Whether a map has so many keys and counted entries.
-fn has(map: &ValueMap<Assign<i64>>, keys: usize, count: usize) -> bool {
-    map.keys() == keys && map.count() == count
-}
-
-/// Whether a map knows a list of attributes.
-fn knows(alloc: Global, map: &ValueMap<Assign<i64>>, set: Set) -> Result<bool, Fault> {
-    Ok(map.knows(&attributes(alloc, set)?))
-}
-
-/// Sets the value of a set.
-fn assign(
-    alloc: Global,
-    map: &mut ValueMap<Assign<i64>>,
-    set: Set,
-    value: i64,
-) -> Result<(), Fault> {
-    map.measure(value, &attributes(alloc, set)?)
-}
-
-/// Whether a resetting collection gives so many points.
-fn counts(alloc: Global, map: &mut ValueMap<Assign<i64>>, count: usize) -> Result<bool, Fault> {
-    Ok(map.collect_and_reset(alloc)?.len() == count)
-}
-
-/// Whether a list in another order than its set is known as long as the entry that it made.
-fn is_known_until_evicted(alloc: Global, map: &mut ValueMap<Assign<i64>>) -> Result<bool, Fault> {
-    assign(alloc, map, TURNED, 1)?;
-    let is_known = knows(alloc, map, TURNED)? && knows(alloc, map, BOTH)?;
-    let is_made = is_known && has(map, 2, 1);
-    let is_counted = counts(alloc, map, 1)? && counts(alloc, map, 0)?;
-    Ok(is_made && is_counted && has(map, 0, 0) && !knows(alloc, map, TURNED)?)
+fn stale_entry_evicts_both_unsorted_and_sorted_keys(rt: HostRuntime) {
+    let cases = &[Case {
+        name: "a set that came unsorted",
+        limit: 10,
+        steps: &[
+            Step::On("b=1 a=2", Call::Measure(1)),
+            Step::Keys(2),
+            Step::Count(1),
+            Step::On("b=1 a=2", Call::Knows(true)),
+            Step::On("a=2 b=1", Call::Knows(true)),
+            Step::Reset("a=2 b=1 -> 1;"),
+            Step::Keys(2),
+            Step::Count(1),
+            Step::On("b=1 a=2", Call::Knows(true)),
+            Step::On("a=2 b=1", Call::Knows(true)),
+            Step::Reset(""),
+            Step::Keys(0),
+            Step::Count(0),
+            Step::On("b=1 a=2", Call::Knows(false)),
+            Step::On("a=2 b=1", Call::Knows(false)),
+        ],
+    }];
+    assert_maps::<Increment<u64>>(&rt, rt.alloc(), cases);
 }
 
 /// A list in another order than its set leads to the entry that it made, as the set does, until the entry is evicted.
 #[test]
-fn row_31(rt: HostRuntime) -> Result<(), Fail> {
-    let mut map = last_values(rt.alloc())?;
-    assert!(rt; is_known_until_evicted(rt.alloc(), &mut map).unwrap_or(false));
-    Ok(())
+fn row_31(rt: HostRuntime) {
+    let cases = &[Case {
+        name: "a list in another order than its set",
+        limit: 10,
+        steps: &[
+            Step::On("b=1 a=2", Call::Measure(1)),
+            Step::On("b=1 a=2", Call::Knows(true)),
+            Step::On("a=2 b=1", Call::Knows(true)),
+            Step::Keys(2),
+            Step::Count(1),
+            Step::Reset("a=2 b=1 -> 1;"),
+            Step::Reset(""),
+            Step::Keys(0),
+            Step::Count(0),
+            Step::On("b=1 a=2", Call::Knows(false)),
+        ],
+    }];
+    assert_maps::<Assign<i64>>(&rt, rt.alloc(), cases);
 }
 
-/// Whether these are the one point of a set, with this value.
-fn is_point(
-    alloc: Global,
-    points: &[(SharedItems<KeyValue>, Assign<i64>)],
-    set: Set,
-    value: i64,
-) -> Result<bool, Fault> {
-    let set = attributes(alloc, set)?;
-    match points {
-        [point] => Ok(point.0.as_slice() == set.as_slice() && point.1.value == value),
-        _ => Ok(false),
-    }
-}
-
-/// Whether a list in another order than the one that made the entry goes there, and is no key.
-fn adds_no_key(alloc: Global, map: &mut ValueMap<Assign<i64>>) -> Result<bool, Fault> {
-    assign(alloc, map, BOTH, 1)?;
-    assign(alloc, map, TURNED, 2)?;
-    let is_one = map.keys() == 1 && !knows(alloc, map, TURNED)?;
-    let points = map.collect_and_reset(alloc)?;
-    Ok(is_one && is_point(alloc, points.as_slice(), BOTH, 2)?)
-}
-
-/// A list in another order than the one that made the entry adds no key.
+/// A list in another order than the one that made the entry goes there, and adds no key.
 #[test]
-fn row_32(rt: HostRuntime) -> Result<(), Fail> {
-    let mut map = last_values(rt.alloc())?;
-    assert!(rt; adds_no_key(rt.alloc(), &mut map).unwrap_or(false));
-    Ok(())
+fn row_32(rt: HostRuntime) {
+    let cases = &[Case {
+        name: "a list in another order than the one that made the entry",
+        limit: 10,
+        steps: &[
+            Step::On("a=2 b=1", Call::Measure(1)),
+            Step::On("b=1 a=2", Call::Measure(2)),
+            Step::Keys(1),
+            Step::On("b=1 a=2", Call::Knows(false)),
+            Step::Reset("a=2 b=1 -> 2;"),
+        ],
+    }];
+    assert_maps::<Assign<i64>>(&rt, rt.alloc(), cases);
 }
