@@ -14,20 +14,23 @@ use otel_shared::locked::Locked;
 use otel_shared::worker::Worker;
 use std::alloc::Global;
 
-/// The number of the fault of a refused call, otherwise 0.
-fn fault_of_reply(reply: &Reply) -> u64 {
-    match reply {
-        Reply::Refused(fault) => u64::from(fault.number()),
-        _ => 0,
+/// The number of the fault of a refusal, otherwise 0.
+pub fn fault_of<T: Drop>(answer: Result<T, Fault>) -> u64 {
+    match answer {
+        Ok(_) => 0,
+        Err(fault) => u64::from(fault.number()),
     }
 }
 
 /// The number of the fault of a call that is refused, otherwise 0.
 pub fn fault_of_call<P: Parts, C: Account, S: Account>(
     locked: &mut Locked<P, C, S>,
-    call: Call,
+    call: &Call,
 ) -> u64 {
-    fault_of_reply(&locked.call(&call))
+    match locked.call(call) {
+        Reply::Refused(fault) => u64::from(fault.number()),
+        _ => 0,
+    }
 }
 
 /// Builds a counter of the first meter.
@@ -45,7 +48,7 @@ fn build_counter<P: Parts, C: Account, S: Account>(
         boundaries: None,
         now: 100,
     };
-    let _ = fault_of_call(locked, build);
+    let _ = fault_of_call(locked, &build);
     Ok(())
 }
 
@@ -56,7 +59,7 @@ pub fn build_counters<P: Parts, C: Account, S: Account>(
 ) -> Result<(), Fault> {
     let name = String::from_str(alloc, "app")?;
     let scope = InstrumentationScope::builder(alloc, name).build()?;
-    let _ = fault_of_call(locked, Call::Meter { scope });
+    let _ = fault_of_call(locked, &Call::Meter { scope });
     build_counter(alloc, locked, "a")?;
     build_counter(alloc, locked, "b")
 }
@@ -71,13 +74,6 @@ pub fn add<C: Account, S: Account>(
     worker.add(instrument, NumberValue::U64(value), Vec::new(alloc))
 }
 
-/// Opens a worker.
-pub fn open_worker<P: Parts, C: Account, S: Account>(
-    locked: &mut Locked<P, C, S>,
-) -> Result<Worker<C, S>, Fault> {
-    locked.open_worker()
-}
-
 /// Opens so many workers.
 pub fn open_workers<P: Parts, C: Account, S: Account>(
     alloc: Global,
@@ -86,8 +82,7 @@ pub fn open_workers<P: Parts, C: Account, S: Account>(
 ) -> Result<Vec<Worker<C, S>>, Fault> {
     let mut workers = Vec::new(alloc);
     for _ in 0..number {
-        let worker = open_worker(locked)?;
-        workers.push(worker)?;
+        workers.push(locked.open_worker()?)?;
     }
     Ok(workers)
 }
@@ -98,25 +93,6 @@ pub fn submit<P: Parts, C: Account, S: Account>(
     worker: &mut Worker<C, S>,
 ) -> Result<u64, Fault> {
     Ok(locked.submit(worker)?.accepted)
-}
-
-/// The number of the fault of a submission that is refused, otherwise 0.
-pub fn fault_of_submission<P: Parts, C: Account, S: Account>(
-    locked: &mut Locked<P, C, S>,
-    worker: &mut Worker<C, S>,
-) -> u64 {
-    match submit(locked, worker) {
-        Ok(_) => 0,
-        Err(fault) => u64::from(fault.number()),
-    }
-}
-
-/// The number of the fault of a refusal, otherwise 0.
-pub fn fault_of(answer: Result<(), Fault>) -> u64 {
-    match answer {
-        Ok(()) => 0,
-        Err(fault) => u64::from(fault.number()),
-    }
 }
 
 /// The value of the last point of a metric that is a sum of unsigned numbers.
@@ -130,22 +106,19 @@ fn value_of(metric: &Metric) -> u64 {
     value
 }
 
-/// The value of the metric of this name, 0 if there is none.
-fn value_under(collected: &ResourceMetrics, name: &str) -> u64 {
-    let mut value = 0;
+/// The values of the counters `a` and `b`, each 0 if it isn't shown.
+pub fn values_in(collected: &ResourceMetrics) -> (u64, u64) {
+    let mut values = (0, 0);
     for scope in collected.scope_metrics() {
         for metric in scope.metrics() {
-            if metric.name() == name {
-                value = value_of(metric);
+            match metric.name() {
+                "a" => values.0 = value_of(metric),
+                "b" => values.1 = value_of(metric),
+                _ => {}
             }
         }
     }
-    value
-}
-
-/// The values of the counters `a` and `b`, each 0 if it isn't shown.
-pub fn values_of(collected: &ResourceMetrics) -> (u64, u64) {
-    (value_under(collected, "a"), value_under(collected, "b"))
+    values
 }
 
 /// What the first reader collects of the counters `a` and `b`.
@@ -156,5 +129,5 @@ pub fn read<P: Parts, C: Account, S: Account>(
 ) -> Result<(u64, u64), Fault> {
     let mut collected = ResourceMetrics::default(alloc);
     locked.collect(0, now, &mut collected)?;
-    Ok(values_of(&collected))
+    Ok(values_in(&collected))
 }

@@ -16,25 +16,22 @@ fn crosses<T: Send>(_value: &T) {}
 /// Takes what threads may share.
 fn is_shared<T: Sync>(_value: &T) {}
 
-/// A provider can be handed over if its parts can, and shared under a lock.
-pub fn a_shared_provider<P: Parts + Send, C: Account, S: Account>(
+/// A provider can be handed over if its parts can, and shared under a lock. So can a worker.
+pub fn shared_providers<P: Parts + Send, C: Account, S: Account>(
     provider: &Provider<P>,
     locked: &Locked<P, C, S>,
     shared: &SharedProvider<P, C, S>,
+    worker: &Worker<C, S>,
 ) {
     crosses(provider);
     crosses(locked);
+    crosses(worker);
     is_shared(shared);
 }
 
 /// So can a provider of boxes.
 pub fn a_provider_of_boxes(provider: &SdkMeterProvider) {
     crosses(provider);
-}
-
-/// A worker can be handed over.
-pub fn a_worker<C: Account, S: Account>(worker: &Worker<C, S>) {
-    crosses(worker);
 }
 
 /// Calls, replies and collections can be handed over, instruments and handles also shared.

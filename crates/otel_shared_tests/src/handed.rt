@@ -6,12 +6,15 @@ ghost use Rattle.otel_provider.specs.Providers.{state_of};
 ghost use Rattle.otel_shared.specs.Pending.{bits_in};
 ghost use Rattle.otel_shared.specs.Workers.{pending_of, records_of, values_of};
 
+use crate::counted::values_in;
 use otel_common::faults::Fault;
+use otel_data::collections::ResourceMetrics;
 use otel_provider::parts::Parts;
 use otel_provider::provider::Provider;
 use otel_shared::account::Account;
 use otel_shared::locked::{Locked, SharedProvider};
 use otel_shared::worker::Worker;
+use std::alloc::Global;
 use std::sync::Wait;
 
 /// Hands in all that is pending, under the lock, and answers the number of the receipt. A caller knows of its own worker
@@ -43,4 +46,18 @@ pub fn settled<P: Parts, C: Account, S: Account>(
         Ok(provider) => Ok(provider),
         Err((fault, _, _)) => Err(fault),
     }
+}
+
+/// What the provider that its workers came back from collects of the counters `a` and `b`.
+pub fn read_settled<P: Parts, C: Account, S: Account>(
+    alloc: Global,
+    locked: Locked<P, C, S>,
+    workers: Vec<Worker<C, S>>,
+) -> Result<(u64, u64), Fault>
+    requires { (C.parts ≡ 4294967295) × (S.parts ≡ 4294967295) }
+{
+    let mut provider = settled(locked, workers)?;
+    let mut collected = ResourceMetrics::default(alloc);
+    provider.collect(0, 300, &mut collected)?;
+    Ok(values_in(&collected))
 }

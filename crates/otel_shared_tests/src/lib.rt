@@ -4,10 +4,11 @@
 #[cfg(test)]
 mod alone;
 #[cfg(test)]
-mod counted;
-pub mod crossing;
+mod cases;
 #[cfg(test)]
-mod four;
+mod counted;
+#[cfg(test)]
+mod crossing;
 #[cfg(test)]
 mod handed;
 #[cfg(test)]
@@ -15,6 +16,6 @@ mod limits;
 #[cfg(test)]
 mod tests;
 #[cfg(test)]
-mod typed;
+mod threads;
 #[cfg(test)]
-mod watched;
+mod typed;

@@ -1,9 +1,6 @@
-use crate::alone::{Case, alone_with_boxes};
+use crate::cases::{Case, share_boxes};
 use crate::counted::fault_of;
-use crate::four::four_with_boxes;
-use crate::typed::{foreign, own};
-use crate::watched::{Seen, watched_with_boxes};
-use crate::{four, typed};
+use crate::typed::Instruments;
 use otel_common::faults::Fault;
 use otel_provider::provider::SdkMeterProvider;
 use otel_shared::account::{check_book, check_workers};
@@ -11,7 +8,9 @@ use otel_stream::manual_reader::ManualReader;
 use otel_stream::reader::MetricReader;
 use std::alloc::Global;
 use std::process::Abort;
+use std::sync::Wait;
 use std::test::*;
+use std::thread::Threads;
 
 /// A provider of this identity, with one reader.
 fn provider_of(alloc: Global, identity: u64) -> Result<SdkMeterProvider, Fault> {
@@ -22,91 +21,59 @@ fn provider_of(alloc: Global, identity: u64) -> Result<SdkMeterProvider, Fault> 
         .build()
 }
 
+/// Shares a provider of its own, and does with it what the case says.
+fn assert_case<R: Abort + Threads + Wait + Sync>(
+    rt: &R,
+    alloc: Global,
+    case: Case,
+) -> Result<(), Fail> {
+    share_boxes(rt, alloc, provider_of(alloc, 0)?, case)
+}
+
 #[test]
 fn row_18(rt: HostRuntime) -> Result<(), Fail> {
-    let shown = four_with_boxes(&rt, rt.alloc(), provider_of(rt.alloc(), 0)?)?;
-    let want = four::Shown {
-        greatest: 6000,
-        locked: (4000, 6000),
-        settled: (4000, 6000),
-    };
-    assert_eq!(rt; shown, want);
-    Ok(())
+    assert_case(&rt, rt.alloc(), Case::Four)
 }
 
 #[test]
 fn watched_while_two_record(rt: HostRuntime) -> Result<(), Fail> {
-    let seen = watched_with_boxes(&rt, rt.alloc(), provider_of(rt.alloc(), 0)?)?;
-    let want = Seen {
-        rose: true,
-        last: (1000, 1500),
-    };
-    assert_eq!(rt; seen, want);
-    Ok(())
-}
-
-/// Asserts what is seen of one or two workers without threads.
-fn assert_alone(rt: &impl Abort, alloc: Global, case: Case, wanted: [u64; 7]) -> Result<(), Fail> {
-    let shown = alone_with_boxes(alloc, provider_of(alloc, 0)?, case)?;
-    assert_eq!(rt; shown, wanted);
-    Ok(())
+    assert_case(&rt, rt.alloc(), Case::Watched)
 }
 
 #[test]
 fn row_29(rt: HostRuntime) -> Result<(), Fail> {
-    assert_alone(&rt, rt.alloc(), Case::Stopped, [3, 1, 2, 9, 2, 0, 2])
+    assert_case(&rt, rt.alloc(), Case::Stopped)
 }
 
 #[test]
 fn row_30(rt: HostRuntime) -> Result<(), Fail> {
-    assert_alone(&rt, rt.alloc(), Case::Missing, [13, 13, 14, 0, 0, 0, 0])
+    assert_case(&rt, rt.alloc(), Case::Missing)
 }
 
+/// A worker that submits nothing, one that is dropped, and one that comes back with a record in its list.
 #[test]
-fn nothing_is_submitted(rt: HostRuntime) -> Result<(), Fail> {
-    assert_alone(&rt, rt.alloc(), Case::Nothing, [0, 1, 1, 0, 0, 0, 0])
+fn workers_without_threads(rt: HostRuntime) -> Result<(), Fail> {
+    assert_case(&rt, rt.alloc(), Case::Nothing)?;
+    assert_case(&rt, rt.alloc(), Case::Dropped)?;
+    assert_case(&rt, rt.alloc(), Case::Waiting)
 }
 
+/// A provider of this identity, and instruments of it.
+fn with_instruments(
+    alloc: Global,
+    identity: u64,
+) -> Result<(SdkMeterProvider, Instruments), Fault> {
+    let mut provider = provider_of(alloc, identity)?;
+    let instruments = Instruments::build(alloc, &mut provider)?;
+    Ok((provider, instruments))
+}
+
+/// With instruments of the worker's own provider and of another one.
 #[test]
-fn dropped_worker(rt: HostRuntime) -> Result<(), Fail> {
-    assert_alone(&rt, rt.alloc(), Case::Dropped, [14, 14, 0, 0, 0, 0, 0])
-}
-
-#[test]
-fn settled_with_a_pending_record(rt: HostRuntime) -> Result<(), Fail> {
-    assert_alone(&rt, rt.alloc(), Case::Waiting, [1, 1, 5, 0, 0, 0, 0])
-}
-
-#[test]
-fn own_instruments(rt: HostRuntime) -> Result<(), Fail> {
-    let shown = own(rt.alloc(), provider_of(rt.alloc(), 0)?)?;
-    let want = typed::Shown {
-        faults: [0, 0, 0],
-        pending: 3,
-        accepted: 3,
-        value: 3,
-    };
-    assert_eq!(rt; shown, want);
-    Ok(())
-}
-
-/// What a worker shows with instruments of another provider.
-fn seen_with_another(alloc: Global) -> Result<typed::Shown, Fault> {
-    let mut other = provider_of(alloc, 7)?;
-    foreign(alloc, provider_of(alloc, 0)?, &mut other)
-}
-
-#[test]
-fn instruments_of_another_provider(rt: HostRuntime) -> Result<(), Fail> {
-    let shown = seen_with_another(rt.alloc())?;
-    let want = typed::Shown {
-        faults: [3, 3, 4],
-        pending: 0,
-        accepted: 0,
-        value: 0,
-    };
-    assert_eq!(rt; shown, want);
-    Ok(())
+fn instruments_as_values(rt: HostRuntime) -> Result<(), Fail> {
+    let (provider, own) = with_instruments(rt.alloc(), 0)?;
+    let (_other, foreign) = with_instruments(rt.alloc(), 7)?;
+    share_boxes(&rt, rt.alloc(), provider, Case::Typed(&own, &foreign))
 }
 
 /// No run fills a book: what is checked before each record. `limits` says what a full book answers.

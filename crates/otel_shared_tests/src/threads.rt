@@ -1,0 +1,142 @@
+//! Threads with a worker each, and one that collects under the lock meanwhile.
+
+ghost use Rattle.std.specs.Prelude.{◌≡◌};
+
+use crate::counted::{add, open_workers, read};
+use crate::handed::{hand_in, read_settled};
+use otel_common::faults::Fault;
+use otel_provider::parts::Parts;
+use otel_shared::account::Account;
+use otel_shared::locked::{Locked, SharedProvider};
+use otel_shared::worker::Worker;
+use std::alloc::Global;
+use std::process::Abort;
+use std::sync::{Mutex, Wait};
+use std::test::Fail;
+use std::thread::{Threads, join, map_vec};
+
+/// Some rounds of a worker: ten records of 1 at the first counter and five of 3 at the second, which are handed in.
+/// Answers the greatest receipt.
+fn work<P: Parts, C: Account, S: Account, R: Wait>(
+    rt: &R,
+    alloc: Global,
+    shared: &SharedProvider<P, C, S>,
+    worker: &mut Worker<C, S>,
+    rounds: usize,
+) -> Result<u64, Fault> {
+    let mut greatest = 0;
+    for _ in 0..rounds {
+        for _ in 0..5 {
+            add(alloc, worker, 0, 1)?;
+            add(alloc, worker, 1, 3)?;
+            add(alloc, worker, 0, 1)?;
+        }
+        greatest = hand_in(rt, shared, worker)?.max(greatest);
+    }
+    Ok(greatest)
+}
+
+/// The same with a worker that comes back. The receipt is 0 if something was refused.
+fn work_and_return<P: Parts, C: Account, S: Account, R: Wait>(
+    rt: &R,
+    alloc: Global,
+    shared: &SharedProvider<P, C, S>,
+    worker: Worker<C, S>,
+    rounds: usize,
+) -> (Worker<C, S>, u64) {
+    let mut worker = worker;
+    let greatest = work(rt, alloc, shared, &mut worker, rounds).unwrap_or(0);
+    (worker, greatest)
+}
+
+/// Has each worker do its rounds in a thread of its own, and gives them back with the greatest receipt.
+fn in_threads<
+    P: Parts + Send + Sync,
+    C: Account + Send + Sync,
+    S: Account + Send + Sync,
+    R: Threads + Wait + Sync,
+>(
+    rt: &R,
+    alloc: Global,
+    shared: &SharedProvider<P, C, S>,
+    workers: Vec<Worker<C, S>>,
+    rounds: usize,
+) -> Result<(Vec<Worker<C, S>>, u64), Fault> {
+    let done = map_vec(
+        rt,
+        workers,
+        &|worker| work_and_return(rt, alloc, shared, worker, rounds),
+    )?;
+    let mut greatest = 0;
+    let mut workers = Vec::new(alloc);
+    for (worker, receipt) in done {
+        greatest = receipt.max(greatest);
+        workers.push(worker)?;
+    }
+    Ok((workers, greatest))
+}
+
+/// Four threads record: the greatest receipt, the two counters under the lock, and those of the provider that came back.
+pub fn four<
+    P: Parts + Send + Sync,
+    C: Account + Send + Sync,
+    S: Account + Send + Sync,
+    R: Abort + Threads + Wait + Sync,
+>(rt: &R, alloc: Global, locked: Locked<P, C, S>) -> Result<(), Fail>
+    requires { (C.parts ≡ 4294967295) × (S.parts ≡ 4294967295) }
+{
+    let mut locked = locked;
+    let workers = open_workers(alloc, &mut locked, 4)?;
+    let shared = Mutex::new(locked);
+    let (workers, greatest) = in_threads(rt, alloc, &shared, workers, 100)?;
+    let mut locked = shared.into_inner();
+    let under_lock = read(alloc, &mut locked, 200)?;
+    let settled = read_settled(alloc, locked, workers)?;
+    assert_eq!(rt; greatest, 6000);
+    assert_eq!(rt; (under_lock, settled), ((4000, 6000), (4000, 6000)));
+    Ok(())
+}
+
+/// Asserts that no value is less than the one before.
+fn assert_rose(rt: &impl Abort, before: (u64, u64), values: (u64, u64)) {
+    assert!(rt; before.0 <= values.0 && before.1 <= values.1);
+}
+
+/// Collects some times under the lock. No value is less than the one before. Answers the last.
+fn watch<P: Parts, C: Account, S: Account, R: Abort + Wait>(
+    rt: &R,
+    alloc: Global,
+    shared: &SharedProvider<P, C, S>,
+    times: u64,
+) -> Result<(u64, u64), Fault> {
+    let mut last = (0, 0);
+    for now in 0..times {
+        let values = read(alloc, &mut shared.lock(rt), now)?;
+        assert_rose(rt, last, values);
+        last = values;
+    }
+    Ok(last)
+}
+
+/// Two threads record, and a third collects meanwhile; then all is collected once more.
+pub fn watched<
+    P: Parts + Send + Sync,
+    C: Account + Send + Sync,
+    S: Account + Send + Sync,
+    R: Abort + Threads + Wait + Sync,
+>(rt: &R, alloc: Global, locked: Locked<P, C, S>) -> Result<(), Fail> {
+    let mut locked = locked;
+    let workers = open_workers(alloc, &mut locked, 2)?;
+    let shared = Mutex::new(locked);
+    let (done, seen) = join(
+        rt,
+        || in_threads(rt, alloc, &shared, workers, 50),
+        || watch(rt, alloc, &shared, 200),
+    );
+    let _ = done?;
+    let mut locked = shared.into_inner();
+    let last = read(alloc, &mut locked, 1000)?;
+    assert_rose(rt, seen?, last);
+    assert_eq!(rt; last, (1000, 1500));
+    Ok(())
+}
