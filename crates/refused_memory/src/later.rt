@@ -4,7 +4,7 @@ use crate::outcomes::is_refused;
 use crate::set_up::calls_of;
 use anyhow::{Error, bail};
 use opentelemetry_sdk::metrics::data::ResourceMetrics;
-use opentelemetry_sdk::metrics::provider::{Call, Parts, Provider};
+use opentelemetry_sdk::metrics::provider::{Parts, Provider};
 use std::alloc::Global;
 
 /// Calls after the call under test: collections of each reader, records and binds of known and of new sets, and further
@@ -59,20 +59,6 @@ collect 0 700
 record 0 u:100 a=i:1
 meter last";
 
-/// Makes a call, and writes the reply.
-fn write_call<P: Parts>(
-    provider: &mut Provider<P>,
-    text: &mut String,
-    call: &Call,
-) -> Result<(), Error> {
-    let reply = provider.step(call);
-    if is_refused(&reply) {
-        bail!("a later call was refused");
-    }
-    writeln!(text, "{reply:?}")?;
-    Ok(())
-}
-
 /// Makes the calls of these lines, and writes the replies.
 fn write_lines<P: Parts>(
     alloc: Global,
@@ -81,20 +67,12 @@ fn write_lines<P: Parts>(
     lines: &str,
 ) -> Result<(), Error> {
     for call in &calls_of(alloc, lines)? {
-        write_call(provider, text, call)?;
+        let reply = provider.step(call);
+        if is_refused(&reply) {
+            bail!("a later call was refused");
+        }
+        writeln!(text, "{reply:?}")?;
     }
-    Ok(())
-}
-
-/// Makes a collection with callbacks, and writes it.
-fn write_collection<P: Parts>(
-    provider: &mut Provider<P>,
-    text: &mut String,
-    reader: usize,
-    metrics: &mut ResourceMetrics,
-) -> Result<(), Error> {
-    let answer = provider.collect(reader, 600, metrics);
-    writeln!(text, "{answer:?} {metrics:?}")?;
     Ok(())
 }
 
@@ -105,8 +83,9 @@ fn write_collections<P: Parts>(
     text: &mut String,
 ) -> Result<(), Error> {
     let mut metrics = ResourceMetrics::default(alloc);
-    for reader in [0, 1, 2, 1] {
-        write_collection(provider, text, reader, &mut metrics)?;
+    for reader in &[0, 1, 2, 1] {
+        let answer = provider.collect(*reader, 600, &mut metrics);
+        writeln!(text, "{answer:?} {metrics:?}")?;
     }
     Ok(())
 }

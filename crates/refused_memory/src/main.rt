@@ -26,7 +26,6 @@ mod values;
 mod workers;
 
 use anyhow::{Error, bail};
-use outcomes::Outcome;
 use scenarios::{Scenario, Tested, last_scenario, scenario_of};
 use shared::try_shared;
 use std::alloc::Global;
@@ -34,29 +33,19 @@ use std::env;
 use twins::{try_call, try_provider};
 use values::try_value;
 
-/// Makes the call under test, and compares what follows with a twin.
-fn outcome_of(
-    rt: &impl Print,
-    alloc: Global,
-    number: usize,
-    tested: Tested,
-) -> Result<Outcome, Error> {
-    match tested {
-        Tested::Provider => try_provider(rt, alloc, number),
-        Tested::Value(made) => try_value(rt, alloc, number, made),
-        Tested::Shared(call) => try_shared(rt, alloc, number, call),
-        tested => try_call(rt, alloc, number, tested),
-    }
-}
-
-/// Tries a scenario, and prints its line.
+/// Makes the call under test, compares what follows with a twin, and prints the line of the scenario.
 fn try_scenario(
     rt: &impl Print,
     alloc: Global,
     number: usize,
     scenario: Scenario,
 ) -> Result<(), Error> {
-    let outcome = outcome_of(rt, alloc, number, scenario.tested)?;
+    let outcome = match scenario.tested {
+        Tested::Provider => try_provider(rt, alloc, number),
+        Tested::Value(made) => try_value(rt, alloc, number, made),
+        Tested::Shared(call) => try_shared(rt, alloc, number, call),
+        tested => try_call(rt, alloc, number, tested),
+    }?;
     let word = outcome.word(scenario.is_sure);
     println!(rt; "{word}")?;
     Ok(())

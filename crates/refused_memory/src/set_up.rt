@@ -181,18 +181,12 @@ impl Materials {
     }
 }
 
-/// Makes a call, which may not be refused.
-fn make_sure<P: Parts>(provider: &mut Provider<P>, call: &Call) -> Result<(), Error> {
-    if let Reply::Refused(fault) = provider.step(call) {
-        bail!("a call before the one under test was refused: {fault}");
-    }
-    Ok(())
-}
-
 /// Makes the calls of these lines, none of which may be refused.
 fn make_all<P: Parts>(alloc: Global, provider: &mut Provider<P>, lines: &str) -> Result<(), Error> {
     for call in &calls_of(alloc, lines)? {
-        make_sure(provider, call)?;
+        if let Reply::Refused(fault) = provider.step(call) {
+            bail!("a call before the one under test was refused: {fault}");
+        }
     }
     Ok(())
 }

@@ -13,7 +13,6 @@ use crate::typed::Instruments;
 use crate::workers::{Adding, add, give_some, take_attributes, write_waiting};
 use anyhow::{Error, bail};
 use opentelemetry_sdk::common::Fault;
-use opentelemetry_sdk::metrics::data::ResourceMetrics;
 use opentelemetry_sdk::metrics::meter::Bound;
 use opentelemetry_sdk::metrics::provider::{Call, Parts, Provider, Reply};
 use opentelemetry_sdk::metrics::shared::{Account, Locked, MOST_WORKERS, Worker};
@@ -66,17 +65,6 @@ impl Shared {
     }
 }
 
-/// When a call under test is made.
-#[derive(Clone, Copy, PartialEq, Eq)]
-enum Time {
-    /// When the worker is opened.
-    Opening,
-    /// Then, until the provider is taken back.
-    Between,
-    /// When the provider is taken back.
-    Settling,
-}
-
 /// A run of a scenario, first with the call under test, then at twins.
 #[derive(Clone, Copy)]
 struct Trial {
@@ -90,27 +78,18 @@ struct Trial {
 }
 
 impl Trial {
-    /// When the call under test is made.
-    fn time(self) -> Time {
-        match self.tested {
-            Shared::OpenWorker => Time::Opening,
-            Shared::Settle(_) => Time::Settling,
-            _ => Time::Between,
-        }
-    }
-
     /// Prints the first mark if the call under test is made now.
-    fn begin(self, rt: &impl Print, now: Time) -> io::Result<()> {
+    fn begin(self, rt: &impl Print, is_now: bool) -> io::Result<()> {
         match self.number {
-            Some(number) if self.time() == now => begin(rt, number),
+            Some(number) if is_now => begin(rt, number),
             _ => Ok(()),
         }
     }
 
     /// Prints the last mark if the call under test was made now.
-    fn end(self, rt: &impl Print, now: Time) -> io::Result<()> {
+    fn end(self, rt: &impl Print, was_now: bool) -> io::Result<()> {
         match self.number {
-            Some(_) if self.time() == now => end(rt),
+            Some(_) if was_now => end(rt),
             _ => Ok(()),
         }
     }
@@ -128,16 +107,6 @@ struct Typed<'a> {
     handle: &'a Bound<u64>,
 }
 
-/// Makes a collection with callbacks.
-fn collect<P: Parts, C: Account, S: Account>(
-    locked: &mut Locked<P, C, S>,
-    reader: usize,
-    now: u64,
-    metrics: &mut ResourceMetrics,
-) -> Result<(), Fault> {
-    locked.collect(reader, now, metrics)
-}
-
 /// Makes what the call needs.
 fn given_for<P: Parts, C: Account, S: Account>(
     alloc: Global,
@@ -145,7 +114,7 @@ fn given_for<P: Parts, C: Account, S: Account>(
     tested: Shared,
 ) -> Result<Given, Error> {
     let mut given = Given::new(alloc, calls_of(alloc, tested.given())?);
-    collect(locked, 0, 195, &mut given.metrics)?;
+    locked.collect(0, 195, &mut given.metrics)?;
     Ok(given)
 }
 
@@ -160,21 +129,13 @@ fn make_line<P: Parts, C: Account, S: Account>(
     }
 }
 
-/// Submits the records of a worker.
-fn submit<P: Parts, C: Account, S: Account>(
-    locked: &mut Locked<P, C, S>,
-    worker: &mut Worker<C, S>,
-) -> Reply {
-    reply_of(locked.submit(worker))
-}
-
 /// Submits the records of a worker until that is not refused for want of memory.
 fn submit_all<P: Parts, C: Account, S: Account>(
     locked: &mut Locked<P, C, S>,
     worker: &mut Worker<C, S>,
 ) -> Reply {
     for _ in 0..3 {
-        let reply = submit(locked, worker);
+        let reply = reply_of(locked.submit(worker));
         if !is_refused(&reply) {
             return reply;
         }
@@ -201,12 +162,12 @@ fn make<P: Parts, C: Account, S: Account>(
 ) -> Reply {
     match tested {
         Shared::Line(_) => make_line(locked, given.calls.as_slice()),
-        Shared::Collect(reader) => reply_of(collect(locked, reader, 200, &mut given.metrics)),
+        Shared::Collect(reader) => reply_of(locked.collect(reader, 200, &mut given.metrics)),
         Shared::Add(adding, _) => {
             let attributes = take_attributes(alloc, &mut given.calls);
             reply_of(add(worker, adding, typed.instruments, typed.handle, attributes))
         }
-        Shared::Submit(_) => submit(locked, worker),
+        Shared::Submit(_) => reply_of(locked.submit(worker)),
         Shared::SubmitAll(_) => submit_all(locked, worker),
         Shared::TakeFirst(_) => take_first(worker),
         Shared::OpenWorker | Shared::Settle(_) => Reply::Done,
@@ -224,9 +185,10 @@ fn make_between_marks<P: Parts, C: Account, S: Account>(
     given: &mut Given,
 ) -> Result<Reply, Error> {
     give_some(alloc, worker, trial.tested.waiting(), 0, usize::MAX)?;
-    trial.begin(rt, Time::Between)?;
+    let is_now = !matches!(trial.tested, Shared::OpenWorker | Shared::Settle(_));
+    trial.begin(rt, is_now)?;
     let reply = make(alloc, locked, worker, trial.tested, typed, given);
-    trial.end(rt, Time::Between)?;
+    trial.end(rt, is_now)?;
     trial.is_refused = is_refused(&reply);
     trial.made = worker.submitted();
     Ok(reply)
@@ -241,8 +203,7 @@ fn pass_over<P: Parts, C: Account, S: Account>(
 ) -> Result<(), Error> {
     let made = usize::try_from(trial.made).unwrap_or(usize::MAX);
     give_some(alloc, worker, trial.tested.waiting(), 0, made)?;
-    let reply = submit(locked, worker);
-    if !matches!(reply, Reply::Done) {
+    if locked.submit(worker).is_err() {
         bail!("a record before the refused one was refused");
     }
     give_some(alloc, worker, trial.tested.waiting(), made, usize::MAX)
@@ -298,9 +259,10 @@ fn open<P: Parts, C: Account, S: Account>(
     locked: &mut Locked<P, C, S>,
     trial: Trial,
 ) -> Result<Worker<C, S>, Error> {
-    trial.begin(rt, Time::Opening)?;
+    let is_now = matches!(trial.tested, Shared::OpenWorker);
+    trial.begin(rt, is_now)?;
     let worker = locked.open_worker();
-    trial.end(rt, Time::Opening)?;
+    trial.end(rt, is_now)?;
     Ok(worker?)
 }
 
@@ -328,9 +290,10 @@ fn settle<P: Parts, C: Account, S: Account>(
     requires { (C.parts ≡ 4294967295) × (S.parts ≡ 4294967295) }
 {
     let workers = vec![in alloc; worker]?;
-    trial.begin(rt, Time::Settling)?;
+    let is_now = matches!(trial.tested, Shared::Settle(_));
+    trial.begin(rt, is_now)?;
     let provider = settled(locked, workers);
-    trial.end(rt, Time::Settling)?;
+    trial.end(rt, is_now)?;
     Ok(provider?)
 }
 

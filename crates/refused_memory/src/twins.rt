@@ -60,16 +60,6 @@ fn lines_of(alloc: Global, tested: Tested) -> Result<Vec<Call>, Error> {
     }
 }
 
-/// Makes a collection with callbacks.
-fn collect<P: Parts>(
-    provider: &mut Provider<P>,
-    reader: usize,
-    now: u64,
-    metrics: &mut ResourceMetrics,
-) -> Result<(), Fault> {
-    provider.collect(reader, now, metrics)
-}
-
 /// Makes what the call needs.
 fn given_for<P: Parts>(
     alloc: Global,
@@ -77,7 +67,7 @@ fn given_for<P: Parts>(
     tested: Tested,
 ) -> Result<Given, Error> {
     let mut given = Given::new(alloc, lines_of(alloc, tested)?);
-    collect(provider, 0, 190, &mut given.metrics)?;
+    provider.collect(0, 190, &mut given.metrics)?;
     Ok(given)
 }
 
@@ -105,11 +95,6 @@ fn make_run<P: Parts>(alloc: Global, provider: &mut Provider<P>, calls: &[Call])
     }
 }
 
-/// Asks for a meter by its name.
-fn name_meter<P: Parts>(provider: &mut Provider<P>, name: &str) -> Reply {
-    reply_of(provider.meter(name))
-}
-
 /// Asks for the meter of a scope.
 fn meter_of_scope<P: Parts>(provider: &mut Provider<P>, calls: &mut Vec<Call>) -> Reply {
     match calls.pop() {
@@ -131,25 +116,9 @@ fn build(alloc: Global, provider: &mut Provider<Swept>, sort: InstrumentSort) ->
     }
 }
 
-/// Has all readers flush.
-fn flush<P: Parts>(provider: &mut Provider<P>) -> Reply {
-    reply_of(provider.force_flush())
-}
-
-/// Shuts the provider down.
-fn shut_down<P: Parts>(provider: &mut Provider<P>) -> Reply {
-    reply_of(provider.shutdown())
-}
-
-/// Shuts the provider down within a second.
-fn shut_down_in_time<P: Parts>(provider: &mut Provider<P>) -> Reply {
-    reply_of(provider.shutdown_with_timeout(Duration::from_secs(1)))
-}
-
-/// Makes the call under test, which is not a run.
-fn make_one(
-    alloc: Global,
-    provider: &mut Provider<Swept>,
+/// Makes the call under test, which is neither a run nor a build.
+fn make_one<P: Parts>(
+    provider: &mut Provider<P>,
     instruments: Instruments,
     tested: Tested,
     given: &mut Given,
@@ -157,16 +126,21 @@ fn make_one(
     let attributes = attributes_of(given.calls.as_slice());
     match tested {
         Tested::Line(_) => make_line(provider, given.calls.as_slice()),
-        Tested::Meter(name) => name_meter(provider, name),
+        Tested::Meter(name) => reply_of(provider.meter(name)),
         Tested::Scope(_) => meter_of_scope(provider, &mut given.calls),
-        Tested::Build(sort) => reply_of(build(alloc, provider, sort)),
         Tested::Record(sort, _) => reply_of(record(provider, instruments, sort, attributes)),
         Tested::Bind(sort, _) => reply_of(bind(provider, instruments, sort, attributes)),
-        Tested::Collect(reader) => reply_of(collect(provider, reader, 200, &mut given.metrics)),
-        Tested::Flush => flush(provider),
-        Tested::Shutdown => shut_down(provider),
-        Tested::ShutdownWithTimeout => shut_down_in_time(provider),
-        Tested::Run(_) | Tested::Provider | Tested::Value(_) | Tested::Shared(_) => Reply::Done,
+        Tested::Collect(reader) => reply_of(provider.collect(reader, 200, &mut given.metrics)),
+        Tested::Flush => reply_of(provider.force_flush()),
+        Tested::Shutdown => reply_of(provider.shutdown()),
+        Tested::ShutdownWithTimeout => {
+            reply_of(provider.shutdown_with_timeout(Duration::from_secs(1)))
+        }
+        Tested::Run(_)
+        | Tested::Build(_)
+        | Tested::Provider
+        | Tested::Value(_)
+        | Tested::Shared(_) => Reply::Done,
     }
 }
 
@@ -178,10 +152,11 @@ fn make(
     tested: Tested,
     given: &mut Given,
 ) -> Answer {
-    if let Tested::Run(_) = tested {
-        return make_run(alloc, provider, given.calls.as_slice());
+    match tested {
+        Tested::Run(_) => make_run(alloc, provider, given.calls.as_slice()),
+        Tested::Build(sort) => Answer::One([reply_of(build(alloc, provider, sort))]),
+        _ => Answer::One([make_one(provider, instruments, tested, given)]),
     }
-    Answer::One([make_one(alloc, provider, instruments, tested, given)])
 }
 
 /// Makes those calls of a run that were not refused.

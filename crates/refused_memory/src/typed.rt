@@ -4,7 +4,7 @@ use crate::callbacks::Counting;
 use crate::set_up::Swept;
 use opentelemetry_sdk::common::{Fault, KeyValue};
 use opentelemetry_sdk::metrics::meter::{
-    AsyncInstrumentBuilder, Bound, Counter, Gauge, Histogram, InstrumentBuilder, Meter, NumberType,
+    AsyncInstrumentBuilder, Counter, Gauge, Histogram, InstrumentBuilder, Meter, NumberType,
     Synchronous, UpDownCounter,
 };
 use opentelemetry_sdk::metrics::provider::InstrumentSort::{
@@ -163,17 +163,6 @@ pub fn record<P: Parts>(
     }
 }
 
-/// Ends a handle.
-fn end<T, P: Parts>(provider: &mut Provider<P>, handle: Bound<T>) -> Result<(), Fault> {
-    match handle.unbind(provider) {
-        Ok(()) => Ok(()),
-        Err((handle, fault)) => {
-            let _ = handle.into_number();
-            Err(fault)
-        }
-    }
-}
-
 /// Binds a handle at an instrument, records a value through it, and ends it.
 fn hand<K, T: NumberType, P: Parts>(
     provider: &mut Provider<P>,
@@ -183,8 +172,7 @@ fn hand<K, T: NumberType, P: Parts>(
 ) -> Result<(), Fault> {
     let handle = instrument.bind(provider, attributes)?;
     let recorded = handle.record(provider, value);
-    let ended = end(provider, handle);
-    recorded.and(ended)
+    recorded.and(handle.end(provider))
 }
 
 /// Binds a handle at the instrument of this sort, records a value through it, and ends it.

@@ -11,7 +11,6 @@ use opentelemetry_sdk::common::{
 use opentelemetry_sdk::metrics::reader::CardinalityLimit;
 use opentelemetry_sdk::metrics::{Aggregation, InstrumentKind, ManualReader, Stream, Temporality};
 use std::alloc::Global;
-use std::fmt::Debug;
 
 /// What is made.
 #[derive(Clone, Copy)]
@@ -32,170 +31,37 @@ pub enum Made {
     Reader,
 }
 
-/// A value that can be made.
-trait Making: Drop {
-    /// The value.
-    type Value: Debug + Drop;
-
-    /// Makes, before the call under test, what must not be refused in it.
-    fn prepare(alloc: Global) -> Result<Self, Error>;
-
-    /// Makes the value, and what else it is made of.
-    fn make(self, alloc: Global) -> Result<Self::Value, Fault>;
-}
-
-/// Attributes with keys in no order, of which one occurs twice.
-fn unsorted(alloc: Global) -> Result<Vec<KeyValue>, Fault> {
-    let mut attributes = Vec::new(alloc);
-    for (key, text) in [("z", "1"), ("service.name", "2"), ("a", "3"), ("z", "4")] {
-        attributes.push(attribute(alloc, key, text)?)?;
-    }
-    Ok(attributes)
-}
-
-/// A resource with such attributes.
-fn other_resource(alloc: Global) -> Result<Resource, Fault> {
-    let builder = Resource::builder_empty(alloc).with_attributes(unsorted(alloc)?)?;
-    Ok(builder.build())
-}
-
-/// Histograms with bounds.
-fn spread(alloc: Global) -> Result<Aggregation, Fault> {
-    Ok(Aggregation::ExplicitBucketHistogram {
-        boundaries: [1, 5].to_vec(alloc)?.into(),
-        record_min_max: true,
-    })
-}
-
-/// What the provider's resource has under a key.
-#[derive(Drop)]
-struct Got;
-
-impl Making for Got {
-    type Value = Option<Value>;
-
-    fn prepare(_: Global) -> Result<Got, Error> {
-        Ok(Got)
-    }
-
-    fn make(self, alloc: Global) -> Result<Option<Value>, Fault> {
-        let key = Key::new(alloc, "service.name")?;
-        Ok(resource(alloc)?.get(&key)?)
-    }
-}
-
-/// The provider's resource, merged with another one.
-#[derive(Drop)]
-struct Merged;
-
-impl Making for Merged {
-    type Value = Resource;
-
-    fn prepare(_: Global) -> Result<Merged, Error> {
-        Ok(Merged)
-    }
-
-    fn make(self, alloc: Global) -> Result<Resource, Fault> {
-        let own = resource(alloc)?;
-        Ok(own.merge(&other_resource(alloc)?)?)
-    }
-}
-
-/// A resource of all that can be set.
-#[derive(Drop)]
-struct Built;
-
-impl Making for Built {
-    type Value = Resource;
-
-    fn prepare(_: Global) -> Result<Built, Error> {
-        Ok(Built)
-    }
-
-    fn make(self, alloc: Global) -> Result<Resource, Fault> {
-        let builder = Resource::builder_empty(alloc).with_attribute(attribute(alloc, "k", "v")?)?;
-        let name = Value::String(StringValue::new(alloc, "name")?);
-        let builder = builder.with_service_name(name)?;
-        let url = String::from_str(alloc, "text")?;
-        let builder = builder.with_schema_url(unsorted(alloc)?, url)?;
-        Ok(builder.build())
-    }
-}
-
-/// A scope of all that can be set.
-#[derive(Drop)]
-struct Scope;
-
-impl Making for Scope {
-    type Value = InstrumentationScope;
-
-    fn prepare(_: Global) -> Result<Scope, Error> {
-        Ok(Scope)
-    }
-
-    fn make(self, alloc: Global) -> Result<InstrumentationScope, Fault> {
-        let name = String::from_str(alloc, "text")?;
-        let builder = InstrumentationScope::builder(alloc, name);
-        let version = String::from_str(alloc, "ms")?;
-        let builder = builder.with_version(version);
-        builder.with_attributes(unsorted(alloc)?).build()
-    }
-}
-
-/// The canonical form of attributes with keys in no order.
-#[derive(Drop)]
-struct Canonical;
-
-impl Making for Canonical {
-    type Value = Vec<KeyValue>;
-
-    fn prepare(_: Global) -> Result<Canonical, Error> {
-        Ok(Canonical)
-    }
-
-    fn make(self, alloc: Global) -> Result<Vec<KeyValue>, Fault> {
-        Ok(canonical(alloc, unsorted(alloc)?.as_slice())?)
-    }
-}
-
-/// What a view says of a stream.
-struct Said {
+/// What the stream and the reader are made of. It is made before the call under test, since it must not be refused in it.
+struct Prepared {
     name: String,
     unit: String,
     keys: Vec<Key>,
     aggregation: Aggregation,
+    limit: CardinalityLimit,
 }
 
-impl Drop for Said {
+impl Drop for Prepared {
     /// A function of its own, so that no proof about who lets one go looks into it.
     fn drop(self) {
-        let Said {
+        let Prepared {
             name: _name,
             unit: _unit,
             keys: _keys,
             aggregation: _aggregation,
+            limit: _,
         } = self;
     }
 }
 
-impl Making for Said {
-    type Value = Option<Stream>;
-
-    fn prepare(alloc: Global) -> Result<Said, Error> {
-        Ok(Said {
-            name: String::from_str(alloc, "text")?,
-            unit: String::from_str(alloc, "ms")?,
-            keys: vec![in alloc; Key::new(alloc, "a")?]?,
-            aggregation: spread(alloc)?,
-        })
-    }
-
-    fn make(self, _: Global) -> Result<Option<Stream>, Fault> {
-        let Said {
+impl Prepared {
+    /// What a view says of a stream.
+    fn into_stream(self) -> NewValue {
+        let Prepared {
             name,
             unit,
             keys,
             aggregation,
+            limit: _,
         } = self;
         let stream = Stream::builder()
             .with_name(name)
@@ -204,68 +70,151 @@ impl Making for Said {
             .with_cardinality_limit(1)
             .with_aggregation(aggregation)
             .build();
-        Ok(stream.ok())
-    }
-}
-
-/// What a reader wants.
-#[derive(Drop)]
-struct Wanted {
-    limit: CardinalityLimit,
-    aggregation: Aggregation,
-}
-
-impl Making for Wanted {
-    type Value = ManualReader;
-
-    fn prepare(alloc: Global) -> Result<Wanted, Error> {
-        Ok(Wanted {
-            limit: CardinalityLimit::new(6)?,
-            aggregation: spread(alloc)?,
-        })
+        NewValue::Stream(stream.ok())
     }
 
-    fn make(self, _: Global) -> Result<ManualReader, Fault> {
+    /// What a reader wants.
+    fn into_reader(self) -> NewValue {
+        let Prepared {
+            name: _name,
+            unit: _unit,
+            keys: _keys,
+            aggregation,
+            limit,
+        } = self;
         let reader = ManualReader::builder()
             .with_temporality(Temporality::LowMemory)
-            .with_cardinality_limit(InstrumentKind::Counter, self.limit)
-            .with_default_aggregation(InstrumentKind::Histogram, self.aggregation)
+            .with_cardinality_limit(InstrumentKind::Counter, limit)
+            .with_default_aggregation(InstrumentKind::Histogram, aggregation)
             .build();
-        Ok(reader)
+        NewValue::Reader(reader)
+    }
+}
+
+/// A value that was made.
+#[derive(Debug)]
+enum NewValue {
+    Got(Option<Value>),
+    Resource(Resource),
+    Scope(InstrumentationScope),
+    Attributes(Vec<KeyValue>),
+    Stream(Option<Stream>),
+    Reader(ManualReader),
+}
+
+impl Drop for NewValue {
+    /// A function of its own, so that no proof about who lets one go looks into it.
+    fn drop(self) {
+        match self {
+            NewValue::Got(_value) => {}
+            NewValue::Resource(_resource) => {}
+            NewValue::Scope(_scope) => {}
+            NewValue::Attributes(_attributes) => {}
+            NewValue::Stream(_stream) => {}
+            NewValue::Reader(_reader) => {}
+        }
+    }
+}
+
+/// Attributes with keys in no order, of which one occurs twice.
+fn unsorted(alloc: Global) -> Result<Vec<KeyValue>, Fault> {
+    let mut attributes = Vec::new(alloc);
+    for (key, text) in &[("z", "1"), ("service.name", "2"), ("a", "3"), ("z", "4")] {
+        attributes.push(attribute(alloc, key, text)?)?;
+    }
+    Ok(attributes)
+}
+
+/// Makes what the stream and the reader are made of.
+fn prepare(alloc: Global) -> Result<Prepared, Error> {
+    let limit = CardinalityLimit::new(6)?;
+    Ok(Prepared {
+        name: String::from_str(alloc, "text")?,
+        unit: String::from_str(alloc, "ms")?,
+        keys: vec![in alloc; Key::new(alloc, "a")?]?,
+        aggregation: Aggregation::ExplicitBucketHistogram {
+            boundaries: [1, 5].to_vec(alloc)?.into(),
+            record_min_max: true,
+        },
+        limit,
+    })
+}
+
+/// What the provider's resource has under a key.
+fn got(alloc: Global) -> Result<NewValue, Fault> {
+    let key = Key::new(alloc, "service.name")?;
+    Ok(NewValue::Got(resource(alloc)?.get(&key)?))
+}
+
+/// The provider's resource, merged with one of unsorted attributes.
+fn merged(alloc: Global) -> Result<NewValue, Fault> {
+    let own = resource(alloc)?;
+    let builder = Resource::builder_empty(alloc).with_attributes(unsorted(alloc)?)?;
+    let other = builder.build();
+    Ok(NewValue::Resource(own.merge(&other)?))
+}
+
+/// A resource of all that can be set.
+fn built(alloc: Global) -> Result<NewValue, Fault> {
+    let builder = Resource::builder_empty(alloc).with_attribute(attribute(alloc, "k", "v")?)?;
+    let name = Value::String(StringValue::new(alloc, "name")?);
+    let builder = builder.with_service_name(name)?;
+    let url = String::from_str(alloc, "text")?;
+    let builder = builder.with_schema_url(unsorted(alloc)?, url)?;
+    Ok(NewValue::Resource(builder.build()))
+}
+
+/// A scope of all that can be set.
+fn scope(alloc: Global) -> Result<NewValue, Fault> {
+    let name = String::from_str(alloc, "text")?;
+    let builder = InstrumentationScope::builder(alloc, name);
+    let version = String::from_str(alloc, "ms")?;
+    let builder = builder.with_version(version);
+    let scope = builder.with_attributes(unsorted(alloc)?).build()?;
+    Ok(NewValue::Scope(scope))
+}
+
+/// The canonical form of attributes with keys in no order.
+fn canonical_form(alloc: Global) -> Result<NewValue, Fault> {
+    let attributes = canonical(alloc, unsorted(alloc)?.as_slice())?;
+    Ok(NewValue::Attributes(attributes))
+}
+
+/// Makes a value.
+fn make(alloc: Global, made: Made, prepared: Prepared) -> Result<NewValue, Fault> {
+    match made {
+        Made::Got => got(alloc),
+        Made::Merged => merged(alloc),
+        Made::Built => built(alloc),
+        Made::Scope => scope(alloc),
+        Made::Canonical => canonical_form(alloc),
+        Made::Stream => Ok(prepared.into_stream()),
+        Made::Reader => Ok(prepared.into_reader()),
     }
 }
 
 /// Makes a value, outside the marks, and writes it.
-fn text_of_new<M: Making>(alloc: Global) -> Result<String, Error> {
-    let value = M::prepare(alloc)?.make(alloc)?;
+fn text_of_new(alloc: Global, made: Made) -> Result<String, Error> {
+    let value = make(alloc, made, prepare(alloc)?)?;
     Ok(format!(in alloc; "{value:?}")?)
 }
 
 /// Makes a value, and once more if that was refused. Returns whether the first call was refused, and the value as text.
-fn make_between_marks<M: Making>(
+fn make_between_marks(
     rt: &impl Print,
     alloc: Global,
     number: usize,
+    made: Made,
 ) -> Result<(bool, String), Error> {
-    let making = M::prepare(alloc)?;
+    let prepared = prepare(alloc)?;
     begin(rt, number)?;
-    let answer = making.make(alloc);
+    let answer = make(alloc, made, prepared);
     end(rt)?;
     match answer {
         Ok(value) => Ok((false, format!(in alloc; "{value:?}")?)),
-        Err(Fault::OutOfMemory) => Ok((true, text_of_new::<M>(alloc)?)),
+        Err(Fault::OutOfMemory) => Ok((true, text_of_new(alloc, made)?)),
         Err(fault) => Err(fault.into()),
     }
-}
-
-/// Makes a value, and compares it with its like.
-fn try_making<M: Making>(rt: &impl Print, alloc: Global, number: usize) -> Result<Outcome, Error> {
-    let (is_refused, text) = make_between_marks::<M>(rt, alloc, number)?;
-    let twin = text_of_new::<M>(alloc)?;
-    Ok(Outcome {
-        is_refused,
-        is_same: text.as_str() == twin.as_str(),
-    })
 }
 
 /// Makes this value, and compares it with its like.
@@ -275,13 +224,10 @@ pub fn try_value(
     number: usize,
     made: Made,
 ) -> Result<Outcome, Error> {
-    match made {
-        Made::Got => try_making::<Got>(rt, alloc, number),
-        Made::Merged => try_making::<Merged>(rt, alloc, number),
-        Made::Built => try_making::<Built>(rt, alloc, number),
-        Made::Scope => try_making::<Scope>(rt, alloc, number),
-        Made::Canonical => try_making::<Canonical>(rt, alloc, number),
-        Made::Stream => try_making::<Said>(rt, alloc, number),
-        Made::Reader => try_making::<Wanted>(rt, alloc, number),
-    }
+    let (is_refused, text) = make_between_marks(rt, alloc, number, made)?;
+    let twin = text_of_new(alloc, made)?;
+    Ok(Outcome {
+        is_refused,
+        is_same: text.as_str() == twin.as_str(),
+    })
 }
