@@ -32,6 +32,9 @@ use exports::count_exports;
 use opentelemetry_sdk::metrics::provider::{Call, Parts, Provider};
 use scripts::{calls_of, provider_of};
 use std::alloc::Global;
+use std::rt::Clock;
+use std::sync::Wait;
+use std::thread::Threads;
 use std::{env, io};
 use threads::time_threads;
 use typed::count_typed;
@@ -90,18 +93,24 @@ fn count_all(rt: &impl Print, alloc: Global, scripts: &str, times: u64) -> Resul
     Ok(())
 }
 
-fn main(rt: HostRuntime) -> Result<(), Error> {
-    let words: Vec<String> = env::args(&rt)?.skip(1).collect(rt.alloc())?;
-    let scripts = io::read_to_string(rt.alloc(), rt.reader())?;
-    match words.as_slice() {
-        [times] => {
-            let times = times.as_str().parse::<u64>()?;
-            count_all(&rt, rt.alloc(), scripts.as_str(), times)
-        }
+/// Counts or times, as the arguments say.
+fn run<R: Print + Clock + Threads + Wait + Sync>(
+    rt: &R,
+    alloc: Global,
+    words: &[String],
+    scripts: &str,
+) -> Result<(), Error> {
+    match words {
+        [times] => count_all(rt, alloc, scripts, times.as_str().parse::<u64>()?),
         [name, records] if name.as_str() == "threads" => {
-            let records = records.as_str().parse::<u64>()?;
-            time_threads(&rt, rt.alloc(), scripts.as_str(), records)
+            time_threads(rt, alloc, scripts, records.as_str().parse::<u64>()?)
         }
         _ => bail!("the argument is how many calls are counted"),
     }
+}
+
+fn main(rt: HostRuntime) -> Result<(), Error> {
+    let words: Vec<String> = env::args(&rt)?.skip(1).collect(rt.alloc())?;
+    let scripts = io::read_to_string(rt.alloc(), rt.reader())?;
+    run(&rt, rt.alloc(), words.as_slice(), scripts.as_str())
 }

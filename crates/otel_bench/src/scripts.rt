@@ -5,9 +5,8 @@ use anyhow::Error;
 use metrics_script::script_lines::{Script, script_of};
 use opentelemetry_sdk::common::Fault;
 use opentelemetry_sdk::metrics::callback::NoCallback;
-use opentelemetry_sdk::metrics::instrument::SelectorView;
-use opentelemetry_sdk::metrics::provider::{Call, Provider, ProviderBuilder};
-use opentelemetry_sdk::metrics::{ManualReader, provider};
+use opentelemetry_sdk::metrics::provider;
+use opentelemetry_sdk::metrics::provider::{Call, Parts, Provider, ProviderBuilder};
 use std::alloc::Global;
 
 /// Parts without boxes and callbacks.
@@ -20,10 +19,10 @@ pub fn calls_of(alloc: Global, script: &str) -> Result<Vec<Call>, Error> {
 }
 
 /// Returns the builder with these readers.
-fn with_readers(
-    builder: ProviderBuilder<Plain>,
-    readers: Vec<ManualReader>,
-) -> Result<ProviderBuilder<Plain>, Fault> {
+fn with_readers<P: Parts>(
+    builder: ProviderBuilder<P>,
+    readers: Vec<P::Reader>,
+) -> Result<ProviderBuilder<P>, Fault> {
     let mut builder = builder;
     for reader in readers {
         builder = builder.with_reader(reader)?;
@@ -32,10 +31,10 @@ fn with_readers(
 }
 
 /// Returns the builder with these views.
-fn with_views(
-    builder: ProviderBuilder<Plain>,
-    views: Vec<SelectorView>,
-) -> Result<ProviderBuilder<Plain>, Fault> {
+fn with_views<P: Parts>(
+    builder: ProviderBuilder<P>,
+    views: Vec<P::View>,
+) -> Result<ProviderBuilder<P>, Fault> {
     let mut builder = builder;
     for view in views {
         builder = builder.with_view(view)?;
@@ -44,11 +43,11 @@ fn with_views(
 }
 
 /// Makes a provider with these readers and views.
-fn provider_with(
+fn provider_with<P: Parts>(
     alloc: Global,
-    readers: Vec<ManualReader>,
-    views: Vec<SelectorView>,
-) -> Result<Provider<Plain>, Fault> {
+    readers: Vec<P::Reader>,
+    views: Vec<P::View>,
+) -> Result<Provider<P>, Fault> {
     let builder = with_readers(Provider::builder(alloc), readers)?;
     with_views(builder, views)?.build()
 }
@@ -60,7 +59,7 @@ pub fn provider_of(alloc: Global, script: &str) -> Result<Provider<Plain>, Error
         views,
         calls,
     } = script_of(alloc, script.as_bytes())?;
-    let mut provider = provider_with(alloc, readers, views)?;
+    let mut provider: Provider<Plain> = provider_with(alloc, readers, views)?;
     prepare(&mut provider, calls.as_slice());
     Ok(provider)
 }

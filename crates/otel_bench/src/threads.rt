@@ -46,6 +46,19 @@ fn hand_in<P: Parts, C: Account, S: Account, R: Wait>(
     worker.submitted()
 }
 
+/// Opens this many workers more.
+fn open_more<P: Parts, C: Account, S: Account>(
+    locked: &mut Locked<P, C, S>,
+    workers: &mut Vec<Worker<C, S>>,
+    number: usize,
+) -> Result<(), Fault> {
+    for _ in 0..number {
+        let worker = locked.open_worker()?;
+        workers.push(worker)?;
+    }
+    Ok(())
+}
+
 /// Opens a worker for each thread.
 fn open_workers<P: Parts, C: Account, S: Account>(
     alloc: Global,
@@ -53,10 +66,7 @@ fn open_workers<P: Parts, C: Account, S: Account>(
     threads: usize,
 ) -> Result<Vec<Worker<C, S>>, Fault> {
     let mut workers = Vec::new(alloc);
-    for _ in 0..threads {
-        let worker = locked.open_worker()?;
-        workers.push(worker)?;
-    }
+    open_more(locked, &mut workers, threads)?;
     Ok(workers)
 }
 

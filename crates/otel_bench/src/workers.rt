@@ -18,12 +18,23 @@ use std::sync::ledger::Blank;
 /// How many records a worker hands in at once.
 pub const BATCH: u64 = 100;
 
+/// Adds a copy of these attributes for each record of a batch.
+fn push_copies(
+    alloc: Global,
+    copies: &mut Vec<Vec<KeyValue>>,
+    attributes: &[KeyValue],
+) -> Result<(), AllocError> {
+    for _ in 0..BATCH {
+        let copy = Vec::from_clones(alloc, attributes)?;
+        copies.push(copy)?;
+    }
+    Ok(())
+}
+
 /// A copy of these attributes for each record of a batch.
 fn copies_of(alloc: Global, attributes: &[KeyValue]) -> Result<Vec<Vec<KeyValue>>, AllocError> {
     let mut copies = Vec::with_capacity(alloc, 100)?;
-    for _ in 0..BATCH {
-        copies.push(Vec::from_clones(alloc, attributes)?)?;
-    }
+    push_copies(alloc, &mut copies, attributes)?;
     Ok(copies)
 }
 

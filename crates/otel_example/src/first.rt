@@ -2,12 +2,12 @@
 
 ghost use Rattle.std.specs.Prelude.{◌≡◌, ◌∷◌, [], map, IfOk};
 
+use crate::calls::{add, counter};
 use opentelemetry_sdk::Resource;
 use opentelemetry_sdk::common::{Fault, KeyValue, StringValue, Value};
 use opentelemetry_sdk::metrics::callback::{Observation, ObserveU64};
-use opentelemetry_sdk::metrics::meter::{Bound, Histogram, Meter};
-use opentelemetry_sdk::metrics::provider::{Parts, Provider, SdkMeterProvider};
-use opentelemetry_sdk::metrics::reader::MetricReader;
+use opentelemetry_sdk::metrics::meter::{Bound, Histogram};
+use opentelemetry_sdk::metrics::provider::{Parts, Provider};
 use std::alloc::Global;
 
 /// What all points of the program come from.
@@ -18,18 +18,6 @@ pub fn service(alloc: Global) -> Result<Resource, Fault> {
             .with_service_name(name)?
             .build(),
     )
-}
-
-/// A provider of the service, with one reader.
-pub fn provider_of_service(
-    alloc: Global,
-    reader: Box<dyn MetricReader>,
-) -> Result<SdkMeterProvider, Fault> {
-    let service = service(alloc)?;
-    SdkMeterProvider::builder(alloc)
-        .with_resource(service)?
-        .with_reader(reader)?
-        .build()
 }
 
 /// Observes how many requests wait.
@@ -74,11 +62,11 @@ pub fn watch_queue<P: Parts>(
 fn latency_of<P: Parts>(
     alloc: Global,
     provider: &mut Provider<P>,
-    meter: Meter,
 ) -> Result<Histogram<u64>, Fault> {
     let name = String::from_str(alloc, "latency")?;
     let unit = String::from_str(alloc, "ms")?;
     let bounds = [10, 100].to_vec(alloc)?;
+    let meter = provider.meter("shop")?;
     meter
         .u64_histogram(name)
         .with_unit(unit)
@@ -113,11 +101,9 @@ fn record_all<P: Parts>(
 
 /// Serves two requests of a path: counts them, and how long each took.
 pub fn serve_two<P: Parts>(alloc: Global, provider: &mut Provider<P>) -> Result<(), Fault> {
-    let name = String::from_str(alloc, "requests")?;
-    let meter = provider.meter("shop")?;
-    let requests = meter.u64_counter(name).build(provider, 100)?;
-    let latency = latency_of(alloc, provider, meter)?;
+    let requests = counter(alloc, provider, "shop", "requests", 100)?;
+    let latency = latency_of(alloc, provider)?;
     let path = [KeyValue::text(alloc, "path", "/cart")?];
-    requests.add(provider, 2, &path)?;
+    add(provider, requests, 2, &path)?;
     record_all(provider, latency, &path, &[7, 250])
 }

@@ -13,18 +13,20 @@ mod workers;
 
 use anyhow::Error;
 use balances::count_any;
+use calls::counter;
 use counted::count_batch;
-use first::{Waiting, provider_of_service, serve_two, watch_queue};
+use first::{Waiting, serve_two, watch_queue};
 use opentelemetry_sdk::common::Fault;
-use opentelemetry_sdk::metrics::provider::{Parts, Provider};
+use opentelemetry_sdk::metrics::provider::{Parts, Provider, SdkMeterProvider};
+use opentelemetry_sdk::metrics::reader::MetricReader;
 use opentelemetry_sdk::metrics::{ManualReader, Temporality};
-use parts::{boxed_provider, plain_provider};
+use parts::{OnlyManual, provider_of_service, provider_with};
 use shop::Shop;
 use stand::{count_a_day, provider_with_views};
 use std::alloc::Global;
 use std::sync::Wait;
 use std::thread::Threads;
-use workers::{counter_of_requests, share_plain};
+use workers::share_plain;
 
 /// Prints what the first reader of a provider collects at a moment.
 fn print_collection<P: Parts>(
@@ -51,8 +53,8 @@ fn serve<P: Parts>(
 /// A service that serves two requests.
 fn first_program(rt: &impl Print, alloc: Global) -> Result<(), Error> {
     let waiting = Box::new(alloc, Waiting::new(alloc, 3))?;
-    let reader = Box::new(alloc, ManualReader::default())?;
-    let mut provider = provider_of_service(alloc, reader)?;
+    let reader: Box<dyn MetricReader> = Box::new(alloc, ManualReader::default())?;
+    let mut provider: SdkMeterProvider = provider_of_service(alloc, reader)?;
     serve(rt, alloc, &mut provider, waiting)
 }
 
@@ -71,23 +73,34 @@ fn serve_paths<P: Parts>(
     Ok(())
 }
 
-/// Readers in boxes, which may differ in type. The provider goes on when the shop is closed.
-fn with_boxes(rt: &impl Print, alloc: Global) -> Result<(), Error> {
-    let reader = Box::new(alloc, ManualReader::default())?;
-    let mut shop = Shop::open(alloc, boxed_provider(alloc, reader)?, 100)?;
+/// A shop serves requests, is closed, and opens again with the same provider, which goes on.
+fn open_twice<P: Parts>(
+    rt: &impl Print,
+    alloc: Global,
+    provider: Provider<P>,
+) -> Result<(), Error> {
+    let mut shop = Shop::open(alloc, provider, 100)?;
     serve_paths(rt, alloc, &mut shop, &["/cart", "/cart", "/"], 200)?;
     let mut next = Shop::open(alloc, shop.close(), 300)?;
     serve_paths(rt, alloc, &mut next, &["/cart"], 400)
+}
+
+/// Readers in boxes, which may differ in type.
+fn with_boxes(rt: &impl Print, alloc: Global) -> Result<(), Error> {
+    let reader: Box<dyn MetricReader> = Box::new(alloc, ManualReader::default())?;
+    let provider: SdkMeterProvider = provider_with(alloc, reader)?;
+    open_twice(rt, alloc, provider)
 }
 
 /// A shop is open for two days.
 fn serve_two_days<P: Parts>(
     rt: &impl Print,
     alloc: Global,
-    shop: &mut Shop<P>,
+    provider: Provider<P>,
 ) -> Result<(), Error> {
-    serve_paths(rt, alloc, shop, &["/cart"], 200)?;
-    serve_paths(rt, alloc, shop, &["/cart", "/cart"], 300)
+    let mut shop = Shop::open(alloc, provider, 100)?;
+    serve_paths(rt, alloc, &mut shop, &["/cart"], 200)?;
+    serve_paths(rt, alloc, &mut shop, &["/cart", "/cart"], 300)
 }
 
 /// Readers of one type, without boxes.
@@ -95,8 +108,8 @@ fn without_boxes(rt: &impl Print, alloc: Global) -> Result<(), Error> {
     let reader = ManualReader::builder()
         .with_temporality(Temporality::Delta)
         .build();
-    let mut shop = Shop::open(alloc, plain_provider(alloc, reader)?, 100)?;
-    serve_two_days(rt, alloc, &mut shop)
+    let provider: Provider<OnlyManual> = provider_with(alloc, reader)?;
+    serve_two_days(rt, alloc, provider)
 }
 
 /// Counts what happens on a day, and prints it.
@@ -137,23 +150,28 @@ fn print_two<P: Parts>(
 
 /// Requests that are counted by the batch.
 fn in_batches(rt: &impl Print, alloc: Global) -> Result<(), Error> {
-    let mut provider = plain_provider(alloc, ManualReader::default())?;
+    let mut provider: Provider<OnlyManual> = provider_with(alloc, ManualReader::default())?;
     print_two(rt, alloc, &mut provider)
 }
 
 /// Four threads count requests, and what they counted is printed.
 fn in_threads<R: Print + Threads + Wait + Sync>(rt: &R, alloc: Global) -> Result<(), Error> {
-    let mut provider = plain_provider(alloc, ManualReader::default())?;
-    let requests = counter_of_requests(alloc, &mut provider)?;
+    let mut provider: Provider<OnlyManual> = provider_with(alloc, ManualReader::default())?;
+    let requests = counter(alloc, &mut provider, "shop", "requests", 100)?;
     let mut provider = share_plain(rt, alloc, provider, requests)?;
     print_collection(rt, &mut provider, 200)
 }
 
+/// Each use of the library, one after another.
+fn run<R: Print + Threads + Wait + Sync>(rt: &R, alloc: Global) -> Result<(), Error> {
+    first_program(rt, alloc)?;
+    with_boxes(rt, alloc)?;
+    without_boxes(rt, alloc)?;
+    with_views(rt, alloc)?;
+    in_batches(rt, alloc)?;
+    in_threads(rt, alloc)
+}
+
 fn main(rt: HostRuntime) -> Result<(), Error> {
-    first_program(&rt, rt.alloc())?;
-    with_boxes(&rt, rt.alloc())?;
-    without_boxes(&rt, rt.alloc())?;
-    with_views(&rt, rt.alloc())?;
-    in_batches(&rt, rt.alloc())?;
-    in_threads(&rt, rt.alloc())
+    run(&rt, rt.alloc())
 }

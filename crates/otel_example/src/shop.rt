@@ -7,16 +7,6 @@ use opentelemetry_sdk::metrics::meter::Counter;
 use opentelemetry_sdk::metrics::provider::{Parts, Provider};
 use std::alloc::Global;
 
-/// The counter of a shop's requests, made at a moment.
-fn counter_of_requests<P: Parts>(
-    alloc: Global,
-    provider: &mut Provider<P>,
-    now: u64,
-) -> Result<Counter<u64>, Fault> {
-    let meter = provider.meter("shop")?;
-    counter(alloc, provider, meter, "requests", now)
-}
-
 /// A shop, and the counter of its requests.
 #[derive(Drop)]
 pub struct Shop<P: Parts> {
@@ -28,7 +18,7 @@ impl<P: Parts> Shop<P> {
     /// A shop that counts its requests at this provider, from a moment on.
     pub fn open(alloc: Global, provider: Provider<P>, now: u64) -> Result<Shop<P>, Fault> {
         let mut provider = provider;
-        let requests = counter_of_requests(alloc, &mut provider, now)?;
+        let requests = counter(alloc, &mut provider, "shop", "requests", now)?;
         Ok(Shop { provider, requests })
     }
 

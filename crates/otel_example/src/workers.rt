@@ -4,7 +4,6 @@ ghost use Rattle.std.specs.Prelude.{◌≡◌, ◌%◌, ◌^◌};
 ghost use Rattle.opentelemetry_sdk.specs.Books.{count_in, sum_in};
 ghost use Rattle.opentelemetry_sdk.specs.Providers.{state_of};
 
-use crate::calls::counter;
 use crate::parts::OnlyManual;
 use opentelemetry_sdk::common::{Fault, KeyValue};
 use opentelemetry_sdk::metrics::meter::Counter;
@@ -17,17 +16,26 @@ use std::sync::{Mutex, Wait};
 use std::thread;
 use std::thread::Threads;
 
-/// Adds three requests to a worker's list, without the lock.
+/// Adds a request of a path to a worker's list, without the lock.
+fn add_request<C: Account, S: Account>(
+    alloc: Global,
+    requests: Counter<u64>,
+    worker: &mut Worker<C, S>,
+    path: &str,
+) -> Result<(), Fault> {
+    let attributes = vec![in alloc; KeyValue::text(alloc, "path", path)?]?;
+    worker.add_to(&requests, 1, attributes)
+}
+
+/// Adds three requests.
 fn add_requests<C: Account, S: Account>(
     alloc: Global,
     requests: Counter<u64>,
     worker: &mut Worker<C, S>,
 ) -> Result<(), Fault> {
-    for path in ["/cart", "/", "/cart"] {
-        let attributes = vec![in alloc; KeyValue::text(alloc, "path", path)?]?;
-        worker.add_to(&requests, 1, attributes)?;
-    }
-    Ok(())
+    add_request(alloc, requests, worker, "/cart")?;
+    add_request(alloc, requests, worker, "/")?;
+    add_request(alloc, requests, worker, "/cart")
 }
 
 /// What one thread does: it counts three requests and hands them in, all at once, under the lock. What is refused stays
@@ -45,16 +53,26 @@ fn count_requests<P: Parts, C: Account, S: Account, R: Wait>(
     worker
 }
 
+/// Opens this many workers more.
+fn open_more<P: Parts, C: Account, S: Account>(
+    locked: &mut Locked<P, C, S>,
+    workers: &mut Vec<Worker<C, S>>,
+    number: usize,
+) -> Result<(), Fault> {
+    for _ in 0..number {
+        let worker = locked.open_worker()?;
+        workers.push(worker)?;
+    }
+    Ok(())
+}
+
 /// Opens four workers.
 fn open_four<P: Parts, C: Account, S: Account>(
     alloc: Global,
     locked: &mut Locked<P, C, S>,
 ) -> Result<Vec<Worker<C, S>>, Fault> {
     let mut workers = Vec::new(alloc);
-    for _ in 0..4 {
-        let worker = locked.open_worker()?;
-        workers.push(worker)?;
-    }
+    open_more(locked, &mut workers, 4)?;
     Ok(workers)
 }
 
@@ -106,15 +124,6 @@ fn share<
         Ok(provider) => Ok(provider),
         Err((fault, _, _)) => Err(fault),
     }
-}
-
-/// The counter of a provider's requests.
-pub fn counter_of_requests<P: Parts>(
-    alloc: Global,
-    provider: &mut Provider<P>,
-) -> Result<Counter<u64>, Fault> {
-    let meter = provider.meter("shop")?;
-    counter(alloc, provider, meter, "requests", 100)
 }
 
 /// The same at a provider whose readers are in no box. No ledger is named in the signature.
