@@ -2,7 +2,7 @@
 
 use super::cases::{Case, assert_of_provider};
 use super::shown::write_collection;
-use super::support::{attributes, build};
+use super::support::{assert_is, attributes, build};
 use opentelemetry_sdk::common::{Fault, InstrumentationScope, Items};
 use opentelemetry_sdk::metrics::provider::{Call, NumberValue, Parts, Provider, Reply};
 use std::alloc::{AllocError, Global};
@@ -64,6 +64,14 @@ fn write_reply(text: &mut String, reply: &Reply) -> Result<(), AllocError> {
     }
 }
 
+/// Writes replies as text.
+fn write_replies(text: &mut String, replies: &[Reply]) -> Result<(), AllocError> {
+    for reply in replies {
+        write_reply(text, reply)?;
+    }
+    Ok(())
+}
+
 /// Makes the calls, and asserts the replies.
 pub fn assert_replies<P: Parts>(
     rt: &impl Abort,
@@ -74,10 +82,8 @@ pub fn assert_replies<P: Parts>(
     push_calls(alloc, &mut calls)?;
     let replies = provider.run(alloc, calls.as_slice())?;
     let mut text = String::new(alloc);
-    for reply in replies.as_slice() {
-        write_reply(&mut text, reply)?;
-    }
-    assert_eq!(rt; text.as_str(), REPLIES);
+    write_replies(&mut text, replies.as_slice())?;
+    assert_is(rt, text.as_str(), REPLIES);
     Ok(())
 }
 
