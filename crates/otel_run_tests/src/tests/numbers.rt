@@ -163,10 +163,12 @@ fn faults_of<P: Parts>(
     Ok(([recorded, unknown], early, records, handles, late))
 }
 
-/// The fault numbers where a provider of the identity 0 is asked with values of another one, of this identity.
-fn mixed_up(alloc: Global, identity: u64) -> Result<Faults, Fault> {
-    let mut other = SdkMeterProvider::default(alloc);
-    let mut own = provider(alloc, identity, None)?;
+/// The fault numbers where a provider of the second identity is asked with values of one of the first.
+fn mixed_up(alloc: Global, own: u64, other: u64) -> Result<Faults, Fault> {
+    let mut other = SdkMeterProvider::builder(alloc)
+        .with_identity(other)
+        .build()?;
+    let mut own = provider(alloc, own, None)?;
     faults_of(alloc, &mut own, &mut other)
 }
 
@@ -174,7 +176,7 @@ fn mixed_up(alloc: Global, identity: u64) -> Result<Faults, Fault> {
 /// there, or is another one, perhaps observable or of another number type.
 #[test]
 fn one_identity(rt: HostRuntime) -> Result<(), Fault> {
-    let faults = mixed_up(rt.alloc(), 0)?;
+    let faults = mixed_up(rt.alloc(), 0, 0)?;
     let handles = [[6, 0, 0], [4, 4, 0]];
     assert_is(
         &rt,
@@ -188,7 +190,7 @@ fn one_identity(rt: HostRuntime) -> Result<(), Fault> {
 /// it refuses is given back (`row_28`).
 #[test]
 fn other_identity(rt: HostRuntime) -> Result<(), Fault> {
-    let faults = mixed_up(rt.alloc(), 1)?;
+    let faults = mixed_up(rt.alloc(), 1, 0)?;
     let handles = [[4, 4, 0], [4, 4, 0]];
     assert_is(
         &rt,
@@ -201,7 +203,7 @@ fn other_identity(rt: HostRuntime) -> Result<(), Fault> {
 /// A handle that another provider refuses is given back, and ends at its own.
 #[test]
 fn row_28(rt: HostRuntime) -> Result<(), Fault> {
-    let (_, _, _, handles, _) = mixed_up(rt.alloc(), 2)?;
+    let (_, _, _, handles, _) = mixed_up(rt.alloc(), 1, 2)?;
     assert_is(&rt, handles, [[4, 4, 0], [4, 4, 0]]);
     Ok(())
 }
