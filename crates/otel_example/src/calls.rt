@@ -18,16 +18,6 @@ pub fn counter<P: Parts>(
     meter.u64_counter(name).build(provider, now)
 }
 
-/// Adds to a counter.
-pub fn add<P: Parts>(
-    provider: &mut Provider<P>,
-    counter: Counter<u64>,
-    value: u64,
-    attributes: &[KeyValue],
-) -> Result<(), Fault> {
-    counter.add(provider, value, attributes)
-}
-
 /// Adds one to a counter, with an attribute whose value is a text.
 pub fn add_one<P: Parts>(
     alloc: Global,
@@ -37,5 +27,5 @@ pub fn add_one<P: Parts>(
     value: &str,
 ) -> Result<(), Fault> {
     let attributes = [KeyValue::text(alloc, key, value)?];
-    add(provider, counter, 1, &attributes)
+    counter.add(provider, 1, &attributes)
 }

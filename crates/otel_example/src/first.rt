@@ -2,7 +2,7 @@
 
 ghost use Rattle.std.specs.Prelude.{◌≡◌, ◌∷◌, [], map, IfOk};
 
-use crate::calls::{add, counter};
+use crate::calls::counter;
 use opentelemetry_sdk::Resource;
 use opentelemetry_sdk::common::{Fault, KeyValue, StringValue, Value};
 use opentelemetry_sdk::metrics::callback::{Observation, ObserveU64};
@@ -104,6 +104,6 @@ pub fn serve_two<P: Parts>(alloc: Global, provider: &mut Provider<P>) -> Result<
     let requests = counter(alloc, provider, "shop", "requests", 100)?;
     let latency = latency_of(alloc, provider)?;
     let path = [KeyValue::text(alloc, "path", "/cart")?];
-    add(provider, requests, 2, &path)?;
+    requests.add(provider, 2, &path)?;
     record_all(provider, latency, &path, &[7, 250])
 }

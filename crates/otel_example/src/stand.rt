@@ -1,6 +1,6 @@
 //! A stand that counts at a provider with views.
 
-use crate::calls::{add, add_one, counter};
+use crate::calls::{add_one, counter};
 use crate::parts::OnlyManual;
 use crate::views::{dropped, few_points, other_buckets, renamed, two_attributes};
 use anyhow::Error;
@@ -40,8 +40,8 @@ fn order(alloc: Global, cart: &str) -> Result<Vec<KeyValue>, Fault> {
 /// Two orders, of different carts, from one country.
 fn take_orders<P: Parts>(alloc: Global, provider: &mut Provider<P>) -> Result<(), Fault> {
     let orders = counter(alloc, provider, "stand", "orders", 100)?;
-    add(provider, orders, 1, &order(alloc, "21")?)?;
-    add(provider, orders, 1, &order(alloc, "22")?)
+    orders.add(provider, 1, &order(alloc, "21")?)?;
+    orders.add(provider, 1, &order(alloc, "22")?)
 }
 
 /// Four users come, of whom two have a point of their own.
@@ -65,9 +65,9 @@ fn time<P: Parts>(alloc: Global, provider: &mut Provider<P>) -> Result<(), Fault
 /// Counts what happens on a day.
 pub fn count_a_day<P: Parts>(alloc: Global, provider: &mut Provider<P>) -> Result<(), Fault> {
     let requests = counter(alloc, provider, "stand", "requests", 100)?;
-    add(provider, requests, 3, &[])?;
+    requests.add(provider, 3, &[])?;
     let debug = counter(alloc, provider, "stand", "debug", 100)?;
-    add(provider, debug, 1, &[])?;
+    debug.add(provider, 1, &[])?;
     take_orders(alloc, provider)?;
     greet(alloc, provider)?;
     time(alloc, provider)
