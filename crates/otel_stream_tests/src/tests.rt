@@ -20,6 +20,11 @@ fn assert_prints<T: Display>(rt: &impl Abort, alloc: Global, value: &T, text: &s
     assert_eq!(rt; printed.as_str(), text);
 }
 
+/// A string of this text.
+fn string(rt: &impl Abort, alloc: Global, text: &str) -> String {
+    String::from_str(alloc, text).expect(rt, text)
+}
+
 /// Attributes with these keys and values.
 fn attributes_of(rt: &impl Abort, alloc: Global, pairs: &[(&str, i64)]) -> Vec<KeyValue> {
     let mut attributes = Vec::new(alloc);

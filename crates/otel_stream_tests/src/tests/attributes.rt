@@ -1,6 +1,6 @@
 //! Keys, values, canonical sets and scopes.
 
-use super::attributes_of;
+use super::{attributes_of, string};
 use otel_common::attributes::{Array, KeyValue, Value};
 use otel_common::canonical::canonical;
 use otel_common::faults::Fault;
@@ -26,9 +26,9 @@ fn texts(rt: HostRuntime) {
 #[test]
 fn keys(rt: HostRuntime) {
     let key = Key::new(rt.alloc(), "a").expect(&rt, "memory");
-    assert_eq!(rt; key.as_str(), "a");
-    assert!(rt; key.clone().expect(&rt, "memory") == key);
-    assert!(rt; key < Key::new(rt.alloc(), "aa").expect(&rt, "memory"));
+    let copy = key.clone().expect(&rt, "memory");
+    let longer = Key::new(rt.alloc(), "aa").expect(&rt, "memory");
+    assert!(rt; key.as_str() == "a" && key == copy && key < longer);
 }
 
 /// The array of this number; no two of the four are equal.
@@ -79,15 +79,19 @@ fn canonical_sets(rt: HostRuntime) {
 
 /// A scope with all four parts.
 fn full_scope(rt: &impl Abort, alloc: Global, attributes: Vec<KeyValue>) -> InstrumentationScope {
-    let name = String::from_str(alloc, "app").expect(rt, "memory");
-    let version = String::from_str(alloc, "1.0").expect(rt, "memory");
-    let url = String::from_str(alloc, "https://example.org").expect(rt, "memory");
-    InstrumentationScope::builder(alloc, name)
-        .with_version(version)
-        .with_schema_url(url)
+    InstrumentationScope::builder(alloc, string(rt, alloc, "app"))
+        .with_version(string(rt, alloc, "1.0"))
+        .with_schema_url(string(rt, alloc, "https://example.org"))
         .with_attributes(attributes)
         .build()
         .expect(rt, "memory")
+}
+
+/// Whether a scope has the texts of the full scope.
+fn has_full_texts(scope: &InstrumentationScope) -> bool {
+    scope.name() == "app"
+        && scope.version() == Some("1.0")
+        && scope.schema_url() == Some("https://example.org")
 }
 
 #[test]
@@ -95,10 +99,9 @@ fn scopes(rt: HostRuntime) {
     let given = attributes_of(&rt, rt.alloc(), &[("b", 1), ("a", 2), ("b", 3)]);
     let wanted = attributes_of(&rt, rt.alloc(), &[("a", 2), ("b", 1), ("b", 3)]);
     let scope = full_scope(&rt, rt.alloc(), given);
-    assert!(rt; scope.name() == "app" && scope.version() == Some("1.0"));
-    assert!(rt; scope.schema_url() == Some("https://example.org"));
-    assert!(rt; scope.attributes().as_slice() == wanted.as_slice());
-    assert!(rt; scope.clone().expect(&rt, "memory") == scope);
+    let copy = scope.clone().expect(&rt, "memory");
+    assert!(rt; has_full_texts(&scope));
+    assert!(rt; scope.attributes().as_slice() == wanted.as_slice() && copy == scope);
 }
 
 #[test]

@@ -61,10 +61,11 @@ type Callbacks = [Registered<Box<dyn ObserveU64>, Below>; 3];
 fn show(text: &mut String, observed: &[Observed]) -> Result<(), AllocError> {
     for one in observed {
         let instrument = one.instrument;
-        match one.value {
-            NumberValue::U64(value) => write!(text, "{instrument} u:{value};")?,
-            NumberValue::I64(value) => write!(text, "{instrument} i:{value};")?,
-        }
+        let (number_type, value) = match one.value {
+            NumberValue::U64(value) => ("u", i128::from(value)),
+            NumberValue::I64(value) => ("i", i128::from(value)),
+        };
+        write!(text, "{instrument} {number_type}:{value};")?;
     }
     Ok(())
 }

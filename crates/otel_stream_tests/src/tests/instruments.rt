@@ -18,33 +18,38 @@ use otel_stream::view::View;
 use std::alloc::Global;
 use std::process::Abort;
 
-/// A counter of this name, of calls.
-fn counter(rt: &impl Abort, alloc: Global, name: &str) -> Instrument {
+/// A counter of this name and this description.
+fn counter(rt: &impl Abort, alloc: Global, name: &str, description: &str) -> Instrument {
     Instrument {
         name: StringValue::new(alloc, name).expect(rt, name),
-        description: StringValue::new(alloc, "calls").expect(rt, name),
+        description: StringValue::new(alloc, description).expect(rt, name),
         kind: InstrumentKind::Counter,
         unit: StringValue::new(alloc, "1").expect(rt, name),
         scope: InstrumentationScope::default(alloc),
     }
 }
 
-/// An instrument equals its copy, but not its copy without the description.
+/// Whether an instrument has the parts of a counter of hits.
+fn is_of_hits(instrument: &Instrument) -> bool {
+    instrument.name() == "hits"
+        && instrument.unit() == "1"
+        && instrument.kind() == InstrumentKind::Counter
+        && instrument.scope().name() == ""
+}
+
+/// An instrument equals its copy, but not the same without the description.
 #[test]
 fn instruments_have_their_parts(rt: HostRuntime) {
     equal_instruments();
-    let hits = counter(&rt, rt.alloc(), "hits");
-    assert!(rt; hits.name() == "hits" && hits.unit() == "1");
-    assert!(rt; hits.kind() == InstrumentKind::Counter && hits.scope().name() == "");
-    let mut other = hits.clone().expect(&rt, "memory");
-    assert!(rt; hits == other);
-    other.description = StringValue::new(rt.alloc(), "").expect(&rt, "memory");
-    assert!(rt; hits != other);
+    let hits = counter(&rt, rt.alloc(), "hits", "calls");
+    let copy = hits.clone().expect(&rt, "memory");
+    let other = counter(&rt, rt.alloc(), "hits", "");
+    assert!(rt; is_of_hits(&hits) && hits == copy && hits != other);
 }
 
 /// The limit that a view gives to the streams of a counter of this name, if it is for them.
 fn limit_by<V: View>(rt: &impl Abort, alloc: Global, view: &V, name: &str) -> Option<usize> {
-    let counter = counter(rt, alloc, name);
+    let counter = counter(rt, alloc, name, "calls");
     view.match_inst(&counter)
         .expect(rt, name)?
         .cardinality_limit()
@@ -56,17 +61,16 @@ fn limited(rt: &impl Abort) -> Stream {
     built.expect(rt, "a stream")
 }
 
-/// The limits that a view gives to counters of these names, if it is for them.
-fn limits_by(
+/// Asserts which limits a view gives to counters of these names.
+fn assert_limits(
     rt: &impl Abort,
     alloc: Global,
-    view: SelectorView,
-    names: [&str; 2],
-) -> [Option<usize>; 2] {
-    [
-        limit_by(rt, alloc, &view, names[0]),
-        limit_by(rt, alloc, &view, names[1]),
-    ]
+    view: &SelectorView,
+    wanted: &[(&str, Option<usize>)],
+) {
+    for (name, limit) in wanted {
+        assert!(rt; limit_by(rt, alloc, view, name) == *limit, "{name}");
+    }
 }
 
 /// Views ready to use are for a name, a beginning of names or a kind.
@@ -74,25 +78,18 @@ fn limits_by(
 fn selector_views(rt: HostRuntime) {
     let alloc = rt.alloc();
     let name = SelectorView::of_name(alloc, "hits", limited(&rt)).expect(&rt, "memory");
-    assert_eq!(rt;
-        limits_by(&rt, alloc, name, ["hits", "hits2"]),
-        [Some(7), None]
-    );
+    assert_limits(&rt, alloc, &name, &[("hits", Some(7)), ("hits2", None)]);
     let prefix = SelectorView::of_prefix(alloc, "hits", limited(&rt)).expect(&rt, "memory");
-    assert_eq!(rt;
-        limits_by(&rt, alloc, prefix, ["hits2", "hit"]),
-        [Some(7), None]
-    );
+    assert_limits(&rt, alloc, &prefix, &[("hits2", Some(7)), ("hit", None)]);
     let counters = SelectorView::of_kind(InstrumentKind::Counter, limited(&rt));
-    assert_eq!(rt;
-        limits_by(&rt, alloc, counters, ["hits", "hit"]),
-        [Some(7), Some(7)]
+    assert_limits(
+        &rt,
+        alloc,
+        &counters,
+        &[("hits", Some(7)), ("hit", Some(7))],
     );
     let gauges = SelectorView::of_kind(InstrumentKind::Gauge, limited(&rt));
-    assert_eq!(rt;
-        limits_by(&rt, alloc, gauges, ["hits", "hit"]),
-        [None, None]
-    );
+    assert_limits(&rt, alloc, &gauges, &[("hits", None), ("hit", None)]);
 }
 
 /// A view that answers the same stream for every instrument.
@@ -145,12 +142,8 @@ fn aggregations_fit_kinds(rt: HostRuntime) {
 #[test]
 fn validate_aggregation(rt: HostRuntime) {
     assert!(rt; Aggregation::Default.validate().is_ok());
-    for bounds in [[0].as_slice(), &[0, 2, 4, 8]] {
-        assert!(rt;
-            histogram(&rt, rt.alloc(), bounds).validate().is_ok(),
-            "{bounds:?}"
-        );
-    }
+    assert!(rt; histogram(&rt, rt.alloc(), &[0]).validate().is_ok());
+    assert!(rt; histogram(&rt, rt.alloc(), &[0, 2, 4, 8]).validate().is_ok());
     let falling = histogram(&rt, rt.alloc(), &[2, 0, 4, 8]).validate();
     let error = falling.expect_err(&rt, "bounds that fall");
     let text = "Config error aggregation: explicit bucket histogram: non-monotonic boundaries";
@@ -161,25 +154,16 @@ fn validate_aggregation(rt: HostRuntime) {
 #[test]
 fn aggregations_show_their_names(rt: HostRuntime) {
     equal_aggregations();
-    let aggregations = [
-        Aggregation::Drop,
-        Aggregation::Default,
-        Aggregation::Sum,
-        Aggregation::LastValue,
-        histogram(&rt, rt.alloc(), &[1]),
-    ];
-    let names = [
-        "Drop",
-        "Default",
-        "Sum",
-        "LastValue",
-        "ExplicitBucketHistogram",
-    ];
-    for (aggregation, name) in aggregations.iter().zip(&names) {
-        assert!(rt;
-            aggregation.clone().expect(&rt, name) == *aggregation,
-            "{name}"
-        );
+    let histogram = histogram(&rt, rt.alloc(), &[1]);
+    for (aggregation, name) in [
+        (&Aggregation::Drop, "Drop"),
+        (&Aggregation::Default, "Default"),
+        (&Aggregation::Sum, "Sum"),
+        (&Aggregation::LastValue, "LastValue"),
+        (&histogram, "ExplicitBucketHistogram"),
+    ] {
+        let copy = aggregation.clone().expect(&rt, name);
+        assert!(rt; copy == *aggregation, "{name}");
         assert_prints(&rt, rt.alloc(), aggregation, name);
     }
 }

@@ -14,6 +14,7 @@ use otel_stream::limit::CardinalityLimit;
 use otel_stream::manual_reader::{ManualReader, ManualReaderBuilder};
 use otel_stream::reader::MetricReader;
 use std::alloc::{AllocError, Global};
+use std::fmt::Debug;
 use std::process::Abort;
 use std::time::Duration;
 
@@ -60,12 +61,12 @@ impl MetricReader for Once {
     }
 }
 
-/// Asserts that two readers failed to flush, the first of them with the number 1.
-fn assert_failure(rt: &impl Abort, answer: OTelSdkResult) {
+/// Whether two readers failed to flush, the first of them with the number 1.
+fn is_failure_of_two(answer: &OTelSdkResult) -> bool {
     let Err(Fault::InternalFailure(InternalFault::Readers { failed, first })) = answer else {
-        panic!(rt; "no reader failed");
+        return false;
     };
-    assert_eq!(rt; (failed, first), (2, 1));
+    *failed == 2 && *first == 1
 }
 
 /// Boxes hold what a flush left: all three readers can flush once, two of them fail to from then on, and all can shut
@@ -85,8 +86,8 @@ fn boxes_hold_what_a_flush_left(rt: HostRuntime) {
     assert_wants(&rt, alloc, &first, CUMULATIVE);
     let mut readers = [first, second, third];
     assert!(rt; flush_all(&mut readers).is_ok());
-    assert_failure(&rt, flush_all(&mut readers));
-    assert_failure(&rt, flush_all(&mut readers));
+    assert!(rt; is_failure_of_two(&flush_all(&mut readers)));
+    assert!(rt; is_failure_of_two(&flush_all(&mut readers)));
     assert!(rt; shut_all(&mut readers).is_ok());
 }
 
@@ -101,11 +102,16 @@ const KINDS: [InstrumentKind; 7] = [
     InstrumentKind::ObservableGauge,
 ];
 
+/// The limit that a reader wants for a kind.
+fn limit_of<R: MetricReader>(reader: &R, kind: InstrumentKind) -> Option<usize> {
+    Some(reader.cardinality_limit(kind)?.get())
+}
+
 /// Shows what a reader wants for each of the seven kinds.
 fn show<R: MetricReader>(text: &mut String, reader: &R) -> Result<(), AllocError> {
     for kind in &KINDS {
         let temporality = reader.temporality(*kind);
-        let limit = reader.cardinality_limit(*kind).map(|limit| limit.get());
+        let limit = limit_of(reader, *kind);
         let aggregation = reader.default_aggregation(*kind);
         writeln!(text, "{temporality:?} {limit:?} {aggregation:?}")?;
     }
@@ -161,6 +167,12 @@ Cumulative None None
 Cumulative None None
 ";
 
+const PREFERENCES: &[(Temporality, &str)] = &[
+    (Temporality::Cumulative, CUMULATIVE),
+    (Temporality::Delta, DELTA),
+    (Temporality::LowMemory, LOW_MEMORY),
+];
+
 /// Readers are cumulative by default, and prefer by kind.
 #[test]
 fn readers_have_their_preferences(rt: HostRuntime) {
@@ -172,27 +184,30 @@ fn readers_have_their_preferences(rt: HostRuntime) {
         &ManualReaderBuilder::new().build(),
         CUMULATIVE,
     );
-    for (temporality, wanted) in [
-        (Temporality::Cumulative, CUMULATIVE),
-        (Temporality::Delta, DELTA),
-        (Temporality::LowMemory, LOW_MEMORY),
-    ] {
+    for (temporality, wanted) in PREFERENCES {
         let reader = ManualReader::builder()
-            .with_temporality(temporality)
+            .with_temporality(*temporality)
             .build();
         assert_wants(&rt, rt.alloc(), &reader, wanted);
     }
 }
 
+/// Asserts that a value shows this text.
+fn assert_shows<T: Debug>(rt: &impl Abort, alloc: Global, value: &T, text: &str) {
+    let shown = format!(in alloc; "{value:?}").expect(rt, text);
+    assert_eq!(rt; shown.as_str(), text);
+}
+
 /// Readers and their builders show their names, which no contract states.
 #[test]
 fn readers_show_their_names(rt: HostRuntime) {
-    let builder = ManualReaderBuilder::default();
-    let shown = format!(in rt.alloc(); "{builder:?} of a {:?}", ManualReader::default());
-    assert_eq!(rt;
-        shown.expect(&rt, "memory").as_str(),
-        "ManualReaderBuilder of a ManualReader"
+    assert_shows(
+        &rt,
+        rt.alloc(),
+        &ManualReaderBuilder::default(),
+        "ManualReaderBuilder",
     );
+    assert_shows(&rt, rt.alloc(), &ManualReader::default(), "ManualReader");
 }
 
 /// A histogram with the bounds 10 and 20.
@@ -310,8 +325,5 @@ fn kinds_are_equal_to_themselves(rt: HostRuntime) {
     kind_laws();
     let kind = InstrumentKind::ObservableCounter;
     let copy = kind.clone().expect(&rt, "a copy");
-    assert_eq!(rt;
-        (kind == copy, kind == InstrumentKind::Counter),
-        (true, false)
-    );
+    assert!(rt; kind == copy && kind != InstrumentKind::Counter);
 }

@@ -15,7 +15,7 @@ use std::time::{Clock, Duration};
 /// An attribute with an array as its value.
 fn list(rt: &impl Abort, alloc: Global) -> KeyValue {
     let key = Key::new(alloc, "l").expect(rt, "memory");
-    let numbers = vec![in alloc; 1i64, -2i64].expect(rt, "memory");
+    let numbers = Vec::from_slice(alloc, &[1, -2]).expect(rt, "memory");
     KeyValue::new(key, Value::Array(Array::I64(Items::from(numbers))))
 }
 

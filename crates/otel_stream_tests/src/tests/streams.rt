@@ -1,6 +1,6 @@
 //! Which settings of streams are refused, and with which text.
 
-use super::assert_prints;
+use super::{assert_prints, string};
 use otel_common::keys::Key;
 use otel_common::lists::Items;
 use otel_common::metrics::Aggregation;
@@ -8,11 +8,6 @@ use otel_stream::stream::{Stream, StreamBuilder};
 use otel_stream::stream_fault::StreamFault;
 use std::alloc::Global;
 use std::process::Abort;
-
-/// A string of this text.
-fn string(rt: &impl Abort, alloc: Global, text: &str) -> String {
-    String::from_str(alloc, text).expect(rt, text)
-}
 
 /// Asserts that a builder is refused with this text, or builds if it is `Ok`.
 fn assert_builds(rt: &impl Abort, alloc: Global, builder: StreamBuilder, text: &str) {
@@ -132,20 +127,20 @@ fn full_builder(rt: &impl Abort, alloc: Global) -> StreamBuilder {
         .with_cardinality_limit(100)
 }
 
+/// Whether a stream has the texts that the full builder sets.
+fn has_full_texts(stream: &Stream) -> bool {
+    stream.name() == Some("valid_name")
+        && stream.description() == Some("A valid stream")
+        && stream.unit() == Some("ms")
+}
+
 /// Asserts that a stream has everything that the full builder sets.
 fn assert_full(rt: &impl Abort, stream: &Stream) {
     stream.lawful();
-    let texts = (stream.name(), stream.description(), stream.unit());
-    assert_eq!(rt;
-        texts,
-        (Some("valid_name"), Some("A valid stream"), Some("ms"))
-    );
+    assert!(rt; has_full_texts(stream));
     assert!(rt; stream.aggregation() == Some(&Aggregation::Sum));
-    assert_eq!(rt; stream.allowed_attribute_keys().expect(rt, "keys").len(), 1);
-    assert_eq!(rt;
-        (stream.cardinality_limit(), stream.spec().limit),
-        (Some(100), Some(100))
-    );
+    assert!(rt; stream.allowed_attribute_keys().expect(rt, "keys").len() == 1);
+    assert!(rt; stream.cardinality_limit() == Some(100) && stream.spec().limit == Some(100));
 }
 
 /// Each setting once, with its getter, also in copies of the builder and of the stream.
