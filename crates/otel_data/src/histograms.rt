@@ -7,6 +7,7 @@ ghost use Rattle.std.specs.Option.{option_map};
 ghost use Rattle.std.specs.Slice.Iter.{iter_rest};
 ghost use Rattle.otel_common.specs.Equality.{key_value_eq};
 
+use crate::places::first_at;
 use crate::points::HistogramDataPoint;
 use otel_common::attributes::KeyValue;
 use otel_common::lists::Items;
@@ -65,12 +66,7 @@ impl<T> Histogram<T> {
     pub fn point(&self, attributes: &[KeyValue]) -> Option<&HistogramDataPoint<T>>
         ensures { option_map (λ found. found.now) result ≡ find (λ point. pointwise key_value_eq point.attributes attributes.now) self.now.data_points }
     {
-        for point in self.data_points.as_slice() {
-            if point.attributes().as_slice() == attributes {
-                return Some(point);
-            }
-        }
-        None
+        first_at(self.data_points.as_slice(), attributes)
     }
 
     /// The moment from which records are included in the points, in nanoseconds since 1970.

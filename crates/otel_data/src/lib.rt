@@ -13,5 +13,6 @@ pub mod exemplars;
 pub mod gauges;
 pub mod histograms;
 pub mod numbers;
+mod places;
 pub mod points;
 pub mod sums;

@@ -8,7 +8,7 @@ use otel_callback::registered::{Callback, Registered, run_callbacks};
 use otel_common::faults::Fault;
 use otel_common::lists::Items;
 use otel_data::numbers::NumberValue;
-use std::alloc::{AllocError, Global};
+use std::alloc::Global;
 use std::process::Abort;
 
 /// Observes how often it was run before.
@@ -54,32 +54,18 @@ impl ObserveI64 for Below {
     }
 }
 
-/// The callbacks of the tests.
-type Callbacks = [Registered<Box<dyn ObserveU64>, Below>; 3];
-
-/// Shows what was observed: each instrument with the value.
-fn show(text: &mut String, observed: &[Observed]) -> Result<(), AllocError> {
-    for one in observed {
-        let instrument = one.instrument;
-        let (number_type, value) = match one.value {
-            NumberValue::U64(value) => ("u", i128::from(value)),
-            NumberValue::I64(value) => ("i", i128::from(value)),
-        };
-        write!(text, "{instrument} {number_type}:{value};")?;
+/// Whether these values were observed of these instruments.
+fn is_observed(observed: &[Observed], wanted: &[(usize, NumberValue)]) -> bool {
+    for (one, (instrument, value)) in observed.iter().zip(wanted) {
+        if one.instrument != *instrument || one.value != *value {
+            return false;
+        }
     }
-    Ok(())
-}
-
-/// Asserts what the callbacks observe in a run.
-fn assert_observed(rt: &impl Abort, alloc: Global, callbacks: &mut Callbacks, wanted: &str) {
-    let mut text = String::new(alloc);
-    let observed = run_callbacks(alloc, callbacks).expect(rt, wanted);
-    show(&mut text, &observed).expect(rt, wanted);
-    assert_eq!(rt; text.as_str(), wanted);
+    observed.len() == wanted.len()
 }
 
 /// Asserts that a run is refused if the second callback fails, and what is observed in two runs in which none fails.
-fn assert_runs(rt: &impl Abort, alloc: Global, fails: bool, wanted: [&str; 2]) {
+fn assert_runs(rt: &impl Abort, alloc: Global, fails: bool, wanted: &[&[(usize, NumberValue)]]) {
     let first: Box<dyn ObserveU64> = Box::new(alloc, Counting { alloc, runs: 7 }).expect(
         rt, "memory",
     );
@@ -108,17 +94,48 @@ fn assert_runs(rt: &impl Abort, alloc: Global, fails: bool, wanted: [&str; 2]) {
             fails: false,
         });
     }
-    for wanted in &wanted {
-        assert_observed(rt, alloc, &mut callbacks, wanted);
+    for wanted in wanted {
+        let observed = run_callbacks(alloc, &mut callbacks).expect(rt, "a run");
+        assert!(rt; is_observed(&observed, wanted));
     }
 }
+
+/// What is observed in two runs of the callbacks.
+const WHOLE: &[&[(usize, NumberValue)]] = &[
+    &[
+        (4, NumberValue::U64(7)),
+        (3, NumberValue::I64(-1)),
+        (3, NumberValue::I64(-1)),
+        (2, NumberValue::U64(0)),
+    ],
+    &[
+        (4, NumberValue::U64(8)),
+        (3, NumberValue::I64(-1)),
+        (3, NumberValue::I64(-1)),
+        (2, NumberValue::U64(1)),
+    ],
+];
+
+/// What is observed in two runs after one in which the second callback failed.
+const AFTER_A_FAULT: &[&[(usize, NumberValue)]] = &[
+    &[
+        (4, NumberValue::U64(8)),
+        (3, NumberValue::I64(-1)),
+        (3, NumberValue::I64(-1)),
+        (2, NumberValue::U64(0)),
+    ],
+    &[
+        (4, NumberValue::U64(9)),
+        (3, NumberValue::I64(-1)),
+        (3, NumberValue::I64(-1)),
+        (2, NumberValue::U64(1)),
+    ],
+];
 
 /// Each callback runs once in each run, in order, and keeps the changes that it made to itself. No callback runs after a
 /// fault.
 #[test]
 fn callbacks_run_in_order(rt: HostRuntime) {
-    let whole = ["4 u:7;3 i:-1;3 i:-1;2 u:0;", "4 u:8;3 i:-1;3 i:-1;2 u:1;"];
-    assert_runs(&rt, rt.alloc(), false, whole);
-    let after_a_fault = ["4 u:8;3 i:-1;3 i:-1;2 u:0;", "4 u:9;3 i:-1;3 i:-1;2 u:1;"];
-    assert_runs(&rt, rt.alloc(), true, after_a_fault);
+    assert_runs(&rt, rt.alloc(), false, WHOLE);
+    assert_runs(&rt, rt.alloc(), true, AFTER_A_FAULT);
 }

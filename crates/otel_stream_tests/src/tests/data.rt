@@ -88,14 +88,23 @@ fn gauge_points(rt: HostRuntime) {
     assert!(rt; point != gauge_point(&rt, rt.alloc(), 7));
 }
 
+/// Whether a point has the parts of a point of three values, from 2 to 30.
+fn has_parts(point: &HistogramDataPoint<u64>) -> bool {
+    point.attributes().count() == 1
+        && point.exemplars().count() == 1
+        && point.bounds().count() == 2
+        && point.bucket_counts().count() == 3
+        && point.count() == 3
+        && point.sum() == 44
+        && point.min() == Some(2)
+        && point.max() == Some(30)
+}
+
 #[test]
 fn histogram_points(rt: HostRuntime) {
     equal_points();
     let point = histogram_point(&rt, rt.alloc(), 30);
-    assert!(rt; point.attributes().count() == 1 && point.exemplars().count() == 1);
-    assert!(rt; point.bounds().count() == 2 && point.bucket_counts().count() == 3);
-    assert!(rt; point.count() == 3 && point.sum() == 44);
-    assert!(rt; point.min() == Some(2) && point.max() == Some(30));
+    assert!(rt; has_parts(&point));
     assert!(rt; point == histogram_point(&rt, rt.alloc(), 30));
     assert!(rt; point != histogram_point(&rt, rt.alloc(), 31));
 }

@@ -3,7 +3,8 @@
 ghost use Rattle.std.specs.Prelude.{◌≡◌, Ok, true, not, is_ok};
 ghost use Rattle.otel_common.specs.declared.metrics.Temporality.TheVariants.{Delta};
 
-use otel_common::faults::{Fault, InternalFault, OTelSdkResult};
+use super::assert_prints;
+use otel_common::faults::{Fault, OTelSdkResult};
 use otel_common::lists::Items;
 use otel_common::metrics::{Aggregation, Temporality};
 use otel_stream::answers::Answers;
@@ -61,12 +62,10 @@ impl MetricReader for Once {
     }
 }
 
-/// Whether two readers failed to flush, the first of them with the number 1.
-fn is_failure_of_two(answer: &OTelSdkResult) -> bool {
-    let Err(Fault::InternalFailure(InternalFault::Readers { failed, first })) = answer else {
-        return false;
-    };
-    *failed == 2 && *first == 1
+/// Asserts that two readers failed to flush, the first of them with the number 1.
+fn assert_failure(rt: &impl Abort, alloc: Global, answer: OTelSdkResult) {
+    let fault = answer.expect_err(rt, "a flush that fails");
+    assert_prints(rt, alloc, &fault, "2 readers failed, the first is 1");
 }
 
 /// Boxes hold what a flush left: all three readers can flush once, two of them fail to from then on, and all can shut
@@ -86,8 +85,8 @@ fn boxes_hold_what_a_flush_left(rt: HostRuntime) {
     assert_wants(&rt, alloc, &first, CUMULATIVE);
     let mut readers = [first, second, third];
     assert!(rt; flush_all(&mut readers).is_ok());
-    assert!(rt; is_failure_of_two(&flush_all(&mut readers)));
-    assert!(rt; is_failure_of_two(&flush_all(&mut readers)));
+    assert_failure(&rt, alloc, flush_all(&mut readers));
+    assert_failure(&rt, alloc, flush_all(&mut readers));
     assert!(rt; shut_all(&mut readers).is_ok());
 }
 

@@ -111,8 +111,8 @@ fn stream_histogram_bucket_validation(rt: HostRuntime) {
         let builder = with_bounds(&rt, rt.alloc(), bounds);
         assert_builds(&rt, rt.alloc(), builder, text);
     }
-    let fault = with_bounds(&rt, rt.alloc(), &[1, 5, 2, 10]).build().err();
-    assert!(rt; fault == Some(StreamFault::Boundaries));
+    let built = with_bounds(&rt, rt.alloc(), &[1, 5, 2, 10]).build();
+    assert!(rt; matches!(built, Err(StreamFault::Boundaries)));
 }
 
 /// A builder with everything set.
