@@ -144,17 +144,18 @@ fn keep_filled<A: Aggregator>(map: &mut Numbered, slots: &Slab<Slot<A>>)
     trim(map);
 }
 
-/// A set with a copy of the slot's aggregator.
-fn copy_point<A: Aggregator>(
+/// Adds the point of a set, with a copy of the slot's aggregator.
+fn push_point<A: Aggregator>(
     alloc: Global,
     set: SharedItems<KeyValue>,
     slot: &Slot<A>,
-) -> Result<(SharedItems<KeyValue>, A), Fault>
-    ensures set { IfOk result (λ made. made.0 ≡ set) }
-    ensures fold { IfOk result (λ made. A.meaning made.1 ≡ A.meaning slot.now.aggregator) }
+    points: &mut Vec<(SharedItems<KeyValue>, A)>,
+) -> Result<(), Fault>
+    ensures point { OnOk result (copies A.meaning points.new.items ≡ copies A.meaning points.old.items ++ (set, A.meaning slot.now.aggregator) ∷ []) }
     ensures only_memory { IsOkUnless result Fault.OutOfMemory }
 {
-    Ok((set, slot.aggregator.copy(alloc)?))
+    points.push((set, slot.aggregator.copy(alloc)?))?;
+    Ok(())
 }
 
 /// The point of the empty set, whose slot has this number, if that slot was updated.
@@ -170,7 +171,7 @@ fn first_points<A: Aggregator>(
     if let Some(slot) = slots.get(none) {
         if slot.updated {
             let set = SharedItems::new(Vec::new(alloc))?;
-            points.push(copy_point(alloc, set, slot)?)?;
+            push_point(alloc, set, slot, &mut points)?;
         }
     }
     Ok(points)
@@ -195,7 +196,7 @@ fn copy_out<A: Aggregator>(
         if let Some(slot) = slots.get(*number) {
             let is_shown = every || slot.updated;
             if is_shown {
-                points.push(copy_point(alloc, set.share(alloc)?, slot)?)?;
+                push_point(alloc, set.share(alloc)?, slot, points)?;
             }
         }
     }
@@ -329,8 +330,7 @@ impl<A: Aggregator> Table<A> {
         ensures given { IfOk result (λ made. made.given ≡ []) }
         ensures only_memory { IsOkUnless result Fault.OutOfMemory }
     {
-        let mut slots = Slab::new(alloc);
-        slots.reserve(1)?;
+        let mut slots = Slab::with_capacity(alloc, 1)?;
         let none = fill(&mut slots, slot);
         Ok(Table {
             slots,
