@@ -1,6 +1,6 @@
 //! A prepared record or bind, and what is made for it in advance.
 
-ghost use Rattle.std.specs.Prelude.{◌≡◌, true, false, cond, None, Some, IfSome, IfOk, IsOk, OnOk, IsOkUnless, IsTrue, is_some};
+ghost use Rattle.std.specs.Prelude.{◌≡◌, ◌&&◌, true, false, cond, None, Some, IfSome, IfOk, IsOk, OnOk, IsOkUnless, IsTrue, is_some};
 ghost use Rattle.std.specs.Option.{IfNone, option_copied};
 ghost use Rattle.otel_common.specs.Canonical.{canon};
 ghost use Rattle.otel_common.specs.Equality.{set_eq};
@@ -282,7 +282,7 @@ pub fn plan<A: Aggregator>(
 }
 
 /// Makes an aggregator in advance, unless there is one already.
-pub fn make_unused<A: Aggregator>(
+fn make_unused<A: Aggregator>(
     unused: &mut Option<A>,
     alloc: Global,
     config: &A::InitConfig,
@@ -300,7 +300,7 @@ pub fn make_unused<A: Aggregator>(
 }
 
 /// Makes the set of the overflow entry in advance, unless there is one already.
-pub fn make_key(key: &mut Option<SetKey<'static>>, alloc: Global) -> Result<(), Fault>
+fn make_key(key: &mut Option<SetKey<'static>>, alloc: Global) -> Result<(), Fault>
     requires { IfSome key.old (λ made. made ≡ over_set) }
     ensures over { IfSome key.new (λ made. made ≡ over_set) }
     ensures made { OnOk result (is_some key.new ≡ true) }
@@ -310,6 +310,30 @@ pub fn make_key(key: &mut Option<SetKey<'static>>, alloc: Global) -> Result<(), 
         return Ok(());
     }
     *key = Some(SetKey::owned(overflow_set(alloc)?));
+    Ok(())
+}
+
+/// Makes in advance what a new entry takes: room in the table, an aggregator, and the set of the overflow entry.
+pub fn make_ready<A: Aggregator>(
+    table: &mut Table<A>,
+    unused: &mut Option<A>,
+    key: &mut Option<SetKey<'static>>,
+    alloc: Global,
+    config: &A::InitConfig,
+) -> Result<(), Fault>
+    requires unused { IfSome unused.old (λ made. A.meaning made ≡ A.empty config.now) }
+    requires key { IfSome key.old (λ made. made ≡ over_set) }
+    ensures table { table.new.table ≡ table.old.table }
+    ensures numbers { table.new.numbers ≡ table.old.numbers }
+    ensures given { table.new.given ≡ table.old.given }
+    ensures empty { IfSome unused.new (λ made. A.meaning made ≡ A.empty config.now) }
+    ensures over { IfSome key.new (λ made. made ≡ over_set) }
+    ensures ready { OnOk result ((is_some unused.new && (is_some key.new && table.new.room)) ≡ true) }
+    ensures only_memory { IsOkUnless result Fault.OutOfMemory }
+{
+    table.make_room()?;
+    make_unused(unused, alloc, config)?;
+    make_key(key, alloc)?;
     Ok(())
 }
 

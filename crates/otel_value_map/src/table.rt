@@ -1,10 +1,11 @@
 //! Entries in slots, found by their sets or by the lists that admitted them.
 
-ghost use Rattle.std.specs.Prelude.{◌≡◌, ◌<◌, ◌≤◌, ◌+◌, ◌-◌, ◌*◌, ◌^◌, ◌∷◌, [], ◌++◌, ◌||◌, None, Some, IfOk, IsOk, OnOk, IsOkUnless, IfSome, map, filter, is_some, length, cond, nat_eq, false, true, ℕ};
+ghost use Rattle.std.specs.Prelude.{◌≡◌, ◌<◌, ◌≤◌, ◌+◌, ◌-◌, ◌*◌, ◌^◌, ◌∷◌, [], ◌++◌, ◌||◌, ◌&&◌, None, Some, IfOk, IsOk, OnOk, IsOkUnless, IfSome, map, filter, is_some, length, cond, nat_eq, nat_le, nat_lt, false, true, ℕ};
 ghost use Rattle.std.specs.Option.{option_map};
 ghost use Rattle.std.specs.Map.{lookup, keys_of, values_of};
 ghost use Rattle.std.specs.Set.{is_member};
 ghost use Rattle.indexmap.specs.IndexMap.{spare};
+ghost use Rattle.slab.specs.Slab.{slab_len};
 ghost use Rattle.otel_common.specs.Canonical.{canon};
 ghost use Rattle.otel_common.specs.Equality.{set_eq};
 ghost use Rattle.otel_model_stream.specs.Folds.{wrap};
@@ -104,6 +105,23 @@ fn add_key(map: &mut Numbered, key: SetKey<'static>, number: usize)
     map.insert(key, number).unwrap();
 }
 
+/// Makes room for one more slot and a key in each map.
+fn reserve_one<A: Aggregator>(
+    slots: &mut Slab<Slot<A>>,
+    sets: &mut Numbered,
+    given: &mut Numbered,
+) -> Result<(), AllocError>
+    ensures look { look_in A.meaning slots.new ≡ look_in A.meaning slots.old }
+    ensures sets { sets.new.entries ≡ sets.old.entries }
+    ensures given { given.new.entries ≡ given.old.entries }
+    ensures room { OnOk result ((nat_le (slab_len slots.new + 1) slots.new.capacity && (nat_lt 0 (spare sets.new) && nat_lt 0 (spare given.new))) ≡ true) }
+{
+    slots.reserve(1)?;
+    sets.reserve(1)?;
+    given.reserve(1)?;
+    Ok(())
+}
+
 /// Maps that have no room for more keys than this keep it.
 const SMALL: usize = 64;
 
@@ -126,6 +144,20 @@ fn keep_filled<A: Aggregator>(map: &mut Numbered, slots: &Slab<Slot<A>>)
     trim(map);
 }
 
+/// Adds the point of a set, with a copy of the slot's aggregator.
+fn push_point<A: Aggregator>(
+    alloc: Global,
+    set: SharedItems<KeyValue>,
+    slot: &Slot<A>,
+    points: &mut Vec<(SharedItems<KeyValue>, A)>,
+) -> Result<(), Fault>
+    ensures point { OnOk result (copies A.meaning points.new.items ≡ copies A.meaning points.old.items ++ (set, A.meaning slot.now.aggregator) ∷ []) }
+    ensures only_memory { IsOkUnless result Fault.OutOfMemory }
+{
+    points.push((set, slot.aggregator.copy(alloc)?))?;
+    Ok(())
+}
+
 /// The point of the empty set, whose slot has this number, if that slot was updated.
 fn first_points<A: Aggregator>(
     alloc: Global,
@@ -139,7 +171,7 @@ fn first_points<A: Aggregator>(
     if let Some(slot) = slots.get(none) {
         if slot.updated {
             let set = SharedItems::new(Vec::new(alloc))?;
-            points.push((set, slot.aggregator.copy(alloc)?))?;
+            push_point(alloc, set, slot, &mut points)?;
         }
     }
     Ok(points)
@@ -164,7 +196,7 @@ fn copy_out<A: Aggregator>(
         if let Some(slot) = slots.get(*number) {
             let is_shown = every || slot.updated;
             if is_shown {
-                points.push((set.share(alloc)?, slot.aggregator.copy(alloc)?))?;
+                push_point(alloc, set.share(alloc)?, slot, points)?;
             }
         }
     }
@@ -298,8 +330,7 @@ impl<A: Aggregator> Table<A> {
         ensures given { IfOk result (λ made. made.given ≡ []) }
         ensures only_memory { IsOkUnless result Fault.OutOfMemory }
     {
-        let mut slots = Slab::new(alloc);
-        slots.reserve(1)?;
+        let mut slots = Slab::with_capacity(alloc, 1)?;
         let none = fill(&mut slots, slot);
         Ok(Table {
             slots,
@@ -365,9 +396,7 @@ impl<A: Aggregator> Table<A> {
         ensures given { self.new.given ≡ self.old.given }
         ensures room { OnOk result (self.new.room ≡ true) }
     {
-        self.slots.reserve(1)?;
-        self.sets.reserve(1)?;
-        self.given.reserve(1)
+        reserve_one(&mut self.slots, &mut self.sets, &mut self.given)
     }
 
     /// Takes a record into the entry with this number, without a look-up.

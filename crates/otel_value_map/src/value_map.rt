@@ -17,7 +17,7 @@ ghost use Rattle.otel_value_map.specs.Slots.{HasForm, copies};
 
 use crate::aggregator::Aggregator;
 use crate::hashing::SetHashBuilder;
-use crate::pending::{Pending, Prepared, led_to, make_key, make_unused, plan, take_slot};
+use crate::pending::{Pending, Prepared, led_to, make_ready, plan, take_slot};
 use crate::saved::Saved;
 use crate::sets::overflow_set;
 use crate::slots::Slot;
@@ -182,9 +182,13 @@ impl<A: Aggregator> ValueMap<A> {
             self.pending.put(plan);
             return Ok(());
         }
-        self.table.make_room()?;
-        make_unused(&mut self.unused, self.alloc, &self.config)?;
-        make_key(&mut self.spare_key, self.alloc)?;
+        make_ready(
+            &mut self.table,
+            &mut self.unused,
+            &mut self.spare_key,
+            self.alloc,
+            &self.config,
+        )?;
         self.pending.put(plan);
         Ok(())
     }

@@ -12,7 +12,8 @@ use Rattle.otel_value_map.specs.Keyed.{IsNew}
 use Rattle.otel_value_map.specs.Numbers.{number_of}
 use Rattle.otel_value_map.specs.Held.{Held, IsReady}
 use Rattle.otel_value_map.proofs.CanonicalSets.{canon-over}
-use Rattle.otel_value_map.proofs.PlaceLemmas.{Placing, place-admitted, place-over_made, new-prepared, new-set, numbers-added}
+use Rattle.otel_model_stream.specs.Maps.{MapState, with_place}
+use Rattle.otel_value_map.proofs.PlaceLemmas.{Placing, place-admitted, place-over_made, as_state, new-prepared, new-set, numbers-added}
 use Rattle.otel_value_map.proofs.value_map.ValueMap.place_new.Goals as goal
 
 not_below : (a b : ℕ) → b ≤ a → nat_lt a b ≡ false
@@ -25,6 +26,23 @@ made_key o key h e = let P : Option AttributeSet → Type 0 = λ p. IfSome p (λ
 -- the overflow set is new where it isn't found
 over_new : (sets : List (AttributeSet × ℕ)) (overflow : AttributeSet) → overflow ≡ over_set → None ≡ lookup (set_eq overflow) sets → IsNew sets over_set
 over_new sets overflow is none = record { absent = ap (λ s. lookup (set_eq s) sets) (sym is) ∙ sym none; canonical = canon-over; some = refl }
+
+pub returns-then-self-clause-state : goal.returns-then-self-clause-state
+returns-then-self-clause-state g c = λ s e.
+    let t = c.self.inside.table in
+    let set : AttributeSet = c.in-New.set in
+    let empty : Fold = g.A.Aggregator.empty c.self.inside.config in
+    let entries : List Entry = t.table.entries in
+    let before : MapState = record { limit = c.self.inside.limit; empty = empty; table = t.table } in
+    let ready : IsReady t _ _ set c.in-New.list = new-prepared t _ _ c.self.inside.pending set c.in-New.list c.self.invariant.4 c.in-New.ensures.taken in
+    let same : set ≡ s = new-set t.numbers c.self.inside.pending set s c.in-New.list c.in-New.ensures.taken (ap (λ (h : Held). h.pending) c.self.view_is ∙ e) in
+    let few : nat_lt (number_counted entries) c.self.inside.limit ≡ true = rw (← c.self.invariant.0) (lt-ltb _ _ c.if-self.true) in
+    let place : Placing c.self.inside.limit empty set entries _ set = place-admitted c.self.inside.limit empty set entries ready.new.some ready.absent few in
+    let after : c.add.new.self.table.entries ≡ entries ++ new_entry empty set true ∷ [] =
+    ap (λ (x : Table). x.entries) c.add.ensures.table ∙ ap (λ (k : Kept). entries ++ entry_of set (Some k) ∷ []) c.take_slot-slot.ensures.slot in
+    as_state before set c.add.new.self.table set (ap (λ (x : Table). x.none) c.add.ensures.table) (record { state = after ∙ place.state; goal = ap (entry_for set) after ∙ place.goal })
+    ∙ ap (λ (x : AttributeSet). with_place x before) same
+    ∙ ap (λ (h : Held). with_place s h.state) c.self.view_is
 
 pub returns-then-self-clause-number : goal.returns-then-self-clause-number
 returns-then-self-clause-number g c = λ s e.
@@ -54,6 +72,25 @@ add-requires-2-clause-new g c =
     let sets = c.self.inside.table.numbers.sets in
     let key : c.unwrap-key.result ≡ over_set = made_key c.self.inside.spare_key c.unwrap-key.result c.self.invariant.3 (sym c.take-2.ensures.value ∙ c.unwrap-key.ensures) in
     subst (IsNew sets) (sym key) (over_new sets c.self.inside.overflow c.self.invariant.2 c.in_default.ensures.number)
+
+pub returns-clause-state : goal.returns-clause-state
+returns-clause-state g c = λ s e.
+    let t = c.self.inside.table in
+    let set : AttributeSet = c.in-New.set in
+    let empty : Fold = g.A.Aggregator.empty c.self.inside.config in
+    let entries : List Entry = t.table.entries in
+    let before : MapState = record { limit = c.self.inside.limit; empty = empty; table = t.table } in
+    let ready : IsReady t _ _ set c.in-New.list = new-prepared t _ _ c.self.inside.pending set c.in-New.list c.self.invariant.4 c.in-New.ensures.taken in
+    let same : set ≡ s = new-set t.numbers c.self.inside.pending set s c.in-New.list c.in-New.ensures.taken (ap (λ (h : Held). h.pending) c.self.view_is ∙ e) in
+    let full : nat_lt (number_counted entries) c.self.inside.limit ≡ false = rw (← c.self.invariant.0) (not_below _ _ (omega (arith, c.if-self.false))) in
+    let key : c.unwrap-key.result ≡ over_set = made_key c.self.inside.spare_key c.unwrap-key.result c.self.invariant.3 (sym c.take-2.ensures.value ∙ c.unwrap-key.ensures) in
+    let gone : has over_set entries ≡ false = ap (λ (x : AttributeSet). has x entries) (sym c.self.invariant.2) ∙ sym c.in_default.ensures.placed in
+    let place : Placing c.self.inside.limit empty set entries _ over_set = place-over_made c.self.inside.limit empty set entries ready.new.some ready.absent full gone in
+    let after : c.add-2.new.self.table.entries ≡ entries ++ new_entry empty over_set false ∷ [] =
+    ap (λ (x : Table). x.entries) c.add-2.ensures.table ∙ ap (λ (k : Kept). entries ++ entry_of c.unwrap-key.result (Some k) ∷ []) c.take_slot-slot-2.ensures.slot ∙ ap (λ (x : AttributeSet). entries ++ new_entry empty x false ∷ []) key in
+    as_state before set c.add-2.new.self.table over_set (ap (λ (x : Table). x.none) c.add-2.ensures.table) (record { state = after ∙ place.state; goal = ap (entry_for set) after ∙ place.goal })
+    ∙ ap (λ (x : AttributeSet). with_place x before) same
+    ∙ ap (λ (h : Held). with_place s h.state) c.self.view_is
 
 pub returns-clause-number : goal.returns-clause-number
 returns-clause-number g c = λ s e.

@@ -1,25 +1,70 @@
-use Rattle.std.proofs.Common.{◌≡◌, ◌∙◌, ◌&&◌, ap, sym, subst, true, false, true≢false, Bool, is_some, nat_lt}
-use Rattle.otel_model_stream.specs.Entries.{Table, number_counted}
-use Rattle.otel_value_map.specs.Held.{IsSound}
+use Rattle.std.proofs.Common.{◌≡◌, ◌∙◌, ◌&&◌, ◌||◌, not, cond, ap, sym, subst, refl, true, false, true≢false, Bool, ℕ, Some, List, [], ◌∷◌, is_some, nat_lt, arith}
+use Rattle.otel_common.specs.Canonical.{canon}
 use Rattle.otel_common.specs.Equality.{set_eq}
-use Rattle.otel_model_stream.specs.Sets.{none_set}
-use Rattle.otel_value_map.specs.Held.{known_of}
-use Rattle.otel_value_map.proofs.PlanLemmas.{sound-same, all-true, unknown-some, placed-has}
+use Rattle.otel_common.specs.declared.attributes.KeyValue.{KeyValue}
+use Rattle.otel_model_stream.specs.Entries.{Entry, Table, has, number_counted}
+use Rattle.otel_model_stream.specs.Sets.{AttributeSet, none_set}
+use Rattle.otel_value_map.specs.Keyed.{Slotted}
+use Rattle.otel_value_map.specs.Numbers.{Numbers, is_placed, spelling_of}
+use Rattle.otel_value_map.specs.Held.{Held, IsPlan, IsReady, IsSound, is_new, known_of, pending_in, spelling_in}
+use Rattle.otel_value_map.specs.declared.pending.Pending.{Pending}
+use Rattle.otel_value_map.specs.declared.pending.Pending.TheVariants.{Nothing, At, New}
+use Rattle.otel_value_map.proofs.PlanLemmas.{sound-same, unknown-some, placed-has}
 use Rattle.otel_value_map.proofs.value_map.ValueMap.prepare_unknown.Goals as goal
+
+-- a list that is planned as a new set has no place
+new-unplaced : (t : Slotted) (few : Bool) (l : List KeyValue) (plan : Pending) → IsPlan t few l plan → is_new plan ≡ true → is_placed (canon l) t.table.entries ≡ false
+new-unplaced t few l Nothing p e = absurd (true≢false (sym e))
+new-unplaced t few l (At n) p e = absurd (true≢false (sym e))
+new-unplaced t few l (New set list) p e =
+    let ready : IsReady t few true set list = p.sound true refl in
+    let both : Some set ≡ Some (canon l) = p.pending in
+    let same : set ≡ canon l = cc in
+    subst (λ (s : AttributeSet). is_placed s t.table.entries ≡ false) same (ap (λ (b : Bool). b || has set t.table.entries) ready.new.some ∙ ready.absent)
 
 pub invariant_of-self-2 : goal.invariant_of-self-2
 invariant_of-self-2 g c =
     let t = c.self.inside.table in
-    let n = c.make_room.new.self in
+    let n = c.make_ready.new.table in
     let few : Bool = nat_lt c.self.inside.count c.self.inside.limit in
-    let room : Bool = is_some c.make_unused.new.unused && (is_some c.make_key.new.key && n.room) in
-    let ready : room ≡ true = all-true (is_some c.make_unused.new.unused) (is_some c.make_key.new.key) n.room c.in_ok-make_unused.ensures.made c.in_ok-make_key.ensures.made c.in_ok-make_room.ensures.room in (
-      c.self.invariant.0 ∙ ap (λ (x : Table). number_counted x.entries) (sym c.make_room.ensures.table),
-      c.make_unused.ensures.empty,
+    let room : Bool = is_some c.make_ready.new.unused && (is_some c.make_ready.new.key && n.room) in (
+      c.self.invariant.0 ∙ ap (λ (x : Table). number_counted x.entries) (sym c.make_ready.ensures.table),
+      c.make_ready.ensures.empty,
       c.self.invariant.2,
-      c.make_key.ensures.over,
-      subst (IsSound n few room) (sym c.put-2.ensures) (sound-same t n few room c.in_ok-plan.plan c.make_room.ensures.table c.make_room.ensures.numbers c.make_room.ensures.given (c.in_ok-plan.ensures.plan.sound room ready)),
+      c.make_ready.ensures.over,
+      subst (IsSound n few room) (sym c.put-2.ensures) (sound-same t n few room c.in_ok-plan.plan c.make_ready.ensures.table c.make_ready.ensures.numbers c.make_ready.ensures.given (c.in_ok-plan.ensures.plan.sound room c.in_ok-make_ready.ensures.ready)),
     )
+
+pub returns-clause-ready : goal.returns-clause-ready
+returns-clause-ready g c =
+    ap (pending_in c.make_ready.new.table.numbers) c.put-2.ensures
+    ∙ ap (λ (ns : Numbers). pending_in ns c.in_ok-plan.plan) c.make_ready.ensures.numbers
+    ∙ c.in_ok-plan.ensures.plan.pending
+
+pub returns-clause-spelling : goal.returns-clause-spelling
+returns-clause-spelling g c =
+    let l : List KeyValue = c.args.list.now in
+    let entries : List Entry = c.self.inside.table.table.entries in
+    ap spelling_in c.put-2.ensures
+    ∙ c.in_ok-plan.ensures.plan.spelling
+    ∙ ap (λ (k : ℕ). cond ((not (set_eq (canon l) none_set) && (not (has (canon l) entries) && nat_lt k c.self.inside.limit)) && not (set_eq (canon l) l)) (l ∷ []) []) c.self.invariant.0
+    ∙ ap (λ (h : Held). spelling_of l h.state) c.self.view_is
+
+pub returns-then-not-is_new-clause-spelling : goal.returns-then-not-is_new-clause-spelling
+returns-then-not-is_new-clause-spelling g c =
+    let l : List KeyValue = c.args.list.now in
+    let entries : List Entry = c.self.inside.table.table.entries in
+    ap spelling_in c.put.ensures
+    ∙ c.in_ok-plan.ensures.plan.spelling
+    ∙ ap (λ (k : ℕ). cond ((not (set_eq (canon l) none_set) && (not (has (canon l) entries) && nat_lt k c.self.inside.limit)) && not (set_eq (canon l) l)) (l ∷ []) []) c.self.invariant.0
+    ∙ ap (λ (h : Held). spelling_of l h.state) c.self.view_is
+
+pub returns-in_err-make_ready-clause-placed : goal.returns-in_err-make_ready-clause-placed
+returns-in_err-make_ready-clause-placed g c =
+    let few : Bool = nat_lt c.self.inside.count c.self.inside.limit in
+    let new : is_new c.in_ok-plan.plan ≡ true = grind arith in
+    let away = new-unplaced c.self.inside.table few c.args.list.now c.in_ok-plan.plan c.in_ok-plan.ensures.plan new in
+    rw (← c.self.view_is) (λ placed. absurd (true≢false (sym placed ∙ away)))
 
 pub returns-in_err-plan-clause-placed : goal.returns-in_err-plan-clause-placed
 returns-in_err-plan-clause-placed g c =
