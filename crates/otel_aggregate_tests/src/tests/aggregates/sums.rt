@@ -1,12 +1,11 @@
 //! Sums.
 
-use super::super::attributes;
+use super::super::{attributes, only};
 use super::{Case, Step, Told, assert_cases, assert_steps};
 use otel_aggregate::sum::Sum;
 use otel_common::attributes::KeyValue;
 use otel_common::faults::Fault;
 use otel_common::keys::Key;
-use otel_common::lists::Items;
 use otel_common::metrics::Temporality;
 use otel_value_map::aggregator::Increment;
 use otel_value_map::hashing::SetHashBuilder;
@@ -277,8 +276,8 @@ fn sums(rt: HostRuntime) {
 
 #[test]
 fn an_allow_list_drops_other_keys(rt: HostRuntime) {
-    let keys = vec![in rt.alloc(); Key::new(rt.alloc(), "b").expect(&rt, "memory")];
-    let allow = Items::from(keys.expect(&rt, "memory"));
+    let key = Key::new(rt.alloc(), "b").expect(&rt, "memory");
+    let allow = only(rt.alloc(), key).expect(&rt, "memory");
     let hasher = SetHashBuilder::default();
     let made = Sum::new(
         rt.alloc(),

@@ -1,5 +1,6 @@
 //! Attributes with values of every kind.
 
+use super::super::only;
 use otel_aggregate::sum::Sum;
 use otel_common::attributes::{Array, KeyValue, Value};
 use otel_common::faults::Fault;
@@ -13,9 +14,9 @@ use std::alloc::Global;
 /// The array of this number; no two of the four are equal.
 fn array_of(alloc: Global, number: u8) -> Result<Array, Fault> {
     Ok(match number {
-        0 => Array::Bool(Items::from(vec![in alloc; true]?)),
-        1 => Array::I64(Items::from(vec![in alloc; 1]?)),
-        2 => Array::String(Items::from(vec![in alloc; StringValue::new(alloc, "1")?]?)),
+        0 => Array::Bool(only(alloc, true)?),
+        1 => Array::I64(only(alloc, 1)?),
+        2 => Array::String(only(alloc, StringValue::new(alloc, "1")?)?),
         _ => Array::I64(Items::from(Vec::new(alloc))),
     })
 }
@@ -50,8 +51,8 @@ fn points_by_value(rt: HostRuntime) {
     for number in 0u8..18 {
         let key = Key::new(alloc, "key").expect(&rt, "memory");
         let value = value_of(alloc, number % 9).expect(&rt, "memory");
-        sum.measure(1, &[KeyValue::new(key, value)])
-            .expect(&rt, "memory");
+        let given = only(alloc, KeyValue::new(key, value)).expect(&rt, "memory");
+        sum.measure(1, given.as_slice()).expect(&rt, "memory");
     }
     let data = sum.collect(alloc, 200).expect(&rt, "memory");
     assert_eq!(rt; data.data_points().count(), 9);

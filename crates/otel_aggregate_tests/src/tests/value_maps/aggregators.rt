@@ -73,6 +73,14 @@ fn bounds(rt: &impl Abort, alloc: Global, bounds: &[i64]) -> Option<Bounds> {
     Bounds::new(SharedItems::new(bounds).expect(rt, "memory"))
 }
 
+/// Whether there are bounds of these numbers.
+fn are_bounds(rt: &impl Abort, alloc: Global, numbers: &[i64]) -> bool {
+    match bounds(rt, alloc, numbers) {
+        Some(_bounds) => true,
+        None => false,
+    }
+}
+
 #[test]
 fn bounds_rise(rt: HostRuntime) {
     let rise = [
@@ -82,7 +90,7 @@ fn bounds_rise(rt: HostRuntime) {
         is_rising(&[1, 2, -3]),
     ];
     assert_eq!(rt; rise, [true, true, false, false]);
-    assert!(rt; bounds(&rt, rt.alloc(), &[1, 1]).is_none());
+    assert!(rt; !are_bounds(&rt, rt.alloc(), &[1, 1]));
     let none = bounds(&rt, rt.alloc(), &[]).expect(&rt, "no bounds");
     assert_eq!(rt; none.number_of_buckets(), 0);
 }
