@@ -73,7 +73,7 @@ fn needs_front(text: &[u8]) -> bool
 fn name_of(alloc: Global, text: &[u8], is_metric: bool) -> Result<String, AllocError>
     ensures { IfOk result (λ name. string_bytes name ≡ name_of (test_of is_metric) text.now) }
 {
-    let mut name = String::new(alloc);
+    let mut name = String::with_capacity(alloc, text.len())?;
     if needs_front(text) {
         push_ascii(&mut name, b'_')?;
     }

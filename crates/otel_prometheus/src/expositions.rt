@@ -172,7 +172,7 @@ fn push_samples(
 {
     let scopes = collected.scope_metrics().as_slice();
     let series = family_series(alloc, settings, scopes, heading)?;
-    let count = push_all(alloc, out, series.as_slice())?;
+    let count = push_all(alloc, out, series)?;
     Ok(count)
 }
 

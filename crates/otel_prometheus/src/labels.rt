@@ -54,21 +54,20 @@ fn push_version(
     }
 }
 
-/// Returns the labels of a scope.
-fn scope_labels(
+/// Adds the labels of a scope.
+fn push_scope(
     alloc: Global,
+    labels: &mut Vec<Label>,
     settings: Settings,
     scope: &InstrumentationScope,
-) -> Result<Vec<Label>, AllocError>
-    ensures { IfOk result (λ labels. labels.items ≡ scope_labels settings scope.now) }
+) -> Result<(), AllocError>
+    ensures { OnOk result (labels.new.items ≡ labels.old.items ++ scope_labels settings scope.now) }
 {
-    let mut labels = Vec::new(alloc);
-    if !settings.has_scope_labels {
-        return Ok(labels);
+    if settings.has_scope_labels {
+        push_text(alloc, labels, "otel_scope_name", scope.name())?;
+        push_version(alloc, labels, scope.version())?;
     }
-    push_text(alloc, &mut labels, "otel_scope_name", scope.name())?;
-    push_version(alloc, &mut labels, scope.version())?;
-    Ok(labels)
+    Ok(())
 }
 
 /// Returns the name of the label of an attribute.
@@ -94,8 +93,7 @@ fn add_attribute(
 {
     let name = own_name(alloc, key, has_bounds)?;
     let value = value_text(alloc, value)?;
-    add_label(alloc, labels, name, value.as_slice())?;
-    Ok(())
+    add_label(labels, name, value)
 }
 
 /// Adds a label for each attribute.
@@ -138,7 +136,8 @@ pub(crate) fn point_labels(
 ) -> Result<Vec<Label>, AllocError>
     ensures { IfOk result (λ labels. labels.items ≡ point_labels settings has_bounds scope.now attributes.now) }
 {
-    let mut labels = scope_labels(alloc, settings, scope)?;
+    let mut labels = Vec::with_capacity(alloc, attributes.len().saturating_add(2))?;
+    push_scope(alloc, &mut labels, settings, scope)?;
     add_attributes(alloc, &mut labels, attributes, has_bounds)?;
     Ok(labels)
 }

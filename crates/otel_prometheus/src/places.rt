@@ -6,7 +6,7 @@ ghost use Rattle.otel_prometheus.specs.Labels.{with_label};
 ghost use Rattle.otel_prometheus.specs.Places.{IsPlace};
 
 use otel_exposition::labels::Label;
-use std::alloc::{AllocError, Global};
+use std::alloc::AllocError;
 use std::cmp::Ordering;
 
 /// The place of a label among labels in the order of their names.
@@ -34,21 +34,19 @@ fn place_of(labels: &[Label], name: &[u8]) -> Place
 
 /// Adds a label where it belongs, or adds the value to the label of this name.
 pub(crate) fn add_label(
-    alloc: Global,
     labels: &mut Vec<Label>,
     name: String,
-    value: &[u8],
+    value: Vec<u8>,
 ) -> Result<(), AllocError>
-    ensures { OnOk result (labels.new.items ≡ with_label labels.old.items (string_bytes name, value.now)) }
+    ensures { OnOk result (labels.new.items ≡ with_label labels.old.items (string_bytes name, value.items)) }
 {
     match place_of(labels.as_slice(), name.as_bytes()) {
         Place::At(index) => match labels.get_mut(index) {
-            Some(label) => label.add(value),
+            Some(label) => label.add(value.as_slice()),
             None => Err(AllocError),
         },
         Place::Before(index) => {
-            let label = Label::new(name, Vec::from_slice(alloc, value)?);
-            match labels.insert(index, label) {
+            match labels.insert(index, Label::new(name, value)) {
                 Ok(()) => Ok(()),
                 Err(_) => Err(AllocError),
             }

@@ -15,8 +15,14 @@ use otel_data::aggregated::{AggregatedMetrics, MetricData};
 use otel_data::points::{GaugeDataPoint, HistogramDataPoint, SumDataPoint};
 use otel_exposition::labels::push_labels;
 use otel_exposition::numbers::Number;
-use otel_exposition::samples::push_sample;
+use otel_exposition::samples::push_line;
 use std::alloc::{AllocError, Global};
+
+/// How many bytes the labels of most points take.
+const LABELS: usize = 128;
+
+/// How many bytes the rest of a line takes for most points.
+const BESIDE_LABELS: usize = 64;
 
 /// Adds a series at the end.
 fn push(out: &mut Vec<Series>, series: Series) -> Result<(), AllocError>
@@ -40,15 +46,14 @@ fn number_series<T: Number>(
     ensures { IfOk result (λ series. series ≡ spelled_series (number_series T.integer settings scope.now heading.now attributes.now value)) }
 {
     let labels = point_labels(alloc, settings, scope, attributes, false)?;
-    let mut key = Vec::new(alloc);
+    let mut key = Vec::with_capacity(alloc, LABELS)?;
     push_labels(&mut key, labels.as_slice())?;
-    let mut lines = Vec::new(alloc);
-    let name = heading.name.as_str();
-    push_sample(
+    let mut lines = Vec::with_capacity(alloc, key.len().saturating_add(BESIDE_LABELS))?;
+    push_line(
         &mut lines,
-        name,
+        heading.name.as_str(),
         value_end(heading.kind),
-        labels.as_slice(),
+        key.as_slice(),
         value,
     )?;
     Ok(Series::new(key, lines))
@@ -67,7 +72,7 @@ fn histogram_series<T: Number>(
 {
     let attributes = point.attributes().as_slice();
     let labels = point_labels(alloc, settings, scope, attributes, true)?;
-    let mut key = Vec::new(alloc);
+    let mut key = Vec::with_capacity(alloc, LABELS)?;
     push_labels(&mut key, labels.as_slice())?;
     let mut lines = Vec::new(alloc);
     push_histogram_point(

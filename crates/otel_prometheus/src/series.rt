@@ -31,40 +31,25 @@ impl Series {
     {
         Series { labels, lines }
     }
-
-    /// The spelled labels.
-    fn labels(&self) -> &[u8]
-        ensures { result.now ≡ self.now.0 }
-    {
-        self.labels.as_slice()
-    }
-
-    /// The lines.
-    fn lines(&self) -> &[u8]
-        ensures { result.now ≡ self.now.1 }
-    {
-        self.lines.as_slice()
-    }
 }
 
 /// Appends the lines of a series, unless its labels were seen. Returns 1 if they were, and else 0.
 fn push_series(
-    alloc: Global,
     out: &mut Vec<u8>,
     seen: &mut IndexSet<Items<u8>>,
-    series: &Series,
+    series: Series,
 ) -> Result<u64, AllocError>
-    ensures text { (rest : List Pair) → OnOk result (out.new.items ++ kept_text seen.new.keys rest ≡ out.old.items ++ kept_text seen.old.keys (series.now ∷ rest)) }
-    ensures doubled { (rest : List Pair) → IfOk result (λ n. doubled_texts seen.old.keys (series.now ∷ rest) ≡ n + doubled_texts seen.new.keys rest) }
+    ensures text { (rest : List Pair) → OnOk result (out.new.items ++ kept_text seen.new.keys rest ≡ out.old.items ++ kept_text seen.old.keys (series ∷ rest)) }
+    ensures doubled { (rest : List Pair) → IfOk result (λ n. doubled_texts seen.old.keys (series ∷ rest) ≡ n + doubled_texts seen.new.keys rest) }
 {
-    let labels = Items::from(Vec::from_slice(alloc, series.labels())?);
-    let Ok((_, is_new)) = seen.insert_full(labels) else {
+    let Series { labels, lines } = series;
+    let Ok((_, is_new)) = seen.insert_full(Items::from(labels)) else {
         return Err(AllocError);
     };
     if !is_new {
         return Ok(1);
     }
-    out.extend_from_slice(series.lines())?;
+    out.extend_from_slice(lines.as_slice())?;
     Ok(0)
 }
 
@@ -74,15 +59,15 @@ fn push_series(
 pub(crate) fn push_all(
     alloc: Global,
     out: &mut Vec<u8>,
-    series: &[Series],
+    series: Vec<Series>,
 ) -> Result<u64, AllocError>
-    ensures text { OnOk result (out.new.items ≡ out.old.items ++ kept_text [] series.now) }
-    ensures doubled { IfOk result (λ count. count ≡ doubled_texts [] series.now % 2 ^ 64) }
+    ensures text { OnOk result (out.new.items ≡ out.old.items ++ kept_text [] series.items) }
+    ensures doubled { IfOk result (λ count. count ≡ doubled_texts [] series.items % 2 ^ 64) }
 {
     let mut seen = IndexSet::new(alloc);
     let mut count = 0u64;
     for one in series {
-        count = count.wrapping_add(push_series(alloc, out, &mut seen, one)?);
+        count = count.wrapping_add(push_series(out, &mut seen, one)?);
     }
     Ok(count)
 }
