@@ -330,7 +330,8 @@ impl<A: Aggregator> Table<A> {
         ensures given { IfOk result (λ made. made.given ≡ []) }
         ensures only_memory { IsOkUnless result Fault.OutOfMemory }
     {
-        let mut slots = Slab::with_capacity(alloc, 1)?;
+        let mut slots = Slab::new(alloc);
+        slots.reserve(1)?;
         let none = fill(&mut slots, slot);
         Ok(Table {
             slots,
