@@ -9,6 +9,7 @@ use otel_data::aggregated::{AggregatedMetrics, MetricData};
 use otel_data::collections::{Metric, ResourceMetrics};
 use otel_data::numbers::NumberValue;
 use otel_provider::parts::Parts;
+use otel_provider::provider::Provider;
 use otel_shared::account::Account;
 use otel_shared::locked::Locked;
 use otel_shared::worker::Worker;
@@ -87,14 +88,6 @@ pub fn open_workers<P: Parts, C: Account, S: Account>(
     Ok(workers)
 }
 
-/// Submits a worker's records, and answers the number of the receipt.
-pub fn submit<P: Parts, C: Account, S: Account>(
-    locked: &mut Locked<P, C, S>,
-    worker: &mut Worker<C, S>,
-) -> Result<u64, Fault> {
-    Ok(locked.submit(worker)?.accepted)
-}
-
 /// The value of the last point of a metric that is a sum of unsigned numbers.
 fn value_of(metric: &Metric) -> u64 {
     let mut value = 0;
@@ -107,7 +100,7 @@ fn value_of(metric: &Metric) -> u64 {
 }
 
 /// The values of the counters `a` and `b`, each 0 if it isn't shown.
-pub fn values_in(collected: &ResourceMetrics) -> (u64, u64) {
+fn values_in(collected: &ResourceMetrics) -> (u64, u64) {
     let mut values = (0, 0);
     for scope in collected.scope_metrics() {
         for metric in scope.metrics() {
@@ -130,4 +123,17 @@ pub fn read<P: Parts, C: Account, S: Account>(
     let mut collected = ResourceMetrics::default(alloc);
     locked.collect(0, now, &mut collected)?;
     Ok(values_in(&collected))
+}
+
+/// Writes what the first reader of a provider collects of the counters `a` and `b`.
+pub fn write_counters<P: Parts>(
+    alloc: Global,
+    provider: &mut Provider<P>,
+    text: &mut String,
+) -> Result<(), Fault> {
+    let mut collected = ResourceMetrics::default(alloc);
+    provider.collect(0, 1100, &mut collected)?;
+    let (a, b) = values_in(&collected);
+    write!(text, "{a} and {b}")?;
+    Ok(())
 }

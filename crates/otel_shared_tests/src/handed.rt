@@ -6,9 +6,8 @@ ghost use Rattle.otel_provider.specs.Providers.{state_of};
 ghost use Rattle.otel_shared.specs.Pending.{bits_in};
 ghost use Rattle.otel_shared.specs.Workers.{pending_of, records_of, values_of};
 
-use crate::counted::values_in;
+use crate::counted::write_counters;
 use otel_common::faults::Fault;
-use otel_data::collections::ResourceMetrics;
 use otel_provider::parts::Parts;
 use otel_provider::provider::Provider;
 use otel_shared::account::Account;
@@ -48,16 +47,47 @@ pub fn settled<P: Parts, C: Account, S: Account>(
     }
 }
 
-/// What the provider that its workers came back from collects of the counters `a` and `b`.
-pub fn read_settled<P: Parts, C: Account, S: Account>(
+/// Settles with all workers. Writes what the provider that comes back collects of the counters `a` and `b`, or the number
+/// of the fault.
+fn settle_all<P: Parts, C: Account, S: Account>(
     alloc: Global,
     locked: Locked<P, C, S>,
     workers: Vec<Worker<C, S>>,
-) -> Result<(u64, u64), Fault>
+    text: &mut String,
+) -> Result<(), Fault>
     requires { (C.parts ≡ 4294967295) × (S.parts ≡ 4294967295) }
 {
-    let mut provider = settled(locked, workers)?;
-    let mut collected = ResourceMetrics::default(alloc);
-    provider.collect(0, 300, &mut collected)?;
-    Ok(values_in(&collected))
+    match settled(locked, workers) {
+        Ok(provider) => {
+            let mut provider = provider;
+            write_counters(alloc, &mut provider, text)
+        }
+        Err(fault) => {
+            write!(text, "refused {}", fault.number())?;
+            Ok(())
+        }
+    }
+}
+
+/// Settles without the last worker, which is refused, and then with all that are given. Writes the number of the fault,
+/// and what comes of the second.
+pub fn settle_twice<P: Parts, C: Account, S: Account>(
+    alloc: Global,
+    locked: Locked<P, C, S>,
+    workers: Vec<Worker<C, S>>,
+    text: &mut String,
+) -> Result<(), Fault>
+    requires { (C.parts ≡ 4294967295) × (S.parts ≡ 4294967295) }
+{
+    let mut workers = workers;
+    let last = workers.pop();
+    match locked.settle(workers) {
+        Ok(_) => Ok(()),
+        Err((fault, locked, workers)) => {
+            let mut workers = workers;
+            workers.extend(last)?;
+            write!(text, "refused {}, ", fault.number())?;
+            settle_all(alloc, locked, workers, text)
+        }
+    }
 }

@@ -1,5 +1,6 @@
 use crate::cases::{Case, share_boxes};
 use crate::counted::fault_of;
+use crate::threads::Recording;
 use crate::typed::Instruments;
 use otel_common::faults::Fault;
 use otel_provider::provider::SdkMeterProvider;
@@ -21,41 +22,84 @@ fn provider_of(alloc: Global, identity: u64) -> Result<SdkMeterProvider, Fault> 
         .build()
 }
 
-/// Shares a provider of its own, and does with it what the case says.
+/// Shares a provider of its own, does with it what the case says, and asserts what is answered.
 fn assert_case<R: Abort + Threads + Wait + Sync>(
     rt: &R,
     alloc: Global,
     case: Case,
+    wanted: &str,
 ) -> Result<(), Fail> {
-    share_boxes(rt, alloc, provider_of(alloc, 0)?, case)
+    let mut text = String::new(alloc);
+    share_boxes(rt, alloc, provider_of(alloc, 0)?, case, &mut text)?;
+    assert_eq!(rt; text.as_str(), wanted);
+    Ok(())
 }
 
+/// Four threads record: the greatest receipt, the two counters under the lock, and those of the provider that came back.
 #[test]
 fn row_18(rt: HostRuntime) -> Result<(), Fail> {
-    assert_case(&rt, rt.alloc(), Case::Four)
+    let recording = Recording {
+        threads: 4,
+        rounds: 100,
+        collections: 0,
+    };
+    let wanted = "receipt 6000, 4000 and 6000 under the lock, refused 14, 4000 and 6000";
+    assert_case(&rt, rt.alloc(), Case::Threads(recording), wanted)
 }
 
+/// Two threads record, and a third collects meanwhile.
 #[test]
 fn watched_while_two_record(rt: HostRuntime) -> Result<(), Fail> {
-    assert_case(&rt, rt.alloc(), Case::Watched)
+    let recording = Recording {
+        threads: 2,
+        rounds: 50,
+        collections: 200,
+    };
+    let wanted = "receipt 1500, 1000 and 1500 under the lock, refused 14, 1000 and 1500";
+    assert_case(&rt, rt.alloc(), Case::Threads(recording), wanted)
 }
 
+/// A record at an instrument that isn't there stops a submission, and is taken out.
 #[test]
 fn row_29(rt: HostRuntime) -> Result<(), Fail> {
-    assert_case(&rt, rt.alloc(), Case::Stopped)
+    let words = "open 1 unknown 1 submit count take submit count";
+    let wanted =
+        "refused 3, 2 wait, 1 submitted, taken 9, accepted 2, 0 wait, 2 submitted, refused 14, 2 and 0";
+    assert_case(&rt, rt.alloc(), Case::Alone(words), wanted)
 }
 
+/// Two records that are handed to the provider itself, and settlements with one worker of two, and with both.
 #[test]
 fn row_30(rt: HostRuntime) -> Result<(), Fail> {
-    assert_case(&rt, rt.alloc(), Case::Missing)
+    let wanted = "refused 13, refused 13, refused 14, 0 and 0";
+    assert_case(&rt, rt.alloc(), Case::Alone("call open open"), wanted)
 }
 
-/// A worker that submits nothing, one that is dropped, and one that comes back with a record in its list.
+/// A worker that submits nothing, before and after a record; one that is dropped before another is opened; and one that
+/// comes back with a record of 7 in its list.
 #[test]
 fn workers_without_threads(rt: HostRuntime) -> Result<(), Fail> {
-    assert_case(&rt, rt.alloc(), Case::Nothing)?;
-    assert_case(&rt, rt.alloc(), Case::Dropped)?;
-    assert_case(&rt, rt.alloc(), Case::Waiting)
+    let alloc = rt.alloc();
+    let nothing = Case::Alone("open submit 1 submit submit");
+    assert_case(
+        &rt,
+        alloc,
+        nothing,
+        "accepted 0, accepted 1, accepted 1, refused 14, 1 and 0",
+    )?;
+    assert_case(
+        &rt,
+        alloc,
+        Case::Alone("open drop open"),
+        "refused 14, refused 14",
+    )?;
+    let waiting = Case::Alone("open 5 submit 7 count");
+    assert_case(
+        &rt,
+        alloc,
+        waiting,
+        "accepted 1, 1 wait, 1 submitted, refused 14, 5 and 0",
+    )
 }
 
 /// A provider of this identity, and instruments of it.
@@ -68,12 +112,18 @@ fn with_instruments(
     Ok((provider, instruments))
 }
 
-/// With instruments of the worker's own provider and of another one.
+/// With instruments of another provider, and of the worker's own one.
 #[test]
 fn instruments_as_values(rt: HostRuntime) -> Result<(), Fail> {
     let (provider, own) = with_instruments(rt.alloc(), 0)?;
     let (_other, foreign) = with_instruments(rt.alloc(), 7)?;
-    share_boxes(&rt, rt.alloc(), provider, Case::Typed(&own, &foreign))
+    let mut text = String::new(rt.alloc());
+    let case = Case::Typed(&foreign, &own);
+    share_boxes(&rt, rt.alloc(), provider, case, &mut text)?;
+    let wanted =
+        "faults 3 3 4, 0 wait, accepted 0, value 0, faults 0 0 0, 3 wait, accepted 3, value 3, refused 14, 3 and 0";
+    assert_eq!(rt; text.as_str(), wanted);
+    Ok(())
 }
 
 /// No run fills a book: what is checked before each record. `limits` says what a full book answers.

@@ -1,19 +1,24 @@
 //! Threads with a worker each, and one that collects under the lock meanwhile.
 
-ghost use Rattle.std.specs.Prelude.{◌≡◌};
-
 use crate::counted::{add, open_workers, read};
-use crate::handed::{hand_in, read_settled};
+use crate::handed::hand_in;
 use otel_common::faults::Fault;
 use otel_provider::parts::Parts;
 use otel_shared::account::Account;
-use otel_shared::locked::{Locked, SharedProvider};
+use otel_shared::locked::SharedProvider;
 use otel_shared::worker::Worker;
 use std::alloc::Global;
 use std::process::Abort;
-use std::sync::{Mutex, Wait};
-use std::test::Fail;
+use std::sync::Wait;
 use std::thread::{Threads, join, map_vec};
+
+/// How many threads record, how many rounds each, and how often one collects meanwhile.
+#[derive(Clone, Copy)]
+pub struct Recording {
+    pub threads: usize,
+    pub rounds: usize,
+    pub collections: u64,
+}
 
 /// Some rounds of a worker: ten records of 1 at the first counter and five of 3 at the second, which are handed in.
 /// Answers the greatest receipt.
@@ -76,27 +81,6 @@ fn in_threads<
     Ok((workers, greatest))
 }
 
-/// Four threads record: the greatest receipt, the two counters under the lock, and those of the provider that came back.
-pub fn four<
-    P: Parts + Send + Sync,
-    C: Account + Send + Sync,
-    S: Account + Send + Sync,
-    R: Abort + Threads + Wait + Sync,
->(rt: &R, alloc: Global, locked: Locked<P, C, S>) -> Result<(), Fail>
-    requires { (C.parts ≡ 4294967295) × (S.parts ≡ 4294967295) }
-{
-    let mut locked = locked;
-    let workers = open_workers(alloc, &mut locked, 4)?;
-    let shared = Mutex::new(locked);
-    let (workers, greatest) = in_threads(rt, alloc, &shared, workers, 100)?;
-    let mut locked = shared.into_inner();
-    let under_lock = read(alloc, &mut locked, 200)?;
-    let settled = read_settled(alloc, locked, workers)?;
-    assert_eq!(rt; greatest, 6000);
-    assert_eq!(rt; (under_lock, settled), ((4000, 6000), (4000, 6000)));
-    Ok(())
-}
-
 /// Asserts that no value is less than the one before.
 fn assert_rose(rt: &impl Abort, before: (u64, u64), values: (u64, u64)) {
     assert!(rt; before.0 <= values.0 && before.1 <= values.1);
@@ -118,25 +102,29 @@ fn watch<P: Parts, C: Account, S: Account, R: Abort + Wait>(
     Ok(last)
 }
 
-/// Two threads record, and a third collects meanwhile; then all is collected once more.
-pub fn watched<
+/// Has threads record while one collects, and then collects once more. Writes the greatest receipt and what is collected
+/// last. The workers come back.
+pub fn record<
     P: Parts + Send + Sync,
     C: Account + Send + Sync,
     S: Account + Send + Sync,
     R: Abort + Threads + Wait + Sync,
->(rt: &R, alloc: Global, locked: Locked<P, C, S>) -> Result<(), Fail> {
-    let mut locked = locked;
-    let workers = open_workers(alloc, &mut locked, 2)?;
-    let shared = Mutex::new(locked);
+>(
+    rt: &R,
+    alloc: Global,
+    shared: &SharedProvider<P, C, S>,
+    recording: Recording,
+    text: &mut String,
+) -> Result<Vec<Worker<C, S>>, Fault> {
+    let workers = open_workers(alloc, &mut shared.lock(rt), recording.threads)?;
     let (done, seen) = join(
         rt,
-        || in_threads(rt, alloc, &shared, workers, 50),
-        || watch(rt, alloc, &shared, 200),
+        || in_threads(rt, alloc, shared, workers, recording.rounds),
+        || watch(rt, alloc, shared, recording.collections),
     );
-    let _ = done?;
-    let mut locked = shared.into_inner();
-    let last = read(alloc, &mut locked, 1000)?;
-    assert_rose(rt, seen?, last);
-    assert_eq!(rt; last, (1000, 1500));
-    Ok(())
+    let (workers, greatest) = done?;
+    let (a, b) = read(alloc, &mut shared.lock(rt), 1000)?;
+    assert_rose(rt, seen?, (a, b));
+    write!(text, "receipt {greatest}, {a} and {b} under the lock, ")?;
+    Ok(workers)
 }

@@ -1,6 +1,6 @@
 //! Instruments and handles as values, of the worker's provider and of another one.
 
-use crate::counted::{fault_of, read, submit};
+use crate::counted::{fault_of, open_workers, read};
 use otel_common::faults::Fault;
 use otel_provider::bound::Bound;
 use otel_provider::parts::Parts;
@@ -10,8 +10,6 @@ use otel_shared::account::Account;
 use otel_shared::locked::Locked;
 use otel_shared::worker::Worker;
 use std::alloc::Global;
-use std::process::Abort;
-use std::test::Fail;
 
 /// A counter and a gauge of one provider, and a handle of the counter.
 pub struct Instruments {
@@ -51,48 +49,40 @@ impl Instruments {
     }
 }
 
-/// Adds a record of each instrument and one through the handle. Asserts the faults of these, otherwise 0, and then how
+/// Adds a record of each instrument and one through the handle. Writes the faults of these, otherwise 0, and then how
 /// many are in the worker's list, how many the provider accepts, and the counter's value.
-fn assert_recorded<P: Parts, C: Account, S: Account>(
-    rt: &impl Abort,
+fn record_once<P: Parts, C: Account, S: Account>(
     alloc: Global,
     locked: &mut Locked<P, C, S>,
     worker: &mut Worker<C, S>,
     instruments: &Instruments,
-    faults: [u64; 3],
-    counts: (usize, u64, u64),
+    text: &mut String,
 ) -> Result<(), Fault> {
-    let found = [
-        fault_of(worker.add_to(&instruments.counter, 1, Vec::new(alloc))),
-        fault_of(worker.record_at(&instruments.gauge, -1, Vec::new(alloc))),
-        fault_of(worker.add_through(&instruments.handle, 2)),
-    ];
-    assert_eq!(rt; found, faults);
+    let counter = fault_of(worker.add_to(&instruments.counter, 1, Vec::new(alloc)));
+    let gauge = fault_of(worker.record_at(&instruments.gauge, -1, Vec::new(alloc)));
+    let handle = fault_of(worker.add_through(&instruments.handle, 2));
     let pending = worker.pending();
-    let accepted = submit(locked, worker)?;
+    let accepted = locked.submit(worker)?.accepted;
     let (value, _) = read(alloc, locked, 200)?;
-    assert_eq!(rt; (pending, accepted, value), counts);
+    write!(
+        text,
+        "faults {counter} {gauge} {handle}, {pending} wait, accepted {accepted}, value {value}, "
+    )?;
     Ok(())
 }
 
-/// Has a worker record with instruments of another provider, and with those of its own.
-pub fn typed<P: Parts, C: Account, S: Account>(
-    rt: &impl Abort,
+/// Has a worker record with instruments of another provider, and with those of its own. It comes back.
+pub fn record_typed<P: Parts, C: Account, S: Account>(
     alloc: Global,
     locked: &mut Locked<P, C, S>,
-    own: &Instruments,
     foreign: &Instruments,
-) -> Result<(), Fail> {
-    let mut worker = locked.open_worker()?;
-    assert_recorded(
-        rt,
-        alloc,
-        locked,
-        &mut worker,
-        foreign,
-        [3, 3, 4],
-        (0, 0, 0),
-    )?;
-    assert_recorded(rt, alloc, locked, &mut worker, own, [0, 0, 0], (3, 3, 3))?;
-    Ok(())
+    own: &Instruments,
+    text: &mut String,
+) -> Result<Vec<Worker<C, S>>, Fault> {
+    let mut workers = open_workers(alloc, locked, 1)?;
+    for worker in &mut workers {
+        record_once(alloc, locked, worker, foreign, text)?;
+        record_once(alloc, locked, worker, own, text)?;
+    }
+    Ok(workers)
 }
