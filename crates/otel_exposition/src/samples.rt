@@ -31,14 +31,14 @@ pub fn push_sample<T: Number>(
 pub fn push_line<T: Number>(
     out: &mut Vec<u8>,
     name: &str,
-    suffix: &str,
+    end: &str,
     labels: &[u8],
     value: T,
 ) -> Result<(), AllocError>
-    ensures { OnOk result (out.new.items ≡ out.old.items ++ line_text (name.now ++ suffix.now) labels.now (signed_decimal (T.integer value))) }
+    ensures { OnOk result (out.new.items ≡ out.old.items ++ line_text (name.now ++ end.now) labels.now (signed_decimal (T.integer value))) }
 {
     out.extend_from_slice(name.as_bytes())?;
-    out.extend_from_slice(suffix.as_bytes())?;
+    out.extend_from_slice(end.as_bytes())?;
     out.extend_from_slice(labels)?;
     out.extend_from_slice(b" ")?;
     value.push_to(out)?;
