@@ -5,6 +5,7 @@ ghost use Rattle.std.specs.Option.{option_map};
 ghost use Rattle.otel_model_stream.specs.Folds.{Histogram as HistogramAggregate, bounds_of};
 ghost use Rattle.otel_model_stream.specs.Data.{histogram_point};
 
+use crate::measures::Measures;
 use crate::settings::HistogramSettings;
 use crate::shows::Shows;
 use crate::stream::Stream;
@@ -35,22 +36,14 @@ fn told<T: Number>(value: Option<T>) -> Option<T>
     }
 }
 
-impl<T: Number + Drop> Shows for Buckets<T> {
+impl<T: Number + Drop> Measures for Buckets<T> {
     type Value = T;
 
     type Settings = HistogramSettings;
 
-    type Point = HistogramDataPoint<T>;
-
-    type Data = HistogramData<T>;
-
     ghost aggregate = { λ settings. HistogramAggregate settings.bounds settings.has_min_max settings.has_sum };
 
     ghost is_monotonic = { λ _. false };
-
-    ghost point = { λ aggregate p. histogram_point T.of_bits T.of_wide (bounds_of aggregate) p };
-
-    ghost collection = { λ _ temporality start now points. record { data_points = points; start_time = start; time = now; temporality = temporality } };
 
     fn config(settings: &HistogramSettings) -> BucketsConfig {
         BucketsConfig {
@@ -63,6 +56,16 @@ impl<T: Number + Drop> Shows for Buckets<T> {
     fn record(settings: &HistogramSettings, value: T) -> (T, usize) {
         (value, settings.bounds.bucket_of(value.wide()))
     }
+}
+
+impl<T: Number + Drop> Shows for Buckets<T> {
+    type Point = HistogramDataPoint<T>;
+
+    type Data = HistogramData<T>;
+
+    ghost point = { λ aggregate p. histogram_point T.of_bits T.of_wide (bounds_of aggregate) p };
+
+    ghost collection = { λ _ temporality start now points. record { data_points = points; start_time = start; time = now; temporality = temporality } };
 
     fn into_point(
         self,

@@ -4,6 +4,7 @@ ghost use Rattle.std.specs.Prelude.{◌≡◌, false};
 ghost use Rattle.otel_model_stream.specs.Folds.{LastValue as LastValueAggregate};
 ghost use Rattle.otel_model_stream.specs.Data.{gauge_point};
 
+use crate::measures::Measures;
 use crate::shows::Shows;
 use crate::stream::Stream;
 use otel_common::attributes::KeyValue;
@@ -19,28 +20,30 @@ use std::alloc::Global;
 /// The last values of a stream's records, by set (Metrics SDK, "Last Value Aggregation"). There are no settings.
 pub type LastValue<T> = Stream<Assign<T>>;
 
-impl<T: Number + Drop> Shows for Assign<T> {
+impl<T: Number + Drop> Measures for Assign<T> {
     type Value = T;
 
     type Settings = ();
 
-    type Point = GaugeDataPoint<T>;
-
-    type Data = Gauge<T>;
-
     ghost aggregate = { λ _. LastValueAggregate };
 
     ghost is_monotonic = { λ _. false };
-
-    ghost point = { λ _ p. gauge_point T.of_bits T.of_wide p };
-
-    ghost collection = { λ _ _ start now points. record { data_points = points; start_time = start; time = now } };
 
     fn config(_settings: &()) {}
 
     fn record(_settings: &(), value: T) -> T {
         value
     }
+}
+
+impl<T: Number + Drop> Shows for Assign<T> {
+    type Point = GaugeDataPoint<T>;
+
+    type Data = Gauge<T>;
+
+    ghost point = { λ _ p. gauge_point T.of_bits T.of_wide p };
+
+    ghost collection = { λ _ _ start now points. record { data_points = points; start_time = start; time = now } };
 
     fn into_point(
         self,

@@ -7,6 +7,7 @@ pub mod histogram;
 pub mod internal;
 pub mod last_value;
 mod making;
+pub mod measures;
 pub mod precomputed_sum;
 pub mod saved;
 pub mod settings;

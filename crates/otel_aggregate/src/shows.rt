@@ -3,50 +3,29 @@
 ghost use Rattle.std.specs.Prelude.{◌≡◌, ℕ, Bool, List, map, IfOk, IsOkUnless};
 ghost use Rattle.otel_common.specs.declared.metrics.Temporality.{Temporality as TemporalityValue};
 ghost use Rattle.otel_model_stream.specs.Entries.{Point};
-ghost use Rattle.otel_model_stream.specs.Folds.{Aggregate, empty_of, sample_of};
+ghost use Rattle.otel_model_stream.specs.Folds.{Aggregate};
 ghost use Rattle.otel_value_map.specs.Slots.{copies};
 
+use crate::measures::Measures;
 use otel_common::attributes::KeyValue;
 use otel_common::faults::Fault;
 use otel_common::lists::{Items, SharedItems};
 use otel_common::metrics::Temporality;
-use otel_value_map::aggregator::Aggregator;
-use otel_value_map::number::Number;
 use std::alloc::Global;
 
 /// An aggregator that a collection can show as a point.
-pub trait Shows: Aggregator {
-    /// The type of recorded values.
-    type Value: Number + Drop;
-
-    /// What all sets of a stream share.
-    type Settings: Drop;
-
+pub trait Shows: Measures {
     /// The type of points.
     type Point: Drop;
 
     /// The type of a stream's points together with their moments.
     type Data: Drop;
 
-    /// The aggregate as the model sees it.
-    ghost aggregate: { Self.Settings → Aggregate };
-
-    /// Whether only values of at least 0 are added.
-    ghost is_monotonic: { Self.Settings → Bool };
-
     /// The point of a set whose records come to this.
     ghost point: { Aggregate → Point → Self.Point };
 
     /// The data of points that count from one moment and are collected at another.
     ghost collection: { Bool → TemporalityValue → ℕ → ℕ → List Self.Point → Self.Data };
-
-    /// What the aggregator of a set is made from.
-    fn config(settings: &Self::Settings) -> Self::InitConfig
-        ensures { Self.empty result ≡ empty_of (aggregate settings.now) };
-
-    /// The record that a value makes.
-    fn record(settings: &Self::Settings, value: Self::Value) -> Self::PreComputedValue
-        ensures { Self.sample result ≡ sample_of (aggregate settings.now) (record { bits = Self.Value.bits value; wide = Self.Value.wide value }) };
 
     /// The point of a set.
     fn into_point(
@@ -55,7 +34,7 @@ pub trait Shows: Aggregator {
         settings: &Self::Settings,
         attributes: SharedItems<KeyValue>,
     ) -> Result<Self::Point, Fault>
-        ensures point { IfOk result (λ made. made ≡ point (aggregate settings.now) (attributes, Self.meaning self)) }
+        ensures point { IfOk result (λ made. made ≡ point (Self.aggregate settings.now) (attributes, Self.meaning self)) }
         ensures only_memory { IsOkUnless result Fault.OutOfMemory };
 
     /// The data of these points, which count from `start` and are collected at `now`, in nanoseconds since 1970.
@@ -66,7 +45,7 @@ pub trait Shows: Aggregator {
         start: u64,
         now: u64,
     ) -> Self::Data
-        ensures { result ≡ collection (is_monotonic settings.now) temporality start now points };
+        ensures { result ≡ collection (Self.is_monotonic settings.now) temporality start now points };
 }
 
 /// Makes points of sets and their aggregators.

@@ -13,6 +13,7 @@ ghost use Rattle.otel_value_map.specs.Slots.{HasForm, copies};
 ghost use Rattle.otel_aggregate.specs.Data.{temporality_of};
 ghost use Rattle.otel_aggregate.specs.Streams.{new_stream, is_known, recorded_set, recorded_attributes, ready_to_bind, stream_after_bind, stream_after_update, stream_after_unbind, stream_after_commit, stream_after_collection, points_now};
 
+use crate::measures::Measures;
 use crate::shows::{Shows, into_points};
 use otel_bound_map::bound_map::BoundMap;
 use otel_common::attributes::KeyValue;
@@ -61,7 +62,7 @@ fn allow_list(alloc: Global, keys: Option<Items<Key>>) -> Result<Option<AllowedK
 }
 
 /// The records of a stream, by set (Metrics SDK, "MetricReader").
-pub struct Stream<A: Shows> {
+pub struct Stream<A: Measures> {
     settings: A::Settings,
     map: BoundMap<A>,
     allow: Option<AllowedKeys>,
@@ -70,7 +71,7 @@ pub struct Stream<A: Shows> {
     start: u64,
 }
 
-impl<A: Shows> Model for Stream<A> {
+impl<A: Measures> Model for Stream<A> {
     ghost use Rattle.otel_aggregate.specs.Streams.{HeldStream};
 
     ghost Value = { HeldStream };
@@ -90,7 +91,7 @@ impl<A: Shows> Model for Stream<A> {
     } };
 }
 
-impl<A: Shows> Drop for Stream<A> {
+impl<A: Measures> Drop for Stream<A> {
     /// A function of its own, so that no proof about who lets one go looks into it.
     fn drop(self) {
         let Stream {
@@ -103,7 +104,7 @@ impl<A: Shows> Drop for Stream<A> {
     }
 }
 
-impl<A: Shows> Stream<A> {
+impl<A: Measures> Stream<A> {
     /// Makes a stream without records at the moment `start`, in nanoseconds since 1970. `temporality` is the reader's
     /// answer: with `Delta` the stream starts again at each collection; with any other it goes on from `start`. Any
     /// limit is accepted; with 0, every set but the empty one goes to the overflow point.
@@ -261,19 +262,6 @@ impl<A: Shows> Stream<A> {
         self.map.unbind(handle);
     }
 
-    /// What a collection at the moment `now`, in nanoseconds since 1970, gives: the start, the points and `now`. The
-    /// stream stays unchanged. Shares the sets that it shows, and copies none.
-    pub fn points(&self, alloc: Global, now: u64) -> Result<A::Data, Fault>
-        ensures kind { (s : A.Settings) × (self.now.state.aggregate ≡ A.aggregate s) }
-        ensures points { IfOk result (λ given. given ≡ A.collection self.now.state.is_monotonic (temporality_of self.now.state) self.now.state.start now (map (A.point self.now.state.aggregate) (points_now self.now.state))) }
-        ensures only_memory { IsOkUnless result Fault.OutOfMemory }
-    {
-        let given = self.map.points(alloc, !self.resets)?;
-        let points = into_points(alloc, &self.settings, given)?;
-        let temporality = shown_temporality(self.resets);
-        Ok(A::into_data(&self.settings, points, temporality, self.start, now))
-    }
-
     /// Every set that has an entry, and the empty set if it was updated, with copies of their aggregators. Shares the
     /// sets.
     pub(crate) fn every_set(&self, alloc: Global) -> Result<Vec<(SharedItems<KeyValue>, A)>, Fault>
@@ -390,6 +378,21 @@ impl<A: Shows> Stream<A> {
         kept.drain();
         swap(&mut self.map, kept);
         self.start = now;
+    }
+}
+
+impl<A: Shows> Stream<A> {
+    /// What a collection at the moment `now`, in nanoseconds since 1970, gives: the start, the points and `now`. The
+    /// stream stays unchanged. Shares the sets that it shows, and copies none.
+    pub fn points(&self, alloc: Global, now: u64) -> Result<A::Data, Fault>
+        ensures kind { (s : A.Settings) × (self.now.state.aggregate ≡ A.aggregate s) }
+        ensures points { IfOk result (λ given. given ≡ A.collection self.now.state.is_monotonic (temporality_of self.now.state) self.now.state.start now (map (A.point self.now.state.aggregate) (points_now self.now.state))) }
+        ensures only_memory { IsOkUnless result Fault.OutOfMemory }
+    {
+        let given = self.map.points(alloc, !self.resets)?;
+        let points = into_points(alloc, &self.settings, given)?;
+        let temporality = shown_temporality(self.resets);
+        Ok(A::into_data(&self.settings, points, temporality, self.start, now))
     }
 
     /// Makes a collection at the moment `now`, in nanoseconds since 1970: `points`, and then `finish`. If it fails,

@@ -4,6 +4,7 @@ ghost use Rattle.std.specs.Prelude.{◌≡◌};
 ghost use Rattle.otel_model_stream.specs.Folds.{Sum as SumAggregate};
 ghost use Rattle.otel_model_stream.specs.Data.{sum_point};
 
+use crate::measures::Measures;
 use crate::shows::Shows;
 use crate::stream::Stream;
 use otel_common::attributes::KeyValue;
@@ -20,28 +21,30 @@ use std::alloc::Global;
 /// least 0 are added.
 pub type Sum<T> = Stream<Increment<T>>;
 
-impl<T: Number + Drop> Shows for Increment<T> {
+impl<T: Number + Drop> Measures for Increment<T> {
     type Value = T;
 
     type Settings = bool;
 
-    type Point = SumDataPoint<T>;
-
-    type Data = SumData<T>;
-
     ghost aggregate = { λ _. SumAggregate };
 
     ghost is_monotonic = { λ is_monotonic. is_monotonic };
-
-    ghost point = { λ _ p. sum_point T.of_bits T.of_wide p };
-
-    ghost collection = { λ is_monotonic temporality start now points. record { data_points = points; start_time = start; time = now; temporality = temporality; is_monotonic = is_monotonic } };
 
     fn config(_settings: &bool) {}
 
     fn record(_settings: &bool, value: T) -> T {
         value
     }
+}
+
+impl<T: Number + Drop> Shows for Increment<T> {
+    type Point = SumDataPoint<T>;
+
+    type Data = SumData<T>;
+
+    ghost point = { λ _ p. sum_point T.of_bits T.of_wide p };
+
+    ghost collection = { λ is_monotonic temporality start now points. record { data_points = points; start_time = start; time = now; temporality = temporality; is_monotonic = is_monotonic } };
 
     fn into_point(
         self,
