@@ -1,5 +1,8 @@
 //! What a call under test needs, made before it.
 
+use crate::scenarios::Scenario;
+use crate::set_up::calls_of;
+use anyhow::Error;
 use opentelemetry_sdk::metrics::data::ResourceMetrics;
 use opentelemetry_sdk::metrics::provider::Call;
 use std::alloc::Global;
@@ -21,11 +24,12 @@ impl Drop for Given {
 }
 
 impl Given {
-    /// With these calls, and an empty collection.
-    pub fn new(alloc: Global, calls: Vec<Call>) -> Given {
-        Given {
-            calls,
+    /// What the call of this scenario needs, with an empty collection.
+    pub fn new(alloc: Global, scenario: Scenario) -> Result<Given, Error> {
+        let (start, lines) = scenario.lines();
+        Ok(Given {
+            calls: calls_of(alloc, start, lines)?,
             metrics: ResourceMetrics::default(alloc),
-        }
+        })
     }
 }

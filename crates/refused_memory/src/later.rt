@@ -1,6 +1,6 @@
 //! What a provider answers after the call under test, as text.
 
-use crate::outcomes::is_refused;
+use crate::replies::is_refused;
 use crate::set_up::calls_of;
 use anyhow::{Error, bail};
 use opentelemetry_sdk::metrics::data::ResourceMetrics;
@@ -66,7 +66,7 @@ fn write_lines<P: Parts>(
     text: &mut String,
     lines: &str,
 ) -> Result<(), Error> {
-    for call in &calls_of(alloc, lines)? {
+    for call in &calls_of(alloc, "", lines)? {
         let reply = provider.step(call);
         if is_refused(&reply) {
             bail!("a later call was refused");

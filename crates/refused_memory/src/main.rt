@@ -13,43 +13,23 @@
 #![tactic(auto)]
 
 mod callbacks;
+mod calls;
 mod given;
 mod later;
-mod marks;
-mod outcomes;
+mod replies;
 mod scenarios;
 mod set_up;
 mod shared;
-mod twins;
+mod trials;
 mod typed;
 mod values;
 mod workers;
 
 use anyhow::{Error, bail};
-use scenarios::{Scenario, Tested, last_scenario, scenario_of};
-use shared::try_shared;
+use scenarios::{last_scenario, scenario_of};
 use std::alloc::Global;
 use std::env;
-use twins::{try_call, try_provider};
-use values::try_value;
-
-/// Makes the call under test, compares what follows with a twin, and prints the line of the scenario.
-fn try_scenario(
-    rt: &impl Print,
-    alloc: Global,
-    number: usize,
-    scenario: Scenario,
-) -> Result<(), Error> {
-    let outcome = match scenario.tested {
-        Tested::Provider => try_provider(rt, alloc, number),
-        Tested::Value(made) => try_value(rt, alloc, number, made),
-        Tested::Shared(call) => try_shared(rt, alloc, number, call),
-        tested => try_call(rt, alloc, number, tested),
-    }?;
-    let word = outcome.word(scenario.is_sure);
-    println!(rt; "{word}")?;
-    Ok(())
-}
+use trials::try_scenario;
 
 /// Tries all scenarios.
 fn try_all(rt: &impl Print, alloc: Global) -> Result<(), Error> {

@@ -1,54 +1,74 @@
 //! The calls under test, by their numbers.
 
-use crate::shared::Shared;
-use crate::values::Made;
-use crate::workers::Adding;
-use opentelemetry_sdk::metrics::provider::InstrumentSort;
-
-/// A call under test.
-#[derive(Clone, Copy)]
-pub enum Tested {
-    /// The call of a line of a script, with the observations before it, by `step`.
-    Line(&'static str),
-    /// The calls of these lines, by `run`.
-    Run(&'static str),
-    /// `meter` of this name.
-    Meter(&'static str),
-    /// `meter_with_scope` of this name.
-    Scope(&'static str),
-    /// An instrument of this sort by its builder, with all that can be set, and with a callback if it is observable.
-    Build(InstrumentSort),
-    /// A record at an instrument of this sort as a value, with these attributes as a script has them.
-    Record(InstrumentSort, &'static str),
-    /// A handle at an instrument of this sort, a record through it, and its end.
-    Bind(InstrumentSort, &'static str),
-    /// `collect` of this reader, with callbacks.
-    Collect(usize),
-    /// `force_flush`.
-    Flush,
-    /// `shutdown`.
-    Shutdown,
-    /// `shutdown_with_timeout`.
-    ShutdownWithTimeout,
-    /// The builder of a provider, with resource, readers and views.
-    Provider,
-    /// A value that no provider is needed for.
-    Value(Made),
-    /// A call of a shared provider or of a worker.
-    Shared(Shared),
-}
-
-/// A call under test, and whether it must not be refused for want of memory.
+/// A call under test, as the words of its line.
+///
+/// Of a provider: `line` is the call of a line of a script, with the observations before it, by `step`, and `run` the
+/// calls of lines by `run`; `meter`, `scope` by `meter_with_scope`, `collect` of a reader with callbacks, `flush` and the
+/// two ways to shut down; `build`, `record` and `bind` are at an instrument of a sort as a value: by its builder with all
+/// that can be set, with attributes, and by a handle that is bound, records and ends. `provider` is the builder of a
+/// provider, and `value` a value that no provider is needed for.
+///
+/// Of a shared provider or of a worker: `shared_line` and `shared_collect`; `open_worker`; `add` adds a record in some
+/// way to the records of the lines; `submit`, of which every second, from the first, must not be refused, `submit_all`
+/// again and again until it is not refused, and `take_first` are of the records of the lines; and `settle` leaves them.
 #[derive(Clone, Copy)]
 pub struct Scenario {
-    pub tested: Tested,
+    /// Whether the call must not be refused for want of memory.
     pub is_sure: bool,
+    /// The call.
+    pub call: &'static str,
+    /// All that it is given.
+    pub given: &'static str,
+    /// The first word of what it is given.
+    pub word: &'static str,
+    /// What follows that.
+    pub rest: &'static str,
+}
+
+impl Scenario {
+    /// Whether the call is of a shared provider or of a worker.
+    pub fn is_shared(&self) -> bool {
+        matches!(
+            self.call,
+            "shared_line"
+                | "shared_collect"
+                | "open_worker"
+                | "add"
+                | "submit"
+                | "submit_all"
+                | "take_first"
+                | "settle"
+        )
+    }
+
+    /// The number of the reader that it is given.
+    pub fn reader(&self) -> usize {
+        self.given.parse::<usize>().unwrap_or(0)
+    }
+
+    /// The lines of the records that wait in the list of a worker before the call.
+    pub fn waiting(&self) -> &'static str {
+        match self.call {
+            "add" => self.rest,
+            "submit" | "submit_all" | "take_first" | "settle" => self.given,
+            _ => "",
+        }
+    }
+
+    /// The start of a line and the rest of the lines that state what the call takes.
+    pub fn lines(&self) -> (&'static str, &'static str) {
+        match self.call {
+            "line" | "run" | "shared_line" => ("", self.given),
+            "record" | "bind" => ("bind 0 ", self.rest),
+            "scope" => ("meter ", self.given),
+            "add" => ("record 0 u:8 ", "z=i:9"),
+            _ => ("", ""),
+        }
+    }
 }
 
 /// The scenarios, a line each: `maybe` if the call may be refused for want of memory, `sure` if it must not be; the call;
 /// and what it is given. Lines of a script that it is given are separated by semicolons.
-///
-/// A text, since a proof that looks up a table of values goes through each of them.
 const SCENARIOS: &str = "\
 maybe line meter other 2.0
 maybe line build 0 u64_counter more 180 description=d unit=ms
@@ -202,102 +222,14 @@ pub fn last_scenario() -> usize {
 /// The scenario of a number, from 1. After the last there is none.
 pub fn scenario_of(number: usize) -> Option<Scenario> {
     let line = SCENARIOS.split('\n').nth(number.checked_sub(1)?)?;
-    let (first, rest) = line.split_once(' ')?;
-    let (call, given) = rest.split_once(' ').unwrap_or((rest, ""));
+    let (first, call) = line.split_once(' ')?;
+    let (call, given) = call.split_once(' ').unwrap_or((call, ""));
+    let (word, rest) = given.split_once(' ').unwrap_or((given, ""));
     Some(Scenario {
-        tested: tested_of(call, given)?,
         is_sure: first == "sure",
+        call,
+        given,
+        word,
+        rest,
     })
-}
-
-/// The call under test, with what it is given.
-fn tested_of(call: &str, given: &'static str) -> Option<Tested> {
-    match call {
-        "line" => Some(Tested::Line(given)),
-        "run" => Some(Tested::Run(given)),
-        "meter" => Some(Tested::Meter(given)),
-        "scope" => Some(Tested::Scope(given)),
-        "build" => Some(Tested::Build(sort_of(given)?)),
-        "record" | "bind" => at_instrument(call, given),
-        "collect" => Some(Tested::Collect(given.parse::<usize>().ok()?)),
-        "flush" => Some(Tested::Flush),
-        "shutdown" => Some(Tested::Shutdown),
-        "shutdown_with_timeout" => Some(Tested::ShutdownWithTimeout),
-        "provider" => Some(Tested::Provider),
-        "value" => Some(Tested::Value(made_of(given)?)),
-        _ => Some(Tested::Shared(shared_of(call, given)?)),
-    }
-}
-
-/// A record or a bind at an instrument of a sort, with attributes.
-fn at_instrument(call: &str, given: &'static str) -> Option<Tested> {
-    let (sort, attributes) = given.split_once(' ')?;
-    let sort = sort_of(sort)?;
-    if call == "record" {
-        Some(Tested::Record(sort, attributes))
-    } else {
-        Some(Tested::Bind(sort, attributes))
-    }
-}
-
-/// The sort of instruments that a word names.
-fn sort_of(word: &str) -> Option<InstrumentSort> {
-    match word {
-        "u64_counter" => Some(InstrumentSort::U64Counter),
-        "i64_up_down_counter" => Some(InstrumentSort::I64UpDownCounter),
-        "u64_gauge" => Some(InstrumentSort::U64Gauge),
-        "i64_gauge" => Some(InstrumentSort::I64Gauge),
-        "u64_histogram" => Some(InstrumentSort::U64Histogram),
-        "u64_observable_counter" => Some(InstrumentSort::U64ObservableCounter),
-        "i64_observable_up_down_counter" => Some(InstrumentSort::I64ObservableUpDownCounter),
-        "u64_observable_gauge" => Some(InstrumentSort::U64ObservableGauge),
-        "i64_observable_gauge" => Some(InstrumentSort::I64ObservableGauge),
-        _ => None,
-    }
-}
-
-/// The value that a word names.
-fn made_of(word: &str) -> Option<Made> {
-    match word {
-        "got" => Some(Made::Got),
-        "merged" => Some(Made::Merged),
-        "built" => Some(Made::Built),
-        "scope" => Some(Made::Scope),
-        "canonical" => Some(Made::Canonical),
-        "stream" => Some(Made::Stream),
-        "reader" => Some(Made::Reader),
-        _ => None,
-    }
-}
-
-/// The call of a shared provider or of a worker.
-fn shared_of(call: &str, given: &'static str) -> Option<Shared> {
-    match call {
-        "shared_line" => Some(Shared::Line(given)),
-        "shared_collect" => Some(Shared::Collect(given.parse::<usize>().ok()?)),
-        "open_worker" => Some(Shared::OpenWorker),
-        "add" => {
-            let (adding, waiting) = given.split_once(' ').unwrap_or((given, ""));
-            Some(Shared::Add(adding_of(adding)?, waiting))
-        }
-        "submit" => Some(Shared::Submit(given)),
-        "submit_all" => Some(Shared::SubmitAll(given)),
-        "take_first" => Some(Shared::TakeFirst(given)),
-        "settle" => Some(Shared::Settle(given)),
-        _ => None,
-    }
-}
-
-/// The way of adding a record that a word names.
-fn adding_of(word: &str) -> Option<Adding> {
-    match word {
-        "number" => Some(Adding::Number),
-        "handle_number" => Some(Adding::HandleNumber),
-        "counter" => Some(Adding::Counter),
-        "up_down_counter" => Some(Adding::UpDownCounter),
-        "histogram" => Some(Adding::Histogram),
-        "gauge" => Some(Adding::Gauge),
-        "handle" => Some(Adding::Handle),
-        _ => None,
-    }
 }

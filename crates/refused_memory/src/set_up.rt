@@ -9,9 +9,6 @@ use opentelemetry_sdk::common::{Fault, Key, KeyValue, StringValue, Value};
 use opentelemetry_sdk::metrics::ManualReader;
 use opentelemetry_sdk::metrics::data::ResourceMetrics;
 use opentelemetry_sdk::metrics::instrument::SelectorView;
-use opentelemetry_sdk::metrics::provider::InstrumentSort::{
-    I64ObservableUpDownCounter, U64ObservableCounter, U64ObservableGauge,
-};
 use opentelemetry_sdk::metrics::provider::{Call, Parts, Plain, Provider, ProviderBuilder, Reply};
 use std::alloc::{AllocError, Global};
 
@@ -84,9 +81,11 @@ record 3 u:7 a=i:1
 record 5 u:8 d=i:1
 recordbound 2 u:9";
 
-/// The script of these lines, which are separated by semicolons or stand on lines of their own.
-fn text_of(alloc: Global, lines: &str) -> Result<String, AllocError> {
+/// The script of these lines, which are separated by semicolons or stand on lines of their own. The first begins with
+/// `start`.
+fn text_of(alloc: Global, start: &str, lines: &str) -> Result<String, AllocError> {
     let mut text = String::from_str(alloc, "go\n")?;
+    text.push_str(start)?;
     for line in lines.split(';') {
         text.push_str(line)?;
         text.push('\n')?;
@@ -94,9 +93,9 @@ fn text_of(alloc: Global, lines: &str) -> Result<String, AllocError> {
     Ok(text)
 }
 
-/// Reads the calls of these lines.
-pub fn calls_of(alloc: Global, lines: &str) -> Result<Vec<Call>, Error> {
-    let script = text_of(alloc, lines)?;
+/// Reads the calls of these lines, of which the first begins with `start`.
+pub fn calls_of(alloc: Global, start: &str, lines: &str) -> Result<Vec<Call>, Error> {
+    let script = text_of(alloc, start, lines)?;
     let Script { calls, .. } = script_of(alloc, script.as_bytes())?;
     Ok(calls)
 }
@@ -183,7 +182,7 @@ impl Materials {
 
 /// Makes the calls of these lines, none of which may be refused.
 fn make_all<P: Parts>(alloc: Global, provider: &mut Provider<P>, lines: &str) -> Result<(), Error> {
-    for call in &calls_of(alloc, lines)? {
+    for call in &calls_of(alloc, "", lines)? {
         if let Reply::Refused(fault) = provider.step(call) {
             bail!("a call before the one under test was refused: {fault}");
         }
@@ -192,19 +191,23 @@ fn make_all<P: Parts>(alloc: Global, provider: &mut Provider<P>, lines: &str) ->
 }
 
 /// Makes three observable instruments with a callback each, of which this many skip a run later.
-fn watch(alloc: Global, provider: &mut Provider<Swept>, ahead: u64) -> Result<(), Fault> {
-    let first = Counting::new(alloc, u64::from(ahead > 0));
-    build_observable(alloc, provider, U64ObservableCounter, "runs", first)?;
-    let second = Counting::new(alloc, u64::from(ahead > 1));
+fn watch<P: Parts<ObserveU64 = Counting, ObserveI64 = Counting>>(
+    alloc: Global,
+    provider: &mut Provider<P>,
+    ahead: u64,
+) -> Result<(), Fault> {
+    let runs = Counting::new(alloc, u64::from(ahead > 0));
+    build_observable(alloc, provider, "u64_observable_counter", "runs", runs)?;
+    let balance = Counting::new(alloc, u64::from(ahead > 1));
     build_observable(
         alloc,
         provider,
-        I64ObservableUpDownCounter,
+        "i64_observable_up_down_counter",
         "balance",
-        second,
+        balance,
     )?;
-    let third = Counting::new(alloc, u64::from(ahead > 2));
-    build_observable(alloc, provider, U64ObservableGauge, "depth", third)
+    let depth = Counting::new(alloc, u64::from(ahead > 2));
+    build_observable(alloc, provider, "u64_observable_gauge", "depth", depth)
 }
 
 /// Makes a collection that nobody looks at.
@@ -220,9 +223,9 @@ fn collect_once<P: Parts>(
 
 /// Makes the calls that come first, registers the callbacks, of which this many skip a run later, and runs each once.
 /// Returns instruments as values.
-pub fn fill(
+pub fn fill<P: Parts<ObserveU64 = Counting, ObserveI64 = Counting>>(
     alloc: Global,
-    provider: &mut Provider<Swept>,
+    provider: &mut Provider<P>,
     ahead: u64,
 ) -> Result<Instruments, Error> {
     make_all(alloc, provider, FIRST)?;
@@ -230,12 +233,4 @@ pub fn fill(
     collect_once(alloc, provider, 1, 175)?;
     make_all(alloc, provider, SINCE)?;
     Ok(instruments_at(alloc, provider)?)
-}
-
-/// A provider as it is before the call under test, with instruments as values. Of its callbacks this many skip a run
-/// later.
-pub fn set_up(alloc: Global, ahead: u64) -> Result<(Provider<Swept>, Instruments), Error> {
-    let mut provider = read_materials(alloc)?.build(alloc)?;
-    let instruments = fill(alloc, &mut provider, ahead)?;
-    Ok((provider, instruments))
 }

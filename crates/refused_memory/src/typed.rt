@@ -1,15 +1,10 @@
 //! Calls of meters, instruments and handles as values.
 
 use crate::callbacks::Counting;
-use crate::set_up::Swept;
 use opentelemetry_sdk::common::{Fault, KeyValue};
 use opentelemetry_sdk::metrics::meter::{
     AsyncInstrumentBuilder, Counter, Gauge, Histogram, InstrumentBuilder, Meter, NumberType,
     Synchronous, UpDownCounter,
-};
-use opentelemetry_sdk::metrics::provider::InstrumentSort::{
-    self, I64Gauge, I64ObservableUpDownCounter, I64UpDownCounter, U64Counter, U64Gauge,
-    U64Histogram, U64ObservableCounter, U64ObservableGauge,
 };
 use opentelemetry_sdk::metrics::provider::{Parts, Provider};
 use std::alloc::Global;
@@ -83,23 +78,6 @@ fn build_histogram<P: Parts>(
     build(alloc, provider, builder.with_boundaries(boundaries))
 }
 
-/// Builds a synchronous instrument of this sort, with all that can be set.
-pub fn build_synchronous<P: Parts>(
-    alloc: Global,
-    provider: &mut Provider<P>,
-    sort: InstrumentSort,
-) -> Result<(), Fault> {
-    let meter = meter_at(provider)?;
-    let name = String::from_str(alloc, "more")?;
-    match sort {
-        U64Counter => build(alloc, provider, meter.u64_counter(name)),
-        I64UpDownCounter => build(alloc, provider, meter.i64_up_down_counter(name)),
-        U64Gauge => build(alloc, provider, meter.u64_gauge(name)),
-        I64Gauge => build(alloc, provider, meter.i64_gauge(name)),
-        _ => build_histogram(alloc, provider, meter, name),
-    }
-}
-
 /// Builds an observable instrument of unsigned values with a callback.
 fn observe_unsigned<K, P: Parts>(
     provider: &mut Provider<P>,
@@ -121,23 +99,23 @@ fn observe_signed<K, P: Parts>(
 }
 
 /// Builds an observable instrument of this sort and name with a callback.
-pub fn build_observable(
+pub fn build_observable<P: Parts<ObserveU64 = Counting, ObserveI64 = Counting>>(
     alloc: Global,
-    provider: &mut Provider<Swept>,
-    sort: InstrumentSort,
+    provider: &mut Provider<P>,
+    sort: &str,
     name: &str,
     callback: Counting,
 ) -> Result<(), Fault> {
     let meter = meter_at(provider)?;
     let name = String::from_str(alloc, name)?;
     match sort {
-        U64ObservableCounter => {
+        "u64_observable_counter" => {
             observe_unsigned(provider, meter.u64_observable_counter(name), callback)
         }
-        U64ObservableGauge => {
+        "u64_observable_gauge" => {
             observe_unsigned(provider, meter.u64_observable_gauge(name), callback)
         }
-        I64ObservableUpDownCounter => {
+        "i64_observable_up_down_counter" => {
             observe_signed(
                 provider,
                 meter.i64_observable_up_down_counter(name),
@@ -148,17 +126,34 @@ pub fn build_observable(
     }
 }
 
+/// Builds a synchronous instrument of this sort, with all that can be set.
+pub fn build_synchronous<P: Parts>(
+    alloc: Global,
+    provider: &mut Provider<P>,
+    sort: &str,
+) -> Result<(), Fault> {
+    let meter = meter_at(provider)?;
+    let name = String::from_str(alloc, "more")?;
+    match sort {
+        "u64_counter" => build(alloc, provider, meter.u64_counter(name)),
+        "i64_up_down_counter" => build(alloc, provider, meter.i64_up_down_counter(name)),
+        "u64_gauge" => build(alloc, provider, meter.u64_gauge(name)),
+        "i64_gauge" => build(alloc, provider, meter.i64_gauge(name)),
+        _ => build_histogram(alloc, provider, meter, name),
+    }
+}
+
 /// Records a value at the instrument of this sort.
 pub fn record<P: Parts>(
     provider: &mut Provider<P>,
     instruments: Instruments,
-    sort: InstrumentSort,
+    sort: &str,
     attributes: &[KeyValue],
 ) -> Result<(), Fault> {
     match sort {
-        U64Counter => instruments.limited.add(provider, 8, attributes),
-        I64UpDownCounter => instruments.allowed.add(provider, -8, attributes),
-        U64Histogram => instruments.spread.record(provider, 8, attributes),
+        "u64_counter" => instruments.limited.add(provider, 8, attributes),
+        "i64_up_down_counter" => instruments.allowed.add(provider, -8, attributes),
+        "u64_histogram" => instruments.spread.record(provider, 8, attributes),
         _ => instruments.heat.record(provider, -8, attributes),
     }
 }
@@ -179,13 +174,12 @@ fn hand<K, T: NumberType, P: Parts>(
 pub fn bind<P: Parts>(
     provider: &mut Provider<P>,
     instruments: Instruments,
-    sort: InstrumentSort,
+    sort: &str,
     attributes: &[KeyValue],
 ) -> Result<(), Fault> {
     match sort {
-        U64Counter => hand(provider, instruments.limited, 8, attributes),
-        I64UpDownCounter => hand(provider, instruments.allowed, -8, attributes),
-        U64Histogram => hand(provider, instruments.spread, 8, attributes),
-        _ => hand(provider, instruments.heat, -8, attributes),
+        "u64_counter" => hand(provider, instruments.limited, 8, attributes),
+        "i64_up_down_counter" => hand(provider, instruments.allowed, -8, attributes),
+        _ => hand(provider, instruments.spread, 8, attributes),
     }
 }

@@ -1,8 +1,7 @@
 //! Values that no provider is needed for.
 
-use crate::marks::{begin, end};
-use crate::outcomes::Outcome;
 use crate::set_up::{attribute, resource};
+use crate::trials::Trial;
 use anyhow::Error;
 use opentelemetry_sdk::Resource;
 use opentelemetry_sdk::common::{
@@ -11,25 +10,6 @@ use opentelemetry_sdk::common::{
 use opentelemetry_sdk::metrics::reader::CardinalityLimit;
 use opentelemetry_sdk::metrics::{Aggregation, InstrumentKind, ManualReader, Stream, Temporality};
 use std::alloc::Global;
-
-/// What is made.
-#[derive(Clone, Copy)]
-pub enum Made {
-    /// What a resource has under a key.
-    Got,
-    /// Two resources merged.
-    Merged,
-    /// A resource, by all calls of its builder.
-    Built,
-    /// A scope, by all calls of its builder.
-    Scope,
-    /// The canonical form of attributes.
-    Canonical,
-    /// What a view says of a stream, by all calls of its builder.
-    Stream,
-    /// A reader, by all calls of its builder.
-    Reader,
-}
 
 /// What the stream and the reader are made of. It is made before the call under test, since it must not be refused in it.
 struct Prepared {
@@ -180,54 +160,38 @@ fn canonical_form(alloc: Global) -> Result<NewValue, Fault> {
     Ok(NewValue::Attributes(attributes))
 }
 
-/// Makes a value.
-fn make(alloc: Global, made: Made, prepared: Prepared) -> Result<NewValue, Fault> {
-    match made {
-        Made::Got => got(alloc),
-        Made::Merged => merged(alloc),
-        Made::Built => built(alloc),
-        Made::Scope => scope(alloc),
-        Made::Canonical => canonical_form(alloc),
-        Made::Stream => Ok(prepared.into_stream()),
-        Made::Reader => Ok(prepared.into_reader()),
+/// Makes the value that a word names.
+fn make(alloc: Global, word: &str, prepared: Prepared) -> Result<NewValue, Fault> {
+    match word {
+        "got" => got(alloc),
+        "merged" => merged(alloc),
+        "built" => built(alloc),
+        "scope" => scope(alloc),
+        "canonical" => canonical_form(alloc),
+        "stream" => Ok(prepared.into_stream()),
+        _ => Ok(prepared.into_reader()),
     }
 }
 
-/// Makes a value, outside the marks, and writes it.
-fn text_of_new(alloc: Global, made: Made) -> Result<String, Error> {
-    let value = make(alloc, made, prepare(alloc)?)?;
-    Ok(format!(in alloc; "{value:?}")?)
-}
-
-/// Makes a value, and once more if that was refused. Returns whether the first call was refused, and the value as text.
-fn make_between_marks(
+/// Makes a value between the marks, and once more if that was refused, and writes it.
+pub fn write_value(
     rt: &impl Print,
     alloc: Global,
-    number: usize,
-    made: Made,
-) -> Result<(bool, String), Error> {
+    trial: &mut Trial,
+    text: &mut String,
+) -> Result<(), Error> {
+    let word = trial.scenario.word;
     let prepared = prepare(alloc)?;
-    begin(rt, number)?;
-    let answer = make(alloc, made, prepared);
-    end(rt)?;
-    match answer {
-        Ok(value) => Ok((false, format!(in alloc; "{value:?}")?)),
-        Err(Fault::OutOfMemory) => Ok((true, text_of_new(alloc, made)?)),
-        Err(fault) => Err(fault.into()),
-    }
-}
-
-/// Makes this value, and compares it with its like.
-pub fn try_value(
-    rt: &impl Print,
-    alloc: Global,
-    number: usize,
-    made: Made,
-) -> Result<Outcome, Error> {
-    let (is_refused, text) = make_between_marks(rt, alloc, number, made)?;
-    let twin = text_of_new(alloc, made)?;
-    Ok(Outcome {
-        is_refused,
-        is_same: text.as_str() == twin.as_str(),
-    })
+    trial.begin(rt, true)?;
+    let answer = make(alloc, word, prepared);
+    trial.end(rt, true)?;
+    let value = match answer {
+        Err(Fault::OutOfMemory) => {
+            trial.note(true);
+            make(alloc, word, prepare(alloc)?)?
+        }
+        answer => answer?,
+    };
+    write!(text, "{value:?}")?;
+    Ok(())
 }

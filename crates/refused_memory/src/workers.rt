@@ -9,41 +9,23 @@ use opentelemetry_sdk::metrics::provider::{Call, NumberValue};
 use opentelemetry_sdk::metrics::shared::{Account, Worker};
 use std::alloc::Global;
 
-/// How a record is added to the list of a worker.
-#[derive(Clone, Copy)]
-pub enum Adding {
-    /// By the number of its instrument.
-    Number,
-    /// By the number of its handle.
-    HandleNumber,
-    /// At a counter.
-    Counter,
-    /// At an up-down counter.
-    UpDownCounter,
-    /// At a histogram.
-    Histogram,
-    /// At a gauge.
-    Gauge,
-    /// Through a handle.
-    Handle,
-}
-
-/// Adds a record in this way.
+/// Adds a record in the way that a word names: by the number of its instrument or of its handle, at an instrument as a
+/// value, or through a handle.
 pub fn add<C: Account, S: Account>(
     worker: &mut Worker<C, S>,
-    adding: Adding,
+    way: &str,
     instruments: Instruments,
     handle: &Bound<u64>,
     attributes: Vec<KeyValue>,
 ) -> Result<(), Fault> {
-    match adding {
-        Adding::Number => worker.add(0, NumberValue::U64(8), attributes),
-        Adding::HandleNumber => worker.add_bound(0, NumberValue::U64(8)),
-        Adding::Counter => worker.add_to(&instruments.limited, 8, attributes),
-        Adding::UpDownCounter => worker.add_to(&instruments.allowed, -8, attributes),
-        Adding::Histogram => worker.record_at(&instruments.spread, 8, attributes),
-        Adding::Gauge => worker.record_at(&instruments.heat, -8, attributes),
-        Adding::Handle => worker.add_through(handle, 8),
+    match way {
+        "number" => worker.add(0, NumberValue::U64(8), attributes),
+        "handle_number" => worker.add_bound(0, NumberValue::U64(8)),
+        "counter" => worker.add_to(&instruments.limited, 8, attributes),
+        "up_down_counter" => worker.add_to(&instruments.allowed, -8, attributes),
+        "histogram" => worker.record_at(&instruments.spread, 8, attributes),
+        "gauge" => worker.record_at(&instruments.heat, -8, attributes),
+        _ => worker.add_through(handle, 8),
     }
 }
 
@@ -80,7 +62,7 @@ pub fn give_some<C: Account, S: Account>(
     without: usize,
     most: usize,
 ) -> Result<(), Error> {
-    let calls = calls_of(alloc, lines)?;
+    let calls = calls_of(alloc, "", lines)?;
     for call in calls.iter().skip(without).take(most) {
         give(worker, call)?;
     }
