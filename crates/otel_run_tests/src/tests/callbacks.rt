@@ -4,7 +4,7 @@ ghost use Rattle.std.specs.Prelude.{◌≡◌, None, IfOk};
 
 use super::shown::assert_collected;
 use super::support::{attributes, meter, provider};
-use opentelemetry_sdk::common::Fault;
+use opentelemetry_sdk::common::{Fault, Items};
 use opentelemetry_sdk::metrics::callback::{Observation, ObserveI64, ObserveU64};
 use opentelemetry_sdk::metrics::meter::{AsyncInstrumentBuilder, Meter, ObservableCounterKind};
 use opentelemetry_sdk::metrics::provider::{Parts, Provider};
@@ -14,7 +14,7 @@ use std::process::Abort;
 
 /// Adds this value to what is observed, with the attributes `k=1`.
 fn observed<T: Drop>(alloc: Global, out: &mut Vec<Observation<T>>, value: T) -> Result<(), Fault> {
-    let attributes = attributes(alloc, &[("k", 1)])?;
+    let attributes = Items::from(attributes(alloc, "k=1")?);
     Ok(out.push(Observation { value, attributes })?)
 }
 
@@ -87,7 +87,7 @@ fn assert_dropped<P: Parts>(
         1,
         300,
         "resource -\n\
-         scope app None None\n\
+         scope app - -\n\
          metric seen ()  u64 sum Delta monotonic=true 100 300 exemplars=0\n\
          seen k=1: 9\n",
     )?;
@@ -98,7 +98,7 @@ fn assert_dropped<P: Parts>(
         1,
         400,
         "resource -\n\
-         scope app None None\n\
+         scope app - -\n\
          metric seen ()  u64 sum Delta monotonic=true 300 400 exemplars=0\n\
          seen k=1: 3\n",
     )
@@ -130,12 +130,12 @@ fn assert_second_fails<P: Parts>(
         0,
         300,
         "resource -\n\
-         scope app None None\n\
+         scope app - -\n\
          metric first ()  u64 sum Cumulative monotonic=true 100 300 exemplars=0\n\
          first k=1: 2\n\
          metric last ()  u64 sum Cumulative monotonic=true 100 300 exemplars=0\n\
          last k=1: 4\n\
-         scope other None None\n\
+         scope other - -\n\
          metric middle ()  i64 sum Cumulative monotonic=false 110 300 exemplars=0\n\
          middle k=1: -5\n",
     )
@@ -166,7 +166,7 @@ fn assert_of_two<P: Parts>(
         .with_callback(late)?;
     builder.build(provider, 100)?;
     let collected = "resource -\n\
-         scope app None None\n\
+         scope app - -\n\
          metric load (how much) 1 u64 sum Cumulative monotonic=true 100 200 exemplars=0\n\
          load k=1: 8\n";
     assert_collected(rt, alloc, provider, 0, 200, collected)
@@ -190,7 +190,6 @@ fn assert_not_run<P: Parts>(
 }
 
 /// What is asserted of a provider and three callbacks.
-#[derive(Drop)]
 enum Case {
     Dropped,
     SecondFails(&'static str),
@@ -203,7 +202,7 @@ fn assert_case<P: Parts>(
     alloc: Global,
     provider: &mut Provider<P>,
     callbacks: (P::ObserveU64, P::ObserveI64, P::ObserveU64),
-    case: Case,
+    case: &Case,
 ) -> Result<(), Fault> {
     let (first, failing, last) = callbacks;
     match case {
@@ -218,6 +217,22 @@ fn assert_case<P: Parts>(
     }
 }
 
+/// A callback that observes these values in turn.
+fn in_turn(alloc: Global, values: [u64; 3]) -> Result<Box<dyn ObserveU64>, Fault> {
+    let callback = InTurn {
+        alloc,
+        values,
+        runs: 0,
+    };
+    Ok(Box::new(alloc, callback)?)
+}
+
+/// A callback that answers this fault first.
+fn failing(alloc: Global, fault: Fault) -> Result<Box<dyn ObserveI64>, Fault> {
+    let fault = Some(fault);
+    Ok(Box::new(alloc, FailsFirst { alloc, fault })?)
+}
+
 /// Asserts what a case says of a new provider and three callbacks: two that observe these values in turn, and between
 /// them one that answers this fault first.
 fn assert_of_callbacks(
@@ -225,26 +240,23 @@ fn assert_of_callbacks(
     alloc: Global,
     values: [[u64; 3]; 2],
     fault: Fault,
-    case: Case,
+    case: &Case,
 ) -> Result<(), Fault> {
-    let fault = Some(fault);
-    let [early, late] = values.map(|values| InTurn {
-        alloc,
-        values,
-        runs: 0,
-    });
-    let early = Box::new(alloc, early)?;
-    let late = Box::new(alloc, late)?;
-    let failing = Box::new(alloc, FailsFirst { alloc, fault })?;
+    let [early, late] = values;
+    let callbacks = (
+        in_turn(alloc, early)?,
+        failing(alloc, fault)?,
+        in_turn(alloc, late)?,
+    );
     let mut provider = provider(alloc, 0, None)?;
-    assert_case(rt, alloc, &mut provider, (early, failing, late), case)
+    assert_case(rt, alloc, &mut provider, callbacks, case)
 }
 
 /// Of two delta readers one drops observable counters; the callback runs in each collection, of either.
 #[test]
 fn row_51(rt: HostRuntime) -> Result<(), Fault> {
     let values = [[7, 9, 12], [0, 0, 0]];
-    assert_of_callbacks(&rt, rt.alloc(), values, Fault::WrongKind, Case::Dropped)
+    assert_of_callbacks(&rt, rt.alloc(), values, Fault::WrongKind, &Case::Dropped)
 }
 
 /// Callbacks run in the order in which their instruments were built, up to the first that fails; those before it have
@@ -252,7 +264,7 @@ fn row_51(rt: HostRuntime) -> Result<(), Fault> {
 #[test]
 fn callback_refuses(rt: HostRuntime) -> Result<(), Fault> {
     let values = [[1, 2, 3], [4, 5, 6]];
-    let case = Case::SecondFails("refused 7\n");
+    let case = &Case::SecondFails("refused 7\n");
     assert_of_callbacks(&rt, rt.alloc(), values, Fault::WrongKind, case)
 }
 
@@ -260,7 +272,7 @@ fn callback_refuses(rt: HostRuntime) -> Result<(), Fault> {
 #[test]
 fn callback_without_memory(rt: HostRuntime) -> Result<(), Fault> {
     let values = [[1, 2, 3], [4, 5, 6]];
-    let case = Case::SecondFails("refused 1\n");
+    let case = &Case::SecondFails("refused 1\n");
     assert_of_callbacks(&rt, rt.alloc(), values, Fault::OutOfMemory, case)
 }
 
@@ -269,5 +281,5 @@ fn callback_without_memory(rt: HostRuntime) -> Result<(), Fault> {
 #[test]
 fn callbacks_in_order(rt: HostRuntime) -> Result<(), Fault> {
     let values = [[1, 2, 3], [8, 9, 10]];
-    assert_of_callbacks(&rt, rt.alloc(), values, Fault::WrongKind, Case::InOrder)
+    assert_of_callbacks(&rt, rt.alloc(), values, Fault::WrongKind, &Case::InOrder)
 }

@@ -12,7 +12,6 @@ use std::alloc::Global;
 use std::process::Abort;
 
 /// What is asserted of a provider, in the file of the same name.
-#[derive(Drop)]
 pub enum Case {
     Numbers,
     Records,

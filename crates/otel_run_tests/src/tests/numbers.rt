@@ -21,32 +21,39 @@ fn end_fault<P: Parts>(provider: &mut Provider<P>, handle: Bound<u64>) -> u8 {
     fault_of(handle.end(provider))
 }
 
-/// Makes three handles of a counter, and ends the third. Returns number and identity of the counter, the number of the
-/// first handle, and number, identity and once more number of the second handle; and the fault number of that end.
-fn numbers_of<P: Parts>(
+/// Makes two handles of a counter. Writes number and identity of the counter, the number of the first handle, and number,
+/// identity and once more number of the second handle.
+fn write_numbers<P: Parts>(
+    text: &mut String,
     provider: &mut Provider<P>,
     counter: Counter<u64>,
-) -> Result<([u64; 6], u8), Fault> {
+) -> Result<(), Fault> {
     let first = bind(provider, counter)?.into_number();
     let second = bind(provider, counter)?;
     let number = second.number();
     let identity = second.identity();
-    let numbers = [
-        counter.number() as u64,
-        counter.identity(),
-        first,
-        number,
-        identity,
-        second.into_number(),
-    ];
-    let third = bind(provider, counter)?;
-    Ok((numbers, end_fault(provider, third)))
+    let again = second.into_number();
+    let counted = counter.number();
+    let own = counter.identity();
+    Ok(write!(text, "{counted} {own} {first} {number} {identity} {again}")?)
 }
 
 /// The fault number of a record through the handle of this number.
 fn through<P: Parts>(provider: &mut Provider<P>, handle: u64) -> u8 {
     let value = NumberValue::U64(1);
     fault_of(step(provider, &Call::RecordBound { handle, value }))
+}
+
+/// Makes a third handle of a counter and ends it. Returns the fault number of that end, and those of records through each
+/// handle.
+fn ended<P: Parts>(provider: &mut Provider<P>, counter: Counter<u64>) -> Result<[u8; 4], Fault> {
+    let third = bind(provider, counter)?;
+    Ok([
+        end_fault(provider, third),
+        through(provider, 0),
+        through(provider, 1),
+        through(provider, 2),
+    ])
 }
 
 /// Asserts numbers and identities, and the fault numbers of the end of one handle and of records through each.
@@ -58,10 +65,10 @@ pub fn assert_numbers<P: Parts>(
     let meter = meter(provider, "app")?;
     counter(alloc, provider, meter, ("first", None, None), 100)?;
     let second = counter(alloc, provider, meter, ("second", None, None), 100)?;
-    assert_is(rt, numbers_of(provider, second)?, ([1, 7, 0, 1, 7, 1], 0));
-    assert_is(rt, through(provider, 0), 0);
-    assert_is(rt, through(provider, 1), 0);
-    assert_is(rt, through(provider, 2), 4);
+    let mut text = String::new(alloc);
+    write_numbers(&mut text, provider, second)?;
+    assert_is(rt, text.as_str(), "1 7 0 1 7 1");
+    assert_is(rt, ended(provider, second)?, [0, 0, 0, 4]);
     Ok(())
 }
 
@@ -163,47 +170,48 @@ fn faults_of<P: Parts>(
     Ok(([recorded, unknown], early, records, handles, late))
 }
 
-/// The fault numbers where a provider of the second identity is asked with values of one of the first.
-fn mixed_up(alloc: Global, own: u64, other: u64) -> Result<Faults, Fault> {
+/// Asserts the fault numbers where a provider of the second identity is asked with values of one of the first.
+fn assert_mixed_up(
+    rt: &impl Abort,
+    alloc: Global,
+    (own, other): (u64, u64),
+    wanted: Faults,
+) -> Result<(), Fault> {
     let mut other = SdkMeterProvider::builder(alloc)
         .with_identity(other)
         .build()?;
     let mut own = provider(alloc, own, None)?;
-    faults_of(alloc, &mut own, &mut other)
+    assert_is(rt, faults_of(alloc, &mut own, &mut other)?, wanted);
+    Ok(())
 }
 
 /// Providers of one identity are asked by number alone: the meter, the instrument or the handle of that number isn't
 /// there, or is another one, perhaps observable or of another number type.
 #[test]
 fn one_identity(rt: HostRuntime) -> Result<(), Fault> {
-    let faults = mixed_up(rt.alloc(), 0, 0)?;
     let handles = [[6, 0, 0], [4, 4, 0]];
-    assert_is(
-        &rt,
-        faults,
-        ([0, 3], [2, 2], [6, 7, 3, 7, 3], handles, [0, 0]),
-    );
-    Ok(())
+    let wanted = ([0, 3], [2, 2], [6, 7, 3, 7, 3], handles, [0, 0]);
+    assert_mixed_up(&rt, rt.alloc(), (0, 0), wanted)
 }
+
+/// What is refused where the other provider has another identity.
+const REFUSED: Faults = (
+    [0, 3],
+    [2, 2],
+    [3, 3, 3, 3, 3],
+    [[4, 4, 0], [4, 4, 0]],
+    [2, 2],
+);
 
 /// A provider of another identity has no such meter, instrument or handle, whatever has the number there. A handle that
 /// it refuses is given back (`row_28`).
 #[test]
 fn other_identity(rt: HostRuntime) -> Result<(), Fault> {
-    let faults = mixed_up(rt.alloc(), 1, 0)?;
-    let handles = [[4, 4, 0], [4, 4, 0]];
-    assert_is(
-        &rt,
-        faults,
-        ([0, 3], [2, 2], [3, 3, 3, 3, 3], handles, [2, 2]),
-    );
-    Ok(())
+    assert_mixed_up(&rt, rt.alloc(), (1, 0), REFUSED)
 }
 
 /// A handle that another provider refuses is given back, and ends at its own.
 #[test]
 fn row_28(rt: HostRuntime) -> Result<(), Fault> {
-    let (_, _, _, handles, _) = mixed_up(rt.alloc(), 1, 2)?;
-    assert_is(&rt, handles, [[4, 4, 0], [4, 4, 0]]);
-    Ok(())
+    assert_mixed_up(&rt, rt.alloc(), (1, 2), REFUSED)
 }

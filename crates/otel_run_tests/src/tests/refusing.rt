@@ -53,33 +53,35 @@ impl Parts for Own {
 fn readers_failing(alloc: Global, fails: &[bool]) -> Result<ProviderBuilder<Own>, Fault> {
     let mut builder = Provider::builder(alloc);
     for fails in fails {
-        builder = with_reader(builder, OwnReader::new(Cumulative, Cumulative, *fails))?;
+        let reader = OwnReader::new(Cumulative, Cumulative, *fails);
+        builder = with_reader(builder, Ok(reader))?;
     }
     Ok(builder)
 }
 
-/// Asserts how often each reader of a provider was asked to flush and to shut down.
-fn assert_asked(rt: &impl Abort, provider: Provider<Own>, asked: (u32, u32)) {
-    let (core, views, readers, callbacks) = provider.into_parts();
-    for reader in &readers {
+/// Asserts how often each reader was asked to flush and to shut down.
+fn assert_asked(rt: &impl Abort, readers: &[OwnReader], asked: (u32, u32)) {
+    for reader in readers {
         assert_is(rt, (reader.flushes, reader.shutdowns), asked);
     }
-    // Lets them go as one.
-    let _provider: Provider<Own> = Provider::from_parts(core, views, readers, callbacks);
 }
 
-/// Makes requests of a provider whose readers fail where this says so. Asserts what is seen of each answer, and how often
+/// Makes requests of a provider whose readers fail where this says so. Asserts what is seen of the answers, and how often
 /// each reader was asked to flush and to shut down.
 pub fn assert_of_failing(
     rt: &impl Abort,
     alloc: Global,
     fails: &[bool],
-    cases: &[(Request, (u8, usize, usize))],
+    requests: &[Request],
+    wanted: &str,
     asked: (u32, u32),
 ) -> Result<(), Fault> {
     let mut provider = readers_failing(alloc, fails)?.build()?;
-    assert_requests(rt, &mut provider, cases);
-    assert_asked(rt, provider, asked);
+    assert_requests(rt, alloc, &mut provider, requests, wanted)?;
+    let (core, views, readers, callbacks) = provider.into_parts();
+    assert_asked(rt, readers.as_slice(), asked);
+    // Lets them go as one.
+    let _provider: Provider<Own> = Provider::from_parts(core, views, readers, callbacks);
     Ok(())
 }
 
@@ -87,21 +89,37 @@ pub fn assert_of_failing(
 /// by a call.
 #[test]
 fn readers_fail(rt: HostRuntime) -> Result<(), Fault> {
-    let cases = [
-        (Request::Flush, (10, 2, 0)),
-        (Request::Flush, (10, 2, 0)),
-        (Request::Shutdown, (10, 2, 0)),
-        (Request::Shutdown, (8, 0, 0)),
+    let requests = &[
+        Request::Flush,
+        Request::Flush,
+        Request::Shutdown,
+        Request::Shutdown,
     ];
-    assert_of_failing(&rt, rt.alloc(), &[true, false, true], &cases, (2, 1))?;
-    let cases = [
-        (Request::Flush, (10, 2, 1)),
-        (Request::Flush, (10, 2, 1)),
-        (Request::FlushCall, (10, 2, 1)),
-        (Request::ShutdownCall, (10, 2, 1)),
-        (Request::FlushCall, (8, 0, 0)),
+    let wanted = "10:2,0 10:2,0 10:2,0 8 ";
+    assert_of_failing(
+        &rt,
+        rt.alloc(),
+        &[true, false, true],
+        requests,
+        wanted,
+        (2, 1),
+    )?;
+    let requests = &[
+        Request::Flush,
+        Request::Flush,
+        Request::FlushCall,
+        Request::ShutdownCall,
+        Request::FlushCall,
     ];
-    assert_of_failing(&rt, rt.alloc(), &[false, true, true], &cases, (3, 1))
+    let wanted = "10:2,1 10:2,1 10:2,1 10:2,1 8 ";
+    assert_of_failing(
+        &rt,
+        rt.alloc(),
+        &[false, true, true],
+        requests,
+        wanted,
+        (3, 1),
+    )
 }
 
 /// A view that gives streams of this name.
@@ -113,7 +131,7 @@ fn view(alloc: Global, name: &str, is_scarce: bool) -> Result<Scarce, SdkError> 
 
 /// What each reader collects after builds that were refused.
 const COLLECTED: &str = "resource -\n\
-     scope app None None\n\
+     scope app - -\n\
      metric early ()  u64 sum Cumulative monotonic=true 110 200 exemplars=0\n\
      early: 5\n\
      metric late ()  u64 sum Cumulative monotonic=true 110 200 exemplars=0\n\

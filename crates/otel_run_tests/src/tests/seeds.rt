@@ -9,11 +9,11 @@ use std::alloc::{AllocError, Global};
 use std::process::Abort;
 
 /// A record of a value at the counter.
-fn record(alloc: Global, value: u64, pairs: &[(&str, i64)]) -> Result<Call, Fault> {
+fn record(alloc: Global, value: u64, shown: &str) -> Result<Call, Fault> {
     Ok(Call::Record {
         instrument: 0,
         value: NumberValue::U64(value),
-        attributes: attributes(alloc, pairs)?,
+        attributes: Items::from(attributes(alloc, shown)?),
     })
 }
 
@@ -24,13 +24,13 @@ fn push_calls(alloc: Global, calls: &mut Vec<Call>) -> Result<(), Fault> {
     let scope = InstrumentationScope::builder(alloc, name).build()?;
     calls.push(Call::Meter { scope })?;
     calls.push(build(alloc, "requests", "")?)?;
-    calls.push(record(alloc, 1, &[("b", 1), ("a", 2)])?)?;
-    calls.push(record(alloc, 2, &[("c", 1)])?)?;
+    calls.push(record(alloc, 1, "b=1 a=2")?)?;
+    calls.push(record(alloc, 2, "c=1")?)?;
     calls.push(Call::Bind {
         instrument: 0,
-        attributes: attributes(alloc, &[("d", 1)])?,
+        attributes: Items::from(attributes(alloc, "d=1")?),
     })?;
-    calls.push(record(alloc, 4, &[("a", 2), ("b", 1)])?)?;
+    calls.push(record(alloc, 4, "a=2 b=1")?)?;
     calls.push(Call::RecordBound {
         handle: 0,
         value: NumberValue::U64(8),
@@ -50,7 +50,7 @@ const REPLIES: &str = "Meter(Some(0))\n\
      Done\n\
      Done\n\
      resource -\n\
-     scope app None None\n\
+     scope app - -\n\
      metric requests ()  u64 sum Delta monotonic=true 100 200 exemplars=0 exemplars=0 exemplars=0\n\
      requests a=2 b=1: 5\n\
      requests c=1: 2\n\

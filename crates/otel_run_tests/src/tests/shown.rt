@@ -8,7 +8,7 @@ use opentelemetry_sdk::metrics::data::{
 use opentelemetry_sdk::metrics::provider::{Parts, Provider};
 use opentelemetry_sdk::resource::Resource;
 use std::alloc::{AllocError, Global};
-use std::fmt::Debug;
+use std::fmt::Display;
 use std::process::Abort;
 
 /// Writes the attributes and the schema URL of a resource, as in `a=b c=d u`; `-` stands for no URL.
@@ -35,9 +35,22 @@ fn write_sum<T>(text: &mut String, sum: &Sum<T>) -> Result<(), AllocError> {
     Ok(())
 }
 
+/// Writes a value, or `-` for none.
+fn write_optional<T: Copy + Display>(
+    text: &mut String,
+    value: Option<T>,
+) -> Result<(), AllocError> {
+    match value {
+        Some(value) => write!(text, " {value}"),
+        None => text.push_str(" -"),
+    }
+}
+
 /// Writes the moments of a gauge, and how many exemplars each point has.
 fn write_gauge<T>(text: &mut String, gauge: &Gauge<T>) -> Result<(), AllocError> {
-    write!(text, "gauge {:?} {}", gauge.start_time(), gauge.time())?;
+    text.push_str("gauge")?;
+    write_optional(text, gauge.start_time())?;
+    write!(text, " {}", gauge.time())?;
     for point in gauge.data_points() {
         write!(text, " exemplars={}", point.exemplars().len())?;
     }
@@ -45,11 +58,12 @@ fn write_gauge<T>(text: &mut String, gauge: &Gauge<T>) -> Result<(), AllocError>
 }
 
 /// Writes the least and the greatest value and the bounds of a point, and how many exemplars it has.
-fn write_spread<T: Copy + Debug>(
+fn write_spread<T: Copy + Display>(
     text: &mut String,
     point: &HistogramDataPoint<T>,
 ) -> Result<(), AllocError> {
-    write!(text, " {:?} {:?}", point.min(), point.max())?;
+    write_optional(text, point.min())?;
+    write_optional(text, point.max())?;
     for bound in point.bounds() {
         write!(text, " {bound}")?;
     }
@@ -57,7 +71,7 @@ fn write_spread<T: Copy + Debug>(
 }
 
 /// Writes the temporality and the moments of a histogram, and what isn't printed of each point.
-fn write_histogram<T: Copy + Debug>(
+fn write_histogram<T: Copy + Display>(
     text: &mut String,
     histogram: &Histogram<T>,
 ) -> Result<(), AllocError> {
@@ -75,7 +89,7 @@ fn write_histogram<T: Copy + Debug>(
 }
 
 /// Writes the number type of these data, and what isn't printed of them.
-fn write_data<T: Copy + Debug>(
+fn write_data<T: Copy + Display>(
     text: &mut String,
     number: &str,
     data: &MetricData<T>,
@@ -104,9 +118,9 @@ fn write_metric(text: &mut String, metric: &Metric) -> Result<(), AllocError> {
 /// Writes a line for a scope, and those of its metrics.
 fn write_scope(text: &mut String, metrics: &ScopeMetrics) -> Result<(), AllocError> {
     let scope = metrics.scope();
-    let version = scope.version();
-    let url = scope.schema_url();
-    write!(text, "scope {} {version:?} {url:?}", scope.name())?;
+    let version = scope.version().unwrap_or("-");
+    let url = scope.schema_url().unwrap_or("-");
+    write!(text, "scope {} {version} {url}", scope.name())?;
     for attribute in scope.attributes() {
         write!(text, " {attribute}")?;
     }

@@ -37,15 +37,8 @@ pub fn assert_shut_down<P: Parts>(
     alloc: Global,
     provider: &mut Provider<P>,
 ) -> Result<(), Fault> {
-    assert_requests(
-        rt,
-        provider,
-        &[
-            (Request::Flush, (0, 0, 0)),
-            (Request::TimedShutdown, (0, 0, 0)),
-            (Request::Flush, (8, 0, 0)),
-        ],
-    );
+    let requests = &[Request::Flush, Request::TimedShutdown, Request::Flush];
+    assert_requests(rt, alloc, provider, requests, "0 0 8 ")?;
     let zero = "Cardinality limit must be greater than 0";
     assert_error(rt, alloc, limited(provider, 0), zero)?;
     assert_error(rt, alloc, limited(provider, 1), "already shut down")?;

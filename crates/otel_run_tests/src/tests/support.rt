@@ -1,16 +1,17 @@
 //! Providers, instruments and attributes that several tests use, and answers as plain values.
 
 use super::readers::OwnReader;
-use opentelemetry_sdk::common::{
-    Fault, InternalFault, Items, KeyValue, OTelSdkResult, StringValue,
-};
+use opentelemetry_sdk::common::{Fault, InternalFault, KeyValue, OTelSdkResult, StringValue};
 use opentelemetry_sdk::metrics::Temporality::{Cumulative, Delta, LowMemory};
 use opentelemetry_sdk::metrics::meter::{Counter, InstrumentBuilder, Meter, Synchronous};
 use opentelemetry_sdk::metrics::provider::{
     Call, InstrumentSort, Parts, Provider, ProviderBuilder, Reply,
 };
-use opentelemetry_sdk::metrics::{Aggregation, InstrumentKind, ManualReader, SdkMeterProvider};
-use std::alloc::Global;
+use opentelemetry_sdk::metrics::reader::MetricReader;
+use opentelemetry_sdk::metrics::{
+    Aggregation, InstrumentKind, ManualReader, SdkMeterProvider, Temporality,
+};
+use std::alloc::{AllocError, Global};
 use std::fmt::Debug;
 use std::process::Abort;
 use std::time::Duration;
@@ -21,12 +22,35 @@ pub fn assert_is<T: PartialEq + Debug + Drop>(rt: &impl Abort, found: T, wanted:
     assert_eq!(rt; found, wanted);
 }
 
-/// The builder with one reader more.
+/// The builder with one reader more, if that could be made.
 pub fn with_reader<P: Parts>(
     builder: ProviderBuilder<P>,
-    reader: P::Reader,
+    reader: Result<P::Reader, Fault>,
 ) -> Result<ProviderBuilder<P>, Fault> {
-    builder.with_reader(reader)
+    builder.with_reader(reader?)
+}
+
+/// A manual reader that wants this temporality.
+fn manual(alloc: Global, temporality: Temporality) -> Result<Box<dyn MetricReader>, Fault> {
+    let reader = ManualReader::builder().with_temporality(temporality);
+    Ok(Box::new(alloc, reader.build())?)
+}
+
+/// A reader of a program's own that wants one temporality for counters and another for all other kinds.
+fn own(
+    alloc: Global,
+    counters: Temporality,
+    others: Temporality,
+) -> Result<Box<dyn MetricReader>, Fault> {
+    Ok(Box::new(alloc, OwnReader::new(counters, others, false))?)
+}
+
+/// A manual reader that wants delta, and drops observable counters.
+fn dropping(alloc: Global) -> Result<Box<dyn MetricReader>, Fault> {
+    let reader = ManualReader::builder()
+        .with_temporality(Delta)
+        .with_default_aggregation(InstrumentKind::ObservableCounter, Aggregation::Drop);
+    Ok(Box::new(alloc, reader.build())?)
 }
 
 /// A provider with a reader of each sort: from 0 on, manual ones that want cumulative, delta and low-memory temporality;
@@ -41,18 +65,12 @@ pub fn provider(
     if let Some(seed) = seed {
         builder = builder.with_hash_seed(seed);
     }
-    for temporality in [Cumulative, Delta, LowMemory] {
-        let reader = ManualReader::builder().with_temporality(temporality);
-        builder = with_reader(builder, Box::new(alloc, reader.build())?)?;
-    }
-    for (counters, others) in [(Delta, Cumulative), (LowMemory, Delta)] {
-        let reader = OwnReader::new(counters, others, false);
-        builder = with_reader(builder, Box::new(alloc, reader)?)?;
-    }
-    let dropping = ManualReader::builder()
-        .with_temporality(Delta)
-        .with_default_aggregation(InstrumentKind::ObservableCounter, Aggregation::Drop);
-    with_reader(builder, Box::new(alloc, dropping.build())?)?.build()
+    builder = with_reader(builder, manual(alloc, Cumulative))?;
+    builder = with_reader(builder, manual(alloc, Delta))?;
+    builder = with_reader(builder, manual(alloc, LowMemory))?;
+    builder = with_reader(builder, own(alloc, Delta, Cumulative))?;
+    builder = with_reader(builder, own(alloc, LowMemory, Delta))?;
+    with_reader(builder, dropping(alloc))?.build()
 }
 
 /// The meter of this name.
@@ -132,13 +150,32 @@ pub fn build(alloc: Global, name: &str, unit: &str) -> Result<Call, Fault> {
     })
 }
 
-/// Attributes with these keys and values.
-pub fn attributes(alloc: Global, pairs: &[(&str, i64)]) -> Result<Items<KeyValue>, Fault> {
-    let mut attributes = Vec::new(alloc);
-    for (key, value) in pairs {
-        attributes.push(KeyValue::int(alloc, key, *value)?)?;
+/// The attribute that a text shows. Its value is a number or a text.
+fn attribute(alloc: Global, shown: &str) -> Result<KeyValue, Fault> {
+    let (key, value) = shown.split_once('=').unwrap_or((shown, ""));
+    match value.parse::<i64>() {
+        Ok(number) => KeyValue::int(alloc, key, number),
+        Err(_) => KeyValue::text(alloc, key, value),
     }
-    Ok(Items::from(attributes))
+}
+
+/// Adds the attributes that a text shows, in its order.
+fn push_attributes(
+    alloc: Global,
+    attributes: &mut Vec<KeyValue>,
+    shown: &str,
+) -> Result<(), Fault> {
+    for shown in shown.split_whitespace() {
+        attributes.push(attribute(alloc, shown)?)?;
+    }
+    Ok(())
+}
+
+/// The attributes that a text shows, as `b=1 a=2`, in its order.
+pub fn attributes(alloc: Global, shown: &str) -> Result<Vec<KeyValue>, Fault> {
+    let mut attributes = Vec::new(alloc);
+    push_attributes(alloc, &mut attributes, shown)?;
+    Ok(attributes)
 }
 
 /// The number of the fault, or 0 if there is none.
@@ -149,19 +186,7 @@ pub fn fault_of<T: Drop>(answer: Result<T, Fault>) -> u8 {
     }
 }
 
-/// The number of the fault, or 0 if there is none; how many readers failed; and the number of the first of them.
-pub fn seen(answer: OTelSdkResult) -> (u8, usize, usize) {
-    match answer {
-        Ok(()) => (0, 0, 0),
-        Err(Fault::InternalFailure(InternalFault::Readers { failed, first })) => {
-            (10, failed, first)
-        }
-        Err(fault) => (fault.number(), 0, 0),
-    }
-}
-
 /// A request to all readers of a provider, by a method or as a call.
-#[derive(Clone, Copy)]
 pub enum Request {
     Flush,
     Shutdown,
@@ -171,7 +196,7 @@ pub enum Request {
 }
 
 /// Makes a request.
-fn answer<P: Parts>(provider: &mut Provider<P>, request: Request) -> OTelSdkResult {
+fn answer<P: Parts>(provider: &mut Provider<P>, request: &Request) -> OTelSdkResult {
     match request {
         Request::Flush => provider.force_flush(),
         Request::Shutdown => provider.shutdown(),
@@ -181,13 +206,29 @@ fn answer<P: Parts>(provider: &mut Provider<P>, request: Request) -> OTelSdkResu
     }
 }
 
-/// Makes requests, and asserts what is seen of each answer.
+/// Writes the number of the fault, or 0 if there is none. If readers failed, writes also how many, and the number of the
+/// first of them.
+fn write_answer(text: &mut String, answer: OTelSdkResult) -> Result<(), AllocError> {
+    match answer {
+        Err(Fault::InternalFailure(InternalFault::Readers { failed, first })) => {
+            write!(text, "10:{failed},{first} ")
+        }
+        answer => write!(text, "{} ", fault_of(answer)),
+    }
+}
+
+/// Makes requests, and asserts what is seen of the answers.
 pub fn assert_requests<P: Parts>(
     rt: &impl Abort,
+    alloc: Global,
     provider: &mut Provider<P>,
-    cases: &[(Request, (u8, usize, usize))],
-) {
-    for (request, wanted) in cases {
-        assert_is(rt, seen(answer(provider, *request)), *wanted);
+    requests: &[Request],
+    wanted: &str,
+) -> Result<(), Fault> {
+    let mut text = String::new(alloc);
+    for request in requests {
+        write_answer(&mut text, answer(provider, request))?;
     }
+    assert_is(rt, text.as_str(), wanted);
+    Ok(())
 }

@@ -26,30 +26,37 @@ fn assert_answer(
     Ok(())
 }
 
-/// Asserts what the checks of names answer.
-pub fn assert_names(rt: &impl Abort, alloc: Global, cases: &[(&str, &str)]) -> Result<(), Fault> {
-    for (name, wanted) in cases {
+/// Asserts what the check of each of these names answers, of which one is a line.
+pub fn assert_names(
+    rt: &impl Abort,
+    alloc: Global,
+    names: &str,
+    wanted: &str,
+) -> Result<(), Fault> {
+    for name in names.split('\n') {
         assert_answer(rt, alloc, name, validate_instrument_name(name), wanted)?;
     }
     Ok(())
 }
 
-/// Asserts what the checks of units answer.
-fn assert_units(rt: &impl Abort, alloc: Global, cases: &[(&str, &str)]) -> Result<(), Fault> {
-    for (unit, wanted) in cases {
+/// Asserts what the check of each of these units answers, of which one is a line.
+fn assert_units(rt: &impl Abort, alloc: Global, units: &str, wanted: &str) -> Result<(), Fault> {
+    for unit in units.split('\n') {
         let answer = validate_instrument_unit(Some(unit));
         assert_answer(rt, alloc, unit, answer, wanted)?;
     }
     Ok(())
 }
 
-/// Asserts what the checks of bounds answer.
-fn assert_bounds(rt: &impl Abort, alloc: Global, cases: &[(&[i64], &str)]) -> Result<(), Fault> {
-    for (bounds, wanted) in cases {
-        let answer = validate_bucket_boundaries(bounds);
-        assert_answer(rt, alloc, "bounds", answer, wanted)?;
-    }
-    Ok(())
+/// Asserts what the check of bounds answers.
+fn assert_bounds(
+    rt: &impl Abort,
+    alloc: Global,
+    bounds: &[i64],
+    wanted: &str,
+) -> Result<(), Fault> {
+    let answer = validate_bucket_boundaries(bounds);
+    assert_answer(rt, alloc, "bounds", answer, wanted)
 }
 
 const UNIT_LENGTH: &str = "Invalid instrument configuration: unit must be less than 64 characters";
@@ -62,26 +69,17 @@ const BOUNDS: &str =
 /// Units and bounds, each with the answer of its check.
 #[test]
 fn units_and_bounds(rt: HostRuntime) -> Result<(), Fault> {
-    let cases: &[(&[i64], &str)] = &[
-        (&[], "Ok"),
-        (&[1, 2], "Ok"),
-        (&[2, 1], BOUNDS),
-        (&[1, 1], BOUNDS),
-    ];
-    assert_bounds(&rt, rt.alloc(), cases)?;
+    let alloc = rt.alloc();
+    assert_bounds(&rt, alloc, &[], "Ok")?;
+    assert_bounds(&rt, alloc, &[1, 2], "Ok")?;
+    assert_bounds(&rt, alloc, &[2, 1], BOUNDS)?;
+    assert_bounds(&rt, alloc, &[1, 1], BOUNDS)?;
     assert!(rt; validate_instrument_unit(None).is_ok());
-    let longest = "0".repeat(rt.alloc(), 63)?;
-    let too_long = "0".repeat(rt.alloc(), 64)?;
-    let cases = [
-        ("", "Ok"),
-        ("kb", "Ok"),
-        ("Kb/sec", "Ok"),
-        ("%", "Ok"),
-        (longest.as_str(), "Ok"),
-        (too_long.as_str(), UNIT_LENGTH),
-        ("utf8char锈", UNIT_CHARACTER),
-    ];
-    assert_units(&rt, rt.alloc(), &cases)
+    assert_units(&rt, alloc, "", "Ok")?;
+    assert_units(&rt, alloc, "kb\nKb/sec\n%", "Ok")?;
+    assert_units(&rt, alloc, "0".repeat(alloc, 63)?.as_str(), "Ok")?;
+    assert_units(&rt, alloc, "0".repeat(alloc, 64)?.as_str(), UNIT_LENGTH)?;
+    assert_units(&rt, alloc, "utf8char锈", UNIT_CHARACTER)
 }
 
 /// Writes attributes.

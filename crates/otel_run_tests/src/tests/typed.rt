@@ -100,17 +100,17 @@ pub fn assert_used<P: Parts>(
         0,
         200,
         "resource -\n\
-         scope app None None\n\
+         scope app - -\n\
          metric hits ()  u64 sum Cumulative monotonic=true 100 200 exemplars=0\n\
          hits: 5\n\
          metric open (how many) 1 i64 sum Cumulative monotonic=false 110 200 exemplars=0\n\
          open: -7\n\
-         metric load ()  u64 gauge Some(120) 200 exemplars=0\n\
+         metric load ()  u64 gauge 120 200 exemplars=0\n\
          load: 9\n\
-         metric heat ()  i64 gauge Some(130) 200 exemplars=0\n\
+         metric heat ()  i64 gauge 130 200 exemplars=0\n\
          heat: -11\n\
-         scope other None None\n\
-         metric size ()  u64 histogram Cumulative 140 200 Some(13) Some(13) 10 exemplars=0\n\
+         scope other - -\n\
+         metric size ()  u64 histogram Cumulative 140 200 13 13 10 exemplars=0\n\
          size: count 1 sum 13 buckets 0 1\n",
     )
 }
