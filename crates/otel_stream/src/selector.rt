@@ -39,12 +39,21 @@ impl InstrumentSelector {
 
 /// A view that gives all instruments that it selects the same settings of a stream (Metrics SDK, "View"). A match takes
 /// memory for a copy of the settings.
-#[derive(Drop)]
 pub struct SelectorView {
     /// The instruments that the view is for.
     pub selector: InstrumentSelector,
     /// The settings of their streams.
     pub stream: Stream,
+}
+
+impl Drop for SelectorView {
+    /// A function of its own, so that no proof about who lets one go looks into it.
+    fn drop(self) {
+        let SelectorView {
+            selector: _selector,
+            stream: _stream,
+        } = self;
+    }
 }
 
 impl SelectorView {
