@@ -1,8 +1,6 @@
 //! The texts of small collections.
 
-use otel_common::attributes::{KeyValue, Value};
-use otel_common::faults::Fault;
-use otel_common::keys::Key;
+use otel_common::attributes::KeyValue;
 use otel_common::lists::{Items, SharedItems};
 use otel_common::metrics::Temporality;
 use otel_common::resource::Resource;
@@ -19,7 +17,6 @@ use otel_prometheus::settings::Settings;
 use otel_prometheus::writes::write;
 use std::alloc::Global;
 use std::process::Abort;
-use std::test::Fail;
 
 const NOTHING: LeftOut = LeftOut {
     delta: 0,
@@ -27,98 +24,149 @@ const NOTHING: LeftOut = LeftOut {
     doubled: 0,
 };
 
-/// The attribute of this key and this text.
-fn attribute(alloc: Global, key: &str, text: &str) -> Result<KeyValue, Fault> {
-    let value = Value::String(StringValue::new(alloc, text)?);
-    Ok(KeyValue::new(Key::new(alloc, key)?, value))
+/// A value of this text.
+fn string_value(rt: &impl Abort, alloc: Global, text: &str) -> StringValue {
+    StringValue::new(alloc, text).expect(rt, text)
 }
 
-/// A list of one attribute.
-fn one(alloc: Global, key: &str, text: &str) -> Result<SharedItems<KeyValue>, Fault> {
-    Ok(SharedItems::new(vec![in alloc; attribute(alloc, key, text)?]?)?)
+/// Adds an item to a list.
+fn add<T: Drop>(rt: &impl Abort, list: &mut Vec<T>, item: T) {
+    list.push(item).expect(rt, "memory");
+}
+
+/// A list of one item.
+fn list_of<T: Drop>(rt: &impl Abort, alloc: Global, item: T) -> Vec<T> {
+    let mut list = Vec::new(alloc);
+    add(rt, &mut list, item);
+    list
+}
+
+/// A list that is shared.
+fn shared<T: Drop>(rt: &impl Abort, items: Vec<T>) -> SharedItems<T> {
+    SharedItems::new(items).expect(rt, "memory")
+}
+
+/// A shared list of one attribute.
+fn one(rt: &impl Abort, alloc: Global, key: &str, text: &str) -> SharedItems<KeyValue> {
+    let attribute = KeyValue::text(alloc, key, text).expect(rt, key);
+    shared(rt, list_of(rt, alloc, attribute))
 }
 
 /// A metric of this name, this unit and these points, described by `all of them`.
 fn metric(
+    rt: &impl Abort,
     alloc: Global,
     name: &str,
     unit: &str,
     content: AggregatedMetrics,
-) -> Result<Metric, Fault> {
-    let name = StringValue::new(alloc, name)?;
-    let description = StringValue::new(alloc, "\"all\" of\nthem")?;
-    let unit = StringValue::new(alloc, unit)?;
-    Ok(Metric::new(name, description, unit, content))
+) -> Metric {
+    Metric::new(
+        string_value(rt, alloc, name),
+        string_value(rt, alloc, "\"all\" of\nthem"),
+        string_value(rt, alloc, unit),
+        content,
+    )
+}
+
+/// A point of a sum whose attribute has this key and the value `x`.
+fn sum_point(rt: &impl Abort, alloc: Global, key: &str, value: u64) -> SumDataPoint<u64> {
+    let exemplars = Items::from(Vec::new(alloc));
+    SumDataPoint::new(one(rt, alloc, key, "x"), exemplars, value)
+}
+
+/// A point for each of these keys; their numbers count from 7.
+fn sum_points(rt: &impl Abort, alloc: Global, keys: &[&str]) -> Items<SumDataPoint<u64>> {
+    let mut points = Vec::new(alloc);
+    let mut value = 7u64;
+    for key in keys {
+        add(rt, &mut points, sum_point(rt, alloc, key, value));
+        value = value.wrapping_add(1);
+    }
+    Items::from(points)
 }
 
 /// A monotonic sum with a point for each of these keys, whose value is `x`.
 fn sum(
+    rt: &impl Abort,
     alloc: Global,
     name: &str,
     unit: &str,
     keys: &[&str],
     temporality: Temporality,
-) -> Result<Metric, Fault> {
-    let mut points = Vec::new(alloc);
-    let mut value = 7u64;
-    for key in keys {
-        let attributes = one(alloc, key, "x")?;
-        if points
-            .push(SumDataPoint::new(attributes, Items::from(Vec::new(alloc)), value))
-            .is_err()
-        {
-            return Err(Fault::OutOfMemory);
-        }
-        value = value.wrapping_add(1);
-    }
-    let sum = Sum::new(Items::from(points), 100, 200, temporality, true);
-    metric(alloc, name, unit, MetricData::from(sum).into())
+) -> Metric {
+    let sum = Sum::new(sum_points(rt, alloc, keys), 100, 200, temporality, true);
+    metric(rt, alloc, name, unit, MetricData::from(sum).into())
 }
 
-/// A cumulative histogram with bounds 10 and 100 and the values 7, 10 and 250, whose point has a label `le`.
-fn histogram(alloc: Global) -> Result<Metric, Fault> {
-    let attributes = one(alloc, "le", "mine")?;
-    let bounds = SharedItems::new(vec![in alloc; 10i64, 100]?)?;
-    let counts = Items::from(vec![in alloc; 2u64, 0, 1]?);
-    let exemplars = Items::from(Vec::new(alloc));
-    let point = HistogramDataPoint::new(
-        attributes,
-        exemplars,
-        bounds,
-        counts,
+/// A cumulative sum, with a point for each of these keys.
+fn cumulative(rt: &impl Abort, alloc: Global, name: &str, unit: &str, keys: &[&str]) -> Metric {
+    sum(rt, alloc, name, unit, keys, Temporality::Cumulative)
+}
+
+/// A point with bounds 10 and 100, the values 7, 10 and 250, and a label `le`.
+fn histogram_point(rt: &impl Abort, alloc: Global) -> HistogramDataPoint<u64> {
+    let bounds = Vec::from_slice(alloc, &[10, 100]).expect(rt, "memory");
+    let counts = Vec::from_slice(alloc, &[2, 0, 1]).expect(rt, "memory");
+    HistogramDataPoint::new(
+        one(rt, alloc, "le", "mine"),
+        Items::from(Vec::new(alloc)),
+        shared(rt, bounds),
+        Items::from(counts),
         3,
-        Some(7u64),
-        Some(250u64),
-        267u64,
-    );
-    let points = Items::from(vec![in alloc; point]?);
+        Some(7),
+        Some(250),
+        267,
+    )
+}
+
+/// A cumulative histogram of one point.
+fn histogram(rt: &impl Abort, alloc: Global) -> Metric {
+    let points = Items::from(list_of(rt, alloc, histogram_point(rt, alloc)));
     let histogram = Histogram::new(points, 100, 200, Temporality::Cumulative);
-    metric(alloc, "latency", "ms", MetricData::from(histogram).into())
+    metric(
+        rt,
+        alloc,
+        "latency",
+        "ms",
+        MetricData::from(histogram).into(),
+    )
 }
 
-/// The collection of these metrics, whose scope is `shop` in version 1.
-fn collection(alloc: Global, metrics: Vec<Metric>) -> Result<ResourceMetrics, Fault> {
-    let name = String::from_str(alloc, "shop")?;
-    let scope = InstrumentationScope::builder(alloc, name)
-        .with_version(String::from_str(alloc, "1")?)
-        .build()?;
-    let scopes = Items::from(vec![in alloc; ScopeMetrics::new(scope, Items::from(metrics))]?);
-    Ok(ResourceMetrics::new(Resource::builder_empty(alloc).build(), scopes))
+/// The scope `shop` in version 1.
+fn shop(rt: &impl Abort, alloc: Global) -> InstrumentationScope {
+    let name = String::from_str(alloc, "shop").expect(rt, "memory");
+    let version = String::from_str(alloc, "1").expect(rt, "memory");
+    InstrumentationScope::builder(alloc, name)
+        .with_version(version)
+        .build()
+        .expect(rt, "memory")
 }
 
-/// Asserts that the collection has this text, which leaves these points out.
+/// The collection of these metrics, whose scope is `shop`.
+fn collection(rt: &impl Abort, alloc: Global, metrics: Vec<Metric>) -> ResourceMetrics {
+    let scope = ScopeMetrics::new(shop(rt, alloc), Items::from(metrics));
+    let scopes = Items::from(list_of(rt, alloc, scope));
+    ResourceMetrics::new(Resource::builder_empty(alloc).build(), scopes)
+}
+
+/// Asserts that a collection has this text, which leaves nothing out.
 fn assert_text(
     rt: &impl Abort,
     alloc: Global,
     settings: Settings,
     collected: &ResourceMetrics,
     text: &str,
-    left_out: LeftOut,
-) -> Result<(), Fail> {
-    let found = exposition_of(alloc, settings, collected)?;
-    assert_eq!(rt; str::from_utf8(found.text.as_slice())?, text);
-    assert!(rt; found.left_out == left_out);
-    Ok(())
+) {
+    let found = exposition_of(alloc, settings, collected).expect(rt, text);
+    let found_text = str::from_utf8(found.text.as_slice()).expect(rt, text);
+    assert_eq!(rt; found_text, text);
+    assert!(rt; found.left_out == NOTHING);
+}
+
+/// Asserts that a collection of one metric has this text, which leaves nothing out.
+fn assert_metric(rt: &impl Abort, alloc: Global, settings: Settings, metric: Metric, text: &str) {
+    let collected = collection(rt, alloc, list_of(rt, alloc, metric));
+    assert_text(rt, alloc, settings, &collected, text);
 }
 
 /// The settings of Prometheus' own format.
@@ -127,44 +175,19 @@ fn plain() -> Settings {
 }
 
 #[test]
-fn a_monotonic_sum_is_a_counter(rt: HostRuntime) -> Result<(), Fail> {
-    let alloc = rt.alloc();
-    let metrics = vec![in alloc;
-        sum(
-            alloc,
-            "shop.sent",
-            "By",
-            &["path", "user.id"],
-            Temporality::Cumulative
-        )?,
-    ]?;
+fn a_monotonic_sum_is_a_counter(rt: HostRuntime) {
+    let sum = cumulative(&rt, rt.alloc(), "shop.sent", "By", &["path", "user.id"]);
     let text = "# HELP shop_sent_bytes_total \"all\" of\\nthem
 # TYPE shop_sent_bytes_total counter
 shop_sent_bytes_total{otel_scope_name=\"shop\",otel_scope_version=\"1\",path=\"x\"} 7
 shop_sent_bytes_total{otel_scope_name=\"shop\",otel_scope_version=\"1\",user_id=\"x\"} 8
 ";
-    assert_text(
-        &rt,
-        alloc,
-        plain(),
-        &collection(alloc, metrics)?,
-        text,
-        NOTHING,
-    )
+    assert_metric(&rt, rt.alloc(), plain(), sum, text);
 }
 
 #[test]
-fn a_text_of_openmetrics_has_an_end(rt: HostRuntime) -> Result<(), Fail> {
-    let alloc = rt.alloc();
-    let metrics = vec![in alloc;
-        sum(
-            alloc,
-            "sent_total",
-            "By",
-            &["path"],
-            Temporality::Cumulative
-        )?,
-    ]?;
+fn a_text_of_openmetrics_has_an_end(rt: HostRuntime) {
+    let sum = cumulative(&rt, rt.alloc(), "sent_total", "By", &["path"]);
     let text = "# HELP sent_bytes \\\"all\\\" of\\nthem
 # TYPE sent_bytes counter
 sent_bytes_total{path=\"x\"} 7
@@ -174,20 +197,12 @@ sent_bytes_total{path=\"x\"} 7
         format: Format::OpenMetrics,
         has_scope_labels: false,
     };
-    assert_text(
-        &rt,
-        alloc,
-        settings,
-        &collection(alloc, metrics)?,
-        text,
-        NOTHING,
-    )
+    assert_metric(&rt, rt.alloc(), settings, sum, text);
 }
 
 #[test]
-fn buckets_count_those_before_them(rt: HostRuntime) -> Result<(), Fail> {
-    let alloc = rt.alloc();
-    let metrics = vec![in alloc; histogram(alloc)?]?;
+fn buckets_count_those_before_them(rt: HostRuntime) {
+    let histogram = histogram(&rt, rt.alloc());
     let text = "# HELP latency_milliseconds \"all\" of\\nthem
 # TYPE latency_milliseconds histogram
 latency_milliseconds_bucket{exported_le=\"mine\",otel_scope_name=\"shop\",otel_scope_version=\"1\",le=\"10\"} 2
@@ -196,69 +211,51 @@ latency_milliseconds_bucket{exported_le=\"mine\",otel_scope_name=\"shop\",otel_s
 latency_milliseconds_sum{exported_le=\"mine\",otel_scope_name=\"shop\",otel_scope_version=\"1\"} 267
 latency_milliseconds_count{exported_le=\"mine\",otel_scope_name=\"shop\",otel_scope_version=\"1\"} 3
 ";
-    assert_text(
-        &rt,
-        alloc,
-        plain(),
-        &collection(alloc, metrics)?,
-        text,
-        NOTHING,
-    )
+    assert_metric(&rt, rt.alloc(), plain(), histogram, text);
+}
+
+/// Metrics of which seven points are left out.
+fn left_out(rt: &impl Abort, alloc: Global) -> Vec<Metric> {
+    let mut metrics = Vec::new(alloc);
+    let doubled = cumulative(rt, alloc, "a.b", "", &["k", "c.d", "c_d"]);
+    add(rt, &mut metrics, doubled);
+    let late = sum(rt, alloc, "late", "", &["k", "l"], Temporality::Delta);
+    add(rt, &mut metrics, late);
+    add(rt, &mut metrics, histogram(rt, alloc));
+    let conflicting = cumulative(rt, alloc, "latency", "ms", &["k", "l", "m"]);
+    add(rt, &mut metrics, conflicting);
+    let again = cumulative(rt, alloc, "a_b_total", "", &["k"]);
+    add(rt, &mut metrics, again);
+    metrics
 }
 
 #[test]
-fn what_is_left_out_is_counted(rt: HostRuntime) -> Result<(), Fail> {
-    let alloc = rt.alloc();
-    let metrics = vec![in alloc;
-        sum(
-            alloc,
-            "a.b",
-            "",
-            &["k", "c.d", "c_d"],
-            Temporality::Cumulative
-        )?,
-        sum(alloc, "late", "", &["k", "l"], Temporality::Delta)?,
-        histogram(alloc)?,
-        sum(
-            alloc,
-            "latency",
-            "ms",
-            &["k", "l", "m"],
-            Temporality::Cumulative
-        )?,
-        sum(alloc, "a_b_total", "", &["k"], Temporality::Cumulative)?,
-    ]?;
-    let collected = collection(alloc, metrics)?;
-    let found = exposition_of(alloc, plain(), &collected)?;
+fn what_is_left_out_is_counted(rt: HostRuntime) {
+    let collected = collection(&rt, rt.alloc(), left_out(&rt, rt.alloc()));
+    let found = exposition_of(rt.alloc(), plain(), &collected).expect(&rt, "a text");
     assert!(rt; found.left_out.delta == 2);
     assert!(rt; found.left_out.conflicting == 3);
     assert!(rt; found.left_out.doubled == 2);
-    Ok(())
 }
 
 #[test]
-fn a_resource_is_a_target(rt: HostRuntime) -> Result<(), Fail> {
-    let alloc = rt.alloc();
-    let resource = Resource::builder_empty(alloc)
-        .with_attribute(attribute(alloc, "service.name", "a\\b")?)?
-        .build();
-    let collected = ResourceMetrics::new(resource, Items::from(Vec::new(alloc)));
+fn a_resource_is_a_target(rt: HostRuntime) {
+    let name = KeyValue::text(rt.alloc(), "service.name", "a\\b").expect(&rt, "memory");
+    let builder = Resource::builder_empty(rt.alloc()).with_attribute(name);
+    let resource = builder.expect(&rt, "memory").build();
+    let collected = ResourceMetrics::new(resource, Items::from(Vec::new(rt.alloc())));
     let text = "# TYPE target_info gauge
 target_info{service_name=\"a\\\\b\"} 1
 ";
-    assert_text(&rt, alloc, plain(), &collected, text, NOTHING)
+    assert_text(&rt, rt.alloc(), plain(), &collected, text);
 }
 
 #[test]
-fn a_text_follows_what_was_written(rt: HostRuntime) -> Result<(), Fail> {
-    let alloc = rt.alloc();
-    let collected = ResourceMetrics::default(alloc);
-    let mut out = Vec::from_slice(alloc, b"# before\n")?;
+fn a_text_follows_what_was_written(rt: HostRuntime) {
+    let collected = ResourceMetrics::default(rt.alloc());
+    let mut out = Vec::from_slice(rt.alloc(), b"# before\n").expect(&rt, "memory");
     let settings = Settings::new(Format::OpenMetrics);
-    match write(alloc, &mut out, settings, &collected) {
-        Ok(left_out) => assert!(rt; left_out == NOTHING),
-        Err(_) => assert!(rt; false),
-    }
+    let left_out = write(rt.alloc(), &mut out, settings, &collected).expect(&rt, "a text");
+    assert!(rt; left_out == NOTHING);
     assert!(rt; out.as_slice() == b"# before\n# EOF\n".as_slice());
-    Ok(())
 }

@@ -1,9 +1,8 @@
 //! Keys, values, canonical sets and scopes.
 
-use super::{attributes_of, string};
+use super::{attributes_of, is_text, key_of, list_of, string, string_value};
 use otel_common::attributes::{Array, KeyValue, Value};
 use otel_common::canonical::canonical;
-use otel_common::faults::Fault;
 use otel_common::keys::Key;
 use otel_common::lists::Items;
 use otel_common::scopes::InstrumentationScope;
@@ -14,57 +13,72 @@ use std::process::Abort;
 /// A text that is taken over from a string is the same as one that is copied, and comes before the next.
 #[test]
 fn texts(rt: HostRuntime) {
-    let owned = String::from_str(rt.alloc(), "a").expect(&rt, "memory");
-    let owned = StringValue::from(owned);
-    let same = StringValue::new(rt.alloc(), "a").expect(&rt, "memory");
-    assert!(rt; owned == same);
-    let next = StringValue::new(rt.alloc(), "b").expect(&rt, "memory");
-    assert!(rt; owned < next);
+    let owned = StringValue::from(string(&rt, rt.alloc(), "a"));
+    let copied = string_value(&rt, rt.alloc(), "a");
+    let next = string_value(&rt, rt.alloc(), "b");
+    assert!(rt; are_in_order(&owned, &copied, &next));
+}
+
+/// Whether a key has this name.
+fn is_named(key: &Key, name: &str) -> bool {
+    key.as_str() == name
 }
 
 /// A key has its text, equals its copy, and comes before a longer one.
 #[test]
 fn keys(rt: HostRuntime) {
-    let key = Key::new(rt.alloc(), "a").expect(&rt, "memory");
+    let key = key_of(&rt, rt.alloc(), "a");
     let copy = key.clone().expect(&rt, "memory");
-    let longer = Key::new(rt.alloc(), "aa").expect(&rt, "memory");
-    assert!(rt; key.as_str() == "a" && key == copy && key < longer);
+    let longer = key_of(&rt, rt.alloc(), "aa");
+    assert!(rt; is_named(&key, "a"));
+    assert!(rt; are_in_order(&key, &copy, &longer));
+}
+
+/// Whether the first two values are the same, and the third comes after them.
+fn are_in_order<T: Ord>(first: &T, same: &T, next: &T) -> bool {
+    first == same && first < next
 }
 
 /// The array of this number; no two of the four are equal.
-fn array_of(alloc: Global, number: u8) -> Result<Array, Fault> {
-    Ok(match number {
-        0 => Array::Bool(Items::from(vec![in alloc; true]?)),
-        1 => Array::I64(Items::from(vec![in alloc; 1]?)),
-        2 => Array::String(Items::from(vec![in alloc; StringValue::new(alloc, "1")?]?)),
+fn array_of(rt: &impl Abort, alloc: Global, number: u8) -> Array {
+    match number {
+        0 => Array::Bool(Items::from(list_of(rt, alloc, true))),
+        1 => Array::I64(Items::from(list_of(rt, alloc, 1))),
+        2 => Array::String(Items::from(list_of(rt, alloc, string_value(rt, alloc, "1")))),
         _ => Array::I64(Items::from(Vec::new(alloc))),
-    })
+    }
 }
 
 /// The value of this number; no two of the nine are equal.
-fn value_of(alloc: Global, number: u8) -> Result<Value, Fault> {
-    Ok(match number {
+fn value_of(rt: &impl Abort, alloc: Global, number: u8) -> Value {
+    match number {
         0 => Value::Bool(true),
         1 => Value::Bool(false),
         2 => Value::I64(1),
         3 => Value::I64(0),
-        4 => Value::String(StringValue::new(alloc, "1")?),
-        _ => Value::Array(array_of(alloc, number.saturating_sub(5))?),
-    })
+        4 => Value::String(string_value(rt, alloc, "1")),
+        _ => Value::Array(array_of(rt, alloc, number.saturating_sub(5))),
+    }
+}
+
+/// Whether the first two values are the same, and the third is another.
+fn are_distinct<T: PartialEq>(first: &T, same: &T, other: &T) -> bool {
+    first == same && first != other
+}
+
+/// Whether the value of this number equals its copy, but not the next value.
+fn is_distinct(rt: &impl Abort, alloc: Global, number: u8) -> bool {
+    let value = value_of(rt, alloc, number);
+    let copy = value.clone().expect(rt, "memory");
+    let next = value_of(rt, alloc, number.saturating_add(1));
+    are_distinct(&value, &copy, &next)
 }
 
 /// A value equals its copy, and no two kinds of values are equal.
 #[test]
 fn equal_values(rt: HostRuntime) {
     for number in 0u8..8 {
-        let value = value_of(rt.alloc(), number).expect(&rt, "memory");
-        let copy = value.clone().expect(&rt, "memory");
-        let next = value_of(rt.alloc(), number + 1).expect(&rt, "memory");
-        assert_eq!(rt;
-            (copy == value, value == next),
-            (true, false),
-            "of {number}"
-        );
+        assert!(rt; is_distinct(&rt, rt.alloc(), number), "of {number}");
     }
 }
 
@@ -78,11 +92,11 @@ fn canonical_sets(rt: HostRuntime) {
 }
 
 /// A scope with all four parts.
-fn full_scope(rt: &impl Abort, alloc: Global, attributes: Vec<KeyValue>) -> InstrumentationScope {
+fn full_scope(rt: &impl Abort, alloc: Global) -> InstrumentationScope {
     InstrumentationScope::builder(alloc, string(rt, alloc, "app"))
         .with_version(string(rt, alloc, "1.0"))
         .with_schema_url(string(rt, alloc, "https://example.org"))
-        .with_attributes(attributes)
+        .with_attributes(attributes_of(rt, alloc, &[("b", 1), ("a", 2), ("b", 3)]))
         .build()
         .expect(rt, "memory")
 }
@@ -90,25 +104,37 @@ fn full_scope(rt: &impl Abort, alloc: Global, attributes: Vec<KeyValue>) -> Inst
 /// Whether a scope has the texts of the full scope.
 fn has_full_texts(scope: &InstrumentationScope) -> bool {
     scope.name() == "app"
-        && scope.version() == Some("1.0")
-        && scope.schema_url() == Some("https://example.org")
+        && is_text(scope.version(), "1.0")
+        && is_text(scope.schema_url(), "https://example.org")
+}
+
+/// Whether a scope has the attributes of the full scope, in the order of their keys.
+fn has_full_attributes(rt: &impl Abort, alloc: Global, scope: &InstrumentationScope) -> bool {
+    let wanted = attributes_of(rt, alloc, &[("a", 2), ("b", 1), ("b", 3)]);
+    scope.attributes().as_slice() == wanted.as_slice()
 }
 
 #[test]
 fn scopes(rt: HostRuntime) {
-    let given = attributes_of(&rt, rt.alloc(), &[("b", 1), ("a", 2), ("b", 3)]);
-    let wanted = attributes_of(&rt, rt.alloc(), &[("a", 2), ("b", 1), ("b", 3)]);
-    let scope = full_scope(&rt, rt.alloc(), given);
-    let copy = scope.clone().expect(&rt, "memory");
+    let scope = full_scope(&rt, rt.alloc());
     assert!(rt; has_full_texts(&scope));
-    assert!(rt; scope.attributes().as_slice() == wanted.as_slice() && copy == scope);
+    assert!(rt; has_full_attributes(&rt, rt.alloc(), &scope));
+    let copy = scope.clone().expect(&rt, "memory");
+    assert!(rt; copy == scope);
+}
+
+/// Whether a scope has none of its parts.
+fn is_bare(scope: &InstrumentationScope) -> bool {
+    scope.name() == ""
+        && scope.version().is_none()
+        && scope.schema_url().is_none()
+        && scope.attributes().len() == 0
 }
 
 #[test]
 fn empty_scope(rt: HostRuntime) {
     let scope = InstrumentationScope::default(rt.alloc());
-    assert!(rt; scope.name() == "" && scope.version().is_none());
-    assert!(rt; scope.schema_url().is_none() && scope.attributes().len() == 0);
+    assert!(rt; is_bare(&scope));
     let builder = InstrumentationScope::builder(rt.alloc(), String::new(rt.alloc()));
     assert!(rt; builder.build().expect(&rt, "memory") == scope);
 }

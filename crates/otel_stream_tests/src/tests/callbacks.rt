@@ -6,10 +6,19 @@ use otel_callback::callback::{ObserveI64, ObserveU64};
 use otel_callback::observation::{Observation, Observed};
 use otel_callback::registered::{Callback, Registered, run_callbacks};
 use otel_common::faults::Fault;
-use otel_common::lists::Items;
 use otel_data::numbers::NumberValue;
 use std::alloc::Global;
 use std::process::Abort;
+
+/// Observes this value without attributes.
+fn observe_one<T: Drop>(
+    alloc: Global,
+    out: &mut Vec<Observation<T>>,
+    value: T,
+) -> Result<(), Fault> {
+    out.push(Observation::new(alloc, value))?;
+    Ok(())
+}
 
 /// Observes how often it was run before.
 #[derive(Drop)]
@@ -24,9 +33,7 @@ impl ObserveU64 for Counting {
     fn observe(&mut self, out: &mut Vec<Observation<u64>>) -> Result<(), Fault> {
         let value = self.runs;
         self.runs = self.runs.checked_add(1).ok_or(Fault::OutOfMemory)?;
-        let attributes = Items::from(Vec::new(self.alloc));
-        out.push(Observation { value, attributes })?;
-        Ok(())
+        observe_one(self.alloc, out, value)
     }
 }
 
@@ -42,9 +49,7 @@ impl ObserveI64 for Below {
 
     fn observe(&mut self, out: &mut Vec<Observation<i64>>) -> Result<(), Fault> {
         for _ in 0..2 {
-            let attributes = Items::from(Vec::new(self.alloc));
-            let value = -1;
-            out.push(Observation { value, attributes })?;
+            observe_one(self.alloc, out, -1)?;
         }
         if self.fails {
             Err(Fault::WrongNumber)
@@ -62,6 +67,33 @@ fn is_observed(observed: &[Observed], wanted: &[(usize, NumberValue)]) -> bool {
         }
     }
     observed.len() == wanted.len()
+}
+
+/// Asserts that the second callback fails in a run, and replaces it by one that does not.
+fn assert_refused<U: ObserveU64 + Drop>(
+    rt: &impl Abort,
+    alloc: Global,
+    callbacks: &mut [Registered<U, Below>; 3],
+) {
+    let fault = run_callbacks(alloc, callbacks).expect_err(rt, "a refused run");
+    assert!(rt; matches!(fault, Fault::WrongNumber));
+    callbacks[1].callback = Callback::I64(Below {
+        alloc,
+        fails: false,
+    });
+}
+
+/// Asserts what is observed in runs of callbacks, none of which fails.
+fn assert_observed<U: ObserveU64, I: ObserveI64>(
+    rt: &impl Abort,
+    alloc: Global,
+    callbacks: &mut [Registered<U, I>],
+    wanted: &[&[(usize, NumberValue)]],
+) {
+    for wanted in wanted {
+        let observed = run_callbacks(alloc, callbacks).expect(rt, "a run");
+        assert!(rt; is_observed(&observed, wanted));
+    }
 }
 
 /// Asserts that a run is refused if the second callback fails, and what is observed in two runs in which none fails.
@@ -87,17 +119,9 @@ fn assert_runs(rt: &impl Abort, alloc: Global, fails: bool, wanted: &[&[(usize, 
         },
     ];
     if fails {
-        let fault = run_callbacks(alloc, &mut callbacks).expect_err(rt, "a refused run");
-        assert!(rt; matches!(fault, Fault::WrongNumber));
-        callbacks[1].callback = Callback::I64(Below {
-            alloc,
-            fails: false,
-        });
+        assert_refused(rt, alloc, &mut callbacks);
     }
-    for wanted in wanted {
-        let observed = run_callbacks(alloc, &mut callbacks).expect(rt, "a run");
-        assert!(rt; is_observed(&observed, wanted));
-    }
+    assert_observed(rt, alloc, &mut callbacks, wanted);
 }
 
 /// What is observed in two runs of the callbacks.

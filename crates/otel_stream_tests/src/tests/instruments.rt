@@ -2,13 +2,11 @@
 
 ghost use Rattle.std.specs.Prelude.{◌≡◌};
 
-use super::assert_prints;
+use super::{assert_prints, histogram_of, string_value};
 use otel_common::faults::Fault;
 use otel_common::laws::equal_aggregations;
-use otel_common::lists::Items;
 use otel_common::metrics::Aggregation;
 use otel_common::scopes::InstrumentationScope;
-use otel_common::strings::StringValue;
 use otel_stream::compatible::is_aggregator_compatible;
 use otel_stream::instrument::{Instrument, InstrumentKind};
 use otel_stream::laws::{boxed_view, equal_instruments};
@@ -21,10 +19,10 @@ use std::process::Abort;
 /// A counter of this name and this description.
 fn counter(rt: &impl Abort, alloc: Global, name: &str, description: &str) -> Instrument {
     Instrument {
-        name: StringValue::new(alloc, name).expect(rt, name),
-        description: StringValue::new(alloc, description).expect(rt, name),
+        name: string_value(rt, alloc, name),
+        description: string_value(rt, alloc, description),
         kind: InstrumentKind::Counter,
-        unit: StringValue::new(alloc, "1").expect(rt, name),
+        unit: string_value(rt, alloc, "1"),
         scope: InstrumentationScope::default(alloc),
     }
 }
@@ -73,23 +71,32 @@ fn assert_limits(
     }
 }
 
+/// A view for this name.
+fn view_of_name(rt: &impl Abort, alloc: Global, name: &str) -> SelectorView {
+    SelectorView::of_name(alloc, name, limited(rt)).expect(rt, name)
+}
+
+/// A view for names with this beginning.
+fn view_of_prefix(rt: &impl Abort, alloc: Global, prefix: &str) -> SelectorView {
+    SelectorView::of_prefix(alloc, prefix, limited(rt)).expect(rt, prefix)
+}
+
+/// Asserts which limit a view for this kind gives to counters, whatever their names.
+fn assert_kind(rt: &impl Abort, alloc: Global, kind: InstrumentKind, limit: Option<usize>) {
+    let view = SelectorView::of_kind(kind, limited(rt));
+    assert_limits(rt, alloc, &view, &[("hits", limit), ("hit", limit)]);
+}
+
 /// Views ready to use are for a name, a beginning of names or a kind.
 #[test]
 fn selector_views(rt: HostRuntime) {
     let alloc = rt.alloc();
-    let name = SelectorView::of_name(alloc, "hits", limited(&rt)).expect(&rt, "memory");
-    assert_limits(&rt, alloc, &name, &[("hits", Some(7)), ("hits2", None)]);
-    let prefix = SelectorView::of_prefix(alloc, "hits", limited(&rt)).expect(&rt, "memory");
-    assert_limits(&rt, alloc, &prefix, &[("hits2", Some(7)), ("hit", None)]);
-    let counters = SelectorView::of_kind(InstrumentKind::Counter, limited(&rt));
-    assert_limits(
-        &rt,
-        alloc,
-        &counters,
-        &[("hits", Some(7)), ("hit", Some(7))],
-    );
-    let gauges = SelectorView::of_kind(InstrumentKind::Gauge, limited(&rt));
-    assert_limits(&rt, alloc, &gauges, &[("hits", None), ("hit", None)]);
+    let name = &view_of_name(&rt, alloc, "hits");
+    assert_limits(&rt, alloc, name, &[("hits", Some(7)), ("hits2", None)]);
+    let prefix = &view_of_prefix(&rt, alloc, "hits");
+    assert_limits(&rt, alloc, prefix, &[("hits2", Some(7)), ("hit", None)]);
+    assert_kind(&rt, alloc, InstrumentKind::Counter, Some(7));
+    assert_kind(&rt, alloc, InstrumentKind::Gauge, None);
 }
 
 /// A view that answers the same stream for every instrument.
@@ -117,14 +124,6 @@ fn boxes_answer_what_is_in_them(rt: HostRuntime) {
     assert_eq!(rt; limit_by(&rt, rt.alloc(), &boxed, "hits"), Some(7));
 }
 
-/// A histogram with these bounds.
-fn histogram(rt: &impl Abort, alloc: Global, bounds: &[i64]) -> Aggregation {
-    Aggregation::ExplicitBucketHistogram {
-        boundaries: Items::from(Vec::from_slice(alloc, bounds).expect(rt, "memory")),
-        record_min_max: true,
-    }
-}
-
 #[test]
 fn aggregations_fit_kinds(rt: HostRuntime) {
     let fits = is_aggregator_compatible(InstrumentKind::Counter, &Aggregation::Sum);
@@ -141,33 +140,40 @@ fn aggregations_fit_kinds(rt: HostRuntime) {
 
 /// Whether a histogram may have these bounds.
 fn is_valid(rt: &impl Abort, alloc: Global, bounds: &[i64]) -> bool {
-    histogram(rt, alloc, bounds).validate().is_ok()
+    histogram_of(rt, alloc, bounds, true).validate().is_ok()
+}
+
+/// Asserts that a histogram with these bounds is refused with this text.
+fn assert_invalid(rt: &impl Abort, alloc: Global, bounds: &[i64], text: &str) {
+    let histogram = histogram_of(rt, alloc, bounds, true);
+    let error = histogram.validate().expect_err(rt, text);
+    assert_prints(rt, alloc, &error, text);
 }
 
 #[test]
 fn validate_aggregation(rt: HostRuntime) {
     assert!(rt; Aggregation::Default.validate().is_ok());
-    assert!(rt; is_valid(&rt, rt.alloc(), &[0]) && is_valid(&rt, rt.alloc(), &[0, 2, 4, 8]));
-    let falling = histogram(&rt, rt.alloc(), &[2, 0, 4, 8]).validate();
-    let error = falling.expect_err(&rt, "bounds that fall");
+    assert!(rt; is_valid(&rt, rt.alloc(), &[0]));
+    assert!(rt; is_valid(&rt, rt.alloc(), &[0, 2, 4, 8]));
     let text = "Config error aggregation: explicit bucket histogram: non-monotonic boundaries";
-    assert_prints(&rt, rt.alloc(), &error, text);
+    assert_invalid(&rt, rt.alloc(), &[2, 0, 4, 8], text);
+}
+
+/// Asserts that an aggregation equals its copy, and shows this name.
+fn assert_named(rt: &impl Abort, alloc: Global, aggregation: &Aggregation, name: &str) {
+    let copy = aggregation.clone().expect(rt, name);
+    assert!(rt; copy == *aggregation, "{name}");
+    assert_prints(rt, alloc, aggregation, name);
 }
 
 /// Aggregations equal their copies and show their names.
 #[test]
 fn aggregations_show_their_names(rt: HostRuntime) {
     equal_aggregations();
-    let histogram = histogram(&rt, rt.alloc(), &[1]);
-    for (aggregation, name) in [
-        (&Aggregation::Drop, "Drop"),
-        (&Aggregation::Default, "Default"),
-        (&Aggregation::Sum, "Sum"),
-        (&Aggregation::LastValue, "LastValue"),
-        (&histogram, "ExplicitBucketHistogram"),
-    ] {
-        let copy = aggregation.clone().expect(&rt, name);
-        assert!(rt; copy == *aggregation, "{name}");
-        assert_prints(&rt, rt.alloc(), aggregation, name);
-    }
+    assert_named(&rt, rt.alloc(), &Aggregation::Drop, "Drop");
+    assert_named(&rt, rt.alloc(), &Aggregation::Default, "Default");
+    assert_named(&rt, rt.alloc(), &Aggregation::Sum, "Sum");
+    assert_named(&rt, rt.alloc(), &Aggregation::LastValue, "LastValue");
+    let histogram = histogram_of(&rt, rt.alloc(), &[1], true);
+    assert_named(&rt, rt.alloc(), &histogram, "ExplicitBucketHistogram");
 }

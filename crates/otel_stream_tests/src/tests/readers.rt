@@ -3,9 +3,8 @@
 ghost use Rattle.std.specs.Prelude.{◌≡◌, Ok, true, not, is_ok};
 ghost use Rattle.otel_common.specs.declared.metrics.Temporality.TheVariants.{Delta};
 
-use super::assert_prints;
+use super::{assert_prints, histogram_of};
 use otel_common::faults::{Fault, OTelSdkResult};
-use otel_common::lists::Items;
 use otel_common::metrics::{Aggregation, Temporality};
 use otel_stream::answers::Answers;
 use otel_stream::each_reader::{flush_all, shut_all};
@@ -68,8 +67,15 @@ fn assert_failure(rt: &impl Abort, alloc: Global, answer: OTelSdkResult) {
     assert_prints(rt, alloc, &fault, "2 readers failed, the first is 1");
 }
 
-/// Boxes hold what a flush left: all three readers can flush once, two of them fail to from then on, and all can shut
-/// down.
+/// Asserts that all readers can flush once, that two of them fail to from then on, and that all can shut down.
+fn assert_flushes<R: MetricReader>(rt: &impl Abort, alloc: Global, readers: &mut [R]) {
+    assert!(rt; flush_all(readers).is_ok());
+    assert_failure(rt, alloc, flush_all(readers));
+    assert_failure(rt, alloc, flush_all(readers));
+    assert!(rt; shut_all(readers).is_ok());
+}
+
+/// Boxes hold what a flush left.
 #[test]
 fn boxes_hold_what_a_flush_left(rt: HostRuntime) {
     let alloc = rt.alloc();
@@ -83,11 +89,7 @@ fn boxes_hold_what_a_flush_left(rt: HostRuntime) {
         &rt, "memory",
     );
     assert_wants(&rt, alloc, &first, CUMULATIVE);
-    let mut readers = [first, second, third];
-    assert!(rt; flush_all(&mut readers).is_ok());
-    assert_failure(&rt, alloc, flush_all(&mut readers));
-    assert_failure(&rt, alloc, flush_all(&mut readers));
-    assert!(rt; shut_all(&mut readers).is_ok());
+    assert_flushes(&rt, alloc, &mut [first, second, third]);
 }
 
 /// The seven kinds.
@@ -106,13 +108,26 @@ fn limit_of<R: MetricReader>(reader: &R, kind: InstrumentKind) -> Option<usize> 
     Some(reader.cardinality_limit(kind)?.get())
 }
 
+/// Shows what is wanted for one kind.
+fn show(
+    text: &mut String,
+    temporality: Temporality,
+    limit: Option<usize>,
+    aggregation: Option<&Aggregation>,
+) -> Result<(), AllocError> {
+    writeln!(text, "{temporality:?} {limit:?} {aggregation:?}")
+}
+
 /// Shows what a reader wants for each of the seven kinds.
-fn show<R: MetricReader>(text: &mut String, reader: &R) -> Result<(), AllocError> {
+fn show_wants<R: MetricReader>(text: &mut String, reader: &R) -> Result<(), AllocError> {
     for kind in &KINDS {
-        let temporality = reader.temporality(*kind);
-        let limit = limit_of(reader, *kind);
         let aggregation = reader.default_aggregation(*kind);
-        writeln!(text, "{temporality:?} {limit:?} {aggregation:?}")?;
+        show(
+            text,
+            reader.temporality(*kind),
+            limit_of(reader, *kind),
+            aggregation,
+        )?;
     }
     Ok(())
 }
@@ -120,23 +135,31 @@ fn show<R: MetricReader>(text: &mut String, reader: &R) -> Result<(), AllocError
 /// Shows what a reader answered for each of the seven kinds.
 fn show_answers(text: &mut String, answers: &Answers) -> Result<(), AllocError> {
     for kind in &KINDS {
-        let temporality = answers.temporality(*kind);
-        let limit = answers.limit(*kind);
         let aggregation = answers.aggregation(*kind);
-        writeln!(text, "{temporality:?} {limit:?} {aggregation:?}")?;
+        show(
+            text,
+            answers.temporality(*kind),
+            answers.limit(*kind),
+            aggregation,
+        )?;
     }
     Ok(())
+}
+
+/// Asserts that answers are these.
+fn assert_answers(rt: &impl Abort, alloc: Global, answers: &Answers, wanted: &str) {
+    let mut text = String::new(alloc);
+    show_answers(&mut text, answers).expect(rt, wanted);
+    assert_eq!(rt; text.as_str(), wanted);
 }
 
 /// Asserts that a reader wants this, and answers it.
 fn assert_wants<R: MetricReader>(rt: &impl Abort, alloc: Global, reader: &R, wanted: &str) {
     let mut text = String::new(alloc);
-    show(&mut text, reader).expect(rt, wanted);
+    show_wants(&mut text, reader).expect(rt, wanted);
     assert_eq!(rt; text.as_str(), wanted);
-    let mut answered = String::new(alloc);
     let answers = Answers::of(alloc, reader).expect(rt, wanted);
-    show_answers(&mut answered, &answers).expect(rt, wanted);
-    assert_eq!(rt; answered.as_str(), wanted);
+    assert_answers(rt, alloc, &answers, wanted);
 }
 
 const CUMULATIVE: &str = "Cumulative None None
@@ -172,22 +195,22 @@ const PREFERENCES: &[(Temporality, &str)] = &[
     (Temporality::LowMemory, LOW_MEMORY),
 ];
 
+/// A reader that prefers this temporality.
+fn preferring(temporality: Temporality) -> ManualReader {
+    ManualReader::builder()
+        .with_temporality(temporality)
+        .build()
+}
+
 /// Readers are cumulative by default, and prefer by kind.
 #[test]
 fn readers_have_their_preferences(rt: HostRuntime) {
     assert_eq!(rt; Temporality::default(), Temporality::Cumulative);
     assert_wants(&rt, rt.alloc(), &ManualReader::default(), CUMULATIVE);
-    assert_wants(
-        &rt,
-        rt.alloc(),
-        &ManualReaderBuilder::new().build(),
-        CUMULATIVE,
-    );
+    let built = ManualReaderBuilder::new().build();
+    assert_wants(&rt, rt.alloc(), &built, CUMULATIVE);
     for (temporality, wanted) in PREFERENCES {
-        let reader = ManualReader::builder()
-            .with_temporality(*temporality)
-            .build();
-        assert_wants(&rt, rt.alloc(), &reader, wanted);
+        assert_wants(&rt, rt.alloc(), &preferring(*temporality), wanted);
     }
 }
 
@@ -209,14 +232,6 @@ fn readers_show_their_names(rt: HostRuntime) {
     assert_shows(&rt, rt.alloc(), &ManualReader::default(), "ManualReader");
 }
 
-/// A histogram with the bounds 10 and 20.
-fn histogram(rt: &impl Abort, alloc: Global, has_min_max: bool) -> Aggregation {
-    Aggregation::ExplicitBucketHistogram {
-        boundaries: Items::from(Vec::from_slice(alloc, &[10, 20]).expect(rt, "memory")),
-        record_min_max: has_min_max,
-    }
-}
-
 /// A limit of this number.
 fn limit(rt: &impl Abort, number: usize) -> CardinalityLimit {
     CardinalityLimit::new(number).expect(rt, "a limit")
@@ -230,7 +245,10 @@ fn given_twice(rt: &impl Abort, alloc: Global) -> ManualReader {
         .with_cardinality_limit(InstrumentKind::Gauge, limit(rt, 7))
         .with_default_aggregation(InstrumentKind::Counter, Aggregation::Drop)
         .with_cardinality_limit(InstrumentKind::Counter, limit(rt, 6))
-        .with_default_aggregation(InstrumentKind::Histogram, histogram(rt, alloc, false))
+        .with_default_aggregation(
+            InstrumentKind::Histogram,
+            histogram_of(rt, alloc, &[10, 20], false),
+        )
         .with_temporality(Temporality::Delta)
         .build()
 }
@@ -263,6 +281,12 @@ Delta None None
 Delta None None
 ";
 
+/// Asserts that a reader that wants delta answers it for a gauge, in a box.
+fn assert_delta_in_a_box(rt: &impl Abort, alloc: Global) {
+    let answer = boxed_manual_reader(alloc, preferring(Temporality::Delta), InstrumentKind::Gauge);
+    assert_eq!(rt; answer.expect(rt, "memory"), Temporality::Delta);
+}
+
 #[test]
 fn readers_without_limits_answer_none(rt: HostRuntime) {
     plain_answers();
@@ -271,19 +295,12 @@ fn readers_without_limits_answer_none(rt: HostRuntime) {
         &rt, "memory",
     );
     assert_wants(&rt, rt.alloc(), &boxed, ALL_DELTA);
-    let reader = ManualReader::builder()
-        .with_temporality(Temporality::Delta)
-        .build();
-    let answer = boxed_manual_reader(rt.alloc(), reader, InstrumentKind::Gauge);
-    assert_eq!(rt; answer.expect(&rt, "memory"), Temporality::Delta);
+    assert_delta_in_a_box(&rt, rt.alloc());
 }
 
 /// A reader with a limit and an aggregation of its own for each kind.
 fn with_each(rt: &impl Abort, alloc: Global) -> ManualReader {
-    let bare = Aggregation::ExplicitBucketHistogram {
-        boundaries: Items::from(Vec::new(alloc)),
-        record_min_max: false,
-    };
+    let bare = histogram_of(rt, alloc, &[], false);
     ManualReader::builder()
         .with_default_aggregation(InstrumentKind::Counter, Aggregation::Drop)
         .with_default_aggregation(InstrumentKind::UpDownCounter, Aggregation::Default)
@@ -291,9 +308,12 @@ fn with_each(rt: &impl Abort, alloc: Global) -> ManualReader {
         .with_default_aggregation(InstrumentKind::ObservableCounter, Aggregation::LastValue)
         .with_default_aggregation(
             InstrumentKind::ObservableUpDownCounter,
-            histogram(rt, alloc, false),
+            histogram_of(rt, alloc, &[10, 20], false),
         )
-        .with_default_aggregation(InstrumentKind::Gauge, histogram(rt, alloc, true))
+        .with_default_aggregation(
+            InstrumentKind::Gauge,
+            histogram_of(rt, alloc, &[10, 20], true),
+        )
         .with_default_aggregation(InstrumentKind::ObservableGauge, bare)
         .with_cardinality_limit(InstrumentKind::Counter, limit(rt, 1))
         .with_cardinality_limit(InstrumentKind::UpDownCounter, limit(rt, 2))

@@ -1,20 +1,29 @@
 //! Which settings of streams are refused, and with which text.
 
-use super::{assert_prints, string};
-use otel_common::keys::Key;
-use otel_common::lists::Items;
+use super::{assert_prints, histogram_of, is_text, key_of, list_of, string};
 use otel_common::metrics::Aggregation;
 use otel_stream::stream::{Stream, StreamBuilder};
 use otel_stream::stream_fault::StreamFault;
 use std::alloc::Global;
+use std::fmt::Display;
 use std::process::Abort;
+
+/// Asserts that an outcome is an error of this text, or none if the text is `Ok`.
+fn assert_outcome<T, E: Display>(
+    rt: &impl Abort,
+    alloc: Global,
+    outcome: &Result<T, E>,
+    text: &str,
+) {
+    match outcome {
+        Ok(_) => assert_eq!(rt; "Ok", text),
+        Err(fault) => assert_prints(rt, alloc, fault, text),
+    }
+}
 
 /// Asserts that a builder is refused with this text, or builds if it is `Ok`.
 fn assert_builds(rt: &impl Abort, alloc: Global, builder: StreamBuilder, text: &str) {
-    match builder.build() {
-        Ok(_) => assert_eq!(rt; "Ok", text),
-        Err(fault) => assert_prints(rt, alloc, &fault, text),
-    }
+    assert_outcome(rt, alloc, &builder.build(), text);
 }
 
 const NAMES: &[&str] = &[
@@ -32,14 +41,19 @@ const NAMES: &[&str] = &[
     "",
 ];
 
+/// Asserts that a stream may have this name.
+fn assert_name(rt: &impl Abort, alloc: Global, name: &str) {
+    let builder = Stream::builder().with_name(string(rt, alloc, name));
+    assert_builds(rt, alloc, builder, "Ok");
+}
+
 #[test]
 fn stream_name_no_validation(rt: HostRuntime) {
     for name in NAMES {
-        let builder = Stream::builder().with_name(string(&rt, rt.alloc(), name));
-        assert_builds(&rt, rt.alloc(), builder, "Ok");
+        assert_name(&rt, rt.alloc(), name);
     }
     let long = "a".repeat(rt.alloc(), 256).expect(&rt, "memory");
-    assert_builds(&rt, rt.alloc(), Stream::builder().with_name(long), "Ok");
+    assert_name(&rt, rt.alloc(), long.as_str());
 }
 
 const UNITS: &[(&str, &str)] = &[
@@ -54,11 +68,16 @@ const UNITS: &[(&str, &str)] = &[
     ),
 ];
 
+/// Asserts that a stream with this unit is refused with this text, or builds if it is `Ok`.
+fn assert_unit(rt: &impl Abort, alloc: Global, unit: &str, text: &str) {
+    let builder = Stream::builder().with_unit(string(rt, alloc, unit));
+    assert_builds(rt, alloc, builder, text);
+}
+
 #[test]
 fn stream_unit_validation(rt: HostRuntime) {
     for (unit, text) in UNITS {
-        let builder = Stream::builder().with_unit(string(&rt, rt.alloc(), unit));
-        assert_builds(&rt, rt.alloc(), builder, text);
+        assert_unit(&rt, rt.alloc(), unit, text);
     }
 }
 
@@ -72,25 +91,22 @@ const LIMITS: &[(usize, &str)] = &[
     (1000, "Ok"),
 ];
 
+/// Asserts that a stream with this limit is refused with this text, or builds if it is `Ok`.
+fn assert_limit(rt: &impl Abort, alloc: Global, limit: usize, text: &str) {
+    let builder = Stream::builder().with_cardinality_limit(limit);
+    assert_builds(rt, alloc, builder, text);
+}
+
 #[test]
 fn stream_cardinality_limit_validation(rt: HostRuntime) {
     for (limit, text) in LIMITS {
-        assert_builds(
-            &rt,
-            rt.alloc(),
-            Stream::builder().with_cardinality_limit(*limit),
-            text,
-        );
+        assert_limit(&rt, rt.alloc(), *limit, text);
     }
 }
 
 /// A builder of a stream of histograms with these bounds.
 fn with_bounds(rt: &impl Abort, alloc: Global, bounds: &[i64]) -> StreamBuilder {
-    let boundaries = Items::from(Vec::from_slice(alloc, bounds).expect(rt, "memory"));
-    Stream::builder().with_aggregation(Aggregation::ExplicitBucketHistogram {
-        boundaries,
-        record_min_max: true,
-    })
+    Stream::builder().with_aggregation(histogram_of(rt, alloc, bounds, true))
 }
 
 const BOUNDS: &[(&[i64], &str)] = &[
@@ -105,51 +121,70 @@ const BOUNDS: &[(&[i64], &str)] = &[
     ),
 ];
 
+/// Asserts that a stream with these bounds is refused with this text, or builds if it is `Ok`.
+fn assert_bounds(rt: &impl Abort, alloc: Global, bounds: &[i64], text: &str) {
+    assert_builds(rt, alloc, with_bounds(rt, alloc, bounds), text);
+}
+
+/// Asserts that a stream with these bounds is refused for its bounds.
+fn assert_bounds_refused(rt: &impl Abort, alloc: Global, bounds: &[i64]) {
+    let built = with_bounds(rt, alloc, bounds).build();
+    assert!(rt; matches!(built, Err(StreamFault::Boundaries)));
+}
+
 #[test]
 fn stream_histogram_bucket_validation(rt: HostRuntime) {
     for (bounds, text) in BOUNDS {
-        let builder = with_bounds(&rt, rt.alloc(), bounds);
-        assert_builds(&rt, rt.alloc(), builder, text);
+        assert_bounds(&rt, rt.alloc(), bounds, text);
     }
-    let built = with_bounds(&rt, rt.alloc(), &[1, 5, 2, 10]).build();
-    assert!(rt; matches!(built, Err(StreamFault::Boundaries)));
+    assert_bounds_refused(&rt, rt.alloc(), &[1, 5, 2, 10]);
 }
 
 /// A builder with everything set.
 fn full_builder(rt: &impl Abort, alloc: Global) -> StreamBuilder {
-    let key = Key::new(alloc, "a").expect(rt, "memory");
     StreamBuilder::default()
         .with_name(string(rt, alloc, "valid_name"))
         .with_description(string(rt, alloc, "A valid stream"))
         .with_unit(string(rt, alloc, "ms"))
-        .with_allowed_attribute_keys(vec![in alloc; key].expect(rt, "memory"))
+        .with_allowed_attribute_keys(list_of(rt, alloc, key_of(rt, alloc, "a")))
         .with_aggregation(Aggregation::Sum)
         .with_cardinality_limit(100)
 }
 
 /// Whether a stream has the texts that the full builder sets.
 fn has_full_texts(stream: &Stream) -> bool {
-    stream.name() == Some("valid_name")
-        && stream.description() == Some("A valid stream")
-        && stream.unit() == Some("ms")
+    is_text(stream.name(), "valid_name")
+        && is_text(stream.description(), "A valid stream")
+        && is_text(stream.unit(), "ms")
+}
+
+/// Whether a stream has the limit that the full builder sets.
+fn has_full_limit(stream: &Stream) -> bool {
+    stream.cardinality_limit() == Some(100) && stream.spec().limit == Some(100)
 }
 
 /// Asserts that a stream has everything that the full builder sets.
 fn assert_full(rt: &impl Abort, stream: &Stream) {
     stream.lawful();
     assert!(rt; has_full_texts(stream));
-    assert!(rt; stream.aggregation() == Some(&Aggregation::Sum));
+    assert!(rt; matches!(stream.aggregation(), Some(Aggregation::Sum)));
     assert!(rt; stream.allowed_attribute_keys().expect(rt, "keys").len() == 1);
-    assert!(rt; stream.cardinality_limit() == Some(100) && stream.spec().limit == Some(100));
+    assert!(rt; has_full_limit(stream));
+}
+
+/// A stream that is built by a copy of the full builder.
+fn full_stream(rt: &impl Abort, alloc: Global) -> Stream {
+    let builder = full_builder(rt, alloc);
+    let copy = builder.clone().expect(rt, "memory");
+    copy.build().expect(rt, "a valid stream")
 }
 
 /// Each setting once, with its getter, also in copies of the builder and of the stream.
 #[test]
 fn stream_valid_build(rt: HostRuntime) {
-    let builder = full_builder(&rt, rt.alloc());
-    let copy = builder.clone().expect(&rt, "memory");
-    let stream = copy.build().expect(&rt, "a valid stream");
+    let stream = full_stream(&rt, rt.alloc());
     assert_full(&rt, &stream);
-    assert_full(&rt, &stream.clone().expect(&rt, "memory"));
+    let copy = stream.clone().expect(&rt, "memory");
+    assert_full(&rt, &copy);
     assert!(rt; Stream::default().name().is_none());
 }

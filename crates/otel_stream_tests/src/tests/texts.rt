@@ -3,6 +3,8 @@
 use super::assert_prints;
 use otel_common::faults::{Fault, InternalFault};
 use otel_common::metrics::MetricError;
+use std::alloc::Global;
+use std::process::Abort;
 
 const FAULTS: &[(Fault, u8, &str)] = &[
     (Fault::OutOfMemory, 1, "out of memory"),
@@ -41,11 +43,16 @@ const ERRORS: &[(MetricError, &str)] = &[
     ),
 ];
 
+/// Asserts that a fault has this number and this text.
+fn assert_fault(rt: &impl Abort, alloc: Global, fault: &Fault, number: u8, text: &str) {
+    assert!(rt; fault.number() == number, "{text}");
+    assert_prints(rt, alloc, fault, text);
+}
+
 #[test]
 fn faults_and_errors(rt: HostRuntime) {
     for (fault, number, text) in FAULTS {
-        assert!(rt; fault.number() == *number, "{text}");
-        assert_prints(&rt, rt.alloc(), fault, text);
+        assert_fault(&rt, rt.alloc(), fault, *number, text);
     }
     for (error, text) in ERRORS {
         assert_prints(&rt, rt.alloc(), error, text);
