@@ -4,25 +4,23 @@
 use otel_common::attributes::{KeyValue, Value};
 use otel_common::faults::Fault;
 use otel_common::keys::Key;
-use otel_common::lists::Items;
+use otel_common::lists::{Items, SharedItems};
 use otel_common::strings::StringValue;
+use otel_value_map::bounds::Bounds;
 use std::alloc::{AllocError, Global};
 use std::slice::Iter;
+use steps::Readable;
 
 mod aggregates;
+mod steps;
 mod value_maps;
-
-/// The number that a text shows, if it shows one.
-fn number_of(shown: &str) -> Option<i64> {
-    shown.parse::<i64>().ok()
-}
 
 /// The value that a text shows: a number, `true` or a text.
 fn value_of(alloc: Global, shown: &str) -> Result<Value, Fault> {
-    match number_of(shown) {
-        Some(number) => Ok(Value::I64(number)),
-        None if shown == "true" => Ok(Value::Bool(true)),
-        None => Ok(Value::String(StringValue::new(alloc, shown)?)),
+    match i64::read(shown) {
+        Ok(number) => Ok(Value::I64(number)),
+        Err(_) if shown == "true" => Ok(Value::Bool(true)),
+        Err(_) => Ok(Value::String(StringValue::new(alloc, shown)?)),
     }
 }
 
@@ -40,6 +38,12 @@ fn attributes(alloc: Global, shown: &str) -> Result<Vec<KeyValue>, Fault> {
         made.push(attribute(alloc, shown)?)?;
     }
     Ok(made)
+}
+
+/// Bounds of these numbers. They are refused with `WrongNumber` if they don't rise.
+fn bounds(alloc: Global, numbers: &[i64]) -> Result<Bounds, Fault> {
+    let numbers = SharedItems::new(Vec::from_clones(alloc, numbers)?)?;
+    Bounds::new(numbers).ok_or(Fault::WrongNumber)
 }
 
 /// A list of one item.

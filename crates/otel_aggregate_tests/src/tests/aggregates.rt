@@ -1,10 +1,15 @@
 //! Streams of records by sets of attributes: worked rows and ported tests, as what collections give after each of some
 //! steps.
 
+use super::steps::{Readable, Step, Stepped, assert_steps};
 use super::{attributes, show_attributes};
 use otel_aggregate::shows::Shows;
 use otel_aggregate::stream::Stream;
+use otel_aggregate::sum::Sum as SumStream;
 use otel_common::attributes::KeyValue;
+use otel_common::faults::Fault;
+use otel_common::keys::Key;
+use otel_common::lists::Items;
 use otel_common::metrics::Temporality;
 use otel_data::exemplars::Exemplar;
 use otel_data::gauges::Gauge;
@@ -101,145 +106,99 @@ impl<T: Copy + Debug> Told for Histogram<T> {
     }
 }
 
-/// What is done to a stream, or what is checked of it.
-enum Step<'a, T> {
-    /// Takes in a record of each of these values.
-    Measure(&'a str, &'a [T]),
-    Prepare(&'a str),
-    /// Takes in the prepared record.
-    Commit(T),
-    IsPrepared(bool),
-    Total(u64),
-    /// The bind of a handle with this number.
-    Bind(u64, &'a str),
-    /// A record through a handle, and whether the handle is live.
-    UpdateBound(u64, T, bool),
-    Unbind(u64),
-    /// What a collection at this moment would give.
-    Points(u64, &'a str),
-    Finish(u64),
-    /// What a collection at this moment gives.
-    Collect(u64, &'a str),
-}
-
-/// Some steps of a stream with this limit, made at 100.
-struct Case<'a, T> {
-    name: &'a str,
-    temporality: Temporality,
-    limit: usize,
-    steps: &'a [Step<'a, T>],
-}
-
-/// Asserts that data are told so.
-fn assert_told<D: Told>(rt: &impl Abort, alloc: Global, data: &D, wanted: &str, name: &str) {
-    let mut text = String::new(alloc);
-    data.tell(&mut text).expect(rt, name);
-    assert_eq!(rt; text.as_str(), wanted, "{name}");
-}
-
-/// Does a step, and asserts that the outcome is as wanted.
-fn assert_step<A: Shows>(
-    rt: &impl Abort,
-    alloc: Global,
-    stream: &mut Stream<A>,
-    step: &Step<A::Value>,
-    name: &str,
-)
+/// Takes in a record of each of the values that a text shows.
+fn measure<A: Shows>(stream: &mut Stream<A>, set: &[KeyValue], values: &str) -> Result<(), Fault>
 where
+    A::Value: Readable,
+{
+    for value in values.split_whitespace() {
+        stream.measure(Readable::read(value)?, set)?;
+    }
+    Ok(())
+}
+
+/// Does a step with a set of attributes.
+fn step_on<A: Shows>(
+    stream: &mut Stream<A>,
+    set: &[KeyValue],
+    step: &Step,
+    text: &mut String,
+) -> Result<(), Fault>
+where
+    A::Value: Readable,
+{
+    match step.name {
+        "measure" => measure(stream, set, step.values),
+        "prepare" => stream.prepare(set),
+        "bind" => stream.bind(Readable::read(step.values)?, set),
+        name => Ok(write!(text, "no step is {name}")?),
+    }
+}
+
+impl<A: Shows> Stepped for Stream<A>
+where
+    A::Value: Readable,
     A::Data: Told,
 {
-    match step {
-        Step::Measure(set, values) => {
-            let given = attributes(alloc, set).expect(rt, name);
-            for value in *values {
-                stream.measure(*value, &given).expect(rt, name);
+    fn step(&mut self, alloc: Global, step: &Step, text: &mut String) -> Result<(), Fault> {
+        match step.name {
+            "commit" => write!(text, "{}", self.commit(Readable::read(step.values)?))?,
+            "is_prepared" => write!(text, "{}", self.is_prepared())?,
+            "total" => write!(text, "{}", self.total())?,
+            "update" => {
+                let handle = Readable::read(step.place)?;
+                let is_live = self.update_bound(handle, Readable::read(step.values)?);
+                write!(text, "{is_live}")?;
+            }
+            "unbind" => self.unbind(Readable::read(step.place)?),
+            "points" => self.points(alloc, Readable::read(step.place)?)?.tell(text)?,
+            "finish" => self.finish(Readable::read(step.place)?),
+            "collect" => self
+                .collect(alloc, Readable::read(step.place)?)?
+                .tell(text)?,
+            _ => {
+                let set = attributes(alloc, step.place)?;
+                step_on(self, &set, step, text)?;
             }
         }
-        Step::Prepare(set) => {
-            let given = attributes(alloc, set).expect(rt, name);
-            stream.prepare(&given).expect(rt, name);
-        }
-        Step::Commit(value) => assert!(rt; stream.commit(*value), "{name}"),
-        Step::IsPrepared(wanted) => assert_eq!(rt; stream.is_prepared(), *wanted, "{name}"),
-        Step::Total(wanted) => assert_eq!(rt; stream.total(), *wanted, "{name}"),
-        Step::Bind(handle, set) => {
-            let given = attributes(alloc, set).expect(rt, name);
-            stream.bind(*handle, &given).expect(rt, name);
-        }
-        Step::UpdateBound(handle, value, is_live) => {
-            assert_eq!(rt; stream.update_bound(*handle, *value), *is_live, "{name}");
-        }
-        Step::Unbind(handle) => stream.unbind(*handle),
-        Step::Points(now, wanted) => {
-            let data = stream.points(alloc, *now).expect(rt, name);
-            assert_told(rt, alloc, &data, wanted, name);
-        }
-        Step::Finish(now) => stream.finish(*now),
-        Step::Collect(now, wanted) => {
-            let data = stream.collect(alloc, *now).expect(rt, name);
-            assert_told(rt, alloc, &data, wanted, name);
-        }
+        Ok(())
     }
 }
 
-/// Does steps, and asserts that their outcomes are as wanted.
-fn assert_steps<A: Shows>(
-    rt: &impl Abort,
-    alloc: Global,
-    stream: &mut Stream<A>,
-    steps: &[Step<A::Value>],
-    name: &str,
-)
-where
-    A::Data: Told,
-{
-    for step in steps {
-        assert_step(rt, alloc, stream, step, name);
-    }
-}
-
-/// Asserts that a stream follows the steps of a case.
-fn assert_case<A: Shows>(
+/// Makes a stream at 100, and asserts what the steps of some lines answer.
+fn assert_stream<A: Shows>(
     rt: &impl Abort,
     alloc: Global,
     settings: A::Settings,
-    case: &Case<A::Value>,
-)
+    temporality: Temporality,
+    limit: usize,
+    lines: &str,
+) -> Result<(), Fault>
 where
+    A::Value: Readable,
     A::Data: Told,
 {
     let hasher = SetHashBuilder::default();
-    let made = Stream::new(
+    let mut stream: Stream<A> = Stream::new(
         alloc,
         hasher,
         settings,
-        case.temporality,
+        temporality,
         None,
-        case.limit,
+        limit,
         100,
-    );
-    let mut stream: Stream<A> = made.expect(rt, case.name);
-    assert_eq!(rt;
-        stream.resets(),
-        case.temporality == Temporality::Delta,
-        "{}",
-        case.name
-    );
-    assert_steps(rt, alloc, &mut stream, case.steps, case.name);
+    )?;
+    assert_eq!(rt; stream.resets(), temporality == Temporality::Delta);
+    assert_steps(rt, alloc, &mut stream, lines)
 }
 
-/// Asserts that a stream for each case follows its steps.
-fn assert_cases<A: Shows>(
-    rt: &impl Abort,
+/// Makes a monotonic sum at 100.
+fn new_sum(
     alloc: Global,
-    settings: A::Settings,
-    cases: &[Case<A::Value>],
-)
-where
-    A::Data: Told,
-    A::Settings: Copy,
-{
-    for case in cases {
-        assert_case::<A>(rt, alloc, settings, case);
-    }
+    temporality: Temporality,
+    allow: Option<Items<Key>>,
+    limit: usize,
+) -> Result<SumStream<u64>, Fault> {
+    let hasher = SetHashBuilder::default();
+    SumStream::new(alloc, hasher, true, temporality, allow, limit, 100)
 }
