@@ -2,7 +2,7 @@
 
 ghost use Rattle.std.specs.Prelude.{◌≡◌};
 
-use opentelemetry_sdk::common::{Fault, Items, Key, KeyValue, Value};
+use opentelemetry_sdk::common::{Fault, Items, KeyValue};
 use opentelemetry_sdk::metrics::callback::{Observation, ObserveI64, ObserveU64};
 use std::alloc::Global;
 
@@ -40,18 +40,27 @@ impl Counting {
     }
 }
 
+/// Observes a value with these attributes.
+fn observe<T: Copy>(
+    value: T,
+    attributes: Vec<KeyValue>,
+    out: &mut Vec<Observation<T>>,
+) -> Result<(), Fault> {
+    let attributes = Items::from(attributes);
+    out.push(Observation { value, attributes })?;
+    Ok(())
+}
+
 /// Observes a value with an attribute and without one.
 fn observe_twice<T: Copy>(
     alloc: Global,
     value: T,
     out: &mut Vec<Observation<T>>,
 ) -> Result<(), Fault> {
-    let attribute = KeyValue::new(Key::new(alloc, "k")?, Value::I64(1));
-    let attributes = Items::from(vec![in alloc; attribute]?);
-    out.push(Observation { value, attributes })?;
-    let attributes = Items::from(Vec::new(alloc));
-    out.push(Observation { value, attributes })?;
-    Ok(())
+    let mut attributes = Vec::new(alloc);
+    attributes.push(KeyValue::int(alloc, "k", 1)?)?;
+    observe(value, attributes, out)?;
+    observe(value, Vec::new(alloc), out)
 }
 
 impl ObserveU64 for Counting {

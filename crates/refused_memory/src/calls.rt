@@ -1,117 +1,172 @@
 //! Makes the call under test at a provider.
 
-use crate::callbacks::Counting;
+use crate::answers::Answer;
 use crate::given::Given;
-use crate::replies::{is_refused, reply_of};
-use crate::scenarios::Scenario;
+use crate::provider_calls::{ProviderCalls, Steps};
+use crate::scenarios::unknown;
 use crate::trials::Trial;
-use crate::typed::{Instruments, bind, build_observable, build_synchronous, record};
-use anyhow::Error;
+use crate::typed::{Instruments, build};
+use anyhow::{Error, bail};
 use opentelemetry_sdk::common::{Fault, KeyValue};
-use opentelemetry_sdk::metrics::provider::{Call, Parts, Provider, Reply};
-use std::alloc::Global;
+use opentelemetry_sdk::metrics::data::ResourceMetrics;
+use opentelemetry_sdk::metrics::meter::{NumberType, Synchronous};
+use opentelemetry_sdk::metrics::provider::{Call, Reply};
 use std::time::Duration;
 
-/// The attributes of the first call.
+/// Makes the call of a line.
+pub fn make_line<R: Print, S: Steps>(
+    trial: &mut Trial<R>,
+    provider: &mut S,
+    calls: &[Call],
+) -> Result<(), Error> {
+    match calls {
+        [call] => trial.take(provider.step(call)),
+        _ => bail!("a scenario is not one call"),
+    }
+}
+
+/// Makes a collection of the reader that the scenario names.
+pub fn make_collection<R: Print, S: Steps>(
+    trial: &mut Trial<R>,
+    provider: &mut S,
+    metrics: &mut ResourceMetrics,
+) -> Result<(), Error> {
+    let reader = trial.scenario.reader()?;
+    trial.take(provider.collect(reader, 200, metrics))
+}
+
+/// Asks for the meter of the scope of a line.
+fn ask_for_scope<R: Print, S: ProviderCalls>(
+    trial: &mut Trial<R>,
+    provider: &mut S,
+    calls: &mut Vec<Call>,
+) -> Result<(), Error> {
+    match calls.pop() {
+        Some(Call::Meter { scope }) => trial.take(provider.meter_with_scope(scope)),
+        _ => bail!("a line asks for no meter"),
+    }
+}
+
+/// Builds an instrument of the sort of a line.
+fn build_one<R: Print, S: ProviderCalls>(
+    trial: &mut Trial<R>,
+    provider: &mut S,
+    calls: &[Call],
+) -> Result<(), Error> {
+    match calls {
+        [Call::Build { sort, .. }] => {
+            let built = build(trial.alloc, provider, *sort);
+            trial.take(built)
+        }
+        _ => bail!("a line builds nothing"),
+    }
+}
+
+/// The attributes of a line.
 fn attributes_of(calls: &[Call]) -> &[KeyValue] {
     match calls {
-        [Call::Bind { attributes, .. }, ..] => attributes.as_slice(),
+        [Call::Bind { attributes, .. }] => attributes.as_slice(),
         _ => &[],
     }
 }
 
-/// Makes the call of a line.
-fn make_line<P: Parts>(provider: &mut Provider<P>, calls: &[Call]) -> Reply {
-    match calls.first() {
-        Some(call) => provider.step(call),
-        None => Reply::Done,
-    }
-}
-
-/// Asks for the meter of a scope.
-fn meter_of_scope<P: Parts>(provider: &mut Provider<P>, calls: &mut Vec<Call>) -> Reply {
-    match calls.pop() {
-        Some(Call::Meter { scope }) => reply_of(provider.meter_with_scope(scope)),
-        _ => Reply::Done,
-    }
-}
-
-/// Makes the call under test, which is no run.
-fn make<P: Parts<ObserveU64 = Counting, ObserveI64 = Counting>>(
-    alloc: Global,
-    provider: &mut Provider<P>,
-    instruments: Instruments,
-    scenario: Scenario,
-    given: &mut Given,
-) -> Reply {
-    let sort = scenario.word;
-    let attributes = attributes_of(given.calls.as_slice());
-    match scenario.call {
-        "line" => make_line(provider, given.calls.as_slice()),
-        "meter" => reply_of(provider.meter(scenario.given)),
-        "scope" => meter_of_scope(provider, &mut given.calls),
-        "build" if sort.contains("observable") => {
-            let callback = Counting::new(alloc, 0);
-            reply_of(build_observable(alloc, provider, sort, "observed", callback))
-        }
-        "build" => reply_of(build_synchronous(alloc, provider, sort)),
-        "record" => reply_of(record(provider, instruments, sort, attributes)),
-        "bind" => reply_of(bind(provider, instruments, sort, attributes)),
-        "collect" => reply_of(provider.collect(scenario.reader(), 200, &mut given.metrics)),
-        "flush" => reply_of(provider.force_flush()),
-        "shutdown" => reply_of(provider.shutdown()),
-        _ => reply_of(provider.shutdown_with_timeout(Duration::from_secs(1))),
-    }
-}
-
-/// Makes the call under test between the marks, and writes the reply if it was not refused for want of memory.
-fn write_reply<P: Parts<ObserveU64 = Counting, ObserveI64 = Counting>>(
-    rt: &impl Print,
-    alloc: Global,
-    provider: &mut Provider<P>,
-    instruments: Instruments,
-    trial: &mut Trial,
-    given: &mut Given,
-    text: &mut String,
+/// Records a value at the instrument that the scenario names.
+fn record<R: Print, S: ProviderCalls>(
+    trial: &mut Trial<R>,
+    provider: &mut S,
+    instruments: &Instruments,
+    calls: &[Call],
 ) -> Result<(), Error> {
-    trial.begin(rt, true)?;
-    let reply = make(alloc, provider, instruments, trial.scenario, given);
-    trial.end(rt, true)?;
-    trial.note(is_refused(&reply));
-    if !trial.is_refused {
-        writeln!(text, "{reply:?}")?;
+    let attributes = attributes_of(calls);
+    let scenario = trial.scenario;
+    match scenario.word {
+        "u64_counter" => trial.take(provider.add(&instruments.limited, 8, attributes)),
+        "i64_up_down_counter" => trial.take(provider.add(&instruments.allowed, -8, attributes)),
+        "u64_histogram" => trial.take(provider.record(&instruments.spread, 8, attributes)),
+        "i64_gauge" => trial.take(provider.record(&instruments.heat, -8, attributes)),
+        word => unknown(word),
     }
-    Ok(())
+}
+
+/// Binds a handle at an instrument, records a value through it, and ends it.
+fn spend<K, T: NumberType, S: ProviderCalls>(
+    provider: &mut S,
+    instrument: &Synchronous<K, T>,
+    value: T,
+    attributes: &[KeyValue],
+) -> Result<(), Fault> {
+    let handle = provider.bind(instrument, attributes)?;
+    provider.spend(handle, value)
+}
+
+/// Binds a handle at the instrument that the scenario names, records a value through it, and ends it.
+fn bind<R: Print, S: ProviderCalls>(
+    trial: &mut Trial<R>,
+    provider: &mut S,
+    instruments: &Instruments,
+    calls: &[Call],
+) -> Result<(), Error> {
+    let attributes = attributes_of(calls);
+    let scenario = trial.scenario;
+    match scenario.word {
+        "u64_counter" => trial.take(spend(provider, &instruments.limited, 8, attributes)),
+        "i64_up_down_counter" => trial.take(spend(provider, &instruments.allowed, -8, attributes)),
+        "u64_histogram" => trial.take(spend(provider, &instruments.spread, 8, attributes)),
+        word => unknown(word),
+    }
+}
+
+/// Makes the call under test, which is no run, between the marks.
+fn make<R: Print, S: ProviderCalls>(
+    trial: &mut Trial<R>,
+    provider: &mut S,
+    instruments: &Instruments,
+    given: &mut Given,
+) -> Result<(), Error> {
+    let scenario = trial.scenario;
+    trial.begin(true)?;
+    match scenario.call {
+        "line" => make_line(trial, provider, given.calls.as_slice()),
+        "collect" => make_collection(trial, provider, &mut given.metrics),
+        "meter" => trial.take(provider.meter(scenario.given)),
+        "scope" => ask_for_scope(trial, provider, &mut given.calls),
+        "build" => build_one(trial, provider, given.calls.as_slice()),
+        "record" => record(trial, provider, instruments, given.calls.as_slice()),
+        "bind" => bind(trial, provider, instruments, given.calls.as_slice()),
+        "flush" => trial.take(provider.force_flush()),
+        "shutdown" => trial.take(provider.shutdown()),
+        "shutdown_with_timeout" => {
+            trial.take(provider.shutdown_with_timeout(Duration::from_secs(1)))
+        }
+        word => unknown(word),
+    }
 }
 
 /// Writes the replies of a run, and notes which calls were refused for want of memory.
-fn write_replies(trial: &mut Trial, replies: &[Reply], text: &mut String) -> Result<(), Error> {
+fn write_replies<R>(trial: &mut Trial<R>, replies: &[Reply]) -> Result<(), Error> {
     for reply in replies {
-        let is_refused = is_refused(reply);
+        let is_refused = reply.is_refused();
         trial.refused_calls.push(is_refused)?;
         if is_refused {
             trial.is_refused = true;
         } else {
-            writeln!(text, "{reply:?}")?;
+            trial.write(reply)?;
         }
     }
     Ok(())
 }
 
 /// Makes the calls of a run between the marks, and writes the replies.
-fn write_run<P: Parts>(
-    rt: &impl Print,
-    alloc: Global,
-    provider: &mut Provider<P>,
-    trial: &mut Trial,
+fn write_run<R: Print, S: ProviderCalls>(
+    trial: &mut Trial<R>,
+    provider: &mut S,
     calls: &[Call],
-    text: &mut String,
 ) -> Result<(), Error> {
-    trial.begin(rt, true)?;
-    let answer = provider.run(alloc, calls);
-    trial.end(rt, true)?;
+    trial.begin(true)?;
+    let answer = provider.run(trial.alloc, calls);
+    trial.end(true)?;
     match answer {
-        Ok(replies) => write_replies(trial, replies.as_slice(), text),
+        Ok(replies) => write_replies(trial, replies.as_slice()),
         Err(Fault::OutOfMemory) => {
             trial.is_refused = true;
             Ok(())
@@ -121,41 +176,35 @@ fn write_run<P: Parts>(
 }
 
 /// Makes those calls of a run that were not refused, one by one, and writes the replies.
-fn write_steps<P: Parts>(
-    provider: &mut Provider<P>,
-    trial: &Trial,
+fn write_steps<R, S: Steps>(
+    trial: &mut Trial<R>,
+    provider: &mut S,
     calls: &[Call],
-    text: &mut String,
 ) -> Result<(), Error> {
-    for (call, is_refused) in calls.iter().zip(&trial.refused_calls) {
-        if !*is_refused {
+    for (number, call) in calls.iter().enumerate() {
+        if trial.was_made(number) {
             let reply = provider.step(call);
-            writeln!(text, "{reply:?}")?;
+            trial.write(&reply)?;
         }
     }
     Ok(())
 }
 
 /// Makes the call under test, or at a twin what was not refused, and writes what is answered.
-pub fn write_call<P: Parts<ObserveU64 = Counting, ObserveI64 = Counting>>(
-    rt: &impl Print,
-    alloc: Global,
-    provider: &mut Provider<P>,
-    instruments: Instruments,
-    trial: &mut Trial,
-    text: &mut String,
+pub fn write_call<R: Print, S: ProviderCalls>(
+    trial: &mut Trial<R>,
+    provider: &mut S,
+    instruments: &Instruments,
 ) -> Result<(), Error> {
-    let mut given = Given::new(alloc, trial.scenario)?;
+    let mut given = Given::new(trial.alloc, trial.scenario)?;
     provider.collect(0, 190, &mut given.metrics)?;
     let is_run = trial.scenario.call == "run";
     if is_run && trial.is_first() {
-        write_run(rt, alloc, provider, trial, given.calls.as_slice(), text)?;
+        write_run(trial, provider, given.calls.as_slice())?;
     } else if is_run {
-        write_steps(provider, trial, given.calls.as_slice(), text)?;
+        write_steps(trial, provider, given.calls.as_slice())?;
     } else if !trial.is_refused {
-        write_reply(rt, alloc, provider, instruments, trial, &mut given, text)?;
+        make(trial, provider, instruments, &mut given)?;
     }
-    let metrics = &given.metrics;
-    writeln!(text, "{metrics:?}")?;
-    Ok(())
+    trial.write(&given.metrics)
 }

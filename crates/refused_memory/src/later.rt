@@ -1,11 +1,11 @@
 //! What a provider answers after the call under test, as text.
 
-use crate::replies::is_refused;
+use crate::answers::Answer;
+use crate::provider_calls::Steps;
 use crate::set_up::calls_of;
+use crate::trials::Trial;
 use anyhow::{Error, bail};
 use opentelemetry_sdk::metrics::data::ResourceMetrics;
-use opentelemetry_sdk::metrics::provider::{Parts, Provider};
-use std::alloc::Global;
 
 /// Calls after the call under test: collections of each reader, records and binds of known and of new sets, and further
 /// collections.
@@ -60,43 +60,35 @@ record 0 u:100 a=i:1
 meter last";
 
 /// Makes the calls of these lines, and writes the replies.
-fn write_lines<P: Parts>(
-    alloc: Global,
-    provider: &mut Provider<P>,
-    text: &mut String,
+fn write_lines<R, S: Steps>(
+    trial: &mut Trial<R>,
+    provider: &mut S,
     lines: &str,
 ) -> Result<(), Error> {
-    for call in &calls_of(alloc, "", lines)? {
+    for call in &calls_of(trial.alloc, "", lines)? {
         let reply = provider.step(call);
-        if is_refused(&reply) {
+        if reply.is_refused() {
             bail!("a later call was refused");
         }
-        writeln!(text, "{reply:?}")?;
+        trial.write(&reply)?;
     }
     Ok(())
 }
 
 /// Makes collections with callbacks, and writes them.
-fn write_collections<P: Parts>(
-    alloc: Global,
-    provider: &mut Provider<P>,
-    text: &mut String,
-) -> Result<(), Error> {
-    let mut metrics = ResourceMetrics::default(alloc);
+fn write_collections<R, S: Steps>(trial: &mut Trial<R>, provider: &mut S) -> Result<(), Error> {
+    let mut metrics = ResourceMetrics::default(trial.alloc);
     for reader in &[0, 1, 2, 1] {
         let answer = provider.collect(*reader, 600, &mut metrics);
-        writeln!(text, "{answer:?} {metrics:?}")?;
+        trial.write(&answer)?;
+        trial.write(&metrics)?;
     }
     Ok(())
 }
 
 /// Writes what a provider answers later.
-pub fn write_later<P: Parts>(
-    alloc: Global,
-    provider: &mut Provider<P>,
-    text: &mut String,
-) -> Result<(), Error> {
-    write_lines(alloc, provider, text, LATER)?;
-    write_collections(alloc, provider, text)?;
-    write_lines(alloc, provider, text, LAST)
+pub fn write_later<R, S: Steps>(trial: &mut Trial<R>, provider: &mut S) -> Result<(), Error> {
+    write_lines(trial, provider, LATER)?;
+    write_collections(trial, provider)?;
+    write_lines(trial, provider, LAST)
 }

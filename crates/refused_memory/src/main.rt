@@ -12,24 +12,27 @@
 //! each request for memory of each call under test in turn. No thread is started.
 #![tactic(auto)]
 
+mod answers;
 mod callbacks;
 mod calls;
 mod given;
 mod later;
-mod replies;
+mod provider_calls;
+mod runs;
 mod scenarios;
 mod set_up;
 mod shared;
+mod shared_calls;
 mod trials;
 mod typed;
 mod values;
 mod workers;
 
 use anyhow::{Error, bail};
+use runs::try_scenario;
 use scenarios::{last_scenario, scenario_of};
 use std::alloc::Global;
 use std::env;
-use trials::try_scenario;
 
 /// Tries all scenarios.
 fn try_all(rt: &impl Print, alloc: Global) -> Result<(), Error> {

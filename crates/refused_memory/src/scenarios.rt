@@ -1,5 +1,7 @@
 //! The calls under test, by their numbers.
 
+use anyhow::{Error, bail};
+
 /// A call under test, as the words of its line.
 ///
 /// Of a provider: `line` is the call of a line of a script, with the observations before it, by `step`, and `run` the
@@ -12,20 +14,20 @@
 /// way to the records of the lines; `submit`, of which every second, from the first, must not be refused, `submit_all`
 /// again and again until it is not refused, and `take_first` are of the records of the lines; and `settle` leaves them.
 #[derive(Clone, Copy)]
-pub struct Scenario {
+pub struct Scenario<'a> {
     /// Whether the call must not be refused for want of memory.
     pub is_sure: bool,
     /// The call.
-    pub call: &'static str,
+    pub call: &'a str,
     /// All that it is given.
-    pub given: &'static str,
+    pub given: &'a str,
     /// The first word of what it is given.
-    pub word: &'static str,
+    pub word: &'a str,
     /// What follows that.
-    pub rest: &'static str,
+    pub rest: &'a str,
 }
 
-impl Scenario {
+impl<'a> Scenario<'a> {
     /// Whether the call is of a shared provider or of a worker.
     pub fn is_shared(&self) -> bool {
         matches!(
@@ -42,12 +44,12 @@ impl Scenario {
     }
 
     /// The number of the reader that it is given.
-    pub fn reader(&self) -> usize {
-        self.given.parse::<usize>().unwrap_or(0)
+    pub fn reader(&self) -> Result<usize, Error> {
+        Ok(self.given.parse::<usize>()?)
     }
 
     /// The lines of the records that wait in the list of a worker before the call.
-    pub fn waiting(&self) -> &'static str {
+    pub fn waiting(&self) -> &'a str {
         match self.call {
             "add" => self.rest,
             "submit" | "submit_all" | "take_first" | "settle" => self.given,
@@ -56,9 +58,10 @@ impl Scenario {
     }
 
     /// The start of a line and the rest of the lines that state what the call takes.
-    pub fn lines(&self) -> (&'static str, &'static str) {
+    pub fn lines(&self) -> (&'a str, &'a str) {
         match self.call {
             "line" | "run" | "shared_line" => ("", self.given),
+            "build" => ("build 0 ", self.given),
             "record" | "bind" => ("bind 0 ", self.rest),
             "scope" => ("meter ", self.given),
             "add" => ("record 0 u:8 ", "z=i:9"),
@@ -109,15 +112,15 @@ maybe run record 0 u:8 z=i:9;meter other;build 1 u64_counter more 180;record 13 
 maybe run collect 0 200;record 2 u:8 z=i:9;collect 2 200;flush;shutdown
 maybe meter other
 maybe scope other
-maybe build u64_counter
-maybe build i64_up_down_counter
-maybe build u64_gauge
-maybe build i64_gauge
-maybe build u64_histogram
-maybe build u64_observable_counter
-maybe build i64_observable_up_down_counter
-maybe build u64_observable_gauge
-maybe build i64_observable_gauge
+maybe build u64_counter more 180
+maybe build i64_up_down_counter more 180
+maybe build u64_gauge more 180
+maybe build i64_gauge more 180
+maybe build u64_histogram more 180
+maybe build u64_observable_counter more 180
+maybe build i64_observable_up_down_counter more 180
+maybe build u64_observable_gauge more 180
+maybe build i64_observable_gauge more 180
 maybe record u64_counter z=i:9
 maybe record i64_up_down_counter d=i:4,b=s:new,a=i:9
 maybe record u64_histogram z=i:9
@@ -214,13 +217,18 @@ sure submit record 0 u:8 -;record 99 u:8 z=i:9
 sure take_first record 0 u:8 -;record 0 u:8 z=i:9;record 1 i:8 a=s:x,b=i:1;record 1 i:8 d=i:4,b=s:new,a=i:9;recordbound 0 u:8;record 2 u:8 z=i:9,y=s:x;record 3 u:8 a=i:1;record 3 u:8 z=i:9;record 4 i:8 a=i:1;record 4 i:8 z=b:true;recordbound 2 u:8;record 5 u:8 otel.metric.overflow=b:true
 sure settle record 0 u:8 -;record 0 u:8 z=i:9;record 1 i:8 a=s:x,b=i:1;record 1 i:8 d=i:4,b=s:new,a=i:9;recordbound 0 u:8;record 2 u:8 z=i:9,y=s:x;record 3 u:8 a=i:1;record 3 u:8 z=i:9;record 4 i:8 a=i:1;record 4 i:8 z=b:true;recordbound 2 u:8;record 5 u:8 otel.metric.overflow=b:true";
 
+/// Says that a scenario has a word that nothing is known by.
+pub fn unknown(word: &str) -> Result<(), Error> {
+    bail!("nothing is known by the word {word}")
+}
+
 /// The number of the last scenario.
 pub fn last_scenario() -> usize {
     SCENARIOS.split('\n').count()
 }
 
 /// The scenario of a number, from 1. After the last there is none.
-pub fn scenario_of(number: usize) -> Option<Scenario> {
+pub fn scenario_of(number: usize) -> Option<Scenario<'static>> {
     let line = SCENARIOS.split('\n').nth(number.checked_sub(1)?)?;
     let (first, call) = line.split_once(' ')?;
     let (call, given) = call.split_once(' ').unwrap_or((call, ""));

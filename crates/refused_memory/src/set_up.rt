@@ -1,11 +1,12 @@
 //! The provider at which a call is tried, and its twin.
 
 use crate::callbacks::Counting;
-use crate::typed::{Instruments, build_observable, instruments_at};
+use crate::provider_calls::{ProviderCalls, Steps};
+use crate::typed::{Instruments, instruments_at, watch};
 use anyhow::{Error, bail};
 use metrics_script::script_lines::{Script, script_of};
 use opentelemetry_sdk::Resource;
-use opentelemetry_sdk::common::{Fault, Key, KeyValue, StringValue, Value};
+use opentelemetry_sdk::common::{Fault, KeyValue};
 use opentelemetry_sdk::metrics::ManualReader;
 use opentelemetry_sdk::metrics::data::ResourceMetrics;
 use opentelemetry_sdk::metrics::instrument::SelectorView;
@@ -100,16 +101,10 @@ pub fn calls_of(alloc: Global, start: &str, lines: &str) -> Result<Vec<Call>, Er
     Ok(calls)
 }
 
-/// An attribute whose value is a text.
-pub fn attribute(alloc: Global, key: &str, text: &str) -> Result<KeyValue, Fault> {
-    let value = Value::String(StringValue::new(alloc, text)?);
-    Ok(KeyValue::new(Key::new(alloc, key)?, value))
-}
-
 /// The resource of the provider.
 pub fn resource(alloc: Global) -> Result<Resource, Fault> {
-    let attribute = attribute(alloc, "service.name", "swept")?;
-    let builder = Resource::builder_empty(alloc).with_attribute(attribute)?;
+    let name = KeyValue::text(alloc, "service.name", "swept")?;
+    let builder = Resource::builder_empty(alloc).with_attribute(name)?;
     Ok(builder.build())
 }
 
@@ -166,9 +161,19 @@ fn with_views<P: Parts>(
     Ok(builder)
 }
 
-impl Materials {
+/// What a provider can be built of.
+pub trait Builds {
+    /// The provider.
+    type Built: ProviderCalls + Drop;
+
     /// Makes a provider.
-    pub fn build(self, alloc: Global) -> Result<Provider<Swept>, Fault> {
+    fn build(self, alloc: Global) -> Result<Self::Built, Fault>;
+}
+
+impl Builds for Materials {
+    type Built = Provider<Swept>;
+
+    fn build(self, alloc: Global) -> Result<Provider<Swept>, Fault> {
         let Materials {
             resource,
             readers,
@@ -180,40 +185,26 @@ impl Materials {
     }
 }
 
-/// Makes the calls of these lines, none of which may be refused.
-fn make_all<P: Parts>(alloc: Global, provider: &mut Provider<P>, lines: &str) -> Result<(), Error> {
-    for call in &calls_of(alloc, "", lines)? {
-        if let Reply::Refused(fault) = provider.step(call) {
-            bail!("a call before the one under test was refused: {fault}");
-        }
+/// Checks that a call was not refused.
+fn check(reply: &Reply) -> Result<(), Error> {
+    if let Reply::Refused(fault) = reply {
+        bail!("a call before the one under test was refused: {fault}");
     }
     Ok(())
 }
 
-/// Makes three observable instruments with a callback each, of which this many skip a run later.
-fn watch<P: Parts<ObserveU64 = Counting, ObserveI64 = Counting>>(
-    alloc: Global,
-    provider: &mut Provider<P>,
-    ahead: u64,
-) -> Result<(), Fault> {
-    let runs = Counting::new(alloc, u64::from(ahead > 0));
-    build_observable(alloc, provider, "u64_observable_counter", "runs", runs)?;
-    let balance = Counting::new(alloc, u64::from(ahead > 1));
-    build_observable(
-        alloc,
-        provider,
-        "i64_observable_up_down_counter",
-        "balance",
-        balance,
-    )?;
-    let depth = Counting::new(alloc, u64::from(ahead > 2));
-    build_observable(alloc, provider, "u64_observable_gauge", "depth", depth)
+/// Makes the calls of these lines, none of which may be refused.
+fn make_all<S: Steps>(alloc: Global, provider: &mut S, lines: &str) -> Result<(), Error> {
+    for call in &calls_of(alloc, "", lines)? {
+        check(&provider.step(call))?;
+    }
+    Ok(())
 }
 
 /// Makes a collection that nobody looks at.
-fn collect_once<P: Parts>(
+fn collect_once<S: Steps>(
     alloc: Global,
-    provider: &mut Provider<P>,
+    provider: &mut S,
     reader: usize,
     now: u64,
 ) -> Result<(), Fault> {
@@ -223,9 +214,9 @@ fn collect_once<P: Parts>(
 
 /// Makes the calls that come first, registers the callbacks, of which this many skip a run later, and runs each once.
 /// Returns instruments as values.
-pub fn fill<P: Parts<ObserveU64 = Counting, ObserveI64 = Counting>>(
+pub fn fill<S: ProviderCalls>(
     alloc: Global,
-    provider: &mut Provider<P>,
+    provider: &mut S,
     ahead: u64,
 ) -> Result<Instruments, Error> {
     make_all(alloc, provider, FIRST)?;

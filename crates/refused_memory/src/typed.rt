@@ -1,13 +1,16 @@
-//! Calls of meters, instruments and handles as values.
+//! Instruments as values.
 
 use crate::callbacks::Counting;
-use opentelemetry_sdk::common::{Fault, KeyValue};
+use crate::provider_calls::ProviderCalls;
+use opentelemetry_sdk::common::Fault;
 use opentelemetry_sdk::metrics::meter::{
-    AsyncInstrumentBuilder, Counter, Gauge, Histogram, InstrumentBuilder, Meter, NumberType,
-    Synchronous, UpDownCounter,
+    Counter, Gauge, Histogram, InstrumentBuilder, Meter, UpDownCounter,
 };
-use opentelemetry_sdk::metrics::provider::{Parts, Provider};
+use opentelemetry_sdk::metrics::provider::InstrumentSort;
 use std::alloc::Global;
+
+/// The name of the meter of all instruments.
+const METER: &str = "app";
 
 /// Instruments as values, which have the streams of the instruments that were made first.
 #[derive(Clone, Copy)]
@@ -18,168 +21,89 @@ pub struct Instruments {
     pub heat: Gauge<i64>,
 }
 
-/// The meter of all instruments.
-fn meter_at<P: Parts>(provider: &mut Provider<P>) -> Result<Meter, Fault> {
-    provider.meter("app")
-}
-
-/// Builds an instrument.
-fn built<K, T, P: Parts>(
-    provider: &mut Provider<P>,
-    builder: InstrumentBuilder<K, T>,
-) -> Result<Synchronous<K, T>, Fault> {
-    builder.build(provider, 180)
-}
-
 /// Makes the instruments.
-pub fn instruments_at<P: Parts>(
+pub fn instruments_at<S: ProviderCalls>(
     alloc: Global,
-    provider: &mut Provider<P>,
+    provider: &mut S,
 ) -> Result<Instruments, Fault> {
-    let meter = meter_at(provider)?;
-    let name = String::from_str(alloc, "limited")?;
-    let limited = built(provider, meter.u64_counter(name))?;
-    let name = String::from_str(alloc, "allowed")?;
-    let allowed = built(provider, meter.i64_up_down_counter(name))?;
-    let name = String::from_str(alloc, "spread")?;
-    let spread = built(provider, meter.u64_histogram(name))?;
-    let name = String::from_str(alloc, "heat")?;
-    let heat = built(provider, meter.i64_gauge(name))?;
+    let meter = provider.meter(METER)?;
+    let limited = String::from_str(alloc, "limited")?;
+    let allowed = String::from_str(alloc, "allowed")?;
+    let spread = String::from_str(alloc, "spread")?;
+    let heat = String::from_str(alloc, "heat")?;
     Ok(Instruments {
-        limited,
-        allowed,
-        spread,
-        heat,
+        limited: provider.build(meter.u64_counter(limited))?,
+        allowed: provider.build(meter.i64_up_down_counter(allowed))?,
+        spread: provider.build(meter.u64_histogram(spread))?,
+        heat: provider.build(meter.i64_gauge(heat))?,
     })
 }
 
+/// Makes three observable instruments with a callback each, of which this many skip a run later.
+pub fn watch<S: ProviderCalls>(alloc: Global, provider: &mut S, ahead: u64) -> Result<(), Fault> {
+    let meter = provider.meter(METER)?;
+    let runs = meter.u64_observable_counter(String::from_str(alloc, "runs")?);
+    provider.build_unsigned(runs, Counting::new(alloc, u64::from(ahead > 0)))?;
+    let balance = meter.i64_observable_up_down_counter(String::from_str(alloc, "balance")?);
+    provider.build_signed(balance, Counting::new(alloc, u64::from(ahead > 1)))?;
+    let depth = meter.u64_observable_gauge(String::from_str(alloc, "depth")?);
+    provider.build_unsigned(depth, Counting::new(alloc, u64::from(ahead > 2)))
+}
+
 /// Builds an instrument with all that can be set.
-fn build<K, T, P: Parts>(
+fn build_full<K, T, S: ProviderCalls>(
     alloc: Global,
-    provider: &mut Provider<P>,
+    provider: &mut S,
     builder: InstrumentBuilder<K, T>,
 ) -> Result<(), Fault> {
-    let description = String::from_str(alloc, "d")?;
-    let builder = builder.with_description(description);
-    let unit = String::from_str(alloc, "ms")?;
-    built(provider, builder.with_unit(unit))?;
+    let builder = builder.with_description(String::from_str(alloc, "d")?);
+    let builder = builder.with_unit(String::from_str(alloc, "ms")?);
+    provider.build(builder)?;
     Ok(())
 }
 
 /// Builds a histogram with all that can be set.
-fn build_histogram<P: Parts>(
+fn build_histogram<S: ProviderCalls>(
     alloc: Global,
-    provider: &mut Provider<P>,
+    provider: &mut S,
     meter: Meter,
     name: String,
 ) -> Result<(), Fault> {
-    let builder = meter.u64_histogram(name);
     let boundaries = [1, 5].to_vec(alloc)?;
-    build(alloc, provider, builder.with_boundaries(boundaries))
+    let builder = meter.u64_histogram(name).with_boundaries(boundaries);
+    build_full(alloc, provider, builder)
 }
 
-/// Builds an observable instrument of unsigned values with a callback.
-fn observe_unsigned<K, P: Parts>(
-    provider: &mut Provider<P>,
-    builder: AsyncInstrumentBuilder<K, u64, P>,
-    callback: P::ObserveU64,
-) -> Result<(), Fault> {
-    builder.with_callback(callback)?.build(provider, 170)?;
-    Ok(())
-}
-
-/// Builds an observable instrument of signed values with a callback.
-fn observe_signed<K, P: Parts>(
-    provider: &mut Provider<P>,
-    builder: AsyncInstrumentBuilder<K, i64, P>,
-    callback: P::ObserveI64,
-) -> Result<(), Fault> {
-    builder.with_callback(callback)?.build(provider, 170)?;
-    Ok(())
-}
-
-/// Builds an observable instrument of this sort and name with a callback.
-pub fn build_observable<P: Parts<ObserveU64 = Counting, ObserveI64 = Counting>>(
+/// Builds a synchronous instrument of this sort with all that can be set, or an observable one with a callback.
+pub fn build<S: ProviderCalls>(
     alloc: Global,
-    provider: &mut Provider<P>,
-    sort: &str,
-    name: &str,
-    callback: Counting,
+    provider: &mut S,
+    sort: InstrumentSort,
 ) -> Result<(), Fault> {
-    let meter = meter_at(provider)?;
-    let name = String::from_str(alloc, name)?;
-    match sort {
-        "u64_observable_counter" => {
-            observe_unsigned(provider, meter.u64_observable_counter(name), callback)
-        }
-        "u64_observable_gauge" => {
-            observe_unsigned(provider, meter.u64_observable_gauge(name), callback)
-        }
-        "i64_observable_up_down_counter" => {
-            observe_signed(
-                provider,
-                meter.i64_observable_up_down_counter(name),
-                callback,
-            )
-        }
-        _ => observe_signed(provider, meter.i64_observable_gauge(name), callback),
-    }
-}
-
-/// Builds a synchronous instrument of this sort, with all that can be set.
-pub fn build_synchronous<P: Parts>(
-    alloc: Global,
-    provider: &mut Provider<P>,
-    sort: &str,
-) -> Result<(), Fault> {
-    let meter = meter_at(provider)?;
+    let meter = provider.meter(METER)?;
     let name = String::from_str(alloc, "more")?;
+    let callback = Counting::new(alloc, 0);
     match sort {
-        "u64_counter" => build(alloc, provider, meter.u64_counter(name)),
-        "i64_up_down_counter" => build(alloc, provider, meter.i64_up_down_counter(name)),
-        "u64_gauge" => build(alloc, provider, meter.u64_gauge(name)),
-        "i64_gauge" => build(alloc, provider, meter.i64_gauge(name)),
-        _ => build_histogram(alloc, provider, meter, name),
-    }
-}
-
-/// Records a value at the instrument of this sort.
-pub fn record<P: Parts>(
-    provider: &mut Provider<P>,
-    instruments: Instruments,
-    sort: &str,
-    attributes: &[KeyValue],
-) -> Result<(), Fault> {
-    match sort {
-        "u64_counter" => instruments.limited.add(provider, 8, attributes),
-        "i64_up_down_counter" => instruments.allowed.add(provider, -8, attributes),
-        "u64_histogram" => instruments.spread.record(provider, 8, attributes),
-        _ => instruments.heat.record(provider, -8, attributes),
-    }
-}
-
-/// Binds a handle at an instrument, records a value through it, and ends it.
-fn hand<K, T: NumberType, P: Parts>(
-    provider: &mut Provider<P>,
-    instrument: Synchronous<K, T>,
-    value: T,
-    attributes: &[KeyValue],
-) -> Result<(), Fault> {
-    let handle = instrument.bind(provider, attributes)?;
-    let recorded = handle.record(provider, value);
-    recorded.and(handle.end(provider))
-}
-
-/// Binds a handle at the instrument of this sort, records a value through it, and ends it.
-pub fn bind<P: Parts>(
-    provider: &mut Provider<P>,
-    instruments: Instruments,
-    sort: &str,
-    attributes: &[KeyValue],
-) -> Result<(), Fault> {
-    match sort {
-        "u64_counter" => hand(provider, instruments.limited, 8, attributes),
-        "i64_up_down_counter" => hand(provider, instruments.allowed, -8, attributes),
-        _ => hand(provider, instruments.spread, 8, attributes),
+        InstrumentSort::U64Counter => build_full(alloc, provider, meter.u64_counter(name)),
+        InstrumentSort::I64UpDownCounter => build_full(
+            alloc,
+            provider,
+            meter.i64_up_down_counter(name),
+        ),
+        InstrumentSort::U64Gauge => build_full(alloc, provider, meter.u64_gauge(name)),
+        InstrumentSort::I64Gauge => build_full(alloc, provider, meter.i64_gauge(name)),
+        InstrumentSort::U64Histogram => build_histogram(alloc, provider, meter, name),
+        InstrumentSort::U64ObservableCounter => {
+            provider.build_unsigned(meter.u64_observable_counter(name), callback)
+        }
+        InstrumentSort::U64ObservableGauge => {
+            provider.build_unsigned(meter.u64_observable_gauge(name), callback)
+        }
+        InstrumentSort::I64ObservableUpDownCounter => {
+            provider.build_signed(meter.i64_observable_up_down_counter(name), callback)
+        }
+        InstrumentSort::I64ObservableGauge => {
+            provider.build_signed(meter.i64_observable_gauge(name), callback)
+        }
     }
 }
