@@ -2,6 +2,7 @@
 
 mod callbacks;
 mod cases;
+mod metered;
 mod numbers;
 mod readers;
 mod refusing;

@@ -2,12 +2,17 @@
 
 ghost use Rattle.std.specs.Prelude.{◌≡◌, None, IfOk};
 
+use super::metered::{Metered, Request};
 use super::shown::assert_collected;
-use super::support::{attributes, meter, provider};
+use super::support::{attributes, provider};
 use opentelemetry_sdk::common::{Fault, Items};
+use opentelemetry_sdk::metrics::SdkMeterProvider;
 use opentelemetry_sdk::metrics::callback::{Observation, ObserveI64, ObserveU64};
-use opentelemetry_sdk::metrics::meter::{AsyncInstrumentBuilder, Meter, ObservableCounterKind};
-use opentelemetry_sdk::metrics::provider::{Parts, Provider};
+use opentelemetry_sdk::metrics::meter::{
+    AsyncInstrumentBuilder, Meter, ObservableCounterKind, ObservableGaugeKind,
+    ObservableUpDownCounterKind,
+};
+use opentelemetry_sdk::metrics::provider::{Boxed, Parts, Provider};
 use std::alloc::Global;
 use std::mem::replace;
 use std::process::Abort;
@@ -57,28 +62,165 @@ impl ObserveI64 for FailsFirst {
     }
 }
 
-/// Makes an observable counter with this callback at the moment 100.
-fn count<P: Parts>(
+/// What is asserted of a provider with callbacks.
+enum Case {
+    Dropped,
+    Refused,
+    WithoutMemory,
+    InOrder,
+}
+
+impl Case {
+    /// The fault that a callback answers first.
+    fn fault(&self) -> Fault {
+        match self {
+            Case::WithoutMemory => Fault::OutOfMemory,
+            _ => Fault::WrongKind,
+        }
+    }
+}
+
+/// A callback that observes these values in turn.
+fn in_turn(alloc: Global, values: [u64; 3]) -> Result<Box<dyn ObserveU64>, Fault> {
+    let runs = 0;
+    Ok(Box::new(
+        alloc,
+        InTurn {
+            alloc,
+            values,
+            runs,
+        },
+    )?)
+}
+
+/// A callback that answers this fault first.
+fn failing(alloc: Global, fault: Fault) -> Result<Box<dyn ObserveI64>, Fault> {
+    let fault = Some(fault);
+    Ok(Box::new(alloc, FailsFirst { alloc, fault })?)
+}
+
+/// The builder of an observable counter of this name whose callback observes these values in turn.
+fn counted(
     alloc: Global,
-    provider: &mut Provider<P>,
+    meter: Meter,
     name: &str,
-    callback: P::ObserveU64,
-) -> Result<(), Fault> {
+    values: [u64; 3],
+) -> Result<AsyncInstrumentBuilder<ObservableCounterKind, u64, Boxed>, Fault> {
     let name = String::from_str(alloc, name)?;
-    let meter = meter(provider, "app")?;
-    let builder = meter.u64_observable_counter(name).with_callback(callback)?;
-    builder.build(provider, 100)?;
+    let callback = in_turn(alloc, values)?;
+    meter.u64_observable_counter(name).with_callback(callback)
+}
+
+/// The builder of the observable up-down counter `middle`, whose callback answers the fault of a case first.
+fn middle(
+    alloc: Global,
+    meter: Meter,
+    case: &Case,
+) -> Result<AsyncInstrumentBuilder<ObservableUpDownCounterKind, i64, Boxed>, Fault> {
+    let name = String::from_str(alloc, "middle")?;
+    let callback = failing(alloc, case.fault())?;
+    meter
+        .i64_observable_up_down_counter(name)
+        .with_callback(callback)
+}
+
+/// The builder of the observable gauge `heat`, whose callback answers a fault first.
+fn heat(
+    alloc: Global,
+    meter: Meter,
+) -> Result<AsyncInstrumentBuilder<ObservableGaugeKind, i64, Boxed>, Fault> {
+    let name = String::from_str(alloc, "heat")?;
+    let callback = failing(alloc, Fault::WrongKind)?;
+    meter.i64_observable_gauge(name).with_callback(callback)
+}
+
+/// The builder of an observable counter with each setting but callbacks.
+fn load(
+    alloc: Global,
+    meter: Meter,
+) -> Result<AsyncInstrumentBuilder<ObservableCounterKind, u64, Boxed>, Fault> {
+    let name = String::from_str(alloc, "load")?;
+    let description = String::from_str(alloc, "how much")?;
+    let unit = String::from_str(alloc, "1")?;
+    Ok(
+        meter
+            .u64_observable_counter(name)
+            .with_description(description)
+            .with_unit(unit),
+    )
+}
+
+/// This builder with two callbacks, each of which observes values in turn.
+fn load_of_two(
+    alloc: Global,
+    meter: Meter,
+) -> Result<AsyncInstrumentBuilder<ObservableCounterKind, u64, Boxed>, Fault> {
+    let early = in_turn(alloc, [1, 2, 3])?;
+    let late = in_turn(alloc, [8, 9, 10])?;
+    load(alloc, meter)?
+        .with_callback(early)?
+        .with_callback(late)
+}
+
+/// Makes the observable instrument of a builder.
+fn make<K, T, P: Parts>(
+    provider: &mut Provider<P>,
+    builder: Result<AsyncInstrumentBuilder<K, T, P>, Fault>,
+    now: u64,
+) -> Result<(), Fault> {
+    builder?.build(provider, now)?;
     Ok(())
 }
 
-/// Asserts what the readers collect, in turn, from one counter with this callback.
-fn assert_dropped<P: Parts>(
+/// What these tests do with a provider: each method makes the observable instrument of a builder.
+trait Observing: Metered {
+    fn make_counted(
+        &mut self,
+        alloc: Global,
+        meter: Meter,
+        name: &str,
+        values: [u64; 3],
+    ) -> Result<(), Fault>;
+
+    fn make_middle(&mut self, alloc: Global, meter: Meter, case: &Case) -> Result<(), Fault>;
+
+    fn make_heat(&mut self, alloc: Global, meter: Meter) -> Result<(), Fault>;
+
+    fn make_load(&mut self, alloc: Global, meter: Meter) -> Result<(), Fault>;
+}
+
+impl Observing for SdkMeterProvider {
+    fn make_counted(
+        &mut self,
+        alloc: Global,
+        meter: Meter,
+        name: &str,
+        values: [u64; 3],
+    ) -> Result<(), Fault> {
+        make(self, counted(alloc, meter, name, values), 100)
+    }
+
+    fn make_middle(&mut self, alloc: Global, meter: Meter, case: &Case) -> Result<(), Fault> {
+        make(self, middle(alloc, meter, case), 110)
+    }
+
+    fn make_heat(&mut self, alloc: Global, meter: Meter) -> Result<(), Fault> {
+        make(self, heat(alloc, meter), 100)
+    }
+
+    fn make_load(&mut self, alloc: Global, meter: Meter) -> Result<(), Fault> {
+        make(self, load_of_two(alloc, meter), 100)
+    }
+}
+
+/// Asserts what the readers collect, in turn, from one counter.
+fn assert_dropped<M: Observing>(
     rt: &impl Abort,
     alloc: Global,
-    provider: &mut Provider<P>,
-    callback: P::ObserveU64,
+    provider: &mut M,
 ) -> Result<(), Fault> {
-    count(alloc, provider, "seen", callback)?;
+    let meter = provider.meter_named("app")?;
+    provider.make_counted(alloc, meter, "seen", [7, 9, 12])?;
     assert_collected(rt, alloc, provider, 5, 200, "resource -\n")?;
     assert_collected(
         rt,
@@ -106,22 +248,18 @@ fn assert_dropped<P: Parts>(
 
 /// Asserts what three callbacks give of which the second answers a fault on its first run: the first collection is
 /// refused.
-fn assert_second_fails<P: Parts>(
+fn assert_second_fails<M: Observing>(
     rt: &impl Abort,
     alloc: Global,
-    provider: &mut Provider<P>,
-    callbacks: (P::ObserveU64, P::ObserveI64, P::ObserveU64),
+    provider: &mut M,
+    case: &Case,
     refused: &str,
 ) -> Result<(), Fault> {
-    let (first, middle, last) = callbacks;
-    count(alloc, provider, "first", first)?;
-    let name = String::from_str(alloc, "middle")?;
-    let meter = meter(provider, "other")?;
-    let builder = meter
-        .i64_observable_up_down_counter(name)
-        .with_callback(middle)?;
-    builder.build(provider, 110)?;
-    count(alloc, provider, "last", last)?;
+    let app = provider.meter_named("app")?;
+    let other = provider.meter_named("other")?;
+    provider.make_counted(alloc, app, "first", [1, 2, 3])?;
+    provider.make_middle(alloc, other, case)?;
+    provider.make_counted(alloc, app, "last", [4, 5, 6])?;
     assert_collected(rt, alloc, provider, 0, 200, refused)?;
     assert_collected(
         rt,
@@ -141,145 +279,69 @@ fn assert_second_fails<P: Parts>(
     )
 }
 
-/// The builder of a counter with each setting but callbacks.
-fn load<P: Parts>(
-    alloc: Global,
-    meter: Meter,
-) -> Result<AsyncInstrumentBuilder<ObservableCounterKind, u64, P>, Fault> {
-    let description = String::from_str(alloc, "how much")?;
-    let unit = String::from_str(alloc, "1")?;
-    let builder = meter.u64_observable_counter(String::from_str(alloc, "load")?);
-    Ok(builder.with_description(description).with_unit(unit))
-}
-
-/// Asserts what is collected from one counter with two callbacks.
-fn assert_of_two<P: Parts>(
+/// Asserts what is collected from one counter with two callbacks; and that a callback that would answer another fault
+/// doesn't run for a reader that doesn't exist, and after a shutdown.
+fn assert_in_order<M: Observing>(
     rt: &impl Abort,
     alloc: Global,
-    provider: &mut Provider<P>,
-    early: P::ObserveU64,
-    late: P::ObserveU64,
+    provider: &mut M,
 ) -> Result<(), Fault> {
-    let meter = meter(provider, "app")?;
-    let builder = load(alloc, meter)?
-        .with_callback(early)?
-        .with_callback(late)?;
-    builder.build(provider, 100)?;
+    let meter = provider.meter_named("app")?;
+    provider.make_load(alloc, meter)?;
     let collected = "resource -\n\
          scope app - -\n\
          metric load (how much) 1 u64 sum Cumulative monotonic=true 100 200 exemplars=0\n\
          load k=1: 8\n";
-    assert_collected(rt, alloc, provider, 0, 200, collected)
-}
-
-/// Asserts that a callback that would answer another fault doesn't run for a reader that doesn't exist, and after a
-/// shutdown.
-fn assert_not_run<P: Parts>(
-    rt: &impl Abort,
-    alloc: Global,
-    provider: &mut Provider<P>,
-    callback: P::ObserveI64,
-) -> Result<(), Fault> {
-    let name = String::from_str(alloc, "heat")?;
-    let meter = meter(provider, "app")?;
-    let builder = meter.i64_observable_gauge(name).with_callback(callback)?;
-    builder.build(provider, 100)?;
+    assert_collected(rt, alloc, provider, 0, 200, collected)?;
+    provider.make_heat(alloc, meter)?;
     assert_collected(rt, alloc, provider, 6, 200, "refused 5\n")?;
-    provider.shutdown()?;
+    provider.request(&Request::Shutdown)?;
     assert_collected(rt, alloc, provider, 0, 300, "refused 9\n")
 }
 
-/// What is asserted of a provider and three callbacks.
-enum Case {
-    Dropped,
-    SecondFails(&'static str),
-    InOrder,
-}
-
-/// Asserts what a case says of a provider and these callbacks.
-fn assert_case<P: Parts>(
+/// Asserts what a case says.
+fn assert_case<M: Observing>(
     rt: &impl Abort,
     alloc: Global,
-    provider: &mut Provider<P>,
-    callbacks: (P::ObserveU64, P::ObserveI64, P::ObserveU64),
+    provider: &mut M,
     case: &Case,
 ) -> Result<(), Fault> {
-    let (first, failing, last) = callbacks;
     match case {
-        Case::Dropped => assert_dropped(rt, alloc, provider, first),
-        Case::SecondFails(refused) => {
-            assert_second_fails(rt, alloc, provider, (first, failing, last), refused)
-        }
-        Case::InOrder => {
-            assert_of_two(rt, alloc, provider, first, last)?;
-            assert_not_run(rt, alloc, provider, failing)
-        }
+        Case::Dropped => assert_dropped(rt, alloc, provider),
+        Case::Refused => assert_second_fails(rt, alloc, provider, case, "refused 7\n"),
+        Case::WithoutMemory => assert_second_fails(rt, alloc, provider, case, "refused 1\n"),
+        Case::InOrder => assert_in_order(rt, alloc, provider),
     }
 }
 
-/// A callback that observes these values in turn.
-fn in_turn(alloc: Global, values: [u64; 3]) -> Result<Box<dyn ObserveU64>, Fault> {
-    let callback = InTurn {
-        alloc,
-        values,
-        runs: 0,
-    };
-    Ok(Box::new(alloc, callback)?)
-}
-
-/// A callback that answers this fault first.
-fn failing(alloc: Global, fault: Fault) -> Result<Box<dyn ObserveI64>, Fault> {
-    let fault = Some(fault);
-    Ok(Box::new(alloc, FailsFirst { alloc, fault })?)
-}
-
-/// Asserts what a case says of a new provider and three callbacks: two that observe these values in turn, and between
-/// them one that answers this fault first.
-fn assert_of_callbacks(
-    rt: &impl Abort,
-    alloc: Global,
-    values: [[u64; 3]; 2],
-    fault: Fault,
-    case: &Case,
-) -> Result<(), Fault> {
-    let [early, late] = values;
-    let callbacks = (
-        in_turn(alloc, early)?,
-        failing(alloc, fault)?,
-        in_turn(alloc, late)?,
-    );
+/// Asserts what a case says of a new provider.
+fn assert_of_callbacks(rt: &impl Abort, alloc: Global, case: &Case) -> Result<(), Fault> {
     let mut provider = provider(alloc, 0, None)?;
-    assert_case(rt, alloc, &mut provider, callbacks, case)
+    assert_case(rt, alloc, &mut provider, case)
 }
 
 /// Of two delta readers one drops observable counters; the callback runs in each collection, of either.
 #[test]
 fn row_51(rt: HostRuntime) -> Result<(), Fault> {
-    let values = [[7, 9, 12], [0, 0, 0]];
-    assert_of_callbacks(&rt, rt.alloc(), values, Fault::WrongKind, &Case::Dropped)
+    assert_of_callbacks(&rt, rt.alloc(), &Case::Dropped)
 }
 
 /// Callbacks run in the order in which their instruments were built, up to the first that fails; those before it have
 /// run, but nothing is taken in.
 #[test]
 fn callback_refuses(rt: HostRuntime) -> Result<(), Fault> {
-    let values = [[1, 2, 3], [4, 5, 6]];
-    let case = &Case::SecondFails("refused 7\n");
-    assert_of_callbacks(&rt, rt.alloc(), values, Fault::WrongKind, case)
+    assert_of_callbacks(&rt, rt.alloc(), &Case::Refused)
 }
 
 /// The same of a callback that finds no memory: two have run once, the third has not.
 #[test]
 fn callback_without_memory(rt: HostRuntime) -> Result<(), Fault> {
-    let values = [[1, 2, 3], [4, 5, 6]];
-    let case = &Case::SecondFails("refused 1\n");
-    assert_of_callbacks(&rt, rt.alloc(), values, Fault::OutOfMemory, case)
+    assert_of_callbacks(&rt, rt.alloc(), &Case::WithoutMemory)
 }
 
 /// If two callbacks of one counter observe the same set of attributes, the later one counts. No callback runs where
 /// nothing can be collected.
 #[test]
 fn callbacks_in_order(rt: HostRuntime) -> Result<(), Fault> {
-    let values = [[1, 2, 3], [8, 9, 10]];
-    assert_of_callbacks(&rt, rt.alloc(), values, Fault::WrongKind, &Case::InOrder)
+    assert_of_callbacks(&rt, rt.alloc(), &Case::InOrder)
 }

@@ -1,5 +1,6 @@
 //! What tests do with a provider that has a reader of each sort.
 
+use super::metered::Handling;
 use super::numbers::assert_numbers;
 use super::seeds::assert_replies;
 use super::shutdowns::assert_shut_down;
@@ -7,7 +8,6 @@ use super::support::provider;
 use super::typed::assert_used;
 use super::wholes::{assert_cumulative, assert_delta};
 use opentelemetry_sdk::common::Fault;
-use opentelemetry_sdk::metrics::provider::{Parts, Provider};
 use std::alloc::Global;
 use std::process::Abort;
 
@@ -23,10 +23,10 @@ pub enum Case {
 }
 
 /// Asserts what a case says.
-fn assert_case<P: Parts>(
+fn assert_case<M: Handling>(
     rt: &impl Abort,
     alloc: Global,
-    provider: &mut Provider<P>,
+    provider: &mut M,
     case: &Case,
 ) -> Result<(), Fault> {
     match case {

@@ -1,10 +1,11 @@
 //! The seed of the hashes.
 
 use super::cases::{Case, assert_of_provider};
+use super::metered::Handling;
 use super::shown::write_collection;
-use super::support::{assert_is, attributes, build};
+use super::support::{assert_text, attributes, build};
 use opentelemetry_sdk::common::{Fault, InstrumentationScope, Items};
-use opentelemetry_sdk::metrics::provider::{Call, NumberValue, Parts, Provider, Reply};
+use opentelemetry_sdk::metrics::provider::{Call, NumberValue, Reply};
 use std::alloc::{AllocError, Global};
 use std::process::Abort;
 
@@ -17,29 +18,54 @@ fn record(alloc: Global, value: u64, shown: &str) -> Result<Call, Fault> {
     })
 }
 
-/// Adds the build of a counter of a meter; records of three sets, of which one comes in two orders and one through a
-/// handle; and a collection.
-fn push_calls(alloc: Global, calls: &mut Vec<Call>) -> Result<(), Fault> {
+/// The request for the meter `app`.
+fn meter(alloc: Global) -> Result<Call, Fault> {
     let name = String::from_str(alloc, "app")?;
     let scope = InstrumentationScope::builder(alloc, name).build()?;
-    calls.push(Call::Meter { scope })?;
-    calls.push(build(alloc, "requests", "")?)?;
-    calls.push(record(alloc, 1, "b=1 a=2")?)?;
-    calls.push(record(alloc, 2, "c=1")?)?;
-    calls.push(Call::Bind {
+    Ok(Call::Meter { scope })
+}
+
+/// A bind of a handle at the counter.
+fn bind(alloc: Global, shown: &str) -> Result<Call, Fault> {
+    Ok(Call::Bind {
         instrument: 0,
-        attributes: Items::from(attributes(alloc, "d=1")?),
-    })?;
-    calls.push(record(alloc, 4, "a=2 b=1")?)?;
-    calls.push(Call::RecordBound {
+        attributes: Items::from(attributes(alloc, shown)?),
+    })
+}
+
+/// A record of a value through the handle.
+fn record_through(value: u64) -> Call {
+    Call::RecordBound {
         handle: 0,
-        value: NumberValue::U64(8),
-    })?;
-    Ok(calls.push(Call::Collect {
+        value: NumberValue::U64(value),
+    }
+}
+
+/// A collection of the delta reader.
+fn collect(alloc: Global) -> Call {
+    Call::Collect {
         reader: 1,
         now: 200,
         observations: Items::from(Vec::new(alloc)),
-    })?)
+    }
+}
+
+/// Adds a call, if it could be made.
+fn push(calls: &mut Vec<Call>, call: Result<Call, Fault>) -> Result<(), Fault> {
+    Ok(calls.push(call?)?)
+}
+
+/// Adds the build of a counter of a meter; records of three sets, of which one comes in two orders and one through a
+/// handle; and a collection.
+fn push_calls(alloc: Global, calls: &mut Vec<Call>) -> Result<(), Fault> {
+    push(calls, meter(alloc))?;
+    push(calls, build(alloc, "requests", ""))?;
+    push(calls, record(alloc, 1, "b=1 a=2"))?;
+    push(calls, record(alloc, 2, "c=1"))?;
+    push(calls, bind(alloc, "d=1"))?;
+    push(calls, record(alloc, 4, "a=2 b=1"))?;
+    push(calls, Ok(record_through(8)))?;
+    push(calls, Ok(collect(alloc)))
 }
 
 const REPLIES: &str = "Meter(Some(0))\n\
@@ -73,17 +99,17 @@ fn write_replies(text: &mut String, replies: &[Reply]) -> Result<(), AllocError>
 }
 
 /// Makes the calls, and asserts the replies.
-pub fn assert_replies<P: Parts>(
+pub fn assert_replies<M: Handling>(
     rt: &impl Abort,
     alloc: Global,
-    provider: &mut Provider<P>,
+    provider: &mut M,
 ) -> Result<(), Fault> {
     let mut calls = Vec::new(alloc);
     push_calls(alloc, &mut calls)?;
-    let replies = provider.run(alloc, calls.as_slice())?;
+    let replies = provider.call_each(alloc, calls.as_slice())?;
     let mut text = String::new(alloc);
     write_replies(&mut text, replies.as_slice())?;
-    assert_is(rt, text.as_str(), REPLIES);
+    assert_text(rt, text.as_str(), REPLIES);
     Ok(())
 }
 

@@ -1,11 +1,12 @@
 //! Collections as text: a line for the resource, and one for each scope, metric and point.
 
+use super::metered::Metered;
+use super::support::assert_text;
 use opentelemetry_sdk::common::Fault;
 use opentelemetry_sdk::metrics::data::{
     AggregatedMetrics, Gauge, Histogram, HistogramDataPoint, Metric, MetricData, ResourceMetrics,
     ScopeMetrics, Sum,
 };
-use opentelemetry_sdk::metrics::provider::{Parts, Provider};
 use opentelemetry_sdk::resource::Resource;
 use std::alloc::{AllocError, Global};
 use std::fmt::Display;
@@ -142,30 +143,17 @@ pub fn write_collection(text: &mut String, collected: &ResourceMetrics) -> Resul
     Ok(())
 }
 
-/// Writes what a reader of a provider collects at a moment: the lines of the collection, or the number of the fault.
-fn write_collected<P: Parts>(
-    text: &mut String,
-    provider: &mut Provider<P>,
-    reader: usize,
-    now: u64,
-) -> Result<(), AllocError> {
-    match provider.collected(reader, now) {
-        Ok(metrics) => write_collection(text, &metrics),
-        Err(fault) => writeln!(text, "refused {}", fault.number()),
-    }
-}
-
 /// Asserts what a reader of a provider collects at a moment.
-pub fn assert_collected<P: Parts>(
+pub fn assert_collected<M: Metered>(
     rt: &impl Abort,
     alloc: Global,
-    provider: &mut Provider<P>,
+    provider: &mut M,
     reader: usize,
     now: u64,
     wanted: &str,
 ) -> Result<(), Fault> {
     let mut text = String::new(alloc);
-    write_collected(&mut text, provider, reader, now)?;
-    assert_eq!(rt; text.as_str(), wanted);
+    provider.write_collected(&mut text, reader, now)?;
+    assert_text(rt, text.as_str(), wanted);
     Ok(())
 }

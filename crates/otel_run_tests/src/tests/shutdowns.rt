@@ -1,49 +1,56 @@
 //! Flushes and shutdowns.
 
 use super::cases::{Case, assert_of_provider};
-use super::support::{Request, assert_is, assert_requests, build_faults, meter};
+use super::metered::{Metered, Request};
+use super::support::{assert_text, write_builds, write_requests};
 use opentelemetry_sdk::common::Fault;
 use opentelemetry_sdk::error::SdkError;
-use opentelemetry_sdk::metrics::provider::{Parts, Provider};
 use opentelemetry_sdk::metrics::reader::CardinalityLimit;
 use std::alloc::Global;
 use std::process::Abort;
 
 /// Makes a limit, and shuts a provider down.
-fn limited<P: Parts>(provider: &mut Provider<P>, limit: usize) -> Result<(), SdkError> {
+fn limited<M: Metered>(provider: &mut M, limit: usize) -> Result<(), SdkError> {
     let _ = CardinalityLimit::new(limit)?;
-    Ok(provider.shutdown()?)
+    Ok(provider.request(&Request::Shutdown)?)
 }
 
-/// Asserts the text of an error.
-fn assert_error(
-    rt: &impl Abort,
-    alloc: Global,
-    answer: Result<(), SdkError>,
-    wanted: &str,
-) -> Result<(), Fault> {
-    let text = match answer {
-        Ok(()) => String::from_str(alloc, "nothing")?,
-        Err(error) => format!(in alloc; "{error}")?,
-    };
-    assert_eq!(rt; text.as_str(), wanted);
-    Ok(())
+/// Writes the text of an error.
+fn write_error(text: &mut String, answer: Result<(), SdkError>) -> Result<(), Fault> {
+    match answer {
+        Ok(()) => Ok(text.push_str("nothing\n")?),
+        Err(error) => Ok(writeln!(text, "{error}")?),
+    }
 }
 
-/// Asserts what comes of flushes and shutdowns, and with which text a limit and a second shutdown are refused. After a
+/// Writes what comes of flushes and shutdowns, and with which text a limit and a second shutdown are refused. After a
 /// shutdown a meter has no number, and its instruments are built all the same.
-pub fn assert_shut_down<P: Parts>(
-    rt: &impl Abort,
+fn write_shut_down<M: Metered>(
     alloc: Global,
-    provider: &mut Provider<P>,
+    text: &mut String,
+    provider: &mut M,
 ) -> Result<(), Fault> {
     let requests = &[Request::Flush, Request::TimedShutdown, Request::Flush];
-    assert_requests(rt, alloc, provider, requests, "0 0 8 ")?;
-    let zero = "Cardinality limit must be greater than 0";
-    assert_error(rt, alloc, limited(provider, 0), zero)?;
-    assert_error(rt, alloc, limited(provider, 1), "already shut down")?;
-    let late = meter(provider, "late")?;
-    assert_is(rt, build_faults(alloc, provider, late)?, [0, 0]);
+    write_requests(text, provider, requests)?;
+    write_error(text, limited(provider, 0))?;
+    write_error(text, limited(provider, 1))?;
+    let late = provider.meter_named("late")?;
+    write_builds(alloc, text, provider, late)
+}
+
+const WANTED: &str = "0 0 8 Cardinality limit must be greater than 0\n\
+     already shut down\n\
+     0 0 ";
+
+/// Asserts what is written of a provider that is shut down.
+pub fn assert_shut_down<M: Metered>(
+    rt: &impl Abort,
+    alloc: Global,
+    provider: &mut M,
+) -> Result<(), Fault> {
+    let mut text = String::new(alloc);
+    write_shut_down(alloc, &mut text, provider)?;
+    assert_text(rt, text.as_str(), WANTED);
     Ok(())
 }
 

@@ -1,138 +1,121 @@
-//! Providers, instruments and attributes that several tests use, and answers as plain values.
+//! Providers, instruments and attributes that several tests use, and answers as text.
 
-use super::readers::OwnReader;
+use super::metered::{Metered, Request};
+use super::readers::{OwnReader, TakesOwn, with_reader};
 use opentelemetry_sdk::common::{Fault, InternalFault, KeyValue, OTelSdkResult, StringValue};
 use opentelemetry_sdk::metrics::Temporality::{Cumulative, Delta, LowMemory};
-use opentelemetry_sdk::metrics::meter::{Counter, InstrumentBuilder, Meter, Synchronous};
-use opentelemetry_sdk::metrics::provider::{
-    Call, InstrumentSort, Parts, Provider, ProviderBuilder, Reply,
-};
+use opentelemetry_sdk::metrics::meter::{Counter, CounterKind, InstrumentBuilder, Meter};
+use opentelemetry_sdk::metrics::provider::{Call, InstrumentSort, MeterProviderBuilder};
 use opentelemetry_sdk::metrics::reader::MetricReader;
 use opentelemetry_sdk::metrics::{
-    Aggregation, InstrumentKind, ManualReader, SdkMeterProvider, Temporality,
+    Aggregation, InstrumentKind, ManualReader, ManualReaderBuilder, SdkMeterProvider, Temporality,
 };
-use std::alloc::{AllocError, Global};
-use std::fmt::Debug;
+use std::alloc::Global;
 use std::process::Abort;
-use std::time::Duration;
 
-/// Asserts that a value is as wanted. A function of its own, so that no proof about who owns a provider looks into how
-/// it would be printed.
-pub fn assert_is<T: PartialEq + Debug + Drop>(rt: &impl Abort, found: T, wanted: T) {
+/// Asserts that a text is as wanted. A function of its own, so that no proof about who lets a value go looks into how
+/// texts would be printed.
+pub fn assert_text(rt: &impl Abort, found: &str, wanted: &str) {
     assert_eq!(rt; found, wanted);
 }
 
-/// The builder with one reader more, if that could be made.
-pub fn with_reader<P: Parts>(
-    builder: ProviderBuilder<P>,
-    reader: Result<P::Reader, Fault>,
-) -> Result<ProviderBuilder<P>, Fault> {
-    builder.with_reader(reader?)
+/// A builder that takes manual readers.
+trait TakesManual: TakesOwn {
+    /// Adds the reader of this builder.
+    fn manual(self, alloc: Global, reader: ManualReaderBuilder) -> Result<Self, Fault>;
+}
+
+/// The reader of a builder, in a box.
+fn boxed(alloc: Global, reader: ManualReaderBuilder) -> Result<Box<dyn MetricReader>, Fault> {
+    Ok(Box::new(alloc, reader.build())?)
+}
+
+impl TakesManual for MeterProviderBuilder {
+    fn manual(self, alloc: Global, reader: ManualReaderBuilder) -> Result<Self, Fault> {
+        with_reader(self, boxed(alloc, reader))
+    }
 }
 
 /// A manual reader that wants this temporality.
-fn manual(alloc: Global, temporality: Temporality) -> Result<Box<dyn MetricReader>, Fault> {
-    let reader = ManualReader::builder().with_temporality(temporality);
-    Ok(Box::new(alloc, reader.build())?)
-}
-
-/// A reader of a program's own that wants one temporality for counters and another for all other kinds.
-fn own(
-    alloc: Global,
-    counters: Temporality,
-    others: Temporality,
-) -> Result<Box<dyn MetricReader>, Fault> {
-    Ok(Box::new(alloc, OwnReader::new(counters, others, false))?)
+fn manual(temporality: Temporality) -> ManualReaderBuilder {
+    ManualReader::builder().with_temporality(temporality)
 }
 
 /// A manual reader that wants delta, and drops observable counters.
-fn dropping(alloc: Global) -> Result<Box<dyn MetricReader>, Fault> {
-    let reader = ManualReader::builder()
-        .with_temporality(Delta)
-        .with_default_aggregation(InstrumentKind::ObservableCounter, Aggregation::Drop);
-    Ok(Box::new(alloc, reader.build())?)
+fn dropping() -> ManualReaderBuilder {
+    manual(Delta).with_default_aggregation(InstrumentKind::ObservableCounter, Aggregation::Drop)
 }
 
-/// A provider with a reader of each sort: from 0 on, manual ones that want cumulative, delta and low-memory temporality;
-/// one of a program's own that wants delta for counters alone, and one that wants it for all other kinds; and a manual
-/// one that wants delta, and drops observable counters.
+/// The builder with a reader of each sort: from 0 on, manual ones that want cumulative, delta and low-memory
+/// temporality; one of a program's own that wants delta for counters alone, and one that wants it for all other kinds;
+/// and a manual one that wants delta, and drops observable counters.
+fn with_each_sort<B: TakesManual>(alloc: Global, builder: B) -> Result<B, Fault> {
+    builder
+        .manual(alloc, manual(Cumulative))?
+        .manual(alloc, manual(Delta))?
+        .manual(alloc, manual(LowMemory))?
+        .own(alloc, OwnReader::new(Delta, Cumulative, false))?
+        .own(alloc, OwnReader::new(LowMemory, Delta, false))?
+        .manual(alloc, dropping())
+}
+
+/// A builder of a provider whose sets are hashed from a seed, if there is one.
+fn seeded(alloc: Global, seed: Option<u64>) -> MeterProviderBuilder {
+    let builder = SdkMeterProvider::builder(alloc);
+    match seed {
+        Some(seed) => builder.with_hash_seed(seed),
+        None => builder,
+    }
+}
+
+/// A provider of this identity with a reader of each sort, whose sets are hashed from a seed, if there is one.
 pub fn provider(
     alloc: Global,
     identity: u64,
     seed: Option<u64>,
 ) -> Result<SdkMeterProvider, Fault> {
-    let mut builder = SdkMeterProvider::builder(alloc).with_identity(identity);
-    if let Some(seed) = seed {
-        builder = builder.with_hash_seed(seed);
-    }
-    builder = with_reader(builder, manual(alloc, Cumulative))?;
-    builder = with_reader(builder, manual(alloc, Delta))?;
-    builder = with_reader(builder, manual(alloc, LowMemory))?;
-    builder = with_reader(builder, own(alloc, Delta, Cumulative))?;
-    builder = with_reader(builder, own(alloc, LowMemory, Delta))?;
-    with_reader(builder, dropping(alloc))?.build()
+    with_each_sort(alloc, seeded(alloc, seed).with_identity(identity))?.build()
 }
 
-/// The meter of this name.
-pub fn meter<P: Parts>(provider: &mut Provider<P>, name: &str) -> Result<Meter, Fault> {
-    provider.meter(name)
-}
-
-/// Makes the instrument of a builder.
-pub fn made<K, T, P: Parts>(
-    provider: &mut Provider<P>,
-    builder: InstrumentBuilder<K, T>,
-    now: u64,
-) -> Result<Synchronous<K, T>, Fault> {
-    builder.build(provider, now)
-}
-
-/// Makes a counter of a name and, if there are any, a description and a unit.
-pub fn counter<P: Parts>(
+/// The builder of a counter of this name, description and unit.
+pub fn described(
     alloc: Global,
-    provider: &mut Provider<P>,
     meter: Meter,
-    (name, description, unit): (&str, Option<&str>, Option<&str>),
+    (name, description, unit): (&str, &str, &str),
+) -> Result<InstrumentBuilder<CounterKind, u64>, Fault> {
+    let name = String::from_str(alloc, name)?;
+    let description = String::from_str(alloc, description)?;
+    let unit = String::from_str(alloc, unit)?;
+    Ok(
+        meter
+            .u64_counter(name)
+            .with_description(description)
+            .with_unit(unit),
+    )
+}
+
+/// Makes a counter of this name.
+pub fn counter<M: Metered>(
+    alloc: Global,
+    provider: &mut M,
+    meter: Meter,
+    name: &str,
     now: u64,
 ) -> Result<Counter<u64>, Fault> {
-    let mut builder = meter.u64_counter(String::from_str(alloc, name)?);
-    if let Some(description) = description {
-        builder = builder.with_description(String::from_str(alloc, description)?);
-    }
-    if let Some(unit) = unit {
-        builder = builder.with_unit(String::from_str(alloc, unit)?);
-    }
-    made(provider, builder, now)
+    let name = String::from_str(alloc, name)?;
+    provider.count(meter.u64_counter(name), now)
 }
 
-/// Adds a value with attributes at a counter.
-pub fn add<P: Parts>(
-    provider: &mut Provider<P>,
-    counter: Counter<u64>,
-    value: u64,
-    attributes: &[KeyValue],
-) -> Result<(), Fault> {
-    counter.add(provider, value, attributes)
-}
-
-/// Makes a call. Answers the fault with which it was refused, if it was.
-pub fn step<P: Parts>(provider: &mut Provider<P>, call: &Call) -> OTelSdkResult {
-    match provider.step(call) {
-        Reply::Refused(fault) => Err(fault),
-        _ => Ok(()),
-    }
-}
-
-/// The fault numbers of builds of a counter and of an observable one.
-pub fn build_faults<P: Parts>(
+/// Writes the fault numbers of builds of a counter and of an observable one.
+pub fn write_builds<M: Metered>(
     alloc: Global,
-    provider: &mut Provider<P>,
+    text: &mut String,
+    provider: &mut M,
     meter: Meter,
-) -> Result<[u8; 2], Fault> {
-    let counted = fault_of(counter(alloc, provider, meter, ("more", None, None), 100));
-    let name = String::from_str(alloc, "seen")?;
-    let builder = meter.u64_observable_counter(name);
-    Ok([counted, fault_of(builder.build(provider, 100))])
+) -> Result<(), Fault> {
+    write_fault(text, counter(alloc, provider, meter, "more", 100))?;
+    let seen = String::from_str(alloc, "seen")?;
+    write_fault(text, provider.count_observed(meter, seen))
 }
 
 /// The build of a counter of the first meter at 100, as a call.
@@ -150,31 +133,24 @@ pub fn build(alloc: Global, name: &str, unit: &str) -> Result<Call, Fault> {
     })
 }
 
-/// The attribute that a text shows. Its value is a number or a text.
-fn attribute(alloc: Global, shown: &str) -> Result<KeyValue, Fault> {
+/// The attribute that a text shows, whose value is a number.
+fn numbered(alloc: Global, shown: &str) -> Result<KeyValue, Fault> {
     let (key, value) = shown.split_once('=').unwrap_or((shown, ""));
-    match value.parse::<i64>() {
-        Ok(number) => KeyValue::int(alloc, key, number),
-        Err(_) => KeyValue::text(alloc, key, value),
-    }
+    KeyValue::int(alloc, key, value.parse().unwrap_or(0))
 }
 
 /// Adds the attributes that a text shows, in its order.
-fn push_attributes(
-    alloc: Global,
-    attributes: &mut Vec<KeyValue>,
-    shown: &str,
-) -> Result<(), Fault> {
+fn push_numbered(alloc: Global, attributes: &mut Vec<KeyValue>, shown: &str) -> Result<(), Fault> {
     for shown in shown.split_whitespace() {
-        attributes.push(attribute(alloc, shown)?)?;
+        attributes.push(numbered(alloc, shown)?)?;
     }
     Ok(())
 }
 
-/// The attributes that a text shows, as `b=1 a=2`, in its order.
+/// The attributes that a text shows, as `b=1 a=2`, in its order. Their values are numbers.
 pub fn attributes(alloc: Global, shown: &str) -> Result<Vec<KeyValue>, Fault> {
     let mut attributes = Vec::new(alloc);
-    push_attributes(alloc, &mut attributes, shown)?;
+    push_numbered(alloc, &mut attributes, shown)?;
     Ok(attributes)
 }
 
@@ -186,49 +162,30 @@ pub fn fault_of<T: Drop>(answer: Result<T, Fault>) -> u8 {
     }
 }
 
-/// A request to all readers of a provider, by a method or as a call.
-pub enum Request {
-    Flush,
-    Shutdown,
-    TimedShutdown,
-    FlushCall,
-    ShutdownCall,
-}
-
-/// Makes a request.
-fn answer<P: Parts>(provider: &mut Provider<P>, request: &Request) -> OTelSdkResult {
-    match request {
-        Request::Flush => provider.force_flush(),
-        Request::Shutdown => provider.shutdown(),
-        Request::TimedShutdown => provider.shutdown_with_timeout(Duration::from_secs(1)),
-        Request::FlushCall => step(provider, &Call::Flush),
-        Request::ShutdownCall => step(provider, &Call::Shutdown),
-    }
+/// Writes the number of the fault, or 0 if there is none.
+pub fn write_fault<T: Drop>(text: &mut String, answer: Result<T, Fault>) -> Result<(), Fault> {
+    Ok(write!(text, "{} ", fault_of(answer))?)
 }
 
 /// Writes the number of the fault, or 0 if there is none. If readers failed, writes also how many, and the number of the
 /// first of them.
-fn write_answer(text: &mut String, answer: OTelSdkResult) -> Result<(), AllocError> {
+fn write_answer(text: &mut String, answer: OTelSdkResult) -> Result<(), Fault> {
     match answer {
         Err(Fault::InternalFailure(InternalFault::Readers { failed, first })) => {
-            write!(text, "10:{failed},{first} ")
+            Ok(write!(text, "10:{failed},{first} ")?)
         }
-        answer => write!(text, "{} ", fault_of(answer)),
+        answer => write_fault(text, answer),
     }
 }
 
-/// Makes requests, and asserts what is seen of the answers.
-pub fn assert_requests<P: Parts>(
-    rt: &impl Abort,
-    alloc: Global,
-    provider: &mut Provider<P>,
+/// Makes requests, and writes what is seen of the answers.
+pub fn write_requests<M: Metered>(
+    text: &mut String,
+    provider: &mut M,
     requests: &[Request],
-    wanted: &str,
 ) -> Result<(), Fault> {
-    let mut text = String::new(alloc);
     for request in requests {
-        write_answer(&mut text, answer(provider, request))?;
+        write_answer(text, provider.request(request))?;
     }
-    assert_is(rt, text.as_str(), wanted);
     Ok(())
 }

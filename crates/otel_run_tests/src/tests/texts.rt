@@ -1,6 +1,6 @@
 //! Which names, units and bounds are good, and the texts of the others; the text of attributes.
 
-use super::support::assert_is;
+use super::support::assert_text;
 use opentelemetry_sdk::attributes;
 use opentelemetry_sdk::common::{Fault, KeyValue};
 use opentelemetry_sdk::metrics::MetricError;
@@ -97,6 +97,6 @@ fn attributes_written_out(rt: HostRuntime) -> Result<(), Fault> {
         attributes![in rt.alloc(); "path" => "/cart", "items" => -3i64, "paid" => true];
     let mut text = String::new(rt.alloc());
     write_attributes(&mut text, &attributes)?;
-    assert_is(&rt, text.as_str(), "path=/cart items=-3 paid=true ");
+    assert_text(&rt, text.as_str(), "path=/cart items=-3 paid=true ");
     Ok(())
 }

@@ -1,97 +1,104 @@
 //! Meters, instruments and bound handles as values.
 
 use super::cases::{Case, assert_of_provider};
+use super::metered::Handling;
 use super::shown::assert_collected;
-use super::support::{counter, made, meter};
+use super::support::counter;
 use opentelemetry_sdk::common::Fault;
 use opentelemetry_sdk::metrics::meter::{
-    Counter, Gauge, Histogram, InstrumentBuilder, Meter, NumberType, Synchronous, UpDownCounter,
-    UpDownCounterKind,
+    Counter, Gauge, Histogram, HistogramBuilder, InstrumentBuilder, Meter, NumberType, Synchronous,
+    UpDownCounter, UpDownCounterKind,
 };
-use opentelemetry_sdk::metrics::provider::{Parts, Provider};
 use std::alloc::Global;
 use std::process::Abort;
 
 /// An instrument of each sort.
-type Instruments = (
-    Counter<u64>,
-    UpDownCounter<i64>,
-    Gauge<u64>,
-    Gauge<i64>,
-    Histogram<u64>,
-);
+#[derive(Clone, Copy)]
+struct Instruments {
+    hits: Counter<u64>,
+    open: UpDownCounter<i64>,
+    load: Gauge<u64>,
+    heat: Gauge<i64>,
+    size: Histogram<u64>,
+}
 
 /// The builder of the up-down counter, with each setting.
-fn up_down(
-    alloc: Global,
-    meter: Meter,
-) -> Result<InstrumentBuilder<UpDownCounterKind, i64>, Fault> {
+fn open(alloc: Global, meter: Meter) -> Result<InstrumentBuilder<UpDownCounterKind, i64>, Fault> {
+    let name = String::from_str(alloc, "open")?;
     let description = String::from_str(alloc, "how many")?;
     let unit = String::from_str(alloc, "1")?;
-    let builder = meter.i64_up_down_counter(String::from_str(alloc, "open")?);
-    Ok(builder.with_description(description).with_unit(unit))
+    Ok(
+        meter
+            .i64_up_down_counter(name)
+            .with_description(description)
+            .with_unit(unit),
+    )
+}
+
+/// The builder of the histogram.
+fn size(alloc: Global, meter: Meter) -> Result<HistogramBuilder<u64>, Fault> {
+    let name = String::from_str(alloc, "size")?;
+    let boundaries = [10].to_vec(alloc)?;
+    Ok(meter.u64_histogram(name).with_boundaries(boundaries))
 }
 
 /// Makes the instruments with their builders.
-fn instruments<P: Parts>(alloc: Global, provider: &mut Provider<P>) -> Result<Instruments, Fault> {
-    let app = meter(provider, "app")?;
-    let other = meter(provider, "other")?;
-    let hits = counter(alloc, provider, app, ("hits", None, None), 100)?;
-    let open = made(provider, up_down(alloc, app)?, 110)?;
-    let builder = app.u64_gauge(String::from_str(alloc, "load")?);
-    let load = made(provider, builder, 120)?;
-    let builder = app.i64_gauge(String::from_str(alloc, "heat")?);
-    let heat = made(provider, builder, 130)?;
-    let boundaries = [10].to_vec(alloc)?;
-    let builder = other.u64_histogram(String::from_str(alloc, "size")?);
-    let size = made(provider, builder.with_boundaries(boundaries), 140)?;
-    Ok((hits, open, load, heat, size))
+fn make_instruments<M: Handling>(alloc: Global, provider: &mut M) -> Result<Instruments, Fault> {
+    let app = provider.meter_named("app")?;
+    let other = provider.meter_named("other")?;
+    let load = app.u64_gauge(String::from_str(alloc, "load")?);
+    let heat = app.i64_gauge(String::from_str(alloc, "heat")?);
+    Ok(Instruments {
+        hits: counter(alloc, provider, app, "hits", 100)?,
+        open: provider.make(open(alloc, app)?, 110)?,
+        load: provider.make(load, 120)?,
+        heat: provider.make(heat, 130)?,
+        size: provider.make(size(alloc, other)?, 140)?,
+    })
 }
 
 /// Records a value without attributes at each instrument.
-fn record<P: Parts>(provider: &mut Provider<P>, instruments: Instruments) -> Result<(), Fault> {
-    let (hits, open, load, heat, size) = instruments;
-    hits.add(provider, 5, &[])?;
-    open.add(provider, -7, &[])?;
-    load.record(provider, 9, &[])?;
-    heat.record(provider, -11, &[])?;
-    size.record(provider, 13, &[])
+fn record<M: Handling>(provider: &mut M, instruments: &Instruments) -> Result<(), Fault> {
+    provider.add(instruments.hits, 5, &[])?;
+    provider.add_up_down(instruments.open, -7)?;
+    provider.record(instruments.load, 9)?;
+    provider.record(instruments.heat, -11)?;
+    provider.record(instruments.size, 13)
 }
 
 /// Binds a handle without attributes at an instrument, records one value through it, and ends it.
-fn hand<K, T: NumberType, P: Parts>(
-    provider: &mut Provider<P>,
+fn hand<K, T: NumberType, M: Handling>(
+    provider: &mut M,
     instrument: Synchronous<K, T>,
     value: T,
 ) -> Result<(), Fault> {
-    let handle = instrument.bind(provider, &[])?;
-    let recorded = handle.record(provider, value);
-    handle.end(provider)?;
+    let handle = provider.bind(instrument)?;
+    let recorded = provider.record_through(&handle, value);
+    provider.end(handle)?;
     recorded
 }
 
 /// Records the same values through handles.
-fn hand_all<P: Parts>(provider: &mut Provider<P>, instruments: Instruments) -> Result<(), Fault> {
-    let (hits, open, load, heat, size) = instruments;
-    hand(provider, hits, 5)?;
-    hand(provider, open, -7)?;
-    hand(provider, load, 9)?;
-    hand(provider, heat, -11)?;
-    hand(provider, size, 13)
+fn hand_all<M: Handling>(provider: &mut M, instruments: &Instruments) -> Result<(), Fault> {
+    hand(provider, instruments.hits, 5)?;
+    hand(provider, instruments.open, -7)?;
+    hand(provider, instruments.load, 9)?;
+    hand(provider, instruments.heat, -11)?;
+    hand(provider, instruments.size, 13)
 }
 
 /// Asserts what a provider's first reader collects after each instrument has been used.
-pub fn assert_used<P: Parts>(
+pub fn assert_used<M: Handling>(
     rt: &impl Abort,
     alloc: Global,
-    provider: &mut Provider<P>,
+    provider: &mut M,
     through_handles: bool,
 ) -> Result<(), Fault> {
-    let instruments = instruments(alloc, provider)?;
+    let instruments = make_instruments(alloc, provider)?;
     if through_handles {
-        hand_all(provider, instruments)?;
+        hand_all(provider, &instruments)?;
     } else {
-        record(provider, instruments)?;
+        record(provider, &instruments)?;
     }
     assert_collected(
         rt,

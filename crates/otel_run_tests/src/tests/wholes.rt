@@ -1,11 +1,11 @@
 //! Whole collections: each heading, moment and point, and nothing else.
 
 use super::cases::{Case, assert_of_provider};
+use super::metered::Handling;
 use super::shown::assert_collected;
-use super::support::{add, attributes, counter, meter};
+use super::support::{attributes, described};
 use opentelemetry_sdk::common::{Fault, InstrumentationScope, KeyValue};
-use opentelemetry_sdk::metrics::meter::{Counter, Meter};
-use opentelemetry_sdk::metrics::provider::{Parts, Provider};
+use opentelemetry_sdk::metrics::meter::{Counter, CounterKind, InstrumentBuilder, Meter};
 use std::alloc::{AllocError, Global};
 use std::process::Abort;
 
@@ -45,58 +45,66 @@ fn write_many(alloc: Global, text: &mut String, count: u32) -> Result<(), AllocE
     Ok(())
 }
 
-/// The meter of a scope with all four parts, of which the name and the attributes are long.
-fn long_meter<P: Parts>(alloc: Global, provider: &mut Provider<P>) -> Result<Meter, Fault> {
+/// A scope with all four parts, of which the name and the attributes are long.
+fn long_scope(alloc: Global) -> Result<InstrumentationScope, Fault> {
     let name = "scope".repeat(alloc, 1000)?;
     let version = String::from_str(alloc, "1.2.3")?;
     let url = String::from_str(alloc, "https://example.org/schema")?;
     let attributes = many(alloc, 100)?;
-    let builder = InstrumentationScope::builder(alloc, name).with_version(version);
-    let builder = builder.with_schema_url(url).with_attributes(attributes);
-    provider.meter_with_scope(builder.build()?)
+    InstrumentationScope::builder(alloc, name)
+        .with_version(version)
+        .with_schema_url(url)
+        .with_attributes(attributes)
+        .build()
 }
 
-/// A counter with long texts, made at 120.
-fn long_counter<P: Parts>(
-    alloc: Global,
-    provider: &mut Provider<P>,
-    meter: Meter,
-) -> Result<Counter<u64>, Fault> {
+/// The builder of a counter with long texts.
+fn long_counter(alloc: Global, meter: Meter) -> Result<InstrumentBuilder<CounterKind, u64>, Fault> {
     let name = "Name".repeat(alloc, 63)?;
     let description = "ö".repeat(alloc, 5000)?;
     let unit = "u".repeat(alloc, 63)?;
-    let about = (
-        name.as_str(),
-        Some(description.as_str()),
-        Some(unit.as_str()),
-    );
-    counter(alloc, provider, meter, about, 120)
+    described(
+        alloc,
+        meter,
+        (name.as_str(), description.as_str(), unit.as_str()),
+    )
 }
 
-/// Records at a counter of the long meter with long texts, and at `bytes`, made at 130, which has only a unit.
-fn record_long<P: Parts>(alloc: Global, provider: &mut Provider<P>) -> Result<(), Fault> {
-    let meter = long_meter(alloc, provider)?;
-    let long = long_counter(alloc, provider, meter)?;
-    add(provider, long, 5, many(alloc, 300)?.as_slice())?;
-    let bytes = counter(alloc, provider, meter, ("bytes", None, Some("By")), 130)?;
-    add(provider, bytes, 7, &[])
+/// The builder of the counter `bytes`, which has only a unit.
+fn bytes(alloc: Global, meter: Meter) -> Result<InstrumentBuilder<CounterKind, u64>, Fault> {
+    let name = String::from_str(alloc, "bytes")?;
+    let unit = String::from_str(alloc, "By")?;
+    Ok(meter.u64_counter(name).with_unit(unit))
+}
+
+/// Records at a counter of the long scope with long texts, made at 120, and at `bytes`, made at 130.
+fn record_long<M: Handling>(alloc: Global, provider: &mut M) -> Result<(), Fault> {
+    let meter = provider.meter_of(long_scope(alloc)?)?;
+    let long = provider.count(long_counter(alloc, meter)?, 120)?;
+    provider.add(long, 5, many(alloc, 300)?.as_slice())?;
+    let bytes = provider.count(bytes(alloc, meter)?, 130)?;
+    provider.add(bytes, 7, &[])
+}
+
+/// Adds a value at a counter, with the attributes that a text shows.
+fn add<M: Handling>(
+    alloc: Global,
+    provider: &mut M,
+    counter: Counter<u64>,
+    value: u64,
+    shown: &str,
+) -> Result<(), Fault> {
+    provider.add(counter, value, attributes(alloc, shown)?.as_slice())
 }
 
 /// Records at these counters and at `hits` of a meter of its own, made at 110, which it returns.
-fn recorded<P: Parts>(alloc: Global, provider: &mut Provider<P>) -> Result<Counter<u64>, Fault> {
+fn recorded<M: Handling>(alloc: Global, provider: &mut M) -> Result<Counter<u64>, Fault> {
     record_long(alloc, provider)?;
-    let meter = meter(provider, "app")?;
-    let hits = counter(
-        alloc,
-        provider,
-        meter,
-        ("hits", Some("How often"), Some("1")),
-        110,
-    )?;
-    let given = attributes(alloc, "b=1 a=2")?;
-    add(provider, hits, 18446744073709551615, given.as_slice())?;
-    let sorted = attributes(alloc, "a=2 b=1")?;
-    add(provider, hits, 3, sorted.as_slice())?;
+    let meter = provider.meter_named("app")?;
+    let builder = described(alloc, meter, ("hits", "How often", "1"))?;
+    let hits = provider.count(builder, 110)?;
+    add(alloc, provider, hits, 18446744073709551615, "b=1 a=2")?;
+    add(alloc, provider, hits, 3, "a=2 b=1")?;
     Ok(hits)
 }
 
@@ -144,10 +152,10 @@ fn write_first(
 }
 
 /// Asserts that a collection is as the first one of a reader.
-fn assert_first<P: Parts>(
+fn assert_first<M: Handling>(
     rt: &impl Abort,
     alloc: Global,
-    provider: &mut Provider<P>,
+    provider: &mut M,
     reader: usize,
     temporality: &str,
     now: u64,
@@ -158,10 +166,10 @@ fn assert_first<P: Parts>(
 }
 
 /// Records, and asserts what cumulative collections give.
-pub fn assert_cumulative<P: Parts>(
+pub fn assert_cumulative<M: Handling>(
     rt: &impl Abort,
     alloc: Global,
-    provider: &mut Provider<P>,
+    provider: &mut M,
 ) -> Result<(), Fault> {
     recorded(alloc, provider)?;
     assert_first(rt, alloc, provider, 0, "Cumulative", 200)?;
@@ -179,17 +187,16 @@ fn cumulative_wholes(rt: HostRuntime) -> Result<(), Fault> {
 
 /// Records, and asserts what the collections of a delta reader give: the first has all that was recorded, the second
 /// nothing, and the third only the record before it.
-pub fn assert_delta<P: Parts>(
+pub fn assert_delta<M: Handling>(
     rt: &impl Abort,
     alloc: Global,
-    provider: &mut Provider<P>,
+    provider: &mut M,
     reader: usize,
 ) -> Result<(), Fault> {
     let hits = recorded(alloc, provider)?;
     assert_first(rt, alloc, provider, reader, "Delta", 200)?;
     assert_collected(rt, alloc, provider, reader, 300, "resource -\n")?;
-    let given = attributes(alloc, "b=1 a=2")?;
-    add(provider, hits, 9, given.as_slice())?;
+    add(alloc, provider, hits, 9, "b=1 a=2")?;
     assert_collected(
         rt,
         alloc,
