@@ -3,12 +3,17 @@
 ghost use Rattle.std.specs.Prelude.{◌≤◌};
 
 use crate::subjects::Subject;
-use opentelemetry_sdk::metrics::provider::Call;
+use opentelemetry_sdk::metrics::provider::{Call, Reply};
+
+/// Whether a call was carried out.
+fn is_made(reply: &Reply) -> bool {
+    !matches!(reply, Reply::Refused(_))
+}
 
 /// Makes calls that are not counted.
 pub fn prepare<S: Subject>(subject: &mut S, calls: &[Call]) {
     for call in calls {
-        let _ = subject.make(call);
+        let _ = subject.reply_to(call);
     }
 }
 
@@ -24,7 +29,7 @@ fn counted_calls<S: Subject>(subject: &mut S, calls: &[Call], times: u64) -> u64
         let Some(call) = calls.get(place) else {
             return made;
         };
-        if subject.make(call) {
+        if is_made(&subject.reply_to(call)) {
             made += 1;
         }
         place = if place + 1 < calls.len() {

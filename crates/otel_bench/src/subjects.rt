@@ -14,8 +14,8 @@ pub type Plain = provider::Plain<NoCallback, NoCallback>;
 
 /// A provider that calls are made at.
 pub trait Subject: Drop {
-    /// Makes a call. Returns whether it was carried out.
-    fn make(&mut self, call: &Call) -> bool;
+    /// Makes a call and returns its reply.
+    fn reply_to(&mut self, call: &Call) -> Reply;
 
     /// The counter `instrument` of the meter `meter`.
     fn counter(&mut self, alloc: Global) -> Result<Counter<u64>, Fault>;
@@ -38,8 +38,8 @@ pub trait Subject: Drop {
 }
 
 impl Subject for Provider<Plain> {
-    fn make(&mut self, call: &Call) -> bool {
-        is_made(&self.step(call))
+    fn reply_to(&mut self, call: &Call) -> Reply {
+        self.step(call)
     }
 
     fn counter(&mut self, alloc: Global) -> Result<Counter<u64>, Fault> {
@@ -67,11 +67,6 @@ impl Subject for Provider<Plain> {
     fn collection(&mut self) -> Result<ResourceMetrics, Fault> {
         self.collected(0, 200)
     }
-}
-
-/// Whether a call was carried out.
-fn is_made(reply: &Reply) -> bool {
-    !matches!(reply, Reply::Refused(_))
 }
 
 /// A worker, which keeps records until it hands them in.
