@@ -1,10 +1,10 @@
 //! What exporters make of a collection.
 
+use crate::subjects::Subject;
 use anyhow::{Error, bail};
 use opentelemetry_sdk::exporter::otlp::request_line;
 use opentelemetry_sdk::exporter::prometheus::{Format, Settings, exposition_of};
 use opentelemetry_sdk::metrics::data::ResourceMetrics;
-use opentelemetry_sdk::metrics::provider::{Parts, Provider};
 use std::alloc::{AllocError, Global};
 
 /// Makes the text of a collection this many times.
@@ -51,12 +51,12 @@ fn export(
 }
 
 /// Collects the first reader, and makes what an exporter prints of the collection this many times.
-pub fn count_exports<P: Parts>(
+pub fn count_exports<S: Subject>(
     alloc: Global,
-    provider: &mut Provider<P>,
+    subject: &mut S,
     exporter: &str,
     times: u64,
 ) -> Result<u64, Error> {
-    let collected = provider.collected(0, 200)?;
+    let collected = subject.collection()?;
     export(alloc, exporter, &collected, times)
 }

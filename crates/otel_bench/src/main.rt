@@ -21,6 +21,7 @@
 mod counted;
 mod exports;
 mod scripts;
+mod subjects;
 mod targets;
 mod threads;
 mod typed;
@@ -29,43 +30,46 @@ mod workers;
 use anyhow::{Error, bail};
 use counted::counted_rounds;
 use exports::count_exports;
-use opentelemetry_sdk::metrics::provider::{Call, Parts, Provider};
 use scripts::{calls_of, provider_of};
 use std::alloc::Global;
 use std::rt::Clock;
 use std::sync::Wait;
 use std::thread::Threads;
 use std::{env, io};
+use subjects::Subject;
 use threads::time_threads;
 use typed::count_typed;
 use workers::count_by_worker;
 
 /// Makes the calls of this script, of which this many are counted, each after the calls between. Returns how many of the
 /// counted ones were carried out.
-fn count_steps<P: Parts>(
+fn count_steps<S: Subject>(
     alloc: Global,
-    provider: &mut Provider<P>,
-    between: &[Call],
+    subject: &mut S,
+    between: &str,
     counted: &str,
     times: u64,
 ) -> Result<u64, Error> {
+    let between = calls_of(alloc, between)?;
     let counted = calls_of(alloc, counted)?;
-    Ok(counted_rounds(provider, between, counted.as_slice(), times))
+    Ok(counted_rounds(subject, between.as_slice(), counted.as_slice(), times))
 }
 
 /// Makes this many counted calls, as the line before their script says, and returns how many were carried out.
-fn count<P: Parts>(
+fn count<S: Subject>(
     alloc: Global,
-    provider: &mut Provider<P>,
+    subject: &mut S,
     between: &str,
     counted: &str,
     times: u64,
 ) -> Result<u64, Error> {
     if let Some(typed) = counted.strip_prefix("typed ") {
-        return count_typed(alloc, provider, typed, times);
+        return count_typed(alloc, subject, typed, times);
     }
-    let between = calls_of(alloc, between)?;
-    count_steps(alloc, provider, between.as_slice(), counted, times)
+    if let Some(exporter) = counted.strip_prefix("export ") {
+        return count_exports(alloc, subject, exporter, times);
+    }
+    count_steps(alloc, subject, between, counted, times)
 }
 
 /// Makes the calls of three scripts on a provider of their own.
@@ -73,13 +77,10 @@ fn count_on_new(alloc: Global, scripts: &[&str], times: u64) -> Result<u64, Erro
     let [first, between, counted] = scripts else {
         bail!("a script is missing");
     };
-    let mut provider = provider_of(alloc, first)?;
     if let Some(text) = counted.strip_prefix("worker ") {
-        return count_by_worker(alloc, provider, text, times);
+        return count_by_worker(alloc, first, text, times);
     }
-    if let Some(exporter) = counted.strip_prefix("export ") {
-        return count_exports(alloc, &mut provider, exporter, times);
-    }
+    let mut provider = provider_of(alloc, first)?;
     count(alloc, &mut provider, between, counted, times)
 }
 

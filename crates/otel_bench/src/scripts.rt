@@ -1,16 +1,20 @@
 //! Scripts, and the provider that a script asks for.
 
 use crate::counted::prepare;
-use anyhow::Error;
+use crate::subjects::Plain;
+use anyhow::{Error, bail};
 use metrics_script::script_lines::{Script, script_of};
 use opentelemetry_sdk::common::Fault;
-use opentelemetry_sdk::metrics::callback::NoCallback;
-use opentelemetry_sdk::metrics::provider;
 use opentelemetry_sdk::metrics::provider::{Call, Parts, Provider, ProviderBuilder};
 use std::alloc::Global;
 
-/// Parts without boxes and callbacks.
-pub type Plain = provider::Plain<NoCallback, NoCallback>;
+/// Splits a text at the first of these separators.
+pub fn parts_of<'a>(text: &'a str, separator: &str) -> Result<(&'a str, &'a str), Error> {
+    match text.split_once(separator) {
+        Some(parts) => Ok(parts),
+        None => bail!("a script is missing"),
+    }
+}
 
 /// Reads the calls of a script.
 pub fn calls_of(alloc: Global, script: &str) -> Result<Vec<Call>, Error> {
@@ -42,24 +46,21 @@ fn with_views<P: Parts>(
     Ok(builder)
 }
 
-/// Makes a provider with these readers and views.
-fn provider_with<P: Parts>(
-    alloc: Global,
-    readers: Vec<P::Reader>,
-    views: Vec<P::View>,
-) -> Result<Provider<P>, Fault> {
-    let builder = with_readers(Provider::builder(alloc), readers)?;
-    with_views(builder, views)?.build()
-}
-
-/// Makes the provider of a script, on which the script's calls are made.
-pub fn provider_of(alloc: Global, script: &str) -> Result<Provider<Plain>, Error> {
+/// Makes a provider with the readers and views of a script, on which the script's calls are made.
+fn provider_for(alloc: Global, script: Script) -> Result<Provider<Plain>, Fault> {
     let Script {
         readers,
         views,
         calls,
-    } = script_of(alloc, script.as_bytes())?;
-    let mut provider: Provider<Plain> = provider_with(alloc, readers, views)?;
+    } = script;
+    let builder = with_readers(Provider::builder(alloc), readers)?;
+    let mut provider: Provider<Plain> = with_views(builder, views)?.build()?;
     prepare(&mut provider, calls.as_slice());
     Ok(provider)
+}
+
+/// Makes the provider of a script, on which the script's calls are made.
+pub fn provider_of(alloc: Global, script: &str) -> Result<Provider<Plain>, Error> {
+    let script = script_of(alloc, script.as_bytes())?;
+    Ok(provider_for(alloc, script)?)
 }

@@ -1,25 +1,43 @@
 //! What is recorded at: a counter with attributes, or a handle.
 
-use opentelemetry_sdk::common::{Fault, KeyValue};
+use crate::subjects::Subject;
+use anyhow::{Error, bail};
+use opentelemetry_sdk::common::KeyValue;
 use opentelemetry_sdk::metrics::meter::{Bound, Counter};
-use opentelemetry_sdk::metrics::provider::{Call, Parts, Provider};
+use opentelemetry_sdk::metrics::provider::Call;
 use std::alloc::{AllocError, Global};
 
 /// A counter with attributes, or a handle of it.
-#[derive(Drop)]
 pub enum Target<'a> {
     Set(Counter<u64>, &'a [KeyValue]),
-    Handle(&'a Bound<u64>),
+    Handle(Bound<u64>),
 }
 
-/// The counter `instrument` of the meter `meter`.
-pub fn counter_of<P: Parts>(
-    alloc: Global,
-    provider: &mut Provider<P>,
-) -> Result<Counter<u64>, Fault> {
-    let meter = provider.meter("meter")?;
-    let name = String::from_str(alloc, "instrument")?;
-    meter.u64_counter(name).build(provider, 100)
+impl<'a> Target<'a> {
+    /// Makes the target of calls that have this name: `add` or `bound`.
+    pub fn named<S: Subject>(
+        alloc: Global,
+        subject: &mut S,
+        name: &str,
+        attributes: &'a [KeyValue],
+    ) -> Result<Target<'a>, Error> {
+        let counter = subject.counter(alloc)?;
+        match name {
+            "add" => Ok(Target::Set(counter, attributes)),
+            "bound" => Ok(Target::Handle(subject.handle(&counter, attributes)?)),
+            _ => bail!("{name} is no call"),
+        }
+    }
+
+    /// Gives the target up. A handle stays live.
+    pub fn close(self) {
+        match self {
+            Target::Set(_counter, _attributes) => {}
+            Target::Handle(handle) => {
+                let _ = handle.into_number();
+            }
+        }
+    }
 }
 
 /// The attributes of those of these calls that are records, in order.

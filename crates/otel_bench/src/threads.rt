@@ -5,13 +5,14 @@ ghost use Rattle.std.specs.Prelude.{◌≡◌, ◌%◌, ◌^◌};
 ghost use Rattle.opentelemetry_sdk.specs.Books.{count_in, sum_in};
 ghost use Rattle.opentelemetry_sdk.specs.Providers.{state_of};
 
-use crate::scripts::{Plain, calls_of, provider_of};
-use crate::targets::{Target, attributes_of, counter_of};
+use crate::scripts::{calls_of, parts_of, provider_of};
+use crate::subjects::{Plain, Recorder, Shared, Subject};
+use crate::targets::{Target, attributes_of};
 use crate::workers::{BATCH, add_batch};
-use anyhow::{Error, bail};
+use anyhow::Error;
 use opentelemetry_sdk::common::{Fault, KeyValue};
-use opentelemetry_sdk::metrics::provider::{Parts, Provider};
-use opentelemetry_sdk::metrics::shared::{Account, Locked, MOST_WORKERS, SharedProvider, Worker};
+use opentelemetry_sdk::metrics::provider::Provider;
+use opentelemetry_sdk::metrics::shared::{Account, Locked, MOST_WORKERS};
 use std::alloc::Global;
 use std::marker::Brand;
 use std::rt::Clock;
@@ -30,43 +31,33 @@ struct Load {
 
 /// What one thread does with its worker: it hands in its batches, each under the lock. Returns how many records were
 /// accepted.
-fn hand_in<P: Parts, C: Account, S: Account, R: Wait>(
+fn hand_in_batches<W: Recorder, S: Shared<W>, R: Wait>(
     rt: &R,
     alloc: Global,
-    shared: &SharedProvider<P, C, S>,
+    shared: &Mutex<S>,
     target: &Target<'_>,
     batches: u64,
-    worker: Worker<C, S>,
+    worker: W,
 ) -> u64 {
     let mut worker = worker;
     for _ in 0..batches {
         let _ = add_batch(alloc, &mut worker, target);
-        let _ = shared.lock(rt).submit(&mut worker);
+        let _ = shared.lock(rt).hand_in(&mut worker);
     }
-    worker.submitted()
+    worker.accepted()
 }
 
-/// Opens this many workers more.
-fn open_more<P: Parts, C: Account, S: Account>(
-    locked: &mut Locked<P, C, S>,
-    workers: &mut Vec<Worker<C, S>>,
+/// Opens this many workers.
+fn open_workers<W: Recorder, S: Shared<W>>(
+    alloc: Global,
+    shared: &mut S,
     number: usize,
-) -> Result<(), Fault> {
+) -> Result<Vec<W>, Fault> {
+    let mut workers = Vec::new(alloc);
     for _ in 0..number {
-        let worker = locked.open_worker()?;
+        let worker = shared.open()?;
         workers.push(worker)?;
     }
-    Ok(())
-}
-
-/// Opens a worker for each thread.
-fn open_workers<P: Parts, C: Account, S: Account>(
-    alloc: Global,
-    locked: &mut Locked<P, C, S>,
-    threads: usize,
-) -> Result<Vec<Worker<C, S>>, Fault> {
-    let mut workers = Vec::new(alloc);
-    open_more(locked, &mut workers, threads)?;
     Ok(workers)
 }
 
@@ -80,39 +71,43 @@ fn sum_of(counts: &[u64]) -> u64 {
 }
 
 /// Has each worker record in a thread of its own, and returns how many records were accepted.
-fn record_in_threads<
-    P: Parts + Send + Sync,
-    C: Account + Send + Sync,
-    S: Account + Send + Sync,
-    R: Threads + Wait + Sync,
->(
+fn record_in_threads<W: Recorder + Send, S: Shared<W> + Send, R: Threads + Wait + Sync>(
     rt: &R,
     alloc: Global,
-    shared: &SharedProvider<P, C, S>,
+    shared: &Mutex<S>,
     target: &Target<'_>,
     batches: u64,
-    workers: Vec<Worker<C, S>>,
+    workers: Vec<W>,
 ) -> Result<u64, Fault> {
     match thread::map_vec(
         rt,
         workers,
-        &|worker| hand_in(rt, alloc, shared, target, batches, worker),
+        &|worker| hand_in_batches(rt, alloc, shared, target, batches, worker),
     ) {
         Ok(counts) => Ok(sum_of(counts.as_slice())),
         Err(_) => Err(Fault::OutOfMemory),
     }
 }
 
-/// Shares a provider, and has its workers record. Returns how many records were accepted.
-fn by_workers<
-    P: Parts + Send + Sync,
-    C: Account + Send + Sync,
-    S: Account + Send + Sync,
-    R: Threads + Wait + Sync,
->(
+/// Has a worker record in each thread. Returns how many records were accepted.
+fn record_by_workers<W: Recorder + Send, S: Shared<W> + Send, R: Threads + Wait + Sync>(
     rt: &R,
     alloc: Global,
-    provider: Provider<P>,
+    shared: S,
+    target: &Target<'_>,
+    load: Load,
+) -> Result<u64, Fault> {
+    let mut shared = shared;
+    let workers = open_workers(alloc, &mut shared, load.threads)?;
+    let shared = Mutex::new(shared);
+    record_in_threads(rt, alloc, &shared, target, load.batches, workers)
+}
+
+/// Shares a provider by these ledgers, and has its workers record. Returns how many records were accepted.
+fn by_ledgers<C: Account + Send + Sync, S: Account + Send + Sync, R: Threads + Wait + Sync>(
+    rt: &R,
+    alloc: Global,
+    provider: Provider<Plain>,
     target: &Target<'_>,
     load: Load,
     records: Blank,
@@ -121,24 +116,46 @@ fn by_workers<
     requires records { (records.name ≡ C.name) × (records.parts ≡ C.parts) × (records.parts ≡ 4294967295) × (C.before ≡ count_in (state_of provider) % 2 ^ 64) }
     requires values { (values.name ≡ S.name) × (values.parts ≡ S.parts) × (values.parts ≡ 4294967295) × (S.before ≡ sum_in (state_of provider) % 2 ^ 64) }
 {
-    let mut locked = Locked::<P, C, S>::new(provider, records, values);
-    let workers = open_workers(alloc, &mut locked, load.threads)?;
-    let shared = Mutex::new(locked);
-    record_in_threads(rt, alloc, &shared, target, load.batches, workers)
+    record_by_workers(
+        rt,
+        alloc,
+        Locked::<Plain, C, S>::new(provider, records, values),
+        target,
+        load,
+    )
+}
+
+/// The same by ledgers that the signature does not name.
+fn by_workers<R: Threads + Wait + Sync>(
+    rt: &R,
+    alloc: Global,
+    provider: Provider<Plain>,
+    target: &Target<'_>,
+    load: Load,
+) -> Result<u64, Fault> {
+    by_ledgers::<Brand, Brand, R>(
+        rt,
+        alloc,
+        provider,
+        target,
+        load,
+        Blank::new(MOST_WORKERS),
+        Blank::new(MOST_WORKERS),
+    )
 }
 
 /// Records once, and returns whether that succeeded.
-fn record_one<P: Parts>(provider: &mut Provider<P>, target: &Target<'_>) -> bool {
+fn record_one<S: Subject>(subject: &mut S, target: &Target<'_>) -> bool {
     match target {
-        Target::Set(counter, attributes) => counter.add(provider, 1, attributes).is_ok(),
-        Target::Handle(handle) => handle.add(provider, 1).is_ok(),
+        Target::Set(counter, attributes) => subject.add_one(counter, attributes),
+        Target::Handle(handle) => subject.add_one_through(handle),
     }
 }
 
 /// What one thread does without a worker: it takes the lock for each record. Returns how many succeeded.
-fn record_each<P: Parts, R: Wait>(
+fn record_each<S: Subject, R: Wait>(
     rt: &R,
-    shared: &Mutex<Provider<P>>,
+    shared: &Mutex<S>,
     target: &Target<'_>,
     batches: u64,
 ) -> u64 {
@@ -154,14 +171,14 @@ fn record_each<P: Parts, R: Wait>(
 }
 
 /// Has threads record one record after another. Returns how many records succeeded.
-fn by_lock<P: Parts + Send + Sync, R: Threads + Wait + Sync>(
+fn by_lock<S: Subject + Send, R: Threads + Wait + Sync>(
     rt: &R,
     alloc: Global,
-    provider: Provider<P>,
+    subject: S,
     target: &Target<'_>,
     load: Load,
 ) -> Result<u64, Fault> {
-    let shared = Mutex::new(provider);
+    let shared = Mutex::new(subject);
     match thread::map_indices(
         rt,
         alloc,
@@ -183,17 +200,19 @@ fn made_in_threads<R: Threads + Wait + Sync>(
     has_workers: bool,
 ) -> Result<u64, Fault> {
     if has_workers {
-        return by_workers::<Plain, Brand, Brand, R>(
-            rt,
-            alloc,
-            provider,
-            target,
-            load,
-            Blank::new(MOST_WORKERS),
-            Blank::new(MOST_WORKERS),
-        );
+        return by_workers(rt, alloc, provider, target, load);
     }
     by_lock(rt, alloc, provider, target, load)
+}
+
+/// The name of a way to record.
+fn way_of(target: &Target<'_>, has_workers: bool) -> &'static str {
+    match target {
+        Target::Set(..) if has_workers => "worker",
+        Target::Set(..) => "lock",
+        Target::Handle(_) if has_workers => "worker_bound",
+        Target::Handle(_) => "lock_bound",
+    }
 }
 
 /// Prints the name of a way to record, how many threads recorded, and how many seconds that took.
@@ -208,64 +227,59 @@ fn time_one<R: Print + Clock + Threads + Wait + Sync>(
     let start = Instant::now(rt)?;
     let made = made_in_threads(rt, alloc, provider, target, load, has_workers)?;
     let seconds = start.elapsed(rt)?.as_secs_f64();
-    let name = match (target, has_workers) {
-        (Target::Set(..), true) => "worker",
-        (Target::Set(..), false) => "lock",
-        (Target::Handle(_), true) => "worker_bound",
-        (Target::Handle(_), false) => "lock_bound",
-    };
+    let way = way_of(target, has_workers);
     let threads = load.threads;
-    println!(rt; "{name} {threads} {made} {seconds:.3}")?;
+    println!(rt; "{way} {threads} {made} {seconds:.3}")?;
     Ok(())
 }
 
-/// Times records with attributes, or through a handle, at a new provider of this script.
+/// Times records by calls of this name, at a new provider of this script.
 fn time_way<R: Print + Clock + Threads + Wait + Sync>(
     rt: &R,
     alloc: Global,
     script: &str,
     attributes: &[KeyValue],
     load: Load,
-    has_handle: bool,
+    name: &str,
     has_workers: bool,
 ) -> Result<(), Error> {
     let mut provider = provider_of(alloc, script)?;
-    let counter = counter_of(alloc, &mut provider)?;
-    if !has_handle {
-        let target = Target::Set(counter, attributes);
-        return time_one(rt, alloc, provider, &target, load, has_workers);
-    }
-    let handle = counter.bind(&mut provider, attributes)?;
-    let target = Target::Handle(&handle);
+    let target = Target::named(alloc, &mut provider, name, attributes)?;
     let timed = time_one(rt, alloc, provider, &target, load, has_workers);
-    let _ = handle.into_number();
+    target.close();
     timed
 }
 
-/// Prints how many seconds 1, 2 and 4 threads take that make this many records each: with attributes and through a
-/// handle, by workers and under the lock. The text is two scripts: what is done once, and the record.
+/// Times records with attributes and through a handle, by workers and under the lock.
+fn time_ways<R: Print + Clock + Threads + Wait + Sync>(
+    rt: &R,
+    alloc: Global,
+    script: &str,
+    attributes: &[KeyValue],
+    load: Load,
+) -> Result<(), Error> {
+    for name in ["add", "bound"] {
+        for has_workers in [false, true] {
+            time_way(rt, alloc, script, attributes, load, name, has_workers)?;
+        }
+    }
+    Ok(())
+}
+
+/// Prints how many seconds 1, 2 and 4 threads take that make this many records each, in each way. The text is two
+/// scripts: what is done once, and the record.
 pub fn time_threads<R: Print + Clock + Threads + Wait + Sync>(
     rt: &R,
     alloc: Global,
     scripts: &str,
     records: u64,
 ) -> Result<(), Error> {
-    let Some((script, record)) = scripts.split_once("\n---\n") else {
-        bail!("a script is missing");
-    };
+    let (script, record) = parts_of(scripts, "\n---\n")?;
     let calls = calls_of(alloc, record)?;
     let attributes = attributes_of(calls.as_slice());
     let batches = records / BATCH;
     for threads in [1, 2, 4] {
-        let load = Load { threads, batches };
-        for (has_handle, has_workers) in [
-            (false, false),
-            (false, true),
-            (true, false),
-            (true, true),
-        ] {
-            time_way(rt, alloc, script, attributes, load, has_handle, has_workers)?;
-        }
+        time_ways(rt, alloc, script, attributes, Load { threads, batches })?;
     }
     Ok(())
 }

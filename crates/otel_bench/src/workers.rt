@@ -4,13 +4,14 @@ ghost use Rattle.std.specs.Prelude.{◌≡◌, ◌%◌, ◌^◌};
 ghost use Rattle.opentelemetry_sdk.specs.Books.{count_in, sum_in};
 ghost use Rattle.opentelemetry_sdk.specs.Providers.{state_of};
 
-use crate::scripts::{Plain, calls_of};
-use crate::targets::{Target, attributes_of, counter_of};
-use anyhow::{Error, bail};
-use opentelemetry_sdk::common::KeyValue;
+use crate::scripts::{calls_of, parts_of, provider_of};
+use crate::subjects::{Plain, Recorder, Shared};
+use crate::targets::{Target, attributes_of};
+use anyhow::Error;
+use opentelemetry_sdk::common::{Fault, KeyValue};
 use opentelemetry_sdk::metrics::meter::{Bound, Counter};
-use opentelemetry_sdk::metrics::provider::{Parts, Provider};
-use opentelemetry_sdk::metrics::shared::{Account, Locked, MOST_WORKERS, Worker};
+use opentelemetry_sdk::metrics::provider::Provider;
+use opentelemetry_sdk::metrics::shared::{Account, Locked, MOST_WORKERS};
 use std::alloc::{AllocError, Global};
 use std::marker::Brand;
 use std::sync::ledger::Blank;
@@ -41,91 +42,84 @@ fn copies_of(alloc: Global, attributes: &[KeyValue]) -> Result<Vec<Vec<KeyValue>
 /// Adds a record with each of these lists of attributes to a worker's list. `measure.sh` counts the instructions of this
 /// function and of all that it calls.
 #[inline(never)]
-fn counted_worker_adds<C: Account, S: Account>(
-    worker: &mut Worker<C, S>,
-    counter: Counter<u64>,
+fn counted_worker_adds<W: Recorder>(
+    worker: &mut W,
+    counter: &Counter<u64>,
     copies: Vec<Vec<KeyValue>>,
 ) {
     for attributes in copies {
-        let _ = worker.add_to(&counter, 1, attributes);
+        worker.add_one(counter, attributes);
     }
 }
 
 /// Adds a batch of records through a handle to a worker's list. It is counted as `counted_worker_adds` is.
 #[inline(never)]
-fn counted_worker_bound_adds<C: Account, S: Account>(
-    worker: &mut Worker<C, S>,
-    handle: &Bound<u64>,
-) {
+fn counted_worker_bound_adds<W: Recorder>(worker: &mut W, handle: &Bound<u64>) {
     for _ in 0..BATCH {
-        let _ = worker.add_through(handle, 1);
+        worker.add_one_through(handle);
     }
 }
 
 /// Hands in what is in a worker's list. It is counted as `counted_worker_adds` is.
 #[inline(never)]
-fn counted_submit<P: Parts, C: Account, S: Account>(
-    locked: &mut Locked<P, C, S>,
-    worker: &mut Worker<C, S>,
-) -> bool {
-    locked.submit(worker).is_ok()
+fn counted_submit<W: Recorder, S: Shared<W>>(shared: &mut S, worker: &mut W) -> bool {
+    shared.hand_in(worker)
 }
 
 /// Adds a batch of records to a worker's list.
-pub fn add_batch<C: Account, S: Account>(
+pub fn add_batch<W: Recorder>(
     alloc: Global,
-    worker: &mut Worker<C, S>,
+    worker: &mut W,
     target: &Target<'_>,
 ) -> Result<(), AllocError> {
     match target {
         Target::Set(counter, attributes) => {
-            counted_worker_adds(worker, *counter, copies_of(alloc, attributes)?);
+            counted_worker_adds(worker, counter, copies_of(alloc, attributes)?);
         }
         Target::Handle(handle) => counted_worker_bound_adds(worker, handle),
     }
     Ok(())
 }
 
-/// Hands in this many batches by a worker, and returns how many of their records were accepted.
-fn batches_by<P: Parts, C: Account, S: Account>(
+/// Hands in this many batches by a new worker, and returns how many of their records were accepted.
+fn batches_by_one<W: Recorder, S: Shared<W>>(
     alloc: Global,
-    locked: &mut Locked<P, C, S>,
-    worker: &mut Worker<C, S>,
+    shared: &mut S,
     target: &Target<'_>,
     times: u64,
-) -> Result<u64, Error> {
+) -> Result<u64, Fault> {
+    let mut worker = shared.open()?;
     for _ in 0..times {
-        add_batch(alloc, worker, target)?;
-        let _ = counted_submit(locked, worker);
+        add_batch(alloc, &mut worker, target)?;
+        let _ = counted_submit(shared, &mut worker);
     }
-    Ok(worker.submitted())
+    Ok(worker.accepted())
 }
 
-/// Shares a provider, and hands in this many batches by its only worker.
-fn batches<P: Parts, C: Account, S: Account>(
-    alloc: Global,
-    provider: Provider<P>,
-    target: &Target<'_>,
-    times: u64,
-    records: Blank,
-    values: Blank,
-) -> Result<u64, Error>
-    requires records { (records.name ≡ C.name) × (records.parts ≡ C.parts) × (records.parts ≡ 4294967295) × (C.before ≡ count_in (state_of provider) % 2 ^ 64) }
-    requires values { (values.name ≡ S.name) × (values.parts ≡ S.parts) × (values.parts ≡ 4294967295) × (S.before ≡ sum_in (state_of provider) % 2 ^ 64) }
-{
-    let mut locked = Locked::<P, C, S>::new(provider, records, values);
-    let mut worker = locked.open_worker()?;
-    batches_by(alloc, &mut locked, &mut worker, target, times)
-}
-
-/// The same at a provider without boxes. No ledger is named in the signature.
-fn plain_batches(
+/// Shares a provider by these ledgers, and hands in this many batches by its only worker.
+fn batches_by_ledgers<C: Account, S: Account>(
     alloc: Global,
     provider: Provider<Plain>,
     target: &Target<'_>,
     times: u64,
-) -> Result<u64, Error> {
-    batches::<Plain, Brand, Brand>(
+    records: Blank,
+    values: Blank,
+) -> Result<u64, Fault>
+    requires records { (records.name ≡ C.name) × (records.parts ≡ C.parts) × (records.parts ≡ 4294967295) × (C.before ≡ count_in (state_of provider) % 2 ^ 64) }
+    requires values { (values.name ≡ S.name) × (values.parts ≡ S.parts) × (values.parts ≡ 4294967295) × (S.before ≡ sum_in (state_of provider) % 2 ^ 64) }
+{
+    let mut locked = Locked::<Plain, C, S>::new(provider, records, values);
+    batches_by_one(alloc, &mut locked, target, times)
+}
+
+/// The same by ledgers that the signature does not name.
+fn batches(
+    alloc: Global,
+    provider: Provider<Plain>,
+    target: &Target<'_>,
+    times: u64,
+) -> Result<u64, Fault> {
+    batches_by_ledgers::<Brand, Brand>(
         alloc,
         provider,
         target,
@@ -144,31 +138,24 @@ fn batches_named(
     times: u64,
 ) -> Result<u64, Error> {
     let mut provider = provider;
-    let counter = counter_of(alloc, &mut provider)?;
-    match name {
-        "add" => plain_batches(alloc, provider, &Target::Set(counter, attributes), times),
-        "bound" => {
-            let handle = counter.bind(&mut provider, attributes)?;
-            let made = plain_batches(alloc, provider, &Target::Handle(&handle), times);
-            let _ = handle.into_number();
-            made
-        }
-        _ => bail!("{name} is no call"),
-    }
+    let target = Target::named(alloc, &mut provider, name, attributes)?;
+    let made = batches(alloc, provider, &target, times);
+    target.close();
+    Ok(made?)
 }
 
-/// Hands in this many batches of records by a worker. The text is the name of their call and, after a line's end, a
-/// script whose first record has the attributes. Returns how many of their records were accepted.
-pub fn count_by_worker(
-    alloc: Global,
-    provider: Provider<Plain>,
-    text: &str,
-    times: u64,
-) -> Result<u64, Error> {
-    let Some((name, script)) = text.split_once('\n') else {
-        bail!("a script is missing");
-    };
+/// Hands in this many batches of records by a worker of the provider of a script. The text is the name of their call
+/// and, after a line's end, a script whose first record has the attributes. Returns how many of their records were
+/// accepted.
+pub fn count_by_worker(alloc: Global, first: &str, text: &str, times: u64) -> Result<u64, Error> {
+    let (name, script) = parts_of(text, "\n")?;
     let calls = calls_of(alloc, script)?;
-    let attributes = attributes_of(calls.as_slice());
-    batches_named(alloc, provider, name, attributes, times)
+    let provider = provider_of(alloc, first)?;
+    batches_named(
+        alloc,
+        provider,
+        name,
+        attributes_of(calls.as_slice()),
+        times,
+    )
 }

@@ -1,0 +1,115 @@
+//! What the counted calls are made at: a provider, and a provider that threads share, with its workers.
+
+use opentelemetry_sdk::common::{Fault, KeyValue};
+use opentelemetry_sdk::metrics::callback::NoCallback;
+use opentelemetry_sdk::metrics::data::ResourceMetrics;
+use opentelemetry_sdk::metrics::meter::{Bound, Counter};
+use opentelemetry_sdk::metrics::provider;
+use opentelemetry_sdk::metrics::provider::{Call, Provider, Reply};
+use opentelemetry_sdk::metrics::shared::{Account, Locked, Worker};
+use std::alloc::Global;
+
+/// Parts without boxes and callbacks.
+pub type Plain = provider::Plain<NoCallback, NoCallback>;
+
+/// A provider that calls are made at.
+pub trait Subject: Drop {
+    /// Makes a call and returns its reply.
+    fn reply_to(&mut self, call: &Call) -> Reply;
+
+    /// The counter `instrument` of the meter `meter`.
+    fn counter(&mut self, alloc: Global) -> Result<Counter<u64>, Fault>;
+
+    /// A handle of a counter with these attributes.
+    fn handle(
+        &mut self,
+        counter: &Counter<u64>,
+        attributes: &[KeyValue],
+    ) -> Result<Bound<u64>, Fault>;
+
+    /// Adds 1 with these attributes. Returns whether that succeeded.
+    fn add_one(&mut self, counter: &Counter<u64>, attributes: &[KeyValue]) -> bool;
+
+    /// Adds 1 through a handle. Returns whether that succeeded.
+    fn add_one_through(&mut self, handle: &Bound<u64>) -> bool;
+
+    /// What the first reader collects.
+    fn collection(&mut self) -> Result<ResourceMetrics, Fault>;
+}
+
+impl Subject for Provider<Plain> {
+    fn reply_to(&mut self, call: &Call) -> Reply {
+        self.step(call)
+    }
+
+    fn counter(&mut self, alloc: Global) -> Result<Counter<u64>, Fault> {
+        let meter = self.meter("meter")?;
+        let name = String::from_str(alloc, "instrument")?;
+        meter.u64_counter(name).build(self, 100)
+    }
+
+    fn handle(
+        &mut self,
+        counter: &Counter<u64>,
+        attributes: &[KeyValue],
+    ) -> Result<Bound<u64>, Fault> {
+        counter.bind(self, attributes)
+    }
+
+    fn add_one(&mut self, counter: &Counter<u64>, attributes: &[KeyValue]) -> bool {
+        counter.add(self, 1, attributes).is_ok()
+    }
+
+    fn add_one_through(&mut self, handle: &Bound<u64>) -> bool {
+        handle.add(self, 1).is_ok()
+    }
+
+    fn collection(&mut self) -> Result<ResourceMetrics, Fault> {
+        self.collected(0, 200)
+    }
+}
+
+/// A worker, which keeps records until it hands them in.
+pub trait Recorder: Drop {
+    /// Adds a record of 1 with these attributes to the list.
+    fn add_one(&mut self, counter: &Counter<u64>, attributes: Vec<KeyValue>);
+
+    /// Adds a record of 1 through a handle to the list.
+    fn add_one_through(&mut self, handle: &Bound<u64>);
+
+    /// How many records were accepted.
+    fn accepted(&self) -> u64;
+}
+
+impl<C: Account, S: Account> Recorder for Worker<C, S> {
+    fn add_one(&mut self, counter: &Counter<u64>, attributes: Vec<KeyValue>) {
+        let _ = self.add_to(counter, 1, attributes);
+    }
+
+    fn add_one_through(&mut self, handle: &Bound<u64>) {
+        let _ = self.add_through(handle, 1);
+    }
+
+    fn accepted(&self) -> u64 {
+        self.submitted()
+    }
+}
+
+/// A provider that workers hand in records at.
+pub trait Shared<W>: Drop {
+    /// Opens a worker.
+    fn open(&mut self) -> Result<W, Fault>;
+
+    /// Hands in what is in a worker's list. Returns whether that succeeded.
+    fn hand_in(&mut self, worker: &mut W) -> bool;
+}
+
+impl<C: Account, S: Account> Shared<Worker<C, S>> for Locked<Plain, C, S> {
+    fn open(&mut self) -> Result<Worker<C, S>, Fault> {
+        self.open_worker()
+    }
+
+    fn hand_in(&mut self, worker: &mut Worker<C, S>) -> bool {
+        self.submit(worker).is_ok()
+    }
+}
