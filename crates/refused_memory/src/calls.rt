@@ -47,15 +47,15 @@ fn ask_for_scope<R: Print, S: ProviderCalls>(
     }
 }
 
-/// Builds an instrument of the sort of a line.
+/// Builds an instrument of the sort and the name of a line.
 fn build_one<R: Print, S: ProviderCalls>(
     trial: &mut Trial<R>,
     provider: &mut S,
     calls: &[Call],
 ) -> Result<(), Error> {
     match calls {
-        [Call::Build { sort, .. }] => {
-            let built = build(trial.alloc, provider, *sort);
+        [Call::Build { sort, name, .. }] => {
+            let built = build(trial.alloc, provider, *sort, name.as_str());
             trial.take(built)
         }
         _ => bail!("a line builds nothing"),

@@ -34,12 +34,18 @@ use scenarios::{last_scenario, scenario_of};
 use std::alloc::Global;
 use std::env;
 
+/// Tries the scenario of a number.
+fn try_one(rt: &impl Print, alloc: Global, number: usize) -> Result<(), Error> {
+    match scenario_of(number) {
+        Some(scenario) => try_scenario(rt, alloc, number, scenario),
+        None => bail!("there is no scenario {number}"),
+    }
+}
+
 /// Tries all scenarios.
 fn try_all(rt: &impl Print, alloc: Global) -> Result<(), Error> {
     for number in 1..=last_scenario() {
-        if let Some(next) = scenario_of(number) {
-            try_scenario(rt, alloc, number, next)?;
-        }
+        try_one(rt, alloc, number)?;
     }
     Ok(())
 }
@@ -54,11 +60,8 @@ fn asked_number(rt: &HostRuntime) -> Result<Option<usize>, Error> {
 }
 
 fn main(rt: HostRuntime) -> Result<(), Error> {
-    let Some(number) = asked_number(&rt)? else {
-        return try_all(&rt, rt.alloc());
-    };
-    match scenario_of(number) {
-        Some(scenario) => try_scenario(&rt, rt.alloc(), number, scenario),
-        None => bail!("there is no scenario {number}"),
+    match asked_number(&rt)? {
+        Some(number) => try_one(&rt, rt.alloc(), number),
+        None => try_all(&rt, rt.alloc()),
     }
 }

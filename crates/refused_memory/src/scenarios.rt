@@ -7,8 +7,8 @@ use anyhow::{Error, bail};
 /// Of a provider: `line` is the call of a line of a script, with the observations before it, by `step`, and `run` the
 /// calls of lines by `run`; `meter`, `scope` by `meter_with_scope`, `collect` of a reader with callbacks, `flush` and the
 /// two ways to shut down; `build`, `record` and `bind` are at an instrument of a sort as a value: by its builder with all
-/// that can be set, with attributes, and by a handle that is bound, records and ends. `provider` is the builder of a
-/// provider, and `value` a value that no provider is needed for.
+/// that can be set, with attributes, and by a handle that is bound, records and ends; `build` is of the sort and the name
+/// of a line that builds. `provider` is the builder of a provider, and `value` a value that no provider is needed for.
 ///
 /// Of a shared provider or of a worker: `shared_line` and `shared_collect`; `open_worker`; `add` adds a record in some
 /// way to the records of the lines; `submit`, of which every second, from the first, must not be refused, `submit_all`
@@ -227,14 +227,19 @@ pub fn last_scenario() -> usize {
     SCENARIOS.split('\n').count()
 }
 
-/// The scenario of a number, from 1. After the last there is none.
+/// The scenario of a number, from 1. After the last there is none, nor of a line with another first word.
 pub fn scenario_of(number: usize) -> Option<Scenario<'static>> {
     let line = SCENARIOS.split('\n').nth(number.checked_sub(1)?)?;
     let (first, call) = line.split_once(' ')?;
     let (call, given) = call.split_once(' ').unwrap_or((call, ""));
     let (word, rest) = given.split_once(' ').unwrap_or((given, ""));
+    let is_sure = match first {
+        "sure" => true,
+        "maybe" => false,
+        _ => return None,
+    };
     Some(Scenario {
-        is_sure: first == "sure",
+        is_sure,
         call,
         given,
         word,

@@ -74,14 +74,15 @@ fn build_histogram<S: ProviderCalls>(
     build_full(alloc, provider, builder)
 }
 
-/// Builds a synchronous instrument of this sort with all that can be set, or an observable one with a callback.
+/// Builds a synchronous instrument of this sort and name with all that can be set, or an observable one with a callback.
 pub fn build<S: ProviderCalls>(
     alloc: Global,
     provider: &mut S,
     sort: InstrumentSort,
+    name: &str,
 ) -> Result<(), Fault> {
     let meter = provider.meter(METER)?;
-    let name = String::from_str(alloc, "more")?;
+    let name = String::from_str(alloc, name)?;
     let callback = Counting::new(alloc, 0);
     match sort {
         InstrumentSort::U64Counter => build_full(alloc, provider, meter.u64_counter(name)),
