@@ -2,8 +2,7 @@
 
 ghost use Rattle.std.specs.Prelude.{◌≤◌};
 
-use crate::subjects::Subject;
-use opentelemetry_sdk::metrics::provider::{Call, Reply};
+use opentelemetry_sdk::metrics::provider::{Call, Parts, Provider, Reply};
 
 /// Whether a call was carried out.
 fn is_made(reply: &Reply) -> bool {
@@ -11,16 +10,16 @@ fn is_made(reply: &Reply) -> bool {
 }
 
 /// Makes calls that are not counted.
-pub fn prepare<S: Subject>(subject: &mut S, calls: &[Call]) {
+pub fn prepare<P: Parts>(provider: &mut Provider<P>, calls: &[Call]) {
     for call in calls {
-        let _ = subject.reply_to(call);
+        let _ = provider.step(call);
     }
 }
 
 /// Makes this many calls, one after another, starting over after the last. Returns how many were carried out.
 /// `measure.sh` counts the instructions of this function and of all that it calls.
 #[inline(never)]
-fn counted_calls<S: Subject>(subject: &mut S, calls: &[Call], times: u64) -> u64
+fn counted_calls<P: Parts>(provider: &mut Provider<P>, calls: &[Call], times: u64) -> u64
     ensures { result ≤ times }
 {
     let mut made: u64 = 0;
@@ -29,7 +28,7 @@ fn counted_calls<S: Subject>(subject: &mut S, calls: &[Call], times: u64) -> u64
         let Some(call) = calls.get(place) else {
             return made;
         };
-        if is_made(&subject.reply_to(call)) {
+        if is_made(&provider.step(call)) {
             made += 1;
         }
         place = if place + 1 < calls.len() {
@@ -51,8 +50,8 @@ fn following<'a>(calls: &'a [Call], all: &'a [Call]) -> &'a [Call] {
 
 /// Makes this many counted calls, each after the calls between, which are not counted. Returns how many of the counted
 /// ones were carried out.
-pub fn counted_rounds<S: Subject>(
-    subject: &mut S,
+pub fn counted_rounds<P: Parts>(
+    provider: &mut Provider<P>,
     between: &[Call],
     calls: &[Call],
     times: u64,
@@ -60,13 +59,13 @@ pub fn counted_rounds<S: Subject>(
     ensures { result ≤ times }
 {
     if between.is_empty() {
-        return counted_calls(subject, calls, times);
+        return counted_calls(provider, calls, times);
     }
     let mut made: u64 = 0;
     let mut rest = calls;
     for _ in 0..times {
-        prepare(subject, between);
-        made += counted_calls(subject, rest, 1);
+        prepare(provider, between);
+        made += counted_calls(provider, rest, 1);
         rest = following(rest, calls);
     }
     made

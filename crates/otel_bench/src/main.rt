@@ -28,7 +28,6 @@ mod typed;
 mod workers;
 
 use anyhow::{Error, bail};
-use counted::counted_rounds;
 use exports::count_exports;
 use scripts::{calls_of, provider_of};
 use std::alloc::Global;
@@ -52,7 +51,7 @@ fn count_steps<S: Subject>(
 ) -> Result<u64, Error> {
     let between = calls_of(alloc, between)?;
     let counted = calls_of(alloc, counted)?;
-    Ok(counted_rounds(subject, between.as_slice(), counted.as_slice(), times))
+    Ok(subject.make(between.as_slice(), counted.as_slice(), times))
 }
 
 /// Makes this many counted calls, as the line before their script says, and returns how many were carried out.

@@ -1,11 +1,13 @@
-//! What the counted calls are made at: a provider, and a provider that threads share, with its workers.
+//! What the counted calls are made at: a provider, and a provider that threads share, with its workers. Each
+//! record is inlined, so that the counted calls have no layer more.
 
+use crate::counted::counted_rounds;
 use opentelemetry_sdk::common::{Fault, KeyValue};
 use opentelemetry_sdk::metrics::callback::NoCallback;
 use opentelemetry_sdk::metrics::data::ResourceMetrics;
 use opentelemetry_sdk::metrics::meter::{Bound, Counter};
 use opentelemetry_sdk::metrics::provider;
-use opentelemetry_sdk::metrics::provider::{Call, Provider, Reply};
+use opentelemetry_sdk::metrics::provider::{Call, Provider};
 use opentelemetry_sdk::metrics::shared::{Account, Locked, Worker};
 use std::alloc::Global;
 
@@ -14,8 +16,8 @@ pub type Plain = provider::Plain<NoCallback, NoCallback>;
 
 /// A provider that calls are made at.
 pub trait Subject: Drop {
-    /// Makes a call and returns its reply.
-    fn reply_to(&mut self, call: &Call) -> Reply;
+    /// Makes this many counted calls, each after the calls between. Returns how many of the counted ones were carried out.
+    fn make(&mut self, between: &[Call], calls: &[Call], times: u64) -> u64;
 
     /// The counter `instrument` of the meter `meter`.
     fn counter(&mut self, alloc: Global) -> Result<Counter<u64>, Fault>;
@@ -38,8 +40,8 @@ pub trait Subject: Drop {
 }
 
 impl Subject for Provider<Plain> {
-    fn reply_to(&mut self, call: &Call) -> Reply {
-        self.step(call)
+    fn make(&mut self, between: &[Call], calls: &[Call], times: u64) -> u64 {
+        counted_rounds(self, between, calls, times)
     }
 
     fn counter(&mut self, alloc: Global) -> Result<Counter<u64>, Fault> {
@@ -56,10 +58,12 @@ impl Subject for Provider<Plain> {
         counter.bind(self, attributes)
     }
 
+    #[inline(always)]
     fn add_one(&mut self, counter: &Counter<u64>, attributes: &[KeyValue]) -> bool {
         counter.add(self, 1, attributes).is_ok()
     }
 
+    #[inline(always)]
     fn add_one_through(&mut self, handle: &Bound<u64>) -> bool {
         handle.add(self, 1).is_ok()
     }
@@ -82,10 +86,12 @@ pub trait Recorder: Drop {
 }
 
 impl<C: Account, S: Account> Recorder for Worker<C, S> {
+    #[inline(always)]
     fn add_one(&mut self, counter: &Counter<u64>, attributes: Vec<KeyValue>) {
         let _ = self.add_to(counter, 1, attributes);
     }
 
+    #[inline(always)]
     fn add_one_through(&mut self, handle: &Bound<u64>) {
         let _ = self.add_through(handle, 1);
     }
@@ -109,6 +115,7 @@ impl<C: Account, S: Account> Shared<Worker<C, S>> for Locked<Plain, C, S> {
         self.open_worker()
     }
 
+    #[inline(always)]
     fn hand_in(&mut self, worker: &mut Worker<C, S>) -> bool {
         self.submit(worker).is_ok()
     }
