@@ -1,6 +1,6 @@
 //! Workers without threads: what their calls answer, one after another.
 
-use crate::counted::{add, fault_of_call};
+use crate::counted::{add, fault_of_call, open_worker};
 use otel_common::faults::Fault;
 use otel_common::lists::Items;
 use otel_core::calls::Call;
@@ -121,7 +121,7 @@ fn follow_one<P: Parts, C: Account, S: Account>(
     text: &mut String,
 ) -> Result<(), Fault> {
     match word {
-        "open" => workers.push(locked.open_worker()?)?,
+        "open" => open_worker(locked, workers)?,
         "drop" => drop_last(workers),
         "call" => record_by_call(alloc, locked, text)?,
         _ => {
