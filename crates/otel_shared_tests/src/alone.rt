@@ -1,6 +1,6 @@
 //! Workers without threads: what their calls answer, one after another.
 
-use crate::counted::{add, fault_of_call};
+use crate::counted::{add, fault_of_call, open_worker};
 use otel_common::faults::Fault;
 use otel_common::lists::Items;
 use otel_core::calls::Call;
@@ -24,9 +24,25 @@ fn submit<P: Parts, C: Account, S: Account>(
     Ok(())
 }
 
-/// Takes the first record out of a worker's list, and writes the number of its instrument.
+/// The number of the instrument of a record.
+fn instrument_of(call: &Call) -> Option<usize> {
+    match call {
+        Call::Record { instrument, .. } => Some(*instrument),
+        _ => None,
+    }
+}
+
+/// Takes the first record out of a worker's list. Answers the number of its instrument.
+fn take_first<C: Account, S: Account>(worker: &mut Worker<C, S>) -> Option<usize> {
+    match worker.take_first() {
+        Some(call) => instrument_of(&call),
+        None => None,
+    }
+}
+
+/// The same, and writes the number.
 fn take<C: Account, S: Account>(worker: &mut Worker<C, S>, text: &mut String) -> Result<(), Fault> {
-    if let Some(Call::Record { instrument, .. }) = worker.take_first() {
+    if let Some(instrument) = take_first(worker) {
         write!(text, "taken {instrument}, ")?;
     }
     Ok(())
@@ -88,6 +104,14 @@ pub fn follow<P: Parts, C: Account, S: Account>(
     Ok(workers)
 }
 
+/// Drops the last worker, if there is one.
+fn drop_last<W: Drop>(workers: &mut Vec<W>) {
+    match workers.pop() {
+        Some(_worker) => {}
+        None => {}
+    }
+}
+
 /// Does what one word says.
 fn follow_one<P: Parts, C: Account, S: Account>(
     alloc: Global,
@@ -97,8 +121,8 @@ fn follow_one<P: Parts, C: Account, S: Account>(
     text: &mut String,
 ) -> Result<(), Fault> {
     match word {
-        "open" => workers.push(locked.open_worker()?)?,
-        "drop" => drop(workers.pop()),
+        "open" => open_worker(locked, workers)?,
+        "drop" => drop_last(workers),
         "call" => record_by_call(alloc, locked, text)?,
         _ => {
             if let Some(worker) = workers.last_mut() {

@@ -23,15 +23,34 @@ pub fn fault_of<T: Drop>(answer: Result<T, Fault>) -> u64 {
     }
 }
 
+/// The number of the fault of a refusal, otherwise 0.
+fn refusal(reply: &Reply) -> u64 {
+    match reply {
+        Reply::Refused(fault) => u64::from(fault.number()),
+        _ => 0,
+    }
+}
+
 /// The number of the fault of a call that is refused, otherwise 0.
 pub fn fault_of_call<P: Parts, C: Account, S: Account>(
     locked: &mut Locked<P, C, S>,
     call: &Call,
 ) -> u64 {
-    match locked.call(call) {
-        Reply::Refused(fault) => u64::from(fault.number()),
-        _ => 0,
-    }
+    refusal(&locked.call(call))
+}
+
+/// The build of a counter of the first meter.
+fn build_of(alloc: Global, name: &str) -> Result<Call, Fault> {
+    let name = StringValue::new(alloc, name)?;
+    Ok(Call::Build {
+        meter: Some(0),
+        sort: InstrumentSort::U64Counter,
+        name,
+        description: None,
+        unit: None,
+        boundaries: None,
+        now: 100,
+    })
 }
 
 /// Builds a counter of the first meter.
@@ -40,15 +59,7 @@ fn build_counter<P: Parts, C: Account, S: Account>(
     locked: &mut Locked<P, C, S>,
     name: &str,
 ) -> Result<(), Fault> {
-    let build = Call::Build {
-        meter: Some(0),
-        sort: InstrumentSort::U64Counter,
-        name: StringValue::new(alloc, name)?,
-        description: None,
-        unit: None,
-        boundaries: None,
-        now: 100,
-    };
+    let build = build_of(alloc, name)?;
     let _ = fault_of_call(locked, &build);
     Ok(())
 }
@@ -75,6 +86,15 @@ pub fn add<C: Account, S: Account>(
     worker.add(instrument, NumberValue::U64(value), Vec::new(alloc))
 }
 
+/// Opens one worker more.
+pub fn open_worker<P: Parts, C: Account, S: Account>(
+    locked: &mut Locked<P, C, S>,
+    workers: &mut Vec<Worker<C, S>>,
+) -> Result<(), Fault> {
+    workers.push(locked.open_worker()?)?;
+    Ok(())
+}
+
 /// Opens so many workers.
 pub fn open_workers<P: Parts, C: Account, S: Account>(
     alloc: Global,
@@ -83,7 +103,7 @@ pub fn open_workers<P: Parts, C: Account, S: Account>(
 ) -> Result<Vec<Worker<C, S>>, Fault> {
     let mut workers = Vec::new(alloc);
     for _ in 0..number {
-        workers.push(locked.open_worker()?)?;
+        open_worker(locked, &mut workers)?;
     }
     Ok(workers)
 }

@@ -69,6 +69,14 @@ fn settle_all<P: Parts, C: Account, S: Account>(
     }
 }
 
+/// Puts a worker back that was taken out.
+fn put_back<W: Drop>(workers: &mut Vec<W>, worker: Option<W>) -> Result<(), Fault> {
+    match worker {
+        Some(worker) => Ok(workers.push(worker)?),
+        None => Ok(()),
+    }
+}
+
 /// Settles without the last worker, which is refused, and then with all that are given. Writes the number of the fault,
 /// and what comes of the second.
 pub fn settle_twice<P: Parts, C: Account, S: Account>(
@@ -85,7 +93,7 @@ pub fn settle_twice<P: Parts, C: Account, S: Account>(
         Ok(_) => Ok(()),
         Err((fault, locked, workers)) => {
             let mut workers = workers;
-            workers.extend(last)?;
+            put_back(&mut workers, last)?;
             write!(text, "refused {}, ", fault.number())?;
             settle_all(alloc, locked, workers, text)
         }

@@ -102,24 +102,34 @@ fn workers_without_threads(rt: HostRuntime) -> Result<(), Fail> {
     )
 }
 
-/// A provider of this identity, and instruments of it.
-fn with_instruments(
+/// Shares a provider, and has a worker record with instruments of another one, and with those of its own.
+fn record_with<R: Abort + Threads + Wait + Sync>(
+    rt: &R,
     alloc: Global,
-    identity: u64,
-) -> Result<(SdkMeterProvider, Instruments), Fault> {
-    let mut provider = provider_of(alloc, identity)?;
-    let instruments = Instruments::build(alloc, &mut provider)?;
-    Ok((provider, instruments))
+    foreign: &Instruments,
+    text: &mut String,
+) -> Result<(), Fault> {
+    let mut provider = provider_of(alloc, 0)?;
+    let own = Instruments::build(alloc, &mut provider)?;
+    share_boxes(rt, alloc, provider, Case::Typed(foreign, &own), text)
+}
+
+/// The same, with the instruments of a provider that it makes.
+fn record_with_foreign<R: Abort + Threads + Wait + Sync>(
+    rt: &R,
+    alloc: Global,
+    text: &mut String,
+) -> Result<(), Fault> {
+    let mut other = provider_of(alloc, 7)?;
+    let foreign = Instruments::build(alloc, &mut other)?;
+    record_with(rt, alloc, &foreign, text)
 }
 
 /// With instruments of another provider, and of the worker's own one.
 #[test]
 fn instruments_as_values(rt: HostRuntime) -> Result<(), Fail> {
-    let (provider, own) = with_instruments(rt.alloc(), 0)?;
-    let (_other, foreign) = with_instruments(rt.alloc(), 7)?;
     let mut text = String::new(rt.alloc());
-    let case = Case::Typed(&foreign, &own);
-    share_boxes(&rt, rt.alloc(), provider, case, &mut text)?;
+    record_with_foreign(&rt, rt.alloc(), &mut text)?;
     let wanted =
         "faults 3 3 4, 0 wait, accepted 0, value 0, faults 0 0 0, 3 wait, accepted 3, value 3, refused 14, 3 and 0";
     assert_eq!(rt; text.as_str(), wanted);
