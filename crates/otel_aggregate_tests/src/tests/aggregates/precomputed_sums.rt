@@ -26,6 +26,20 @@ fn commit<T: Number + Drop>(
     Ok(())
 }
 
+/// Does a step with a set of attributes.
+fn step_on<T: Number + Drop + Readable>(
+    sum: &mut PrecomputedSum<T>,
+    set: &[KeyValue],
+    step: &Step,
+    text: &mut String,
+) -> Result<(), Fault> {
+    match step.name {
+        "measure" => sum.measure(Readable::read(step.values)?, set),
+        "commit" => commit(sum, set, Readable::read(step.values)?, text),
+        name => Ok(write!(text, "no step is {name}")?),
+    }
+}
+
 impl<T: Number + Drop + Display + Readable> Stepped for PrecomputedSum<T> {
     fn step(&mut self, alloc: Global, step: &Step, text: &mut String) -> Result<(), Fault> {
         match step.name {
@@ -34,13 +48,9 @@ impl<T: Number + Drop + Display + Readable> Stepped for PrecomputedSum<T> {
                 self.collect(alloc, Readable::read(step.place)?)?
                     .tell(text)?,
             ),
-            "measure" => {
-                let set = attributes(alloc, step.place)?;
-                self.measure(Readable::read(step.values)?, &set)
-            }
             _ => {
                 let set = attributes(alloc, step.place)?;
-                commit(self, &set, Readable::read(step.values)?, text)
+                step_on(self, &set, step, text)
             }
         }
     }
