@@ -5,7 +5,8 @@ ghost use Rattle.otel_common.specs.Faults.{number_of};
 ghost use Rattle.otel_common.specs.declared.faults.Fault.TheVariants.{OutOfMemory};
 
 use std::alloc::{AllocError, AllocFailed};
-use thiserror::Error;
+use std::error::Error;
+use std::fmt::{self, Display, Formatter, Write};
 
 /// The answer to a flush or a shutdown: done, or why it was refused.
 pub type OTelSdkResult = Result<(), Fault>;
@@ -15,53 +16,40 @@ pub type OTelSdkResult = Result<(), Fault>;
 /// A refused call changes nothing, with two exceptions. In a flush or a shutdown in which readers failed, every reader
 /// was asked, and the shutdown has shut the provider down. In a refused collection, the callbacks that ran keep the
 /// changes that they made to themselves.
-#[derive(Clone, Debug, Drop, Error)]
+#[derive(Clone, Copy, Debug)]
 pub enum Fault {
     /// There was no memory for the call.
-    #[error("out of memory")]
     OutOfMemory,
     /// No meter of the provider has this number, or the meter belongs to a provider with another identity.
-    #[error("unknown meter")]
     UnknownMeter,
     /// No instrument of the provider has this number, or the instrument belongs to a provider with another identity.
-    #[error("unknown instrument")]
     UnknownInstrument,
     /// No live handle of the provider has this number, or the handle belongs to a provider with another identity.
-    #[error("unknown handle")]
     UnknownHandle,
     /// No reader of the provider has this number.
-    #[error("unknown reader")]
     UnknownReader,
     /// A `u64` for an `i64` instrument, or the other way round.
-    #[error("wrong number type")]
     WrongNumber,
     /// The instrument is of the wrong kind: a record or a bind on an observable one, or an observation of one that
     /// isn't observable.
-    #[error("wrong instrument kind")]
     WrongKind,
     /// A flush or a shutdown of a provider that was already shut down (Metrics SDK, "Shutdown").
-    #[error("already shut down")]
     AlreadyShutdown,
     /// No number is left: 2^64 - 1 handles were bound, at a provider or at one entry of a map, or 2^32 - 1 workers of a
     /// shared provider were opened.
-    #[error("exhausted")]
     Exhausted,
     /// No further record can be entered in the book of a shared provider: 2^64 - 1 records of workers were accepted.
-    #[error("ledger full")]
     LedgerFull,
     /// A record was handed to a shared provider itself. Only its workers may hand in records.
-    #[error("use a worker")]
     UseWorker,
     /// The workers handed back to a shared provider are not all that were opened at it.
-    #[error("workers missing")]
     WorkersMissing,
     /// A reader could not do what it was asked.
-    #[error("{0}")]
     InternalFailure(InternalFault),
 }
 
 /// What readers failed to do.
-#[derive(Clone, Debug, Drop, Error)]
+#[derive(Clone, Copy, Debug, thiserror::Error)]
 pub enum InternalFault {
     /// A collection from a provider that was already shut down.
     #[error("reader is shut down or not registered")]
@@ -110,3 +98,26 @@ impl<T: Drop> From<AllocFailed<T>> for Fault {
         Fault::OutOfMemory
     }
 }
+
+/// Prints the reason, in words.
+impl Display for Fault {
+    fn fmt<W: Write>(&self, f: &mut Formatter<W>) -> fmt::Result {
+        f.write_str(match self {
+            Fault::OutOfMemory => "out of memory",
+            Fault::UnknownMeter => "unknown meter",
+            Fault::UnknownInstrument => "unknown instrument",
+            Fault::UnknownHandle => "unknown handle",
+            Fault::UnknownReader => "unknown reader",
+            Fault::WrongNumber => "wrong number type",
+            Fault::WrongKind => "wrong instrument kind",
+            Fault::AlreadyShutdown => "already shut down",
+            Fault::Exhausted => "exhausted",
+            Fault::LedgerFull => "ledger full",
+            Fault::UseWorker => "use a worker",
+            Fault::WorkersMissing => "workers missing",
+            Fault::InternalFailure(failure) => return write!(f, "{failure}"),
+        })
+    }
+}
+
+impl Error for Fault {}
