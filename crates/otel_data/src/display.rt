@@ -7,29 +7,36 @@ use otel_common::attributes::KeyValue;
 use std::fmt::{Display, Formatter, Result, Write};
 use std::slice::Iter;
 
-/// Prints the name of a metric, and the attributes of a point.
-fn write_place<W: Write>(
+/// Prints a line: the name of a metric, the attributes of a point, and what the point says.
+fn write_line<W: Write, D: Display>(
     f: &mut Formatter<W>,
     name: &str,
     attributes: Iter<'_, KeyValue>,
+    said: &D,
 ) -> Result {
     f.write_str(name)?;
     for attribute in attributes {
         write!(f, " {attribute}")?;
     }
-    Ok(())
+    writeln!(f, ": {said}")
 }
 
-/// Prints how many records fell into each bucket, and ends the line.
-fn write_buckets<W: Write, T: Copy + Display>(
-    f: &mut Formatter<W>,
-    point: &HistogramDataPoint<T>,
-) -> Result {
-    write!(f, ": count {} sum {} buckets", point.count(), point.sum())?;
-    for count in point.bucket_counts() {
-        write!(f, " {count}")?;
+/// What the point of a histogram says.
+#[derive(Drop)]
+struct Buckets<'a, T> {
+    point: &'a HistogramDataPoint<T>,
+}
+
+impl<'a, T: Copy + Display> Display for Buckets<'a, T> {
+    /// How many records there are, their sum, and how many fell into each bucket.
+    fn fmt<W: Write>(&self, f: &mut Formatter<W>) -> Result {
+        let point = self.point;
+        write!(f, "count {} sum {} buckets", point.count(), point.sum())?;
+        for count in point.bucket_counts() {
+            write!(f, " {count}")?;
+        }
+        Ok(())
     }
-    writeln!(f)
 }
 
 /// Prints a line for each point of a metric.
@@ -41,20 +48,17 @@ fn write_points<W: Write, T: Copy + Display>(
     match data {
         MetricData::Gauge(gauge) => {
             for point in gauge.data_points() {
-                write_place(f, name, point.attributes())?;
-                writeln!(f, ": {}", point.value())?;
+                write_line(f, name, point.attributes(), &point.value())?;
             }
         }
         MetricData::Sum(sum) => {
             for point in sum.data_points() {
-                write_place(f, name, point.attributes())?;
-                writeln!(f, ": {}", point.value())?;
+                write_line(f, name, point.attributes(), &point.value())?;
             }
         }
         MetricData::Histogram(histogram) => {
             for point in histogram.data_points() {
-                write_place(f, name, point.attributes())?;
-                write_buckets(f, point)?;
+                write_line(f, name, point.attributes(), &Buckets { point })?;
             }
         }
     }

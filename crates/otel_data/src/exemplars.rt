@@ -45,7 +45,7 @@ impl<const N: usize> PartialEq for Id<N> {
 }
 
 /// A recorded value that is kept as an example, and what it was recorded in (Metrics SDK, "Exemplar").
-#[derive(Clone, Debug, Drop, PartialEq)]
+#[derive(Debug, Drop, PartialEq)]
 pub struct Exemplar<T> {
     filtered_attributes: Items<KeyValue>,
     time: u64,
@@ -53,6 +53,24 @@ pub struct Exemplar<T> {
     pub value: T,
     span_id: Id<8>,
     trace_id: Id<16>,
+}
+
+impl<T: Clone> Clone for Exemplar<T> {
+    ghost is_clone = { λ e copy. ⟦<Items<KeyValue> as Clone>⟧.is_clone e.filtered_attributes copy.filtered_attributes × (copy.time ≡ e.time) × T.is_clone e.value copy.value × (copy.span_id ≡ e.span_id) × (copy.trace_id ≡ e.trace_id) };
+
+    fn clone(&self) -> Result<Exemplar<T>, AllocError> {
+        Ok(Exemplar {
+            filtered_attributes: self.filtered_attributes.clone()?,
+            time: self.time,
+            value: self.value.clone()?,
+            span_id: Id {
+                bytes: self.span_id.bytes,
+            },
+            trace_id: Id {
+                bytes: self.trace_id.bytes,
+            },
+        })
+    }
 }
 
 impl<T> Exemplar<T> {

@@ -11,25 +11,27 @@ use crate::places::first_at;
 use crate::points::GaugeDataPoint;
 use otel_common::attributes::KeyValue;
 use otel_common::lists::Items;
+use std::alloc::AllocError;
 use std::slice::Iter;
 
 /// The points of a gauge at one collection, with their start and the moment of the collection (Metrics data model,
 /// "Gauge").
-#[derive(Clone, Debug)]
+#[derive(Debug, Drop)]
 pub struct Gauge<T> {
     data_points: Items<GaugeDataPoint<T>>,
     start_time: u64,
     time: u64,
 }
 
-impl<T: Drop> Drop for Gauge<T> {
-    /// A function of its own, so that no proof about who lets one go looks into it.
-    fn drop(self) {
-        let Gauge {
-            data_points: _data_points,
-            start_time: _,
-            time: _,
-        } = self;
+impl<T: Clone> Clone for Gauge<T> {
+    ghost is_clone = { λ gauge copy. ⟦<Items<GaugeDataPoint<T>> as Clone>⟧.is_clone gauge.data_points copy.data_points × (copy.start_time ≡ gauge.start_time) × (copy.time ≡ gauge.time) };
+
+    fn clone(&self) -> Result<Gauge<T>, AllocError> {
+        Ok(Gauge {
+            data_points: self.data_points.clone()?,
+            start_time: self.start_time,
+            time: self.time,
+        })
     }
 }
 

@@ -12,11 +12,12 @@ use crate::points::HistogramDataPoint;
 use otel_common::attributes::KeyValue;
 use otel_common::lists::Items;
 use otel_common::metrics::Temporality;
+use std::alloc::AllocError;
 use std::slice::Iter;
 
 /// The points of a histogram at one collection, with their start and the moment of the collection (Metrics data model,
 /// "Histogram").
-#[derive(Clone, Debug)]
+#[derive(Debug, Drop)]
 pub struct Histogram<T> {
     data_points: Items<HistogramDataPoint<T>>,
     start_time: u64,
@@ -24,15 +25,16 @@ pub struct Histogram<T> {
     temporality: Temporality,
 }
 
-impl<T: Drop> Drop for Histogram<T> {
-    /// A function of its own, so that no proof about who lets one go looks into it.
-    fn drop(self) {
-        let Histogram {
-            data_points: _data_points,
-            start_time: _,
-            time: _,
-            temporality: _,
-        } = self;
+impl<T: Clone> Clone for Histogram<T> {
+    ghost is_clone = { λ histogram copy. ⟦<Items<HistogramDataPoint<T>> as Clone>⟧.is_clone histogram.data_points copy.data_points × (copy.start_time ≡ histogram.start_time) × (copy.time ≡ histogram.time) × (copy.temporality ≡ histogram.temporality) };
+
+    fn clone(&self) -> Result<Histogram<T>, AllocError> {
+        Ok(Histogram {
+            data_points: self.data_points.clone()?,
+            start_time: self.start_time,
+            time: self.time,
+            temporality: self.temporality,
+        })
     }
 }
 

@@ -6,6 +6,7 @@ ghost use Rattle.std.specs.Slice.Iter.{iter_rest};
 use crate::exemplars::Exemplar;
 use otel_common::attributes::KeyValue;
 use otel_common::lists::{Items, SharedItems};
+use std::alloc::AllocError;
 use std::slice::Iter;
 
 /// A point of a sum: what the records of one set of attributes add up to (Metrics data model,
@@ -121,7 +122,7 @@ impl<T> GaugeDataPoint<T> {
 
 /// A point of a histogram: how the records of one set of attributes spread (Metrics data model,
 /// "Histogram").
-#[derive(Clone, Debug, PartialEq)]
+#[derive(Debug, PartialEq)]
 pub struct HistogramDataPoint<T> {
     attributes: SharedItems<KeyValue>,
     exemplars: Items<Exemplar<T>>,
@@ -146,6 +147,23 @@ impl<T: Drop> Drop for HistogramDataPoint<T> {
             max: _max,
             sum: _sum,
         } = self;
+    }
+}
+
+impl<T: Clone> Clone for HistogramDataPoint<T> {
+    ghost is_clone = { λ p copy. (copy.attributes ≡ p.attributes) × ⟦<Items<Exemplar<T>> as Clone>⟧.is_clone p.exemplars copy.exemplars × (copy.bounds ≡ p.bounds) × (copy.bucket_counts ≡ p.bucket_counts) × (copy.count ≡ p.count) × ⟦<Option<T> as Clone>⟧.is_clone p.min copy.min × ⟦<Option<T> as Clone>⟧.is_clone p.max copy.max × T.is_clone p.sum copy.sum };
+
+    fn clone(&self) -> Result<HistogramDataPoint<T>, AllocError> {
+        Ok(HistogramDataPoint {
+            attributes: self.attributes.clone()?,
+            exemplars: self.exemplars.clone()?,
+            bounds: self.bounds.clone()?,
+            bucket_counts: self.bucket_counts.clone()?,
+            count: self.count,
+            sum: self.sum.clone()?,
+            min: self.min.clone()?,
+            max: self.max.clone()?,
+        })
     }
 }
 

@@ -12,11 +12,12 @@ use crate::points::SumDataPoint;
 use otel_common::attributes::KeyValue;
 use otel_common::lists::Items;
 use otel_common::metrics::Temporality;
+use std::alloc::AllocError;
 use std::slice::Iter;
 
 /// The points of a sum at one collection, with their start and the moment of the collection (Metrics data model,
 /// "Sums").
-#[derive(Clone, Debug)]
+#[derive(Debug, Drop)]
 pub struct Sum<T> {
     data_points: Items<SumDataPoint<T>>,
     start_time: u64,
@@ -25,16 +26,17 @@ pub struct Sum<T> {
     is_monotonic: bool,
 }
 
-impl<T: Drop> Drop for Sum<T> {
-    /// A function of its own, so that no proof about who lets one go looks into it.
-    fn drop(self) {
-        let Sum {
-            data_points: _data_points,
-            start_time: _,
-            time: _,
-            temporality: _,
-            is_monotonic: _,
-        } = self;
+impl<T: Clone> Clone for Sum<T> {
+    ghost is_clone = { λ sum copy. ⟦<Items<SumDataPoint<T>> as Clone>⟧.is_clone sum.data_points copy.data_points × (copy.start_time ≡ sum.start_time) × (copy.time ≡ sum.time) × (copy.temporality ≡ sum.temporality) × (copy.is_monotonic ≡ sum.is_monotonic) };
+
+    fn clone(&self) -> Result<Sum<T>, AllocError> {
+        Ok(Sum {
+            data_points: self.data_points.clone()?,
+            start_time: self.start_time,
+            time: self.time,
+            temporality: self.temporality,
+            is_monotonic: self.is_monotonic,
+        })
     }
 }
 

@@ -12,16 +12,15 @@ returns-clause-point c = λ x y k i. record { attributes = k.0 i; exemplars = k.
 
 pub returns-clause-histogram : goal.returns-clause-histogram
 returns-clause-histogram c = λ x y k.
-    let counts : y.bucket_counts ≡ x.bucket_counts = let h = k.1.1.1.0 in search rules in
-    let min : y.min ≡ x.min = let h = k.1.1.1.1.1.0 in search rules in
-    let max : y.max ≡ x.max = let h = k.1.1.1.1.1.1.0 in search rules in
+    let min : y.min ≡ x.min = let h = k.5 in search rules in
+    let max : y.max ≡ x.max = let h = k.6 in search rules in
     λ i. record {
       attributes = k.0 i;
-      exemplars = k.1.0.1 (returns-clause-exemplar c) i;
-      bounds = k.1.1.0 i;
-      bucket_counts = counts i;
-      count = k.1.1.1.1.0 i;
+      exemplars = k.1.1 (returns-clause-exemplar c) i;
+      bounds = k.2 i;
+      bucket_counts = k.3 i;
+      count = k.4 i;
       min = min i;
       max = max i;
-      sum = k.1.1.1.1.1.1.1 i;
+      sum = k.7 i;
     }
