@@ -25,7 +25,7 @@ const KINDS: [InstrumentKind; 7] = [
 ];
 
 /// What a reader answers for one kind of instrument (Metrics SDK, "MetricReader").
-#[derive(Clone, Debug, Drop)]
+#[derive(Drop)]
 pub struct Answer {
     /// The temporality of the streams of this kind.
     pub temporality: Temporality,
@@ -36,7 +36,7 @@ pub struct Answer {
 }
 
 /// What a reader answered for each kind of instrument when it was handed in. Looking up an answer takes no memory.
-#[derive(Debug, Drop)]
+#[derive(Drop)]
 pub struct Answers {
     items: Items<Answer>,
 }

@@ -8,7 +8,6 @@ ghost use Rattle.otel_stream.specs.declared.instrument.InstrumentKind.{Instrumen
 use crate::instrument::InstrumentKind;
 
 /// A value for each kind of instrument.
-#[derive(Drop)]
 pub(crate) struct ByKind<T> {
     pub(crate) counter: T,
     pub(crate) up_down_counter: T,
@@ -17,6 +16,21 @@ pub(crate) struct ByKind<T> {
     pub(crate) observable_up_down_counter: T,
     pub(crate) gauge: T,
     pub(crate) observable_gauge: T,
+}
+
+impl<T: Drop> Drop for ByKind<T> {
+    /// A function of its own, so that no proof about who lets one go looks into it.
+    fn drop(self) {
+        let ByKind {
+            counter: _counter,
+            up_down_counter: _up_down_counter,
+            histogram: _histogram,
+            observable_counter: _observable_counter,
+            observable_up_down_counter: _observable_up_down_counter,
+            gauge: _gauge,
+            observable_gauge: _observable_gauge,
+        } = self;
+    }
 }
 
 impl<T> ByKind<Option<T>> {

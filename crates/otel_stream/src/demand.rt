@@ -4,7 +4,7 @@ ghost use Rattle.std.specs.Prelude.{◌≡◌};
 
 use crate::instrument::InstrumentKind;
 use otel_common::keys::Key;
-use otel_common::laws::{copied_aggregation, copied_attributes, copied_scope};
+use otel_common::laws::copied_scope;
 use otel_common::lists::Items;
 use otel_common::metrics::Aggregation;
 use otel_common::scopes::InstrumentationScope;
@@ -12,7 +12,7 @@ use otel_common::strings::StringValue;
 use std::alloc::AllocError;
 
 /// What makes two demands name the same stream of a reader (Metrics SDK, "Duplicate instrument registration").
-#[derive(Debug, PartialEq, Eq, Hash)]
+#[derive(PartialEq, Eq, Hash)]
 pub struct Identity {
     /// The scope of the meter.
     pub scope: InstrumentationScope,
@@ -44,7 +44,6 @@ impl Drop for Identity {
 
 /// A stream that is demanded of a reader (Metrics SDK, "Stream configuration"). The first demand of an identity decides
 /// the other fields.
-#[derive(Debug)]
 pub struct Demand {
     /// The identity, by which the streams of a reader are told apart.
     pub identity: Identity,
@@ -83,22 +82,6 @@ impl Clone for Identity {
             description: self.description.clone()?,
             unit: self.unit.clone()?,
             name: self.name.clone()?,
-        })
-    }
-}
-
-impl Clone for Demand {
-    ghost is_clone = { λ s t. t ≡ s };
-
-    fn clone(&self) -> Result<Demand, AllocError> {
-        copied_aggregation();
-        copied_attributes();
-        Ok(Demand {
-            identity: self.identity.clone()?,
-            spelling: self.spelling.clone()?,
-            aggregation: self.aggregation.clone()?,
-            allow: self.allow.clone()?,
-            limit: self.limit,
         })
     }
 }

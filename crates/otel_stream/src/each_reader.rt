@@ -8,14 +8,14 @@ use crate::reader::MetricReader;
 use otel_common::faults::{Fault, InternalFault, OTelSdkResult};
 
 /// What readers are asked to do.
-#[derive(Clone, Copy, Debug)]
+#[derive(Clone, Copy)]
 enum Question {
     Flush,
     Shutdown,
 }
 
 /// How many readers failed so far, and the number of the first of them.
-#[derive(Clone, Copy, Debug)]
+#[derive(Clone, Copy)]
 struct Tally {
     failed: usize,
     first: Option<usize>,

@@ -19,16 +19,9 @@ use std::marker::Model;
 ///
 /// The unit, the limit and the bounds are always valid: the unit has at most 63 bytes, all ASCII, the limit is neither
 /// 0 nor `usize::MAX`, and the bounds of a histogram rise.
-#[derive(Debug)]
+#[derive(Debug, Drop)]
 pub struct Stream {
     spec: StreamSpec,
-}
-
-impl Drop for Stream {
-    /// A function of its own, so that no proof about who lets one go looks into it.
-    fn drop(self) {
-        let Stream { spec: _spec } = self;
-    }
 }
 
 impl Model for Stream {
@@ -145,16 +138,9 @@ impl Clone for Stream {
 
 /// A builder of streams (Metrics SDK, "Stream configuration"). If something is set twice, the last setting counts.
 /// Setting something takes no memory.
-#[derive(Debug)]
+#[derive(Debug, Drop)]
 pub struct StreamBuilder {
     spec: StreamSpec,
-}
-
-impl Drop for StreamBuilder {
-    /// A function of its own, so that no proof about who lets one go looks into it.
-    fn drop(self) {
-        let StreamBuilder { spec: _spec } = self;
-    }
 }
 
 impl Model for StreamBuilder {

@@ -16,7 +16,7 @@ use std::alloc::AllocError;
 
 /// What is set for a stream (Metrics SDK, "Stream configuration"). What is not set comes from the instrument or the
 /// reader.
-#[derive(Debug, Drop)]
+#[derive(Debug)]
 pub struct StreamSpec {
     /// The name, in place of the instrument's.
     pub name: Option<StringValue>,
@@ -30,6 +30,20 @@ pub struct StreamSpec {
     pub allow: Option<Items<Key>>,
     /// How many sets of attributes have points of their own.
     pub limit: Option<usize>,
+}
+
+impl Drop for StreamSpec {
+    /// A function of its own, so that no proof about who lets one go looks into it.
+    fn drop(self) {
+        let StreamSpec {
+            name: _name,
+            description: _description,
+            unit: _unit,
+            aggregation: _aggregation,
+            allow: _allow,
+            limit: _,
+        } = self;
+    }
 }
 
 impl StreamSpec {
@@ -116,13 +130,13 @@ impl Clone for StreamSpec {
     fn clone(&self) -> Result<StreamSpec, AllocError> {
         copied_aggregation();
         copied_attributes();
-        Ok(StreamSpec {
-            name: self.name.clone()?,
-            description: self.description.clone()?,
-            unit: self.unit.clone()?,
-            aggregation: self.aggregation.clone()?,
-            allow: self.allow.clone()?,
-            limit: self.limit,
-        })
+        let mut copy = StreamSpec::default();
+        copy.name = self.name.clone()?;
+        copy.description = self.description.clone()?;
+        copy.unit = self.unit.clone()?;
+        copy.aggregation = self.aggregation.clone()?;
+        copy.allow = self.allow.clone()?;
+        copy.limit = self.limit;
+        Ok(copy)
     }
 }
