@@ -5,7 +5,7 @@ ghost use Rattle.std.specs.Prelude.{◌≡◌, []};
 use otel_common::attributes::KeyValue;
 use otel_common::lists::Items;
 use otel_data::numbers::NumberValue;
-use std::alloc::Global;
+use std::alloc::{AllocError, Global};
 
 /// A value that a callback observed, with its attributes (Metrics API, "Measurement").
 #[derive(Clone, Debug, Drop)]
@@ -39,7 +39,7 @@ impl<T> Observation<T> {
 }
 
 /// A value that was observed of an instrument, with its attributes.
-#[derive(Clone, Debug, Drop)]
+#[derive(Debug, Drop)]
 pub struct Observed {
     /// The number of the instrument.
     pub instrument: usize,
@@ -47,4 +47,16 @@ pub struct Observed {
     pub value: NumberValue,
     /// The attributes, in any order. Where a key occurs more than once, the first value counts.
     pub attributes: Items<KeyValue>,
+}
+
+impl Clone for Observed {
+    ghost is_clone = { λ observed copy. copy ≡ observed };
+
+    fn clone(&self) -> Result<Observed, AllocError> {
+        Ok(Observed {
+            instrument: self.instrument,
+            value: self.value,
+            attributes: self.attributes.clone()?,
+        })
+    }
 }
