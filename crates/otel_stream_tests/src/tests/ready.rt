@@ -1,64 +1,42 @@
 //! What saves programs a line: attributes, observations, moments and seeds ready to use, and how they print.
 
-use super::{assert_prints, copies_of, key_of, list_of};
+use super::{assert_prints, assert_shows, list_of};
 use otel_callback::observation::Observation;
 use otel_common::attributes::{Array, KeyValue, Value};
-use otel_common::faults::Fault;
+use otel_common::keys::Key;
 use otel_common::lists::Items;
 use otel_common::outside::{now_nanos, random_seed};
-use std::alloc::Global;
-use std::fmt::Display;
 use std::io;
-use std::process::Abort;
 use std::random::RandomSource;
 use std::time::{Clock, Duration};
 
-/// An attribute with an array as its value.
-fn list(rt: &impl Abort, alloc: Global) -> KeyValue {
-    let numbers = Items::from(copies_of(rt, alloc, &[1, -2]));
-    KeyValue::new(key_of(rt, alloc, "l"), Value::Array(Array::I64(numbers)))
-}
-
-/// Asserts that a value is made, and prints this text.
-fn assert_made<T: Display + Drop>(
-    rt: &impl Abort,
-    alloc: Global,
-    made: Result<T, Fault>,
-    text: &str,
-) {
-    let value = made.expect(rt, text);
-    assert_prints(rt, alloc, &value, text);
-}
-
-/// Asserts that attributes of each kind print their keys and their values.
-fn assert_attributes_print(rt: &impl Abort, alloc: Global) {
-    assert_made(
-        rt,
-        alloc,
-        KeyValue::text(alloc, "path", "/cart"),
-        "path=/cart",
-    );
-    assert_made(rt, alloc, KeyValue::int(alloc, "n", -7), "n=-7");
-    assert_made(rt, alloc, KeyValue::bool(alloc, "ok", true), "ok=true");
-    assert_made(rt, alloc, Ok(list(rt, alloc)), "l=[1,-2]");
-}
-
-/// An observation of 7 with one attribute.
-fn with_flag(rt: &impl Abort, alloc: Global) -> Observation<u64> {
-    let flag = KeyValue::bool(alloc, "ok", true).expect(rt, "memory");
-    Observation::with_attributes(7, list_of(rt, alloc, flag))
-}
-
-/// Whether an observation has this value and this number of attributes.
-fn observes(observation: &Observation<u64>, value: u64, count: usize) -> bool {
-    observation.value == value && observation.attributes.as_slice().len() == count
-}
-
+/// Attributes of each kind print their keys and their values. Observations have their values and their attributes.
 #[test]
 fn attributes_and_observations(rt: HostRuntime) {
-    assert_attributes_print(&rt, rt.alloc());
-    assert!(rt; observes(&with_flag(&rt, rt.alloc()), 7, 1));
-    assert!(rt; observes(&Observation::new(rt.alloc(), 8), 8, 0));
+    let rt = &rt;
+    let alloc = rt.alloc();
+    let path = KeyValue::text(alloc, "path", "/cart").expect(rt, "memory");
+    let number = KeyValue::int(alloc, "n", -7).expect(rt, "memory");
+    let flag = KeyValue::bool(alloc, "ok", true).expect(rt, "memory");
+    let numbers = Value::Array(Array::I64(Items::from(list_of(rt, alloc, [1, -2]))));
+    let list = KeyValue::new(Key::new(alloc, "l").expect(rt, "memory"), numbers);
+    let attributes = format_args!("{path} {number} {flag} {list}");
+    assert_prints(rt, alloc, &attributes, "path=/cart n=-7 ok=true l=[1,-2]");
+    let seven = Observation::with_attributes(7u64, list_of(rt, alloc, [flag]));
+    let eight = Observation::new(alloc, 8u64);
+    let parts = (
+        seven.value,
+        seven.attributes.as_slice(),
+        eight.value,
+        eight.attributes.as_slice(),
+    );
+    assert_shows(
+        rt,
+        alloc,
+        &parts,
+        "(7, [KeyValue { \
+        key: Key { name: StringValue { text: \"ok\" } }, value: Bool(true) }], 8, [])",
+    );
 }
 
 /// A clock that stands still, and a source that gives ones.
@@ -84,22 +62,21 @@ impl RandomSource for Still {
     }
 }
 
-/// A clock that stands still at this moment.
-fn still_at(since_1970: Duration) -> Still {
-    Still { since_1970 }
-}
-
-/// The moment that a clock shows.
-fn moment_of(rt: &impl Abort, clock: &Still) -> u64 {
-    now_nanos(clock).expect(rt, "a moment")
-}
-
+/// A moment is counted in nanoseconds, up to the greatest number. A seed of ones is 0x0101_0101_0101_0101.
 #[test]
 fn moments_and_seeds(rt: HostRuntime) {
-    let early = still_at(Duration::new(2, 5));
-    assert_eq!(rt; moment_of(&rt, &early), 2_000_000_005);
-    let late = still_at(Duration::from_secs(u64::MAX));
-    assert_eq!(rt; moment_of(&rt, &late), u64::MAX);
-    let seed = random_seed(&early).expect(&rt, "a seed");
-    assert_eq!(rt; seed, 0x0101_0101_0101_0101);
+    let rt = &rt;
+    let early = Still {
+        since_1970: Duration::new(2, 5),
+    };
+    let late = Still {
+        since_1970: Duration::from_secs(u64::MAX),
+    };
+    let found = (
+        now_nanos(&early).expect(rt, "a moment"),
+        now_nanos(&late).expect(rt, "a moment"),
+        random_seed(&early).expect(rt, "a seed"),
+    );
+    let text = "(2000000005, 18446744073709551615, 72340172838076673)";
+    assert_shows(rt, rt.alloc(), &found, text);
 }

@@ -1,30 +1,9 @@
 //! Which settings of streams are refused, and with which text.
 
-use super::{assert_prints, histogram_of, is_text, key_of, list_of, string};
+use super::{assert_outcome, assert_shows, histogram_of, list_of, string};
+use otel_common::keys::Key;
 use otel_common::metrics::Aggregation;
 use otel_stream::stream::{Stream, StreamBuilder};
-use otel_stream::stream_fault::StreamFault;
-use std::alloc::Global;
-use std::fmt::Display;
-use std::process::Abort;
-
-/// Asserts that an outcome is an error of this text, or none if the text is `Ok`.
-fn assert_outcome<T, E: Display>(
-    rt: &impl Abort,
-    alloc: Global,
-    outcome: &Result<T, E>,
-    text: &str,
-) {
-    match outcome {
-        Ok(_) => assert_eq!(rt; "Ok", text),
-        Err(fault) => assert_prints(rt, alloc, fault, text),
-    }
-}
-
-/// Asserts that a builder is refused with this text, or builds if it is `Ok`.
-fn assert_builds(rt: &impl Abort, alloc: Global, builder: StreamBuilder, text: &str) {
-    assert_outcome(rt, alloc, &builder.build(), text);
-}
 
 const NAMES: &[&str] = &[
     "validateName",
@@ -41,19 +20,17 @@ const NAMES: &[&str] = &[
     "",
 ];
 
-/// Asserts that a stream may have this name.
-fn assert_name(rt: &impl Abort, alloc: Global, name: &str) {
-    let builder = Stream::builder().with_name(string(rt, alloc, name));
-    assert_builds(rt, alloc, builder, "Ok");
-}
-
 #[test]
 fn stream_name_no_validation(rt: HostRuntime) {
+    let rt = &rt;
+    let alloc = rt.alloc();
     for name in NAMES {
-        assert_name(&rt, rt.alloc(), name);
+        let builder = Stream::builder().with_name(string(rt, alloc, name));
+        assert_outcome(rt, alloc, builder.build(), "Ok");
     }
-    let long = "a".repeat(rt.alloc(), 256).expect(&rt, "memory");
-    assert_name(&rt, rt.alloc(), long.as_str());
+    let long = "a".repeat(alloc, 256).expect(rt, "memory");
+    let built = Stream::builder().with_name(long).build();
+    assert_outcome(rt, alloc, built, "Ok");
 }
 
 const UNITS: &[(&str, &str)] = &[
@@ -68,16 +45,12 @@ const UNITS: &[(&str, &str)] = &[
     ),
 ];
 
-/// Asserts that a stream with this unit is refused with this text, or builds if it is `Ok`.
-fn assert_unit(rt: &impl Abort, alloc: Global, unit: &str, text: &str) {
-    let builder = Stream::builder().with_unit(string(rt, alloc, unit));
-    assert_builds(rt, alloc, builder, text);
-}
-
 #[test]
 fn stream_unit_validation(rt: HostRuntime) {
+    let alloc = rt.alloc();
     for (unit, text) in UNITS {
-        assert_unit(&rt, rt.alloc(), unit, text);
+        let builder = Stream::builder().with_unit(string(&rt, alloc, unit));
+        assert_outcome(&rt, alloc, builder.build(), text);
     }
 }
 
@@ -91,22 +64,13 @@ const LIMITS: &[(usize, &str)] = &[
     (1000, "Ok"),
 ];
 
-/// Asserts that a stream with this limit is refused with this text, or builds if it is `Ok`.
-fn assert_limit(rt: &impl Abort, alloc: Global, limit: usize, text: &str) {
-    let builder = Stream::builder().with_cardinality_limit(limit);
-    assert_builds(rt, alloc, builder, text);
-}
-
 #[test]
 fn stream_cardinality_limit_validation(rt: HostRuntime) {
+    let alloc = rt.alloc();
     for (limit, text) in LIMITS {
-        assert_limit(&rt, rt.alloc(), *limit, text);
+        let builder = Stream::builder().with_cardinality_limit(*limit);
+        assert_outcome(&rt, alloc, builder.build(), text);
     }
-}
-
-/// A builder of a stream of histograms with these bounds.
-fn with_bounds(rt: &impl Abort, alloc: Global, bounds: &[i64]) -> StreamBuilder {
-    Stream::builder().with_aggregation(histogram_of(rt, alloc, bounds, true))
 }
 
 const BOUNDS: &[(&[i64], &str)] = &[
@@ -121,70 +85,56 @@ const BOUNDS: &[(&[i64], &str)] = &[
     ),
 ];
 
-/// Asserts that a stream with these bounds is refused with this text, or builds if it is `Ok`.
-fn assert_bounds(rt: &impl Abort, alloc: Global, bounds: &[i64], text: &str) {
-    assert_builds(rt, alloc, with_bounds(rt, alloc, bounds), text);
-}
-
-/// Asserts that a stream with these bounds is refused for its bounds.
-fn assert_bounds_refused(rt: &impl Abort, alloc: Global, bounds: &[i64]) {
-    let built = with_bounds(rt, alloc, bounds).build();
-    assert!(rt; matches!(built, Err(StreamFault::Boundaries)));
-}
-
 #[test]
 fn stream_histogram_bucket_validation(rt: HostRuntime) {
+    let rt = &rt;
+    let alloc = rt.alloc();
     for (bounds, text) in BOUNDS {
-        assert_bounds(&rt, rt.alloc(), bounds, text);
+        let histogram = histogram_of(rt, alloc, bounds, true);
+        let builder = Stream::builder().with_aggregation(histogram);
+        assert_outcome(rt, alloc, builder.build(), text);
     }
-    assert_bounds_refused(&rt, rt.alloc(), &[1, 5, 2, 10]);
+    let histogram = histogram_of(rt, alloc, &[1, 5, 2, 10], true);
+    let refused = Stream::builder().with_aggregation(histogram).build();
+    assert_shows(rt, alloc, &refused, "Err(Boundaries)");
 }
 
-/// A builder with everything set.
-fn full_builder(rt: &impl Abort, alloc: Global) -> StreamBuilder {
-    StreamBuilder::default()
+const FULL: &str = "(Some(\"valid_name\"), Some(\"A valid stream\"), Some(\"ms\"), Some(Sum), \
+    Some([Key { name: StringValue { text: \"a\" } }]), Some(100), Some(100), true)";
+
+const COPY: &str = "Stream { spec: StreamSpec { \
+    name: Some(StringValue { text: \"valid_name\" }), \
+    description: Some(StringValue { text: \"A valid stream\" }), \
+    unit: Some(StringValue { text: \"ms\" }), aggregation: Some(Sum), \
+    allow: Some(Items { items: [Key { name: StringValue { text: \"a\" } }] }), limit: Some(100) } }";
+
+/// Each setting once, with its getter, also in copies of the builder and of the stream. A default stream has no name.
+#[test]
+fn stream_valid_build(rt: HostRuntime) {
+    let rt = &rt;
+    let alloc = rt.alloc();
+    let key = Key::new(alloc, "a").expect(rt, "memory");
+    let builder = StreamBuilder::default()
         .with_name(string(rt, alloc, "valid_name"))
         .with_description(string(rt, alloc, "A valid stream"))
         .with_unit(string(rt, alloc, "ms"))
-        .with_allowed_attribute_keys(list_of(rt, alloc, key_of(rt, alloc, "a")))
+        .with_allowed_attribute_keys(list_of(rt, alloc, [key]))
         .with_aggregation(Aggregation::Sum)
-        .with_cardinality_limit(100)
-}
-
-/// Whether a stream has the texts that the full builder sets.
-fn has_full_texts(stream: &Stream) -> bool {
-    is_text(stream.name(), "valid_name")
-        && is_text(stream.description(), "A valid stream")
-        && is_text(stream.unit(), "ms")
-}
-
-/// Whether a stream has the limit that the full builder sets.
-fn has_full_limit(stream: &Stream) -> bool {
-    stream.cardinality_limit() == Some(100) && stream.spec().limit == Some(100)
-}
-
-/// Asserts that a stream has everything that the full builder sets.
-fn assert_full(rt: &impl Abort, stream: &Stream) {
-    stream.lawful();
-    assert!(rt; has_full_texts(stream));
-    assert!(rt; matches!(stream.aggregation(), Some(Aggregation::Sum)));
-    assert!(rt; stream.allowed_attribute_keys().expect(rt, "keys").len() == 1);
-    assert!(rt; has_full_limit(stream));
-}
-
-/// A stream that is built by a copy of the full builder.
-fn full_stream(rt: &impl Abort, alloc: Global) -> Stream {
-    let builder = full_builder(rt, alloc);
+        .with_cardinality_limit(100);
     let copy = builder.clone().expect(rt, "memory");
-    copy.build().expect(rt, "a valid stream")
-}
-
-/// Each setting once, with its getter, also in copies of the builder and of the stream.
-#[test]
-fn stream_valid_build(rt: HostRuntime) {
-    let stream = full_stream(&rt, rt.alloc());
-    assert_full(&rt, &stream);
-    let copy = stream.clone().expect(&rt, "memory");
-    assert_full(&rt, &copy);
-    assert!(rt; Stream::default().name().is_none());
+    let stream = copy.build().expect(rt, "a valid stream");
+    stream.lawful();
+    let parts = (
+        stream.name(),
+        stream.description(),
+        stream.unit(),
+        stream.aggregation(),
+        stream.allowed_attribute_keys(),
+        stream.cardinality_limit(),
+        stream.spec().limit,
+        Stream::default().name().is_none(),
+    );
+    assert_shows(rt, alloc, &parts, FULL);
+    let copy = stream.clone().expect(rt, "memory");
+    assert_shows(rt, alloc, &copy, COPY);
 }

@@ -3,35 +3,32 @@
 use super::assert_prints;
 use otel_common::faults::{Fault, InternalFault};
 use otel_common::metrics::MetricError;
-use std::alloc::Global;
-use std::process::Abort;
 
-const FAULTS: &[(Fault, u8, &str)] = &[
-    (Fault::OutOfMemory, 1, "out of memory"),
-    (Fault::UnknownMeter, 2, "unknown meter"),
-    (Fault::UnknownInstrument, 3, "unknown instrument"),
-    (Fault::UnknownHandle, 4, "unknown handle"),
-    (Fault::UnknownReader, 5, "unknown reader"),
-    (Fault::WrongNumber, 6, "wrong number type"),
-    (Fault::WrongKind, 7, "wrong instrument kind"),
-    (Fault::AlreadyShutdown, 8, "already shut down"),
+/// Faults, their numbers and their texts.
+const FAULTS: &[(Fault, &str)] = &[
+    (Fault::OutOfMemory, "1 out of memory"),
+    (Fault::UnknownMeter, "2 unknown meter"),
+    (Fault::UnknownInstrument, "3 unknown instrument"),
+    (Fault::UnknownHandle, "4 unknown handle"),
+    (Fault::UnknownReader, "5 unknown reader"),
+    (Fault::WrongNumber, "6 wrong number type"),
+    (Fault::WrongKind, "7 wrong instrument kind"),
+    (Fault::AlreadyShutdown, "8 already shut down"),
     (
         Fault::InternalFailure(InternalFault::ReaderShutDown),
-        9,
-        "reader is shut down or not registered",
+        "9 reader is shut down or not registered",
     ),
     (
         Fault::InternalFailure(InternalFault::Readers {
             failed: 2,
             first: 10,
         }),
-        10,
-        "2 readers failed, the first is 10",
+        "10 2 readers failed, the first is 10",
     ),
-    (Fault::Exhausted, 11, "exhausted"),
-    (Fault::LedgerFull, 12, "ledger full"),
-    (Fault::UseWorker, 13, "use a worker"),
-    (Fault::WorkersMissing, 14, "workers missing"),
+    (Fault::Exhausted, "11 exhausted"),
+    (Fault::LedgerFull, "12 ledger full"),
+    (Fault::UseWorker, "13 use a worker"),
+    (Fault::WorkersMissing, "14 workers missing"),
 ];
 
 const ERRORS: &[(MetricError, &str)] = &[
@@ -43,18 +40,14 @@ const ERRORS: &[(MetricError, &str)] = &[
     ),
 ];
 
-/// Asserts that a fault has this number and this text.
-fn assert_fault(rt: &impl Abort, alloc: Global, fault: &Fault, number: u8, text: &str) {
-    assert!(rt; fault.number() == number, "{text}");
-    assert_prints(rt, alloc, fault, text);
-}
-
 #[test]
 fn faults_and_errors(rt: HostRuntime) {
-    for (fault, number, text) in FAULTS {
-        assert_fault(&rt, rt.alloc(), fault, *number, text);
+    let alloc = rt.alloc();
+    for (fault, text) in FAULTS {
+        let number = fault.number();
+        assert_prints(&rt, alloc, &format_args!("{number} {fault}"), text);
     }
     for (error, text) in ERRORS {
-        assert_prints(&rt, rt.alloc(), error, text);
+        assert_prints(&rt, alloc, error, text);
     }
 }
