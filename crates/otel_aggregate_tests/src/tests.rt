@@ -1,27 +1,42 @@
 //! Worked rows and ported tests, with each public function called at least once, at both number types. Sets of attributes
 //! are written as texts.
 
-use otel_common::attributes::{KeyValue, Value};
+use otel_common::attributes::{Array, KeyValue, Value};
 use otel_common::faults::Fault;
 use otel_common::keys::Key;
 use otel_common::lists::{Items, SharedItems};
 use otel_common::strings::StringValue;
 use otel_value_map::bounds::Bounds;
-use std::alloc::{AllocError, Global};
-use std::slice::Iter;
+use std::alloc::Global;
 use steps::Readable;
 
 mod aggregates;
+mod scripts;
 mod steps;
 mod value_maps;
 
-/// The value that a text shows: a number, `true` or a text.
+/// A list of one item.
+fn only<T: Drop>(alloc: Global, item: T) -> Result<Items<T>, Fault> {
+    let mut items = Vec::new(alloc);
+    items.push(item)?;
+    Ok(Items::from(items))
+}
+
+/// The value that a text shows: a truth value, a number, one of four arrays, the text 1 between quotes, or itself.
 fn value_of(alloc: Global, shown: &str) -> Result<Value, Fault> {
-    match i64::read(shown) {
-        Ok(number) => Ok(Value::I64(number)),
-        Err(_) if shown == "true" => Ok(Value::Bool(true)),
-        Err(_) => Ok(Value::String(StringValue::new(alloc, shown)?)),
-    }
+    Ok(match shown {
+        "true" => Value::Bool(true),
+        "false" => Value::Bool(false),
+        "[true]" => Value::Array(Array::Bool(only(alloc, true)?)),
+        "[1]" => Value::Array(Array::I64(only(alloc, 1)?)),
+        "['1']" => Value::Array(Array::String(only(alloc, StringValue::new(alloc, "1")?)?)),
+        "[]" => Value::Array(Array::I64(Items::from(Vec::new(alloc)))),
+        "'1'" => Value::String(StringValue::new(alloc, "1")?),
+        _ => match shown.parse::<i64>() {
+            Ok(number) => Value::I64(number),
+            Err(_) => Value::String(StringValue::new(alloc, shown)?),
+        },
+    })
 }
 
 /// The attribute that a text shows.
@@ -40,23 +55,20 @@ fn attributes(alloc: Global, shown: &str) -> Result<Vec<KeyValue>, Fault> {
     Ok(made)
 }
 
-/// Bounds of these numbers. They are refused with `WrongNumber` if they don't rise.
-fn bounds(alloc: Global, numbers: &[i64]) -> Result<Bounds, Fault> {
-    let numbers = SharedItems::new(Vec::from_clones(alloc, numbers)?)?;
-    Bounds::new(numbers).ok_or(Fault::WrongNumber)
-}
-
-/// A list of one item.
-fn only<T: Drop>(alloc: Global, item: T) -> Result<Items<T>, Fault> {
-    let mut items = Vec::new(alloc);
-    items.push(item)?;
-    Ok(Items::from(items))
-}
-
-/// Shows attributes, each with a space after it.
-fn show_attributes(text: &mut String, attributes: Iter<'_, KeyValue>) -> Result<(), AllocError> {
-    for attribute in attributes {
-        write!(text, "{attribute} ")?;
+/// The keys that a text shows.
+fn keys(alloc: Global, shown: &str) -> Result<Items<Key>, Fault> {
+    let mut keys = Vec::new(alloc);
+    for key in shown.split_whitespace() {
+        keys.push(Key::new(alloc, key)?)?;
     }
-    Ok(())
+    Ok(Items::from(keys))
+}
+
+/// Bounds of the numbers that a text shows. They are refused with `WrongNumber` if they don't rise.
+fn bounds(alloc: Global, shown: &str) -> Result<Bounds, Fault> {
+    let mut numbers = Vec::new(alloc);
+    for number in shown.split_whitespace() {
+        numbers.push(i64::read(number))?;
+    }
+    Bounds::new(SharedItems::new(numbers)?).ok_or(Fault::WrongNumber)
 }

@@ -1,166 +1,157 @@
 //! Histograms.
 
-use super::super::bounds as bounds_of;
-use super::super::steps::Readable;
-use super::assert_stream;
-use otel_aggregate::settings::HistogramSettings;
-use otel_common::faults::Fault;
-use otel_common::metrics::Temporality;
-use otel_value_map::buckets::Buckets;
-use otel_value_map::number::Number;
-use std::alloc::Global;
-use std::fmt::Debug;
-use std::process::Abort;
-
-/// Asserts what the steps of some lines answer, done to a histogram with these bounds, which keeps everything or only
-/// the counts.
-fn assert_histogram<T: Number + Drop + Debug + Readable>(
-    rt: &impl Abort,
-    alloc: Global,
-    bounds: &[i64],
-    is_whole: bool,
-    temporality: Temporality,
-    lines: &str,
-) -> Result<(), Fault> {
-    let settings = HistogramSettings {
-        bounds: bounds_of(alloc, bounds)?,
-        has_min_max: is_whole,
-        has_sum: is_whole,
-    };
-    assert_stream::<Buckets<T>>(rt, alloc, settings, temporality, 10, lines)
-}
+use super::super::scripts::assert_script;
 
 /// Values up to 10.
 #[test]
-fn row_1(rt: HostRuntime) -> Result<(), Fault> {
-    let alloc = rt.alloc();
-    let lines = "
-        measure: 1 2 3 4 5 6 7 8 9 10
+fn row_1(rt: HostRuntime) {
+    let script = "
+        histogram of u64, limit 10, Cumulative: 1 3 6
+        resets => false
+        measure: 1
+        measure: 2
+        measure: 3
+        measure: 4
+        measure: 5
+        measure: 6
+        measure: 7
+        measure: 8
+        measure: 9
+        measure: 10
         collect 200 => 100..200 Cumulative; -> (10, Some(1), Some(10), 55) [1, 3, 6] [1, 2, 3, 4]
     ";
-    assert_histogram::<u64>(&rt, alloc, &[1, 3, 6], true, Temporality::Cumulative, lines)
+    assert_script(&rt, rt.alloc(), script);
 }
 
 /// The default bounds.
 #[test]
-fn row_2(rt: HostRuntime) -> Result<(), Fault> {
-    let alloc = rt.alloc();
-    let lines = "
-        measure: 0 5 6 10001
+fn row_2(rt: HostRuntime) {
+    let script = "
+        histogram of u64, limit 10, Cumulative: 0 5 10 25 50 75 100 250 500 750 1000 2500 5000 7500 10000
+        resets => false
+        measure: 0
+        measure: 5
+        measure: 6
+        measure: 10001
         collect 200 => 100..200 Cumulative; -> (4, Some(0), Some(10001), 10012) \
             [0, 5, 10, 25, 50, 75, 100, 250, 500, 750, 1000, 2500, 5000, 7500, 10000] \
             [1, 1, 1, 0, 0, 0, 0, 0, 0, 0, 0, 0, 0, 0, 0, 1]
     ";
-    assert_histogram::<u64>(
-        &rt,
-        alloc,
-        &[
-            0, 5, 10, 25, 50, 75, 100, 250, 500, 750, 1000, 2500, 5000, 7500, 10000,
-        ],
-        true,
-        Temporality::Cumulative,
-        lines,
-    )
+    assert_script(&rt, rt.alloc(), script);
 }
 
 /// Values past the greatest bound.
 #[test]
-fn row_38(rt: HostRuntime) -> Result<(), Fault> {
-    let alloc = rt.alloc();
-    let lines = "
-        measure: 18446744073709551615 9223372036854775807
+fn row_38(rt: HostRuntime) {
+    let script = "
+        histogram of u64, limit 10, Cumulative: 9223372036854775807
+        resets => false
+        measure: 18446744073709551615
+        measure: 9223372036854775807
         collect 200 => 100..200 Cumulative; -> \
             (2, Some(9223372036854775807), Some(18446744073709551615), 9223372036854775806) \
             [9223372036854775807] [1, 1]
     ";
-    assert_histogram::<u64>(
-        &rt,
-        alloc,
-        &[9223372036854775807],
-        true,
-        Temporality::Cumulative,
-        lines,
-    )
+    assert_script(&rt, rt.alloc(), script);
 }
 
 #[test]
-fn row_39(rt: HostRuntime) -> Result<(), Fault> {
-    let alloc = rt.alloc();
+fn row_39(rt: HostRuntime) {
     // A bound below 0.
-    let lines = "
+    let script = "
+        histogram of u64, limit 10, Cumulative: -5 0
+        resets => false
         measure: 0
         collect 200 => 100..200 Cumulative; -> (1, Some(0), Some(0), 0) [-5, 0] [0, 1, 0]
     ";
-    assert_histogram::<u64>(&rt, alloc, &[-5, 0], true, Temporality::Cumulative, lines)?;
+    assert_script(&rt, rt.alloc(), script);
     // No bounds.
-    let lines = "
+    let script = "
+        histogram of u64, limit 10, Cumulative
+        resets => false
         measure: 7
         collect 200 => 100..200 Cumulative; -> (1, Some(7), Some(7), 7) [] []
     ";
-    assert_histogram::<u64>(&rt, alloc, &[], true, Temporality::Cumulative, lines)
+    assert_script(&rt, rt.alloc(), script);
 }
 
 /// A histogram that keeps only counts.
 #[test]
-fn check_buckets_are_selected_correctly(rt: HostRuntime) -> Result<(), Fault> {
-    let alloc = rt.alloc();
-    let lines = "
-        measure: 1 2 3 4 5 6 7 8 9 10
+fn check_buckets_are_selected_correctly(rt: HostRuntime) {
+    let script = "
+        counts of i64, limit 10, Cumulative: 1 3 6
+        resets => false
+        measure: 1
+        measure: 2
+        measure: 3
+        measure: 4
+        measure: 5
+        measure: 6
+        measure: 7
+        measure: 8
+        measure: 9
+        measure: 10
         collect 200 => 100..200 Cumulative; -> (10, None, None, 0) [1, 3, 6] [1, 2, 3, 4]
     ";
-    assert_histogram::<i64>(
-        &rt,
-        alloc,
-        &[1, 3, 6],
-        false,
-        Temporality::Cumulative,
-        lines,
-    )
+    assert_script(&rt, rt.alloc(), script);
 }
 
 #[test]
-fn explicit_bucket_histogram_aggregation(rt: HostRuntime) -> Result<(), Fault> {
-    let alloc = rt.alloc();
+fn explicit_bucket_histogram_aggregation(rt: HostRuntime) {
     // Cumulative.
-    let lines = "
+    let script = "
+        histogram of u64, limit 10, Cumulative: 1
+        resets => false
         measure b=2: 3
         collect 200 => 100..200 Cumulative; b=2 -> (1, Some(3), Some(3), 3) [1] [0, 1]
     ";
-    assert_histogram::<u64>(&rt, alloc, &[1], true, Temporality::Cumulative, lines)?;
+    assert_script(&rt, rt.alloc(), script);
     // Delta.
-    let lines = "
+    let script = "
+        histogram of u64, limit 10, Delta: 1
+        resets => true
         measure b=2: 3
         collect 200 => 100..200 Delta; b=2 -> (1, Some(3), Some(3), 3) [1] [0, 1]
     ";
-    assert_histogram::<u64>(&rt, alloc, &[1], true, Temporality::Delta, lines)
+    assert_script(&rt, rt.alloc(), script);
 }
 
 #[test]
-fn histograms_of_signed_numbers(rt: HostRuntime) -> Result<(), Fault> {
-    let alloc = rt.alloc();
+fn histograms_of_signed_numbers(rt: HostRuntime) {
     // Signed values are compared as whole numbers.
-    let lines = "
-        measure: 0 -4 -6 1 -5
+    let script = "
+        histogram of i64, limit 10, Cumulative: -5 0
+        resets => false
+        measure: 0
+        measure: -4
+        measure: -6
+        measure: 1
+        measure: -5
         collect 200 => 100..200 Cumulative; -> (5, Some(-6), Some(1), -14) [-5, 0] [2, 2, 1]
     ";
-    assert_histogram::<i64>(&rt, alloc, &[-5, 0], true, Temporality::Cumulative, lines)?;
+    assert_script(&rt, rt.alloc(), script);
     // A record is prepared.
-    let lines = "
+    let script = "
+        histogram of i64, limit 10, Cumulative: -5 0
+        resets => false
         is_prepared => false
         prepare
         commit: -1 => true
         is_prepared => false
         total => 1
     ";
-    assert_histogram::<i64>(&rt, alloc, &[-5, 0], true, Temporality::Cumulative, lines)?;
+    assert_script(&rt, rt.alloc(), script);
     // A delta histogram starts again after a collection of two records.
-    let lines = "
-        measure: -1 1
+    let script = "
+        histogram of i64, limit 10, Delta: -5 0
+        resets => true
+        measure: -1
+        measure: 1
         points 200 => 100..200 Delta; -> (2, Some(-1), Some(1), 0) [-5, 0] [0, 1, 1]
         finish 200
         total => 0
         measure: 5
         collect 300 => 200..300 Delta; -> (1, Some(5), Some(5), 5) [-5, 0] [0, 0, 1]
     ";
-    assert_histogram::<i64>(&rt, alloc, &[-5, 0], true, Temporality::Delta, lines)
+    assert_script(&rt, rt.alloc(), script);
 }

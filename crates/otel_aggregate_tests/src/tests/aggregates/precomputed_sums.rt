@@ -1,109 +1,85 @@
 //! Observed sums: whole points, in both temporalities and of both number types.
 
-use super::super::attributes;
-use super::super::steps::{Readable, Step, Stepped, assert_steps};
-use super::Told;
+use super::super::scripts::{Made, assert_script};
+use super::super::steps::{Readable, Step, Stepped, assert_steps, show};
+use super::tell;
 use otel_aggregate::precomputed_sum::PrecomputedSum;
-use otel_common::attributes::KeyValue;
 use otel_common::faults::Fault;
-use otel_common::metrics::Temporality;
 use otel_value_map::hashing::SetHashBuilder;
 use otel_value_map::number::Number;
 use std::alloc::Global;
 use std::fmt::Display;
 use std::process::Abort;
 
-/// Takes in an observation in two phases, and writes whether it was prepared and whether it was taken in.
-fn commit<T: Number + Drop>(
-    sum: &mut PrecomputedSum<T>,
-    set: &[KeyValue],
-    value: T,
-    text: &mut String,
-) -> Result<(), Fault> {
-    sum.prepare(set)?;
-    write!(text, "{} ", sum.is_prepared())?;
-    write!(text, "{}", sum.commit(value))?;
-    Ok(())
-}
-
-/// Does a step with a set of attributes.
-fn step_on<T: Number + Drop + Readable>(
-    sum: &mut PrecomputedSum<T>,
-    set: &[KeyValue],
-    step: &Step,
-    text: &mut String,
-) -> Result<(), Fault> {
-    match step.name {
-        "measure" => sum.measure(Readable::read(step.values)?, set),
-        "commit" => commit(sum, set, Readable::read(step.values)?, text),
-        name => Ok(write!(text, "no step is {name}")?),
-    }
-}
-
 impl<T: Number + Drop + Display + Readable> Stepped for PrecomputedSum<T> {
     fn step(&mut self, alloc: Global, step: &Step, text: &mut String) -> Result<(), Fault> {
         match step.name {
-            "resets" => Ok(write!(text, "{}", self.resets())?),
-            "collect" => Ok(
-                self.collect(alloc, Readable::read(step.place)?)?
-                    .tell(text)?,
-            ),
-            _ => {
-                let set = attributes(alloc, step.place)?;
-                step_on(self, &set, step, text)
-            }
+            "measure" => self.measure(Readable::read(step.value), step.set),
+            "prepare" => self.prepare(step.set),
+            "is_prepared" => show(text, &self.is_prepared()),
+            "commit" => show(text, &self.commit(Readable::read(step.value))),
+            "resets" => show(text, &self.resets()),
+            "collect" => tell(text, self.collect(alloc, u64::read(step.place))),
+            _ => show(text, &"no such step"),
         }
     }
 }
 
-/// Makes an observed sum, and asserts what the steps of some lines answer.
-fn assert_sum<T: Number + Drop + Display + Readable>(
+/// Makes a monotonic observed sum at 100, and asserts what its steps answer.
+pub fn assert_observed<T: Number + Drop + Display + Readable>(
     rt: &impl Abort,
     alloc: Global,
-    temporality: Temporality,
-    lines: &str,
-) -> Result<(), Fault> {
-    let hasher = SetHashBuilder::default();
+    made: &Made,
+) {
     let mut sum: PrecomputedSum<T> = PrecomputedSum::new(
         alloc,
-        hasher,
-        temporality,
+        SetHashBuilder::default(),
+        made.temporality,
         None,
-        10,
+        made.limit,
         100,
         true,
-    )?;
-    assert_steps(rt, alloc, &mut sum, lines)
+    )
+    .expect(rt, made.lines);
+    assert_steps(rt, alloc, &mut sum, made.lines).expect(rt, made.lines);
 }
 
 /// A first value is shown as it was observed.
 #[test]
-fn precomputed_sum_aggregation(rt: HostRuntime) -> Result<(), Fault> {
+fn precomputed_sum_aggregation(rt: HostRuntime) {
     let cumulative = "
+        observed sum of u64, limit 10, Cumulative
         measure b=2: 3
         collect 200 => 100..200 Cumulative monotonic; b=2 -> 3
     ";
-    let alloc = rt.alloc();
-    assert_sum::<u64>(&rt, alloc, Temporality::Cumulative, cumulative)?;
+    assert_script(&rt, rt.alloc(), cumulative);
     let delta = "
+        observed sum of u64, limit 10, Delta
         measure b=2: 3
         collect 200 => 100..200 Delta monotonic; b=2 -> 3
     ";
-    assert_sum::<u64>(&rt, alloc, Temporality::Delta, delta)
+    assert_script(&rt, rt.alloc(), delta);
 }
 
 /// Points show what was added since the collection before, and count from 0 if the set had no point there.
 #[test]
-fn a_delta_shows_what_is_added(rt: HostRuntime) -> Result<(), Fault> {
-    let lines = "
+fn a_delta_shows_what_is_added(rt: HostRuntime) {
+    let script = "
+        observed sum of i64, limit 10, Delta
         resets => true
-        commit x=1: 5 => true true
+        prepare x=1
+        is_prepared => true
+        commit: 5 => true
         collect 200 => 100..200 Delta monotonic; x=1 -> 5
-        commit x=1: 3 => true true
+        prepare x=1
+        is_prepared => true
+        commit: 3 => true
         collect 300 => 200..300 Delta monotonic; x=1 -> -2
         collect 400 => 300..400 Delta monotonic
-        commit x=1: 4 => true true
+        prepare x=1
+        is_prepared => true
+        commit: 4 => true
         collect 500 => 400..500 Delta monotonic; x=1 -> 4
     ";
-    assert_sum::<i64>(&rt, rt.alloc(), Temporality::Delta, lines)
+    assert_script(&rt, rt.alloc(), script);
 }
