@@ -42,13 +42,18 @@ fn arrow<T>(exemplars: Iter<'_, Exemplar<T>>) -> &'static str {
 
 impl<T: Copy + Display> Told for Sum<T> {
     fn tell(&self, text: &mut String) -> Result<(), Fault> {
-        let (start, now, temporality) = (self.start_time(), self.time(), self.temporality());
         let kind = if self.is_monotonic() {
             "monotonic"
         } else {
             "signed"
         };
-        write!(text, "{start}..{now} {temporality:?} {kind}")?;
+        let temporality = self.temporality();
+        write!(
+            text,
+            "{}..{} {temporality:?} {kind}",
+            self.start_time(),
+            self.time()
+        )?;
         for point in self.data_points() {
             show_set(text, "; ", point.attributes(), arrow(point.exemplars()))?;
             show(text, &point.value())?;
@@ -71,8 +76,13 @@ impl<T: Copy + Display> Told for Gauge<T> {
 /// Of each point the count, the least and the greatest value and the sum, then the bounds, and the counts of buckets.
 impl<T: Copy + Debug> Told for Histogram<T> {
     fn tell(&self, text: &mut String) -> Result<(), Fault> {
-        let (start, now, temporality) = (self.start_time(), self.time(), self.temporality());
-        write!(text, "{start}..{now} {temporality:?}")?;
+        let temporality = self.temporality();
+        write!(
+            text,
+            "{}..{} {temporality:?}",
+            self.start_time(),
+            self.time()
+        )?;
         for point in self.data_points() {
             show_set(text, "; ", point.attributes(), arrow(point.exemplars()))?;
             write!(
@@ -153,10 +163,10 @@ where
 }
 
 /// Settings of a histogram with the bounds that a text shows, which keeps everything or only the counts.
-pub fn histogram(alloc: Global, shown: &str, is_whole: bool) -> Result<HistogramSettings, Fault> {
-    Ok(HistogramSettings {
-        bounds: bounds(alloc, shown)?,
+pub fn histogram(rt: &impl Abort, alloc: Global, shown: &str, is_whole: bool) -> HistogramSettings {
+    HistogramSettings {
+        bounds: bounds(alloc, shown).expect(rt, shown),
         has_min_max: is_whole,
         has_sum: is_whole,
-    })
+    }
 }

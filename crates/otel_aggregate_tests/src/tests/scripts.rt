@@ -44,15 +44,15 @@ pub fn assert_script(rt: &impl Abort, alloc: Global, script: &str) {
         "last value of u64" => assert_stream::<Assign<u64>>(rt, alloc, (), None, &made),
         "last value of i64" => assert_stream::<Assign<i64>>(rt, alloc, (), None, &made),
         "histogram of u64" => {
-            let settings = histogram(alloc, list, true).expect(rt, head);
+            let settings = histogram(rt, alloc, list, true);
             assert_stream::<Buckets<u64>>(rt, alloc, settings, None, &made);
         }
         "histogram of i64" => {
-            let settings = histogram(alloc, list, true).expect(rt, head);
+            let settings = histogram(rt, alloc, list, true);
             assert_stream::<Buckets<i64>>(rt, alloc, settings, None, &made);
         }
         "counts of i64" => {
-            let settings = histogram(alloc, list, false).expect(rt, head);
+            let settings = histogram(rt, alloc, list, false);
             assert_stream::<Buckets<i64>>(rt, alloc, settings, None, &made);
         }
         "map of sums of u64" => assert_map::<Increment<u64>>(rt, alloc, &made),

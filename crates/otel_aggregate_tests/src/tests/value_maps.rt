@@ -49,9 +49,12 @@ impl<T: Number + Drop + Display> Written for Assign<T> {
 impl<T: Number + Drop + Debug> Written for Buckets<T> {
     fn write(&self, text: &mut String) -> Result<(), Fault> {
         counted_once(self);
-        let (sum, least, greatest) = (self.sum, self.least, self.greatest);
         let counts = self.counts.as_slice();
-        Ok(write!(text, "({sum:?}, {least:?}, {greatest:?}) {counts:?}")?)
+        Ok(write!(
+            text,
+            "({:?}, {:?}, {:?}) {counts:?}",
+            self.sum, self.least, self.greatest
+        )?)
     }
 }
 

@@ -97,8 +97,9 @@ fn bounds_have_buckets(rt: HostRuntime) {
     let bounds = bounds(rt.alloc(), "1 3").expect(&rt, "two bounds");
     assert!(rt; bounds.as_slice() == [1, 3].as_slice());
     assert!(rt; bounds.number_of_buckets() == 3);
-    let last = bounds.bucket_of(170141183460469231731687303715884105727);
-    assert!(rt; [bounds.bucket_of(1), bounds.bucket_of(2), last] == [0, 1, 2]);
+    assert!(rt; bounds.bucket_of(1) == 0);
+    assert!(rt; bounds.bucket_of(2) == 1);
+    assert!(rt; bounds.bucket_of(170141183460469231731687303715884105727) == 2);
     let shared = bounds.share().expect(&rt, "another owner");
     assert!(rt; shared.as_slice() == [1, 3].as_slice());
 }
