@@ -24,6 +24,22 @@ const NOTHING: LeftOut = LeftOut {
     doubled: 0,
 };
 
+/// The settings of Prometheus' own format.
+const PLAIN: Settings = Settings {
+    format: Format::Prometheus,
+    has_scope_labels: true,
+};
+
+/// A metric to be collected.
+enum Given {
+    /// A monotonic sum of this name and this unit, with a point for each of these keys, whose value is `x`. The numbers
+    /// of the points count from 7.
+    Sum(&'static str, &'static str, &'static [&'static str], Temporality),
+    /// A cumulative histogram of the name `latency` in milliseconds, with one point: bounds 10 and 100, the values 7, 10
+    /// and 250, and a label `le`.
+    Histogram,
+}
+
 /// A list of these items.
 fn list_of<T, const N: usize>(rt: &impl Abort, alloc: Global, items: [T; N]) -> Vec<T> {
     Vec::from_array(alloc, items).expect(rt, "memory")
@@ -35,31 +51,8 @@ fn one(rt: &impl Abort, alloc: Global, key: &str, text: &str) -> SharedItems<Key
     SharedItems::new(list_of(rt, alloc, [attribute])).expect(rt, key)
 }
 
-/// A metric of this name, this unit and these points, described by `"all" of` and `them` on two lines.
-fn metric(
-    rt: &impl Abort,
-    alloc: Global,
-    name: &str,
-    unit: &str,
-    content: AggregatedMetrics,
-) -> Metric {
-    Metric::new(
-        StringValue::new(alloc, name).expect(rt, name),
-        StringValue::new(alloc, "\"all\" of\nthem").expect(rt, name),
-        StringValue::new(alloc, unit).expect(rt, name),
-        content,
-    )
-}
-
-/// A monotonic sum with a point for each of these keys, whose value is `x`; the numbers of the points count from 7.
-fn sum(
-    rt: &impl Abort,
-    alloc: Global,
-    name: &str,
-    unit: &str,
-    keys: &[&str],
-    temporality: Temporality,
-) -> Metric {
+/// The points of a sum that is given.
+fn sum(rt: &impl Abort, alloc: Global, keys: &[&str], temporality: Temporality) -> Sum<u64> {
     let mut points = Vec::new(alloc);
     let mut value = 7u64;
     for key in keys {
@@ -68,13 +61,12 @@ fn sum(
         points.push(point).expect(rt, key);
         value = value.wrapping_add(1);
     }
-    let sum = Sum::new(Items::from(points), 100, 200, temporality, true);
-    metric(rt, alloc, name, unit, MetricData::from(sum).into())
+    Sum::new(Items::from(points), 100, 200, temporality, true)
 }
 
-/// A cumulative histogram of one point with bounds 10 and 100, the values 7, 10 and 250, and a label `le`.
-fn histogram(rt: &impl Abort, alloc: Global) -> Metric {
-    let point: HistogramDataPoint<u64> = HistogramDataPoint::new(
+/// The points of a histogram that is given.
+fn histogram(rt: &impl Abort, alloc: Global) -> Histogram<u64> {
+    let point = HistogramDataPoint::new(
         one(rt, alloc, "le", "mine"),
         Items::from(Vec::new(alloc)),
         SharedItems::new(list_of(rt, alloc, [10, 100])).expect(rt, "memory"),
@@ -85,27 +77,37 @@ fn histogram(rt: &impl Abort, alloc: Global) -> Metric {
         267,
     );
     let points = Items::from(list_of(rt, alloc, [point]));
-    let histogram = Histogram::new(points, 100, 200, Temporality::Cumulative);
-    metric(
-        rt,
-        alloc,
-        "latency",
-        "ms",
-        MetricData::from(histogram).into(),
+    Histogram::new(points, 100, 200, Temporality::Cumulative)
+}
+
+/// The metric that is given, described by `"all" of` and `them` on two lines.
+fn metric(rt: &impl Abort, alloc: Global, given: &Given) -> Metric {
+    let (name, unit, content) = match given {
+        Given::Sum(name, unit, keys, temporality) => {
+            let sum = sum(rt, alloc, keys, *temporality);
+            (*name, *unit, MetricData::from(sum))
+        }
+        Given::Histogram => ("latency", "ms", MetricData::from(histogram(rt, alloc))),
+    };
+    Metric::new(
+        StringValue::new(alloc, name).expect(rt, name),
+        StringValue::new(alloc, "\"all\" of\nthem").expect(rt, name),
+        StringValue::new(alloc, unit).expect(rt, name),
+        content.into(),
     )
 }
 
-/// The collection of these metrics, whose scope is `shop` in version 1.
-fn collection<const N: usize>(
-    rt: &impl Abort,
-    alloc: Global,
-    metrics: [Metric; N],
-) -> ResourceMetrics {
+/// The collection of what is given, whose scope is `shop` in version 1.
+fn collection(rt: &impl Abort, alloc: Global, given: &[Given]) -> ResourceMetrics {
     let name = String::from_str(alloc, "shop").expect(rt, "memory");
     let version = String::from_str(alloc, "1").expect(rt, "memory");
     let builder = InstrumentationScope::builder(alloc, name).with_version(version);
     let shop = builder.build().expect(rt, "memory");
-    let scope = ScopeMetrics::new(shop, Items::from(list_of(rt, alloc, metrics)));
+    let mut metrics = Vec::new(alloc);
+    for given in given {
+        metrics.push(metric(rt, alloc, given)).expect(rt, "memory");
+    }
+    let scope = ScopeMetrics::new(shop, Items::from(metrics));
     let scopes = Items::from(list_of(rt, alloc, [scope]));
     ResourceMetrics::new(Resource::builder_empty(alloc).build(), scopes)
 }
@@ -120,35 +122,30 @@ fn assert_text(
 ) {
     let found = exposition_of(alloc, settings, collected).expect(rt, text);
     let found_text = str::from_utf8(found.text.as_slice()).expect(rt, text);
-    assert_eq!(rt; (found_text, found.left_out), (text, NOTHING));
+    assert!(rt; found_text == text, "{found_text}");
+    assert!(rt; found.left_out == NOTHING);
 }
 
 #[test]
 fn a_monotonic_sum_is_a_counter(rt: HostRuntime) {
-    let alloc = rt.alloc();
-    let keys = &["path", "user.id"];
-    let sum = sum(&rt, alloc, "shop.sent", "By", keys, Temporality::Cumulative);
+    let given = &[Given::Sum(
+        "shop.sent",
+        "By",
+        &["path", "user.id"],
+        Temporality::Cumulative,
+    )];
     let text = "# HELP shop_sent_bytes_total \"all\" of\\nthem
 # TYPE shop_sent_bytes_total counter
 shop_sent_bytes_total{otel_scope_name=\"shop\",otel_scope_version=\"1\",path=\"x\"} 7
 shop_sent_bytes_total{otel_scope_name=\"shop\",otel_scope_version=\"1\",user_id=\"x\"} 8
 ";
-    let collected = collection(&rt, alloc, [sum]);
-    let settings = Settings::new(Format::Prometheus);
-    assert_text(&rt, alloc, settings, &collected, text);
+    let alloc = rt.alloc();
+    assert_text(&rt, alloc, PLAIN, &collection(&rt, alloc, given), text);
 }
 
 #[test]
 fn a_text_of_openmetrics_has_an_end(rt: HostRuntime) {
-    let alloc = rt.alloc();
-    let sum = sum(
-        &rt,
-        alloc,
-        "sent_total",
-        "By",
-        &["path"],
-        Temporality::Cumulative,
-    );
+    let given = &[Given::Sum("sent_total", "By", &["path"], Temporality::Cumulative)];
     let text = "# HELP sent_bytes \\\"all\\\" of\\nthem
 # TYPE sent_bytes counter
 sent_bytes_total{path=\"x\"} 7
@@ -158,14 +155,12 @@ sent_bytes_total{path=\"x\"} 7
         format: Format::OpenMetrics,
         has_scope_labels: false,
     };
-    let collected = collection(&rt, alloc, [sum]);
-    assert_text(&rt, alloc, settings, &collected, text);
+    let alloc = rt.alloc();
+    assert_text(&rt, alloc, settings, &collection(&rt, alloc, given), text);
 }
 
 #[test]
 fn buckets_count_those_before_them(rt: HostRuntime) {
-    let alloc = rt.alloc();
-    let collected = collection(&rt, alloc, [histogram(&rt, alloc)]);
     let text = "# HELP latency_milliseconds \"all\" of\\nthem
 # TYPE latency_milliseconds histogram
 latency_milliseconds_bucket{exported_le=\"mine\",otel_scope_name=\"shop\",otel_scope_version=\"1\",le=\"10\"} 2
@@ -174,34 +169,32 @@ latency_milliseconds_bucket{exported_le=\"mine\",otel_scope_name=\"shop\",otel_s
 latency_milliseconds_sum{exported_le=\"mine\",otel_scope_name=\"shop\",otel_scope_version=\"1\"} 267
 latency_milliseconds_count{exported_le=\"mine\",otel_scope_name=\"shop\",otel_scope_version=\"1\"} 3
 ";
-    let settings = Settings::new(Format::Prometheus);
-    assert_text(&rt, alloc, settings, &collected, text);
+    let alloc = rt.alloc();
+    let collected = collection(&rt, alloc, &[Given::Histogram]);
+    assert_text(&rt, alloc, PLAIN, &collected, text);
 }
 
-/// A collection of which seven points are left out.
-fn left_out(rt: &impl Abort, alloc: Global) -> ResourceMetrics {
-    let (cumulative, delta) = (Temporality::Cumulative, Temporality::Delta);
-    let metrics = [
-        sum(rt, alloc, "a.b", "", &["k", "c.d", "c_d"], cumulative),
-        sum(rt, alloc, "late", "", &["k", "l"], delta),
-        histogram(rt, alloc),
-        sum(rt, alloc, "latency", "ms", &["k", "l", "m"], cumulative),
-        sum(rt, alloc, "a_b_total", "", &["k"], cumulative),
-    ];
-    collection(rt, alloc, metrics)
-}
+const SEVEN: LeftOut = LeftOut {
+    delta: 2,
+    conflicting: 3,
+    doubled: 2,
+};
+
+/// Metrics of which seven points are left out.
+const SEVEN_TOO_MANY: &[Given] = &[
+    Given::Sum("a.b", "", &["k", "c.d", "c_d"], Temporality::Cumulative),
+    Given::Sum("late", "", &["k", "l"], Temporality::Delta),
+    Given::Histogram,
+    Given::Sum("latency", "ms", &["k", "l", "m"], Temporality::Cumulative),
+    Given::Sum("a_b_total", "", &["k"], Temporality::Cumulative),
+];
 
 #[test]
 fn what_is_left_out_is_counted(rt: HostRuntime) {
     let alloc = rt.alloc();
-    let settings = Settings::new(Format::Prometheus);
-    let found = exposition_of(alloc, settings, &left_out(&rt, alloc)).expect(&rt, "a text");
-    let wanted = LeftOut {
-        delta: 2,
-        conflicting: 3,
-        doubled: 2,
-    };
-    assert_eq!(rt; found.left_out, wanted);
+    let collected = collection(&rt, alloc, SEVEN_TOO_MANY);
+    let found = exposition_of(alloc, PLAIN, &collected).expect(&rt, "a text");
+    assert!(rt; found.left_out == SEVEN);
 }
 
 #[test]
@@ -214,8 +207,7 @@ fn a_resource_is_a_target(rt: HostRuntime) {
     let text = "# TYPE target_info gauge
 target_info{service_name=\"a\\\\b\"} 1
 ";
-    let settings = Settings::new(Format::Prometheus);
-    assert_text(&rt, alloc, settings, &collected, text);
+    assert_text(&rt, alloc, PLAIN, &collected, text);
 }
 
 #[test]
@@ -225,6 +217,6 @@ fn a_text_follows_what_was_written(rt: HostRuntime) {
     let mut out = Vec::from_slice(alloc, b"# before\n").expect(&rt, "memory");
     let settings = Settings::new(Format::OpenMetrics);
     let left_out = write(alloc, &mut out, settings, &collected).expect(&rt, "a text");
-    let wanted = b"# before\n# EOF\n".as_slice();
-    assert_eq!(rt; (left_out, out.as_slice()), (NOTHING, wanted));
+    assert!(rt; left_out == NOTHING);
+    assert!(rt; out.as_slice() == b"# before\n# EOF\n".as_slice());
 }
