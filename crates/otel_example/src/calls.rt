@@ -1,6 +1,10 @@
-//! What the parts of the program share: counters, and what is added to them.
+//! What the parts of the program share: how a counter is made, and how a collection is printed.
 
-use opentelemetry_sdk::common::{Fault, KeyValue};
+ghost use Rattle.std.specs.Prelude.{IfOk};
+ghost use Rattle.opentelemetry_sdk.specs.Typed.{IsInstrumentOf};
+
+use anyhow::Error;
+use opentelemetry_sdk::common::Fault;
 use opentelemetry_sdk::metrics::meter::Counter;
 use opentelemetry_sdk::metrics::provider::{Parts, Provider};
 use std::alloc::Global;
@@ -12,20 +16,20 @@ pub fn counter<P: Parts>(
     scope: &str,
     name: &str,
     now: u64,
-) -> Result<Counter<u64>, Fault> {
+) -> Result<Counter<u64>, Fault>
+    ensures own { IfOk result (λ c. IsInstrumentOf c provider.new) }
+{
     let name = String::from_str(alloc, name)?;
     let meter = provider.meter(scope)?;
     meter.u64_counter(name).build(provider, now)
 }
 
-/// Adds one to a counter, with an attribute whose value is a text.
-pub fn add_one<P: Parts>(
-    alloc: Global,
+/// Prints what the first reader of a provider collects at a moment.
+pub fn print_collection<P: Parts>(
+    rt: &impl Print,
     provider: &mut Provider<P>,
-    counter: Counter<u64>,
-    key: &str,
-    value: &str,
-) -> Result<(), Fault> {
-    let attributes = [KeyValue::text(alloc, key, value)?];
-    counter.add(provider, 1, &attributes)
+    now: u64,
+) -> Result<(), Error> {
+    let collected = provider.collected(0, now)?;
+    Ok(print!(rt; "collected\n{collected}")?)
 }

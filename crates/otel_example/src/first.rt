@@ -2,75 +2,54 @@
 
 ghost use Rattle.std.specs.Prelude.{◌≡◌, ◌∷◌, [], map, IfOk};
 
-use crate::calls::counter;
-use opentelemetry_sdk::Resource;
-use opentelemetry_sdk::common::{Fault, KeyValue, StringValue, Value};
+use crate::calls::{counter, print_collection};
+use crate::parts::provider_with;
+use anyhow::Error;
+use opentelemetry_sdk::common::{Fault, KeyValue};
 use opentelemetry_sdk::metrics::callback::{Observation, ObserveU64};
-use opentelemetry_sdk::metrics::meter::{Bound, Histogram};
+use opentelemetry_sdk::metrics::meter::{Bound, Histogram, ObservableGauge};
 use opentelemetry_sdk::metrics::provider::{Parts, Provider};
 use std::alloc::Global;
-
-/// What all points of the program come from.
-pub fn service(alloc: Global) -> Result<Resource, Fault> {
-    let name = Value::String(StringValue::new(alloc, "shop")?);
-    Ok(
-        Resource::builder_empty(alloc)
-            .with_service_name(name)?
-            .build(),
-    )
-}
 
 /// Observes how many requests wait.
 #[derive(Drop)]
 pub struct Waiting {
-    alloc: Global,
-    requests: u64,
-}
-
-impl Waiting {
-    /// So many requests wait.
-    pub fn new(alloc: Global, requests: u64) -> Waiting {
-        Waiting { alloc, requests }
-    }
+    pub alloc: Global,
+    pub requests: u64,
 }
 
 impl ObserveU64 for Waiting {
     ghost observes = { λ before after left answer. (after ≡ before) × IfOk answer (λ _. map (λ o. o.value) left ≡ before.requests ∷ []) };
 
     fn observe(&mut self, out: &mut Vec<Observation<u64>>) -> Result<(), Fault> {
-        out.push(Observation::new(self.alloc, self.requests))?;
-        Ok(())
+        Ok(out.push(Observation::new(self.alloc, self.requests))?)
     }
 }
 
 /// Has each collection observe how many requests wait.
-pub fn watch_queue<P: Parts>(
+fn watch_queue<P: Parts>(
     alloc: Global,
     provider: &mut Provider<P>,
     waiting: P::ObserveU64,
-) -> Result<(), Fault> {
-    let name = String::from_str(alloc, "waiting")?;
+) -> Result<ObservableGauge<u64>, Fault> {
     let meter = provider.meter("shop")?;
     meter
-        .u64_observable_gauge(name)
+        .u64_observable_gauge(String::from_str(alloc, "waiting")?)
         .with_callback(waiting)?
-        .build(provider, 100)?;
-    Ok(())
+        .build(provider, 100)
 }
 
-/// A histogram of how long requests take, in milliseconds, with bounds of its own.
-fn latency_of<P: Parts>(
+/// A histogram of the meter of this scope: how long requests take, in milliseconds, with bounds of its own.
+pub fn latency_of<P: Parts>(
     alloc: Global,
     provider: &mut Provider<P>,
+    scope: &str,
 ) -> Result<Histogram<u64>, Fault> {
-    let name = String::from_str(alloc, "latency")?;
-    let unit = String::from_str(alloc, "ms")?;
-    let bounds = [10, 100].to_vec(alloc)?;
-    let meter = provider.meter("shop")?;
+    let meter = provider.meter(scope)?;
     meter
-        .u64_histogram(name)
-        .with_unit(unit)
-        .with_boundaries(bounds)
+        .u64_histogram(String::from_str(alloc, "latency")?)
+        .with_unit(String::from_str(alloc, "ms")?)
+        .with_boundaries([10, 100].to_vec(alloc)?)
         .build(provider, 100)
 }
 
@@ -87,7 +66,7 @@ fn record_each<P: Parts>(
 }
 
 /// Records durations of requests that have the same attributes, which are looked up once.
-fn record_all<P: Parts>(
+pub fn record_all<P: Parts>(
     provider: &mut Provider<P>,
     latency: Histogram<u64>,
     attributes: &[KeyValue],
@@ -95,15 +74,37 @@ fn record_all<P: Parts>(
 ) -> Result<(), Fault> {
     let handle = latency.bind(provider, attributes)?;
     let recorded = record_each(provider, &handle, durations);
-    handle.end(provider)?;
-    recorded
+    handle.end(provider).and(recorded)
 }
 
 /// Serves two requests of a path: counts them, and how long each took.
-pub fn serve_two<P: Parts>(alloc: Global, provider: &mut Provider<P>) -> Result<(), Fault> {
+fn serve_two<P: Parts>(alloc: Global, provider: &mut Provider<P>) -> Result<(), Fault> {
     let requests = counter(alloc, provider, "shop", "requests", 100)?;
-    let latency = latency_of(alloc, provider)?;
+    let latency = latency_of(alloc, provider, "shop")?;
     let path = [KeyValue::text(alloc, "path", "/cart")?];
     requests.add(provider, 2, &path)?;
     record_all(provider, latency, &path, &[7, 250])
+}
+
+/// Serves two requests while others wait, and prints what was counted.
+fn serve<P: Parts>(
+    rt: &impl Print,
+    alloc: Global,
+    provider: &mut Provider<P>,
+    waiting: P::ObserveU64,
+) -> Result<(), Error> {
+    serve_two(alloc, provider)?;
+    watch_queue(alloc, provider, waiting)?;
+    print_collection(rt, provider, 200)
+}
+
+/// A service that serves two requests, with one reader and a callback.
+pub fn first_program<P: Parts>(
+    rt: &impl Print,
+    alloc: Global,
+    reader: P::Reader,
+    waiting: P::ObserveU64,
+) -> Result<(), Error> {
+    let mut provider = provider_with::<P>(alloc, reader, Vec::new(alloc))?;
+    serve(rt, alloc, &mut provider, waiting)
 }

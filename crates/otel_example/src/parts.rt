@@ -1,7 +1,7 @@
-//! The parts of the providers that the program uses.
+//! The parts of the providers that the program uses, and a provider of them.
 
-use crate::first::service;
-use opentelemetry_sdk::common::Fault;
+use opentelemetry_sdk::Resource;
+use opentelemetry_sdk::common::{Fault, StringValue, Value};
 use opentelemetry_sdk::metrics::callback::NoCallback;
 use opentelemetry_sdk::metrics::provider::{Parts, Plain, Provider};
 use std::alloc::Global;
@@ -9,19 +9,24 @@ use std::alloc::Global;
 /// Parts without boxes and callbacks.
 pub type OnlyManual = Plain<NoCallback, NoCallback>;
 
-/// A provider with one reader, which is in a box if its parts are.
-pub fn provider_with<P: Parts>(alloc: Global, reader: P::Reader) -> Result<Provider<P>, Fault> {
-    Provider::builder(alloc).with_reader(reader)?.build()
+/// What all points of the program come from.
+fn service(alloc: Global) -> Result<Resource, Fault> {
+    let name = Value::String(StringValue::new(alloc, "shop")?);
+    let service = Resource::builder_empty(alloc).with_service_name(name)?;
+    Ok(service.build())
 }
 
-/// A provider of the service, with one reader.
-pub fn provider_of_service<P: Parts>(
+/// A provider of the service, with one reader and these views, which are in boxes if its parts are.
+pub fn provider_with<P: Parts>(
     alloc: Global,
     reader: P::Reader,
+    views: Vec<P::View>,
 ) -> Result<Provider<P>, Fault> {
-    let service = service(alloc)?;
-    Provider::builder(alloc)
-        .with_resource(service)?
+    let mut builder = Provider::builder(alloc)
         .with_reader(reader)?
-        .build()
+        .with_resource(service(alloc)?)?;
+    for view in views {
+        builder = builder.with_view(view)?;
+    }
+    builder.build()
 }

@@ -1,8 +1,8 @@
 //! A shop that keeps a provider and counts at it.
 
-use crate::calls::{add_one, counter};
-use opentelemetry_sdk::common::Fault;
-use opentelemetry_sdk::metrics::data::ResourceMetrics;
+use crate::calls::{counter, print_collection};
+use anyhow::Error;
+use opentelemetry_sdk::common::{Fault, KeyValue};
 use opentelemetry_sdk::metrics::meter::Counter;
 use opentelemetry_sdk::metrics::provider::{Parts, Provider};
 use std::alloc::Global;
@@ -22,19 +22,18 @@ impl<P: Parts> Shop<P> {
         Ok(Shop { provider, requests })
     }
 
-    /// Counts a request of a path.
-    pub fn serve(&mut self, alloc: Global, path: &str) -> Result<(), Fault> {
-        add_one(alloc, &mut self.provider, self.requests, "path", path)
-    }
-
-    /// What a reader's streams have at a moment.
-    pub fn collected(&mut self, reader: usize, now: u64) -> Result<ResourceMetrics, Fault> {
-        self.provider.collected(reader, now)
-    }
-
-    /// The provider, to go on with.
-    pub fn close(self) -> Provider<P> {
-        let Shop { provider, .. } = self;
-        provider
+    /// Serves requests of these paths, and prints what was counted until a moment.
+    pub fn serve(
+        &mut self,
+        rt: &impl Print,
+        alloc: Global,
+        paths: &[&str],
+        now: u64,
+    ) -> Result<(), Error> {
+        for path in paths {
+            let attributes = [KeyValue::text(alloc, "path", path)?];
+            self.requests.add(&mut self.provider, 1, &attributes)?;
+        }
+        print_collection(rt, &mut self.provider, now)
     }
 }

@@ -1,8 +1,9 @@
 //! A stand that counts at a provider with views.
 
-use crate::calls::{add_one, counter};
-use crate::parts::OnlyManual;
-use crate::views::{dropped, few_points, other_buckets, renamed, two_attributes};
+use crate::calls::{counter, print_collection};
+use crate::first::{latency_of, record_all};
+use crate::parts::{OnlyManual, provider_with};
+use crate::views::view_of;
 use anyhow::Error;
 use opentelemetry_sdk::common::{Fault, KeyValue};
 use opentelemetry_sdk::metrics::ManualReader;
@@ -10,94 +11,82 @@ use opentelemetry_sdk::metrics::instrument::SelectorView;
 use opentelemetry_sdk::metrics::provider::{Parts, Provider};
 use std::alloc::Global;
 
-/// Adds an attribute whose value is a text.
-fn push_text(
-    alloc: Global,
-    attributes: &mut Vec<KeyValue>,
-    key: &str,
-    value: &str,
-) -> Result<(), Fault> {
-    let attribute = KeyValue::text(alloc, key, value)?;
-    attributes.push(attribute)?;
-    Ok(())
-}
+/// What is counted on a day: what is added to which counter, with which attributes. There are two orders, of different
+/// carts, and four users, of whom two have a point of their own.
+const DAY: &[(&str, u64, &[(&str, &str)])] = &[
+    ("requests", 3, &[]),
+    ("debug", 1, &[]),
+    (
+        "orders",
+        1,
+        &[
+            ("country", "se"),
+            ("paid", "card"),
+            ("cart", "21"),
+            ("browser", "lynx"),
+            ("page", "7"),
+        ],
+    ),
+    (
+        "orders",
+        1,
+        &[
+            ("country", "se"),
+            ("paid", "card"),
+            ("cart", "22"),
+            ("browser", "lynx"),
+            ("page", "7"),
+        ],
+    ),
+    ("users", 1, &[("user", "ada")]),
+    ("users", 1, &[("user", "grace")]),
+    ("users", 1, &[("user", "edsger")]),
+    ("users", 1, &[("user", "tony")]),
+];
 
-/// The attributes of an order.
-fn order(alloc: Global, cart: &str) -> Result<Vec<KeyValue>, Fault> {
+/// Attributes whose values are texts.
+fn attributes_of(alloc: Global, texts: &[(&str, &str)]) -> Result<Vec<KeyValue>, Fault> {
     let mut attributes = Vec::new(alloc);
-    for (key, value) in &[
-        ("country", "se"),
-        ("paid", "card"),
-        ("cart", cart),
-        ("browser", "lynx"),
-        ("page", "7"),
-    ] {
-        push_text(alloc, &mut attributes, key, value)?;
+    for (key, value) in texts {
+        attributes.push(KeyValue::text(alloc, key, value)?)?;
     }
     Ok(attributes)
 }
 
-/// Two orders, of different carts, from one country.
-fn take_orders<P: Parts>(alloc: Global, provider: &mut Provider<P>) -> Result<(), Fault> {
-    let orders = counter(alloc, provider, "stand", "orders", 100)?;
-    orders.add(provider, 1, &order(alloc, "21")?)?;
-    orders.add(provider, 1, &order(alloc, "22")?)
-}
-
-/// Four users come, of whom two have a point of their own.
-fn greet<P: Parts>(alloc: Global, provider: &mut Provider<P>) -> Result<(), Fault> {
-    let users = counter(alloc, provider, "stand", "users", 100)?;
-    for name in &["ada", "grace", "edsger", "tony"] {
-        add_one(alloc, provider, users, "user", name)?;
+/// Counts what happens on a day.
+fn count<P: Parts>(alloc: Global, provider: &mut Provider<P>) -> Result<(), Fault> {
+    for (name, number, texts) in DAY {
+        let attributes = attributes_of(alloc, texts)?;
+        let counter = counter(alloc, provider, "stand", name, 100)?;
+        counter.add(provider, *number, &attributes)?;
     }
     Ok(())
 }
 
-/// How long two requests took.
-fn time<P: Parts>(alloc: Global, provider: &mut Provider<P>) -> Result<(), Fault> {
-    let name = String::from_str(alloc, "latency")?;
-    let meter = provider.meter("stand")?;
-    let latency = meter.u64_histogram(name).build(provider, 100)?;
-    latency.record(provider, 7, &[])?;
-    latency.record(provider, 70, &[])
-}
-
-/// Counts what happens on a day.
-pub fn count_a_day<P: Parts>(alloc: Global, provider: &mut Provider<P>) -> Result<(), Fault> {
-    let requests = counter(alloc, provider, "stand", "requests", 100)?;
-    requests.add(provider, 3, &[])?;
-    let debug = counter(alloc, provider, "stand", "debug", 100)?;
-    debug.add(provider, 1, &[])?;
-    take_orders(alloc, provider)?;
-    greet(alloc, provider)?;
-    time(alloc, provider)
-}
-
-/// The five views.
-fn views(alloc: Global) -> Result<Vec<SelectorView>, Error> {
-    Ok(vec![in alloc;
-        renamed(alloc)?,
-        dropped(alloc)?,
-        two_attributes(alloc)?,
-        few_points(alloc)?,
-        other_buckets(alloc)?,
-    ]?)
-}
-
-/// A provider with these views and one reader.
-fn provider_with_each<P: Parts>(
+/// Counts what happens on a day and how long two requests took, and prints it.
+fn print_day<P: Parts>(
+    rt: &impl Print,
     alloc: Global,
-    reader: P::Reader,
-    views: Vec<P::View>,
-) -> Result<Provider<P>, Fault> {
-    let mut builder = Provider::builder(alloc).with_reader(reader)?;
-    for view in views {
-        builder = builder.with_view(view)?;
-    }
-    builder.build()
+    provider: &mut Provider<P>,
+) -> Result<(), Error> {
+    count(alloc, provider)?;
+    let latency = latency_of(alloc, provider, "stand")?;
+    record_all(provider, latency, &[], &[7, 70])?;
+    print_collection(rt, provider, 200)
 }
 
-/// A provider with five views and one reader.
-pub fn provider_with_views(alloc: Global) -> Result<Provider<OnlyManual>, Error> {
-    Ok(provider_with_each(alloc, ManualReader::default(), views(alloc)?)?)
+/// Views that rename a stream, drop one, keep two attributes of five, set a limit and change buckets.
+fn views(alloc: Global) -> Result<Vec<SelectorView>, Error> {
+    let mut views = Vec::new(alloc);
+    for name in &["requests", "debug", "orders", "users", "latency"] {
+        views.push(view_of(alloc, name)?)?;
+    }
+    Ok(views)
+}
+
+/// A stand at a provider with views.
+pub fn with_views(rt: &impl Print, alloc: Global) -> Result<(), Error> {
+    let views = views(alloc)?;
+    let mut provider = provider_with::<OnlyManual>(alloc, ManualReader::default(), views)?;
+    print_day(rt, alloc, &mut provider)
 }

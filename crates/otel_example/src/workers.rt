@@ -4,7 +4,9 @@ ghost use Rattle.std.specs.Prelude.{◌≡◌, ◌%◌, ◌^◌};
 ghost use Rattle.opentelemetry_sdk.specs.Books.{count_in, sum_in};
 ghost use Rattle.opentelemetry_sdk.specs.Providers.{state_of};
 
-use crate::parts::OnlyManual;
+use crate::calls::{counter, print_collection};
+use crate::parts::provider_with;
+use anyhow::Error;
 use opentelemetry_sdk::common::{Fault, KeyValue};
 use opentelemetry_sdk::metrics::meter::Counter;
 use opentelemetry_sdk::metrics::provider::{Parts, Provider};
@@ -27,17 +29,6 @@ fn add_request<C: Account, S: Account>(
     worker.add_to(&requests, 1, attributes)
 }
 
-/// Adds three requests.
-fn add_requests<C: Account, S: Account>(
-    alloc: Global,
-    requests: Counter<u64>,
-    worker: &mut Worker<C, S>,
-) -> Result<(), Fault> {
-    add_request(alloc, requests, worker, "/cart")?;
-    add_request(alloc, requests, worker, "/")?;
-    add_request(alloc, requests, worker, "/cart")
-}
-
 /// What one thread does: it counts three requests and hands them in, all at once, under the lock. What is refused stays
 /// in the worker's list.
 fn count_requests<P: Parts, C: Account, S: Account, R: Wait>(
@@ -48,22 +39,11 @@ fn count_requests<P: Parts, C: Account, S: Account, R: Wait>(
     worker: Worker<C, S>,
 ) -> Worker<C, S> {
     let mut worker = worker;
-    let _ = add_requests(alloc, requests, &mut worker);
+    for path in &["/cart", "/", "/cart"] {
+        let _ = add_request(alloc, requests, &mut worker, path);
+    }
     let _ = shared.lock(rt).submit(&mut worker);
     worker
-}
-
-/// Opens this many workers more.
-fn open_more<P: Parts, C: Account, S: Account>(
-    locked: &mut Locked<P, C, S>,
-    workers: &mut Vec<Worker<C, S>>,
-    number: usize,
-) -> Result<(), Fault> {
-    for _ in 0..number {
-        let worker = locked.open_worker()?;
-        workers.push(worker)?;
-    }
-    Ok(())
 }
 
 /// Opens four workers.
@@ -72,7 +52,9 @@ fn open_four<P: Parts, C: Account, S: Account>(
     locked: &mut Locked<P, C, S>,
 ) -> Result<Vec<Worker<C, S>>, Fault> {
     let mut workers = Vec::new(alloc);
-    open_more(locked, &mut workers, 4)?;
+    for _ in 0..4 {
+        workers.push(locked.open_worker()?)?;
+    }
     Ok(workers)
 }
 
@@ -126,19 +108,21 @@ fn share<
     }
 }
 
-/// The same at a provider whose readers are in no box. No ledger is named in the signature.
-pub fn share_plain<R: Threads + Wait + Sync>(
+/// Four threads count requests, and what they counted is printed. No ledger is named in the signature.
+pub fn in_threads<P: Parts + Send + Sync, R: Print + Threads + Wait + Sync>(
     rt: &R,
     alloc: Global,
-    provider: Provider<OnlyManual>,
-    requests: Counter<u64>,
-) -> Result<Provider<OnlyManual>, Fault> {
-    share::<OnlyManual, Brand, Brand, R>(
+    reader: P::Reader,
+) -> Result<(), Error> {
+    let mut provider = provider_with::<P>(alloc, reader, Vec::new(alloc))?;
+    let requests = counter(alloc, &mut provider, "shop", "requests", 100)?;
+    let mut provider = share::<P, Brand, Brand, R>(
         rt,
         alloc,
         provider,
         requests,
         Blank::new(MOST_WORKERS),
         Blank::new(MOST_WORKERS),
-    )
+    )?;
+    print_collection(rt, &mut provider, 200)
 }
