@@ -40,17 +40,6 @@ impl Counting {
     }
 }
 
-/// Observes a value with these attributes.
-fn observe<T: Copy>(
-    value: T,
-    attributes: Vec<KeyValue>,
-    out: &mut Vec<Observation<T>>,
-) -> Result<(), Fault> {
-    let attributes = Items::from(attributes);
-    out.push(Observation { value, attributes })?;
-    Ok(())
-}
-
 /// Observes a value with an attribute and without one.
 fn observe_twice<T: Copy>(
     alloc: Global,
@@ -59,8 +48,11 @@ fn observe_twice<T: Copy>(
 ) -> Result<(), Fault> {
     let mut attributes = Vec::new(alloc);
     attributes.push(KeyValue::int(alloc, "k", 1)?)?;
-    observe(value, attributes, out)?;
-    observe(value, Vec::new(alloc), out)
+    let attributes = Items::from(attributes);
+    out.push(Observation { value, attributes })?;
+    let attributes = Items::from(Vec::new(alloc));
+    out.push(Observation { value, attributes })?;
+    Ok(())
 }
 
 impl ObserveU64 for Counting {

@@ -1,11 +1,11 @@
 //! What a provider answers after the call under test, as text.
 
-use crate::answers::Answer;
-use crate::provider_calls::Steps;
 use crate::set_up::calls_of;
 use crate::trials::Trial;
 use anyhow::{Error, bail};
+use opentelemetry_sdk::common::Fault;
 use opentelemetry_sdk::metrics::data::ResourceMetrics;
+use opentelemetry_sdk::metrics::provider::{Parts, Provider, Reply};
 
 /// Calls after the call under test: collections of each reader, records and binds of known and of new sets, and further
 /// collections.
@@ -60,14 +60,14 @@ record 0 u:100 a=i:1
 meter last";
 
 /// Makes the calls of these lines, and writes the replies.
-fn write_lines<R, S: Steps>(
+fn write_lines<R, P: Parts>(
     trial: &mut Trial<R>,
-    provider: &mut S,
+    provider: &mut Provider<P>,
     lines: &str,
 ) -> Result<(), Error> {
-    for call in &calls_of(trial.alloc, "", lines)? {
+    for call in &calls_of(trial.alloc, lines)? {
         let reply = provider.step(call);
-        if reply.is_refused() {
+        if let Reply::Refused(Fault::OutOfMemory) = reply {
             bail!("a later call was refused");
         }
         trial.write(&reply)?;
@@ -75,20 +75,17 @@ fn write_lines<R, S: Steps>(
     Ok(())
 }
 
-/// Makes collections with callbacks, and writes them.
-fn write_collections<R, S: Steps>(trial: &mut Trial<R>, provider: &mut S) -> Result<(), Error> {
+/// Writes what a provider answers later, and what it collects with callbacks.
+pub fn write_later<R, P: Parts>(
+    trial: &mut Trial<R>,
+    provider: &mut Provider<P>,
+) -> Result<(), Error> {
+    write_lines(trial, provider, LATER)?;
     let mut metrics = ResourceMetrics::default(trial.alloc);
     for reader in &[0, 1, 2, 1] {
         let answer = provider.collect(*reader, 600, &mut metrics);
         trial.write(&answer)?;
         trial.write(&metrics)?;
     }
-    Ok(())
-}
-
-/// Writes what a provider answers later.
-pub fn write_later<R, S: Steps>(trial: &mut Trial<R>, provider: &mut S) -> Result<(), Error> {
-    write_lines(trial, provider, LATER)?;
-    write_collections(trial, provider)?;
     write_lines(trial, provider, LAST)
 }

@@ -12,56 +12,30 @@
 //! each request for memory of each call under test in turn. No thread is started.
 #![tactic(auto)]
 
-mod answers;
 mod callbacks;
 mod calls;
-mod given;
 mod later;
-mod provider_calls;
 mod runs;
 mod scenarios;
 mod set_up;
 mod shared;
-mod shared_calls;
 mod trials;
 mod typed;
 mod values;
 mod workers;
 
-use anyhow::{Error, bail};
+use anyhow::Error;
 use runs::try_scenario;
-use scenarios::{last_scenario, scenario_of};
-use std::alloc::Global;
+use scenarios::last_scenario;
 use std::env;
 
-/// Tries the scenario of a number.
-fn try_one(rt: &impl Print, alloc: Global, number: usize) -> Result<(), Error> {
-    match scenario_of(number) {
-        Some(scenario) => try_scenario(rt, alloc, number, scenario),
-        None => bail!("there is no scenario {number}"),
+fn main(rt: HostRuntime) -> Result<(), Error> {
+    let words: Vec<String> = env::args(&rt)?.skip(1).collect(rt.alloc())?;
+    if let [word] = words.as_slice() {
+        return try_scenario(&rt, rt.alloc(), word.as_str().parse::<usize>()?);
     }
-}
-
-/// Tries all scenarios.
-fn try_all(rt: &impl Print, alloc: Global) -> Result<(), Error> {
     for number in 1..=last_scenario() {
-        try_one(rt, alloc, number)?;
+        try_scenario(&rt, rt.alloc(), number)?;
     }
     Ok(())
-}
-
-/// The number of the scenario that was asked for, if one was.
-fn asked_number(rt: &HostRuntime) -> Result<Option<usize>, Error> {
-    let words: Vec<String> = env::args(rt)?.skip(1).collect(rt.alloc())?;
-    match words.as_slice() {
-        [word] => Ok(Some(word.as_str().parse::<usize>()?)),
-        _ => Ok(None),
-    }
-}
-
-fn main(rt: HostRuntime) -> Result<(), Error> {
-    match asked_number(&rt)? {
-        Some(number) => try_one(&rt, rt.alloc(), number),
-        None => try_all(&rt, rt.alloc()),
-    }
 }

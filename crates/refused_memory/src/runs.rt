@@ -2,81 +2,64 @@
 
 use crate::calls::write_call;
 use crate::later::write_later;
-use crate::provider_calls::ProviderCalls;
-use crate::scenarios::Scenario;
-use crate::set_up::{Builds, fill, read_materials};
+use crate::scenarios::scenario_of;
+use crate::set_up::{CALLBACKS, SETTINGS, build, fill, resource};
+use crate::shared::share;
 use crate::trials::Trial;
-use crate::typed::Instruments;
 use crate::values::write_value;
-use anyhow::Error;
-use opentelemetry_sdk::common::Fault;
+use anyhow::{Error, bail};
+use metrics_script::script_lines::script_of;
 use std::alloc::Global;
+use std::mem::replace;
 
-/// Makes the call under test once a provider is shared, or at a worker, and writes what it answers, and what the provider
-/// answers later.
-fn write_shared<R: Print, S: ProviderCalls + Drop>(
-    trial: &mut Trial<R>,
-    provider: S,
-    instruments: &Instruments,
-) -> Result<(), Error> {
-    let mut provider = provider;
-    let handle = provider.bind(&instruments.limited, &[])?;
-    let written = provider.share(trial, instruments, &handle);
-    let _ = handle.into_number();
-    written
-}
-
-/// Makes the call under test at a provider without instruments, and writes what it answers, and what the provider
-/// answers later. Of its callbacks this many have run once more.
-fn write_at<R: Print, S: ProviderCalls + Drop>(
-    trial: &mut Trial<R>,
-    provider: S,
-    ahead: u64,
-) -> Result<(), Error> {
-    let mut provider = provider;
+/// Builds a provider, of whose callbacks this many have run once more, makes the call under test there, and writes what it
+/// answers, and what the provider answers later. If the provider was refused, nothing is written.
+fn write_at<R: Print>(trial: &mut Trial<R>, ahead: u64) -> Result<(), Error> {
+    let resource = resource(trial.alloc)?;
+    let script = script_of(trial.alloc, SETTINGS.as_bytes())?;
+    trial.begin("build")?;
+    let built = build(trial.alloc, resource, script);
+    trial.end("build")?;
+    let mut provider = match built {
+        Ok(provider) => provider,
+        Err(fault) => return trial.refuse(fault),
+    };
     let instruments = fill(trial.alloc, &mut provider, ahead)?;
-    if trial.scenario.is_shared() {
-        return write_shared(trial, provider, &instruments);
+    if trial.scenario.place == "shared" {
+        return share(provider, trial, &instruments);
     }
-    if trial.scenario.call != "provider" {
+    if trial.scenario.call != "build" {
         write_call(trial, &mut provider, &instruments)?;
     }
     write_later(trial, &mut provider)
 }
 
-/// Builds a provider, and writes what is answered at it. If that is the call under test and was refused, nothing is.
-fn write_built<R: Print, M: Builds + Drop>(
-    trial: &mut Trial<R>,
-    materials: M,
-    ahead: u64,
-) -> Result<(), Error> {
-    let is_now = trial.scenario.call == "provider";
-    trial.begin(is_now)?;
-    let built = materials.build(trial.alloc);
-    trial.end(is_now)?;
-    match built {
-        Ok(provider) => write_at(trial, provider, ahead),
-        Err(Fault::OutOfMemory) if is_now => {
-            trial.note(true);
-            Ok(())
-        }
-        Err(fault) => Err(fault.into()),
-    }
-}
-
-/// What is answered in a run, as text. If a provider could not be built, nothing is.
+/// What is answered in a run, as text. If a provider could not be built, nothing is. A value that was refused is made
+/// once more.
 fn text_of_run<R: Print>(trial: &mut Trial<R>, ahead: u64) -> Result<String, Error> {
-    match trial.scenario.call {
-        "value" => write_value(trial)?,
-        "provider" if trial.is_refused => {}
-        _ => write_built(trial, read_materials(trial.alloc)?, ahead)?,
+    let scenario = trial.scenario;
+    if scenario.place == "value" {
+        write_value(trial)?;
+        if trial.text.is_empty() {
+            trial.number = None;
+            write_value(trial)?;
+        }
+    } else if !trial.is_refused || scenario.call != "build" {
+        write_at(trial, ahead)?;
     }
-    Ok(trial.take_text())
+    Ok(replace(&mut trial.text, String::new(trial.alloc)))
 }
 
-/// Whether a twin answers the same.
+/// Whether a twin answers the same. If a collection was refused, some of the callbacks have run in it, in their order.
 fn has_twin<R: Print>(trial: &mut Trial<R>, text: &str) -> Result<bool, Error> {
-    for ahead in 0..=trial.most_ahead() {
+    trial.number = None;
+    let is_collection = trial.scenario.call == "collect";
+    let most = if trial.is_refused && is_collection {
+        CALLBACKS
+    } else {
+        0
+    };
+    for ahead in 0..=most {
         if text_of_run(trial, ahead)?.as_str() == text {
             return Ok(true);
         }
@@ -84,16 +67,22 @@ fn has_twin<R: Print>(trial: &mut Trial<R>, text: &str) -> Result<bool, Error> {
     Ok(false)
 }
 
-/// Makes the call under test, compares what follows with twins, and prints the line of the scenario.
-pub fn try_scenario<'a, R: Print>(
-    rt: &'a R,
-    alloc: Global,
-    number: usize,
-    scenario: Scenario<'a>,
-) -> Result<(), Error> {
-    let mut trial = Trial::new(rt, alloc, number, scenario);
+/// Makes the call under test of the scenario of a number, compares what follows with twins, and prints its line.
+pub fn try_scenario<R: Print>(rt: &R, alloc: Global, number: usize) -> Result<(), Error> {
+    let Some(scenario) = scenario_of(number) else {
+        bail!("there is no scenario {number}");
+    };
+    let mut trial = Trial {
+        rt,
+        alloc,
+        scenario: &scenario,
+        number: Some(number),
+        is_refused: false,
+        made: 0,
+        refused_calls: Vec::new(alloc),
+        text: String::new(alloc),
+    };
     let text = text_of_run(&mut trial, 0)?;
-    trial.go_on();
     let is_same = has_twin(&mut trial, text.as_str())?;
     let word = trial.word(is_same);
     println!(rt; "{word}")?;

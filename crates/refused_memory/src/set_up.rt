@@ -1,17 +1,13 @@
 //! The provider at which a call is tried, and its twin.
 
 use crate::callbacks::Counting;
-use crate::provider_calls::{ProviderCalls, Steps};
 use crate::typed::{Instruments, instruments_at, watch};
 use anyhow::{Error, bail};
 use metrics_script::script_lines::{Script, script_of};
 use opentelemetry_sdk::Resource;
 use opentelemetry_sdk::common::{Fault, KeyValue};
-use opentelemetry_sdk::metrics::ManualReader;
-use opentelemetry_sdk::metrics::data::ResourceMetrics;
-use opentelemetry_sdk::metrics::instrument::SelectorView;
-use opentelemetry_sdk::metrics::provider::{Call, Parts, Plain, Provider, ProviderBuilder, Reply};
-use std::alloc::{AllocError, Global};
+use opentelemetry_sdk::metrics::provider::{Call, Parts, Plain, Provider, Reply};
+use std::alloc::Global;
 
 /// The parts of the provider, without boxes.
 pub type Swept = Plain<Counting, Counting>;
@@ -20,7 +16,7 @@ pub type Swept = Plain<Counting, Counting>;
 pub const CALLBACKS: u64 = 3;
 
 /// A reader of each temporality; views with a limit of 1, with an allow-list, with bounds, and two for one instrument.
-const SETTINGS: &str = "\
+pub const SETTINGS: &str = "\
 reader cumulative
 reader delta limit:histogram=2
 reader lowmemory agg:updowncounter=hist:0,10
@@ -82,21 +78,10 @@ record 3 u:7 a=i:1
 record 5 u:8 d=i:1
 recordbound 2 u:9";
 
-/// The script of these lines, which are separated by semicolons or stand on lines of their own. The first begins with
-/// `start`.
-fn text_of(alloc: Global, start: &str, lines: &str) -> Result<String, AllocError> {
-    let mut text = String::from_str(alloc, "go\n")?;
-    text.push_str(start)?;
-    for line in lines.split(';') {
-        text.push_str(line)?;
-        text.push('\n')?;
-    }
-    Ok(text)
-}
-
-/// Reads the calls of these lines, of which the first begins with `start`.
-pub fn calls_of(alloc: Global, start: &str, lines: &str) -> Result<Vec<Call>, Error> {
-    let script = text_of(alloc, start, lines)?;
+/// Reads the calls of these lines, which are separated by semicolons or stand on lines of their own.
+pub fn calls_of(alloc: Global, lines: &str) -> Result<Vec<Call>, Error> {
+    let lines = lines.replace(alloc, ';', "\n")?;
+    let script = format!(in alloc; "go\n{lines}")?;
     let Script { calls, .. } = script_of(alloc, script.as_bytes())?;
     Ok(calls)
 }
@@ -108,120 +93,39 @@ pub fn resource(alloc: Global) -> Result<Resource, Fault> {
     Ok(builder.build())
 }
 
-/// What a provider is made of.
-pub struct Materials {
-    resource: Resource,
-    readers: Vec<ManualReader>,
-    views: Vec<SelectorView>,
-}
-
-impl Drop for Materials {
-    /// A function of its own, so that no proof about who lets one go looks into it.
-    fn drop(self) {
-        let Materials {
-            resource: _resource,
-            readers: _readers,
-            views: _views,
-        } = self;
-    }
-}
-
-/// Reads what a provider is made of.
-pub fn read_materials(alloc: Global) -> Result<Materials, Error> {
-    let resource = resource(alloc)?;
-    let Script { readers, views, .. } = script_of(alloc, SETTINGS.as_bytes())?;
-    Ok(Materials {
-        resource,
-        readers,
-        views,
-    })
-}
-
-/// Returns the builder with these readers.
-fn with_readers<P: Parts>(
-    builder: ProviderBuilder<P>,
-    readers: Vec<P::Reader>,
-) -> Result<ProviderBuilder<P>, Fault> {
-    let mut builder = builder;
+/// Builds a provider of this resource with the readers and views of a script.
+pub fn build(alloc: Global, resource: Resource, script: Script) -> Result<Provider<Swept>, Fault> {
+    let Script { readers, views, .. } = script;
+    let mut builder = Provider::builder(alloc).with_resource(resource)?;
     for reader in readers {
         builder = builder.with_reader(reader)?;
     }
-    Ok(builder)
-}
-
-/// Returns the builder with these views.
-fn with_views<P: Parts>(
-    builder: ProviderBuilder<P>,
-    views: Vec<P::View>,
-) -> Result<ProviderBuilder<P>, Fault> {
-    let mut builder = builder;
     for view in views {
         builder = builder.with_view(view)?;
     }
-    Ok(builder)
-}
-
-/// What a provider can be built of.
-pub trait Builds {
-    /// The provider.
-    type Built: ProviderCalls + Drop;
-
-    /// Makes a provider.
-    fn build(self, alloc: Global) -> Result<Self::Built, Fault>;
-}
-
-impl Builds for Materials {
-    type Built = Provider<Swept>;
-
-    fn build(self, alloc: Global) -> Result<Provider<Swept>, Fault> {
-        let Materials {
-            resource,
-            readers,
-            views,
-        } = self;
-        let builder = Provider::builder(alloc).with_resource(resource)?;
-        let builder = with_readers(builder, readers)?;
-        with_views(builder, views)?.build()
-    }
-}
-
-/// Checks that a call was not refused.
-fn check(reply: &Reply) -> Result<(), Error> {
-    if let Reply::Refused(fault) = reply {
-        bail!("a call before the one under test was refused: {fault}");
-    }
-    Ok(())
+    builder.build()
 }
 
 /// Makes the calls of these lines, none of which may be refused.
-fn make_all<S: Steps>(alloc: Global, provider: &mut S, lines: &str) -> Result<(), Error> {
-    for call in &calls_of(alloc, "", lines)? {
-        check(&provider.step(call))?;
+fn make_all<P: Parts>(alloc: Global, provider: &mut Provider<P>, lines: &str) -> Result<(), Error> {
+    for call in &calls_of(alloc, lines)? {
+        if let Reply::Refused(fault) = provider.step(call) {
+            bail!("a call before the one under test was refused: {fault}");
+        }
     }
     Ok(())
-}
-
-/// Makes a collection that nobody looks at.
-fn collect_once<S: Steps>(
-    alloc: Global,
-    provider: &mut S,
-    reader: usize,
-    now: u64,
-) -> Result<(), Fault> {
-    let mut metrics = ResourceMetrics::default(alloc);
-    provider.collect(reader, now, &mut metrics)
 }
 
 /// Makes the calls that come first, registers the callbacks, of which this many skip a run later, and runs each once.
 /// Returns instruments as values.
-pub fn fill<S: ProviderCalls>(
+pub fn fill<P: Parts<ObserveU64 = Counting, ObserveI64 = Counting>>(
     alloc: Global,
-    provider: &mut S,
+    provider: &mut Provider<P>,
     ahead: u64,
 ) -> Result<Instruments, Error> {
     make_all(alloc, provider, FIRST)?;
     watch(alloc, provider, ahead)?;
-    collect_once(alloc, provider, 1, 175)?;
+    let _ = provider.collected(1, 175)?;
     make_all(alloc, provider, SINCE)?;
     Ok(instruments_at(alloc, provider)?)
 }

@@ -1,19 +1,20 @@
 //! Instruments as values.
 
 use crate::callbacks::Counting;
-use crate::provider_calls::ProviderCalls;
-use opentelemetry_sdk::common::Fault;
+use opentelemetry_sdk::common::{Fault, KeyValue};
+use opentelemetry_sdk::metrics::data::ResourceMetrics;
 use opentelemetry_sdk::metrics::meter::{
-    Counter, Gauge, Histogram, InstrumentBuilder, Meter, UpDownCounter,
+    AsyncInstrumentBuilder, Counter, Gauge, Histogram, InstrumentBuilder, NumberType, Synchronous,
+    UpDownCounter,
 };
-use opentelemetry_sdk::metrics::provider::InstrumentSort;
+use opentelemetry_sdk::metrics::provider::{Call, InstrumentSort, Parts, Provider};
 use std::alloc::Global;
 
 /// The name of the meter of all instruments.
 const METER: &str = "app";
 
 /// Instruments as values, which have the streams of the instruments that were made first.
-#[derive(Clone, Copy)]
+#[derive(Drop)]
 pub struct Instruments {
     pub limited: Counter<u64>,
     pub allowed: UpDownCounter<i64>,
@@ -22,89 +23,173 @@ pub struct Instruments {
 }
 
 /// Makes the instruments.
-pub fn instruments_at<S: ProviderCalls>(
+pub fn instruments_at<P: Parts>(
     alloc: Global,
-    provider: &mut S,
+    provider: &mut Provider<P>,
 ) -> Result<Instruments, Fault> {
     let meter = provider.meter(METER)?;
-    let limited = String::from_str(alloc, "limited")?;
-    let allowed = String::from_str(alloc, "allowed")?;
-    let spread = String::from_str(alloc, "spread")?;
-    let heat = String::from_str(alloc, "heat")?;
+    let limited = meter.u64_counter(String::from_str(alloc, "limited")?);
+    let limited = limited.build(provider, 180)?;
+    let allowed = meter.i64_up_down_counter(String::from_str(alloc, "allowed")?);
+    let allowed = allowed.build(provider, 180)?;
+    let spread = meter.u64_histogram(String::from_str(alloc, "spread")?);
+    let spread = spread.build(provider, 180)?;
+    let heat = meter.i64_gauge(String::from_str(alloc, "heat")?);
+    let heat = heat.build(provider, 180)?;
     Ok(Instruments {
-        limited: provider.build(meter.u64_counter(limited))?,
-        allowed: provider.build(meter.i64_up_down_counter(allowed))?,
-        spread: provider.build(meter.u64_histogram(spread))?,
-        heat: provider.build(meter.i64_gauge(heat))?,
+        limited,
+        allowed,
+        spread,
+        heat,
     })
 }
 
+/// Builds an observable instrument of unsigned values with a callback, which skips this many runs later.
+fn watch_unsigned<K, P: Parts<ObserveU64 = Counting>>(
+    alloc: Global,
+    provider: &mut Provider<P>,
+    builder: AsyncInstrumentBuilder<K, u64, P>,
+    skipped: u64,
+) -> Result<(), Fault> {
+    let builder = builder.with_callback(Counting::new(alloc, skipped))?;
+    builder.build(provider, 170)?;
+    Ok(())
+}
+
+/// Builds an observable instrument of signed values with a callback, which skips this many runs later.
+fn watch_signed<K, P: Parts<ObserveI64 = Counting>>(
+    alloc: Global,
+    provider: &mut Provider<P>,
+    builder: AsyncInstrumentBuilder<K, i64, P>,
+    skipped: u64,
+) -> Result<(), Fault> {
+    let builder = builder.with_callback(Counting::new(alloc, skipped))?;
+    builder.build(provider, 170)?;
+    Ok(())
+}
+
 /// Makes three observable instruments with a callback each, of which this many skip a run later.
-pub fn watch<S: ProviderCalls>(alloc: Global, provider: &mut S, ahead: u64) -> Result<(), Fault> {
+pub fn watch<P: Parts<ObserveU64 = Counting, ObserveI64 = Counting>>(
+    alloc: Global,
+    provider: &mut Provider<P>,
+    ahead: u64,
+) -> Result<(), Fault> {
     let meter = provider.meter(METER)?;
     let runs = meter.u64_observable_counter(String::from_str(alloc, "runs")?);
-    provider.build_unsigned(runs, Counting::new(alloc, u64::from(ahead > 0)))?;
+    watch_unsigned(alloc, provider, runs, u64::from(ahead > 0))?;
     let balance = meter.i64_observable_up_down_counter(String::from_str(alloc, "balance")?);
-    provider.build_signed(balance, Counting::new(alloc, u64::from(ahead > 1)))?;
+    watch_signed(alloc, provider, balance, u64::from(ahead > 1))?;
     let depth = meter.u64_observable_gauge(String::from_str(alloc, "depth")?);
-    provider.build_unsigned(depth, Counting::new(alloc, u64::from(ahead > 2)))
+    watch_unsigned(alloc, provider, depth, u64::from(ahead > 2))
 }
 
 /// Builds an instrument with all that can be set.
-fn build_full<K, T, S: ProviderCalls>(
+fn build_full<K, T, P: Parts>(
     alloc: Global,
-    provider: &mut S,
+    provider: &mut Provider<P>,
     builder: InstrumentBuilder<K, T>,
 ) -> Result<(), Fault> {
     let builder = builder.with_description(String::from_str(alloc, "d")?);
     let builder = builder.with_unit(String::from_str(alloc, "ms")?);
-    provider.build(builder)?;
+    builder.build(provider, 180)?;
     Ok(())
 }
 
-/// Builds a histogram with all that can be set.
-fn build_histogram<S: ProviderCalls>(
-    alloc: Global,
-    provider: &mut S,
-    meter: Meter,
-    name: String,
-) -> Result<(), Fault> {
-    let boundaries = [1, 5].to_vec(alloc)?;
-    let builder = meter.u64_histogram(name).with_boundaries(boundaries);
-    build_full(alloc, provider, builder)
-}
-
 /// Builds a synchronous instrument of this sort and name with all that can be set, or an observable one with a callback.
-pub fn build<S: ProviderCalls>(
+fn build<P: Parts<ObserveU64 = Counting, ObserveI64 = Counting>>(
     alloc: Global,
-    provider: &mut S,
+    provider: &mut Provider<P>,
     sort: InstrumentSort,
     name: &str,
 ) -> Result<(), Fault> {
     let meter = provider.meter(METER)?;
     let name = String::from_str(alloc, name)?;
-    let callback = Counting::new(alloc, 0);
     match sort {
         InstrumentSort::U64Counter => build_full(alloc, provider, meter.u64_counter(name)),
-        InstrumentSort::I64UpDownCounter => build_full(
-            alloc,
-            provider,
-            meter.i64_up_down_counter(name),
-        ),
+        InstrumentSort::I64UpDownCounter => {
+            build_full(alloc, provider, meter.i64_up_down_counter(name))
+        }
         InstrumentSort::U64Gauge => build_full(alloc, provider, meter.u64_gauge(name)),
         InstrumentSort::I64Gauge => build_full(alloc, provider, meter.i64_gauge(name)),
-        InstrumentSort::U64Histogram => build_histogram(alloc, provider, meter, name),
+        InstrumentSort::U64Histogram => {
+            let boundaries = [1, 5].to_vec(alloc)?;
+            let builder = meter.u64_histogram(name).with_boundaries(boundaries);
+            build_full(alloc, provider, builder)
+        }
         InstrumentSort::U64ObservableCounter => {
-            provider.build_unsigned(meter.u64_observable_counter(name), callback)
+            watch_unsigned(alloc, provider, meter.u64_observable_counter(name), 0)
         }
         InstrumentSort::U64ObservableGauge => {
-            provider.build_unsigned(meter.u64_observable_gauge(name), callback)
+            watch_unsigned(alloc, provider, meter.u64_observable_gauge(name), 0)
         }
-        InstrumentSort::I64ObservableUpDownCounter => {
-            provider.build_signed(meter.i64_observable_up_down_counter(name), callback)
-        }
+        InstrumentSort::I64ObservableUpDownCounter => watch_signed(
+            alloc,
+            provider,
+            meter.i64_observable_up_down_counter(name),
+            0,
+        ),
         InstrumentSort::I64ObservableGauge => {
-            provider.build_signed(meter.i64_observable_gauge(name), callback)
+            watch_signed(alloc, provider, meter.i64_observable_gauge(name), 0)
         }
+    }
+}
+
+/// Records a value at the instrument that has the streams of this one.
+fn record<P: Parts>(
+    provider: &mut Provider<P>,
+    instruments: &Instruments,
+    instrument: usize,
+    attributes: &[KeyValue],
+) -> Result<(), Fault> {
+    match instrument {
+        0 => instruments.limited.add(provider, 8, attributes),
+        1 => instruments.allowed.add(provider, -8, attributes),
+        2 => instruments.spread.record(provider, 8, attributes),
+        4 => instruments.heat.record(provider, -8, attributes),
+        _ => Err(Fault::UnknownInstrument),
+    }
+}
+
+/// Binds a handle at an instrument, records a value through it, and ends it.
+fn spend<K, T: NumberType, P: Parts>(
+    provider: &mut Provider<P>,
+    instrument: &Synchronous<K, T>,
+    value: T,
+    attributes: &[KeyValue],
+) -> Result<(), Fault> {
+    let handle = instrument.bind(provider, attributes)?;
+    let recorded = handle.record(provider, value);
+    recorded.and(handle.end(provider))
+}
+
+/// Makes a call by a method of the provider, of a builder, or of the instrument that has the streams of the one that the
+/// call names. A collection goes into `metrics`.
+pub fn make_typed<P: Parts<ObserveU64 = Counting, ObserveI64 = Counting>>(
+    alloc: Global,
+    provider: &mut Provider<P>,
+    instruments: &Instruments,
+    call: &Call,
+    metrics: &mut ResourceMetrics,
+) -> Result<(), Fault> {
+    match call {
+        Call::Build { sort, name, .. } => build(alloc, provider, *sort, name.as_str()),
+        Call::Record {
+            instrument,
+            attributes,
+            ..
+        } => record(provider, instruments, *instrument, attributes.as_slice()),
+        Call::Bind {
+            instrument,
+            attributes,
+        } => match instrument {
+            0 => spend(provider, &instruments.limited, 8, attributes.as_slice()),
+            1 => spend(provider, &instruments.allowed, -8, attributes.as_slice()),
+            2 => spend(provider, &instruments.spread, 8, attributes.as_slice()),
+            _ => Err(Fault::UnknownInstrument),
+        },
+        Call::Collect { reader, now, .. } => provider.collect(*reader, *now, metrics),
+        Call::Flush => provider.force_flush(),
+        Call::Shutdown => provider.shutdown(),
+        _ => Err(Fault::UnknownInstrument),
     }
 }
