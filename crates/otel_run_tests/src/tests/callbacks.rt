@@ -2,10 +2,10 @@
 
 ghost use Rattle.std.specs.Prelude.{◌≡◌, None, IfOk};
 
+use super::cases::{Case, assert_of_provider};
 use super::metered::{Metered, Request};
 use super::shown::assert_collected;
-use super::support::{attributes, provider};
-use opentelemetry_sdk::common::{Fault, Items};
+use opentelemetry_sdk::common::{Fault, Items, KeyValue};
 use opentelemetry_sdk::metrics::SdkMeterProvider;
 use opentelemetry_sdk::metrics::callback::{Observation, ObserveI64, ObserveU64};
 use opentelemetry_sdk::metrics::meter::{
@@ -19,7 +19,7 @@ use std::process::Abort;
 
 /// Adds this value to what is observed, with the attributes `k=1`.
 fn observed<T: Drop>(alloc: Global, out: &mut Vec<Observation<T>>, value: T) -> Result<(), Fault> {
-    let attributes = Items::from(attributes(alloc, "k=1")?);
+    let attributes = Items::from(vec![in alloc; KeyValue::int(alloc, "k", 1)?]?);
     Ok(out.push(Observation { value, attributes })?)
 }
 
@@ -62,24 +62,6 @@ impl ObserveI64 for FailsFirst {
     }
 }
 
-/// What is asserted of a provider with callbacks.
-enum Case {
-    Dropped,
-    Refused,
-    WithoutMemory,
-    InOrder,
-}
-
-impl Case {
-    /// The fault that a callback answers first.
-    fn fault(&self) -> Fault {
-        match self {
-            Case::WithoutMemory => Fault::OutOfMemory,
-            _ => Fault::WrongKind,
-        }
-    }
-}
-
 /// A callback that observes these values in turn.
 fn in_turn(alloc: Global, values: [u64; 3]) -> Result<Box<dyn ObserveU64>, Fault> {
     let runs = 0;
@@ -99,28 +81,38 @@ fn failing(alloc: Global, fault: Fault) -> Result<Box<dyn ObserveI64>, Fault> {
     Ok(Box::new(alloc, FailsFirst { alloc, fault })?)
 }
 
-/// The builder of an observable counter of this name whose callback observes these values in turn.
+/// The name, the description and the unit of a counter.
+type Texts<'a> = (&'a str, &'a str, &'a str);
+
+/// The builder of an observable counter with callbacks of which each observes values in turn.
 fn counted(
     alloc: Global,
     meter: Meter,
-    name: &str,
-    values: [u64; 3],
+    (name, description, unit): Texts<'_>,
+    callbacks: &[[u64; 3]],
 ) -> Result<AsyncInstrumentBuilder<ObservableCounterKind, u64, Boxed>, Fault> {
     let name = String::from_str(alloc, name)?;
-    let callback = in_turn(alloc, values)?;
-    meter.u64_observable_counter(name).with_callback(callback)
+    let description = String::from_str(alloc, description)?;
+    let unit = String::from_str(alloc, unit)?;
+    let mut builder = meter
+        .u64_observable_counter(name)
+        .with_description(description)
+        .with_unit(unit);
+    for values in callbacks {
+        builder = builder.with_callback(in_turn(alloc, *values)?)?;
+    }
+    Ok(builder)
 }
 
-/// The builder of the observable up-down counter `middle`, whose callback answers the fault of a case first.
+/// The builder of the observable up-down counter `middle`, whose callback answers this fault first.
 fn middle(
     alloc: Global,
     meter: Meter,
-    case: &Case,
+    fault: Fault,
 ) -> Result<AsyncInstrumentBuilder<ObservableUpDownCounterKind, i64, Boxed>, Fault> {
-    let name = String::from_str(alloc, "middle")?;
-    let callback = failing(alloc, case.fault())?;
+    let callback = failing(alloc, fault)?;
     meter
-        .i64_observable_up_down_counter(name)
+        .i64_observable_up_down_counter(String::from_str(alloc, "middle")?)
         .with_callback(callback)
 }
 
@@ -129,37 +121,10 @@ fn heat(
     alloc: Global,
     meter: Meter,
 ) -> Result<AsyncInstrumentBuilder<ObservableGaugeKind, i64, Boxed>, Fault> {
-    let name = String::from_str(alloc, "heat")?;
     let callback = failing(alloc, Fault::WrongKind)?;
-    meter.i64_observable_gauge(name).with_callback(callback)
-}
-
-/// The builder of an observable counter with each setting but callbacks.
-fn load(
-    alloc: Global,
-    meter: Meter,
-) -> Result<AsyncInstrumentBuilder<ObservableCounterKind, u64, Boxed>, Fault> {
-    let name = String::from_str(alloc, "load")?;
-    let description = String::from_str(alloc, "how much")?;
-    let unit = String::from_str(alloc, "1")?;
-    Ok(
-        meter
-            .u64_observable_counter(name)
-            .with_description(description)
-            .with_unit(unit),
-    )
-}
-
-/// This builder with two callbacks, each of which observes values in turn.
-fn load_of_two(
-    alloc: Global,
-    meter: Meter,
-) -> Result<AsyncInstrumentBuilder<ObservableCounterKind, u64, Boxed>, Fault> {
-    let early = in_turn(alloc, [1, 2, 3])?;
-    let late = in_turn(alloc, [8, 9, 10])?;
-    load(alloc, meter)?
-        .with_callback(early)?
-        .with_callback(late)
+    meter
+        .i64_observable_gauge(String::from_str(alloc, "heat")?)
+        .with_callback(callback)
 }
 
 /// Makes the observable instrument of a builder.
@@ -172,21 +137,22 @@ fn make<K, T, P: Parts>(
     Ok(())
 }
 
-/// What these tests do with a provider: each method makes the observable instrument of a builder.
-trait Observing: Metered {
+/// What these tests do with a provider.
+pub trait Observing: Metered {
+    /// Makes an observable counter with callbacks of which each observes values in turn, at 100.
     fn make_counted(
         &mut self,
         alloc: Global,
         meter: Meter,
-        name: &str,
-        values: [u64; 3],
+        texts: Texts<'_>,
+        callbacks: &[[u64; 3]],
     ) -> Result<(), Fault>;
 
-    fn make_middle(&mut self, alloc: Global, meter: Meter, case: &Case) -> Result<(), Fault>;
+    /// Makes the observable up-down counter `middle`, whose callback answers this fault first, at 110.
+    fn make_middle(&mut self, alloc: Global, meter: Meter, fault: Fault) -> Result<(), Fault>;
 
+    /// Makes the observable gauge `heat`, whose callback answers a fault first, at 100.
     fn make_heat(&mut self, alloc: Global, meter: Meter) -> Result<(), Fault>;
-
-    fn make_load(&mut self, alloc: Global, meter: Meter) -> Result<(), Fault>;
 }
 
 impl Observing for SdkMeterProvider {
@@ -194,154 +160,120 @@ impl Observing for SdkMeterProvider {
         &mut self,
         alloc: Global,
         meter: Meter,
-        name: &str,
-        values: [u64; 3],
+        texts: Texts<'_>,
+        callbacks: &[[u64; 3]],
     ) -> Result<(), Fault> {
-        make(self, counted(alloc, meter, name, values), 100)
+        make(self, counted(alloc, meter, texts, callbacks), 100)
     }
 
-    fn make_middle(&mut self, alloc: Global, meter: Meter, case: &Case) -> Result<(), Fault> {
-        make(self, middle(alloc, meter, case), 110)
+    fn make_middle(&mut self, alloc: Global, meter: Meter, fault: Fault) -> Result<(), Fault> {
+        make(self, middle(alloc, meter, fault), 110)
     }
 
     fn make_heat(&mut self, alloc: Global, meter: Meter) -> Result<(), Fault> {
         make(self, heat(alloc, meter), 100)
     }
-
-    fn make_load(&mut self, alloc: Global, meter: Meter) -> Result<(), Fault> {
-        make(self, load_of_two(alloc, meter), 100)
-    }
 }
+
+/// What the second collection gives of one counter.
+const SEEN: &str = "resource -\n\
+     scope app - -\n\
+     metric seen ()  u64 sum Delta monotonic=true 100 300 exemplars=0\n\
+     seen k=1: 9\n";
+
+/// What the third collection gives.
+const SEEN_LATER: &str = "resource -\n\
+     scope app - -\n\
+     metric seen ()  u64 sum Delta monotonic=true 300 400 exemplars=0\n\
+     seen k=1: 3\n";
 
 /// Asserts what the readers collect, in turn, from one counter.
-fn assert_dropped<M: Observing>(
-    rt: &impl Abort,
-    alloc: Global,
-    provider: &mut M,
-) -> Result<(), Fault> {
-    let meter = provider.meter_named("app")?;
-    provider.make_counted(alloc, meter, "seen", [7, 9, 12])?;
-    assert_collected(rt, alloc, provider, 5, 200, "resource -\n")?;
-    assert_collected(
-        rt,
-        alloc,
-        provider,
-        1,
-        300,
-        "resource -\n\
-         scope app - -\n\
-         metric seen ()  u64 sum Delta monotonic=true 100 300 exemplars=0\n\
-         seen k=1: 9\n",
-    )?;
-    assert_collected(
-        rt,
-        alloc,
-        provider,
-        1,
-        400,
-        "resource -\n\
-         scope app - -\n\
-         metric seen ()  u64 sum Delta monotonic=true 300 400 exemplars=0\n\
-         seen k=1: 3\n",
-    )
+pub fn assert_dropped<M: Observing>(rt: &impl Abort, alloc: Global, provider: &mut M) {
+    let meter = provider.meter_named("app").expect(rt, "a meter");
+    let seen = provider.make_counted(alloc, meter, ("seen", "", ""), &[[7, 9, 12]]);
+    seen.expect(rt, "a counter");
+    assert_collected(rt, alloc, provider, 5, 200, "resource -\n");
+    assert_collected(rt, alloc, provider, 1, 300, SEEN);
+    assert_collected(rt, alloc, provider, 1, 400, SEEN_LATER);
 }
+
+/// What three callbacks give of which the second answers a fault on its first run, in the second collection.
+const SECOND: &str = "resource -\n\
+     scope app - -\n\
+     metric first ()  u64 sum Cumulative monotonic=true 100 300 exemplars=0\n\
+     first k=1: 2\n\
+     metric last ()  u64 sum Cumulative monotonic=true 100 300 exemplars=0\n\
+     last k=1: 4\n\
+     scope other - -\n\
+     metric middle ()  i64 sum Cumulative monotonic=false 110 300 exemplars=0\n\
+     middle k=1: -5\n";
 
 /// Asserts what three callbacks give of which the second answers a fault on its first run: the first collection is
 /// refused.
-fn assert_second_fails<M: Observing>(
+pub fn assert_second_fails<M: Observing>(
     rt: &impl Abort,
     alloc: Global,
     provider: &mut M,
-    case: &Case,
+    fault: Fault,
     refused: &str,
-) -> Result<(), Fault> {
-    let app = provider.meter_named("app")?;
-    let other = provider.meter_named("other")?;
-    provider.make_counted(alloc, app, "first", [1, 2, 3])?;
-    provider.make_middle(alloc, other, case)?;
-    provider.make_counted(alloc, app, "last", [4, 5, 6])?;
-    assert_collected(rt, alloc, provider, 0, 200, refused)?;
-    assert_collected(
-        rt,
-        alloc,
-        provider,
-        0,
-        300,
-        "resource -\n\
-         scope app - -\n\
-         metric first ()  u64 sum Cumulative monotonic=true 100 300 exemplars=0\n\
-         first k=1: 2\n\
-         metric last ()  u64 sum Cumulative monotonic=true 100 300 exemplars=0\n\
-         last k=1: 4\n\
-         scope other - -\n\
-         metric middle ()  i64 sum Cumulative monotonic=false 110 300 exemplars=0\n\
-         middle k=1: -5\n",
-    )
+) {
+    let app = provider.meter_named("app").expect(rt, "a meter");
+    let other = provider.meter_named("other").expect(rt, "a meter");
+    let first = provider.make_counted(alloc, app, ("first", "", ""), &[[1, 2, 3]]);
+    first.expect(rt, "a counter");
+    let middle = provider.make_middle(alloc, other, fault);
+    middle.expect(rt, "a counter");
+    let last = provider.make_counted(alloc, app, ("last", "", ""), &[[4, 5, 6]]);
+    last.expect(rt, "a counter");
+    assert_collected(rt, alloc, provider, 0, 200, refused);
+    assert_collected(rt, alloc, provider, 0, 300, SECOND);
 }
+
+/// What is collected from one counter with two callbacks.
+const LOAD: &str = "resource -\n\
+     scope app - -\n\
+     metric load (how much) 1 u64 sum Cumulative monotonic=true 100 200 exemplars=0\n\
+     load k=1: 8\n";
 
 /// Asserts what is collected from one counter with two callbacks; and that a callback that would answer another fault
 /// doesn't run for a reader that doesn't exist, and after a shutdown.
-fn assert_in_order<M: Observing>(
-    rt: &impl Abort,
-    alloc: Global,
-    provider: &mut M,
-) -> Result<(), Fault> {
-    let meter = provider.meter_named("app")?;
-    provider.make_load(alloc, meter)?;
-    let collected = "resource -\n\
-         scope app - -\n\
-         metric load (how much) 1 u64 sum Cumulative monotonic=true 100 200 exemplars=0\n\
-         load k=1: 8\n";
-    assert_collected(rt, alloc, provider, 0, 200, collected)?;
-    provider.make_heat(alloc, meter)?;
-    assert_collected(rt, alloc, provider, 6, 200, "refused 5\n")?;
-    provider.request(&Request::Shutdown)?;
-    assert_collected(rt, alloc, provider, 0, 300, "refused 9\n")
-}
-
-/// Asserts what a case says.
-fn assert_case<M: Observing>(
-    rt: &impl Abort,
-    alloc: Global,
-    provider: &mut M,
-    case: &Case,
-) -> Result<(), Fault> {
-    match case {
-        Case::Dropped => assert_dropped(rt, alloc, provider),
-        Case::Refused => assert_second_fails(rt, alloc, provider, case, "refused 7\n"),
-        Case::WithoutMemory => assert_second_fails(rt, alloc, provider, case, "refused 1\n"),
-        Case::InOrder => assert_in_order(rt, alloc, provider),
-    }
-}
-
-/// Asserts what a case says of a new provider.
-fn assert_of_callbacks(rt: &impl Abort, alloc: Global, case: &Case) -> Result<(), Fault> {
-    let mut provider = provider(alloc, 0, None)?;
-    assert_case(rt, alloc, &mut provider, case)
+pub fn assert_in_order<M: Observing>(rt: &impl Abort, alloc: Global, provider: &mut M) {
+    let meter = provider.meter_named("app").expect(rt, "a meter");
+    let callbacks = &[[1, 2, 3], [8, 9, 10]];
+    let texts = ("load", "how much", "1");
+    let load = provider.make_counted(alloc, meter, texts, callbacks);
+    load.expect(rt, "a counter");
+    assert_collected(rt, alloc, provider, 0, 200, LOAD);
+    let heat = provider.make_heat(alloc, meter);
+    heat.expect(rt, "a gauge");
+    assert_collected(rt, alloc, provider, 6, 200, "refused 5\n");
+    let shut = provider.request(&Request::Shutdown);
+    shut.expect(rt, "a shutdown");
+    assert_collected(rt, alloc, provider, 0, 300, "refused 9\n");
 }
 
 /// Of two delta readers one drops observable counters; the callback runs in each collection, of either.
 #[test]
-fn row_51(rt: HostRuntime) -> Result<(), Fault> {
-    assert_of_callbacks(&rt, rt.alloc(), &Case::Dropped)
+fn row_51(rt: HostRuntime) {
+    assert_of_provider(&rt, rt.alloc(), None, &Case::Dropped);
 }
 
 /// Callbacks run in the order in which their instruments were built, up to the first that fails; those before it have
 /// run, but nothing is taken in.
 #[test]
-fn callback_refuses(rt: HostRuntime) -> Result<(), Fault> {
-    assert_of_callbacks(&rt, rt.alloc(), &Case::Refused)
+fn callback_refuses(rt: HostRuntime) {
+    assert_of_provider(&rt, rt.alloc(), None, &Case::Refused);
 }
 
 /// The same of a callback that finds no memory: two have run once, the third has not.
 #[test]
-fn callback_without_memory(rt: HostRuntime) -> Result<(), Fault> {
-    assert_of_callbacks(&rt, rt.alloc(), &Case::WithoutMemory)
+fn callback_without_memory(rt: HostRuntime) {
+    assert_of_provider(&rt, rt.alloc(), None, &Case::WithoutMemory);
 }
 
 /// If two callbacks of one counter observe the same set of attributes, the later one counts. No callback runs where
 /// nothing can be collected.
 #[test]
-fn callbacks_in_order(rt: HostRuntime) -> Result<(), Fault> {
-    assert_of_callbacks(&rt, rt.alloc(), &Case::InOrder)
+fn callbacks_in_order(rt: HostRuntime) {
+    assert_of_provider(&rt, rt.alloc(), None, &Case::InOrder);
 }

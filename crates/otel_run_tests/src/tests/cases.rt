@@ -1,6 +1,6 @@
 //! What tests do with a provider that has a reader of each sort.
 
-use super::metered::Handling;
+use super::callbacks::{Observing, assert_dropped, assert_in_order, assert_second_fails};
 use super::numbers::assert_numbers;
 use super::seeds::assert_replies;
 use super::shutdowns::assert_shut_down;
@@ -11,7 +11,7 @@ use opentelemetry_sdk::common::Fault;
 use std::alloc::Global;
 use std::process::Abort;
 
-/// What is asserted of a provider, in the file of the same name.
+/// What is asserted of a provider, in the file of the same name, and for those from `Dropped` on in that of callbacks.
 pub enum Case {
     Numbers,
     Records,
@@ -20,15 +20,14 @@ pub enum Case {
     Seeds,
     Cumulative,
     Delta(usize),
+    Dropped,
+    Refused,
+    WithoutMemory,
+    InOrder,
 }
 
 /// Asserts what a case says.
-fn assert_case<M: Handling>(
-    rt: &impl Abort,
-    alloc: Global,
-    provider: &mut M,
-    case: &Case,
-) -> Result<(), Fault> {
+fn assert_case<M: Observing>(rt: &impl Abort, alloc: Global, provider: &mut M, case: &Case) {
     match case {
         Case::Numbers => assert_numbers(rt, alloc, provider),
         Case::Records => assert_used(rt, alloc, provider, false),
@@ -37,16 +36,17 @@ fn assert_case<M: Handling>(
         Case::Seeds => assert_replies(rt, alloc, provider),
         Case::Cumulative => assert_cumulative(rt, alloc, provider),
         Case::Delta(reader) => assert_delta(rt, alloc, provider, *reader),
+        Case::Dropped => assert_dropped(rt, alloc, provider),
+        Case::Refused => assert_second_fails(rt, alloc, provider, Fault::WrongKind, "refused 7\n"),
+        Case::WithoutMemory => {
+            assert_second_fails(rt, alloc, provider, Fault::OutOfMemory, "refused 1\n");
+        }
+        Case::InOrder => assert_in_order(rt, alloc, provider),
     }
 }
 
 /// Asserts what a case says of a new provider of the identity 7, whose sets are hashed from a seed, if there is one.
-pub fn assert_of_provider(
-    rt: &impl Abort,
-    alloc: Global,
-    seed: Option<u64>,
-    case: &Case,
-) -> Result<(), Fault> {
-    let mut provider = provider(alloc, 7, seed)?;
-    assert_case(rt, alloc, &mut provider, case)
+pub fn assert_of_provider(rt: &impl Abort, alloc: Global, seed: Option<u64>, case: &Case) {
+    let mut provider = provider(rt, alloc, 7, seed);
+    assert_case(rt, alloc, &mut provider, case);
 }

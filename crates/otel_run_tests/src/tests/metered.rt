@@ -1,12 +1,10 @@
 //! A provider, as tests use it.
 
-use super::refusing::Own;
-use super::shown::write_collection;
 use opentelemetry_sdk::common::{Fault, InstrumentationScope, KeyValue, OTelSdkResult};
 use opentelemetry_sdk::metrics::SdkMeterProvider;
+use opentelemetry_sdk::metrics::data::ResourceMetrics;
 use opentelemetry_sdk::metrics::meter::{
-    Bound, Counter, CounterKind, InstrumentBuilder, Meter, NumberType, Records, Synchronous,
-    UpDownCounter,
+    Adds, Bound, InstrumentBuilder, Meter, NumberType, Records, Synchronous,
 };
 use opentelemetry_sdk::metrics::provider::{Call, Parts, Provider, Reply};
 use std::alloc::Global;
@@ -30,7 +28,7 @@ fn step<P: Parts>(provider: &mut Provider<P>, call: &Call) -> OTelSdkResult {
 }
 
 /// Makes a request.
-fn answer<P: Parts>(provider: &mut Provider<P>, request: &Request) -> OTelSdkResult {
+pub fn answer<P: Parts>(provider: &mut Provider<P>, request: &Request) -> OTelSdkResult {
     match request {
         Request::Flush => provider.force_flush(),
         Request::Shutdown => provider.shutdown(),
@@ -40,134 +38,11 @@ fn answer<P: Parts>(provider: &mut Provider<P>, request: &Request) -> OTelSdkRes
     }
 }
 
-/// Writes what a reader of a provider collects at a moment: the lines of the collection, or the number of the fault.
-pub fn write_collected<P: Parts>(
-    text: &mut String,
-    provider: &mut Provider<P>,
-    reader: usize,
-    now: u64,
-) -> Result<(), Fault> {
-    match provider.collected(reader, now) {
-        Ok(collected) => Ok(write_collection(text, &collected)?),
-        Err(fault) => Ok(writeln!(text, "refused {}", fault.number())?),
-    }
-}
-
 /// What tests do with a provider. No proof about a function over this trait looks into a provider.
 pub trait Metered {
     /// The meter of the scope that has only this name.
     fn meter_named(&mut self, name: &str) -> Result<Meter, Fault>;
 
-    /// Makes the counter of a builder.
-    fn count(
-        &mut self,
-        builder: InstrumentBuilder<CounterKind, u64>,
-        now: u64,
-    ) -> Result<Counter<u64>, Fault>;
-
-    /// Makes an observable counter without callbacks, at 100.
-    fn count_observed(&mut self, meter: Meter, name: String) -> Result<(), Fault>;
-
-    /// Adds a value with attributes at a counter.
-    fn add(
-        &mut self,
-        counter: Counter<u64>,
-        value: u64,
-        attributes: &[KeyValue],
-    ) -> Result<(), Fault>;
-
-    /// Makes a call. Answers the fault with which it was refused, if it was.
-    fn call(&mut self, call: &Call) -> OTelSdkResult;
-
-    /// Makes a request.
-    fn request(&mut self, request: &Request) -> OTelSdkResult;
-
-    /// Writes what a reader collects: the lines of the collection, or the number of the fault.
-    fn write_collected(&mut self, text: &mut String, reader: usize, now: u64) -> Result<(), Fault>;
-}
-
-impl Metered for SdkMeterProvider {
-    fn meter_named(&mut self, name: &str) -> Result<Meter, Fault> {
-        self.meter(name)
-    }
-
-    fn count(
-        &mut self,
-        builder: InstrumentBuilder<CounterKind, u64>,
-        now: u64,
-    ) -> Result<Counter<u64>, Fault> {
-        builder.build(self, now)
-    }
-
-    fn count_observed(&mut self, meter: Meter, name: String) -> Result<(), Fault> {
-        meter.u64_observable_counter(name).build(self, 100)?;
-        Ok(())
-    }
-
-    fn add(
-        &mut self,
-        counter: Counter<u64>,
-        value: u64,
-        attributes: &[KeyValue],
-    ) -> Result<(), Fault> {
-        counter.add(self, value, attributes)
-    }
-
-    fn call(&mut self, call: &Call) -> OTelSdkResult {
-        step(self, call)
-    }
-
-    fn request(&mut self, request: &Request) -> OTelSdkResult {
-        answer(self, request)
-    }
-
-    fn write_collected(&mut self, text: &mut String, reader: usize, now: u64) -> Result<(), Fault> {
-        write_collected(text, self, reader, now)
-    }
-}
-
-impl Metered for Provider<Own> {
-    fn meter_named(&mut self, name: &str) -> Result<Meter, Fault> {
-        self.meter(name)
-    }
-
-    fn count(
-        &mut self,
-        builder: InstrumentBuilder<CounterKind, u64>,
-        now: u64,
-    ) -> Result<Counter<u64>, Fault> {
-        builder.build(self, now)
-    }
-
-    fn count_observed(&mut self, meter: Meter, name: String) -> Result<(), Fault> {
-        meter.u64_observable_counter(name).build(self, 100)?;
-        Ok(())
-    }
-
-    fn add(
-        &mut self,
-        counter: Counter<u64>,
-        value: u64,
-        attributes: &[KeyValue],
-    ) -> Result<(), Fault> {
-        counter.add(self, value, attributes)
-    }
-
-    fn call(&mut self, call: &Call) -> OTelSdkResult {
-        step(self, call)
-    }
-
-    fn request(&mut self, request: &Request) -> OTelSdkResult {
-        answer(self, request)
-    }
-
-    fn write_collected(&mut self, text: &mut String, reader: usize, now: u64) -> Result<(), Fault> {
-        write_collected(text, self, reader, now)
-    }
-}
-
-/// What tests do besides with a provider of boxes.
-pub trait Handling: Metered {
     /// The meter of a scope.
     fn meter_of(&mut self, scope: InstrumentationScope) -> Result<Meter, Fault>;
 
@@ -178,8 +53,16 @@ pub trait Handling: Metered {
         now: u64,
     ) -> Result<Synchronous<K, T>, Fault>;
 
-    /// Adds a value without attributes at an up-down counter.
-    fn add_up_down(&mut self, counter: UpDownCounter<i64>, value: i64) -> Result<(), Fault>;
+    /// Makes an observable counter without callbacks, at 100.
+    fn count_observed(&mut self, meter: Meter, name: String) -> Result<(), Fault>;
+
+    /// Adds a value with attributes at a counter.
+    fn add<K: Adds, T: NumberType>(
+        &mut self,
+        counter: Synchronous<K, T>,
+        value: T,
+        attributes: &[KeyValue],
+    ) -> Result<(), Fault>;
 
     /// Records a value without attributes at an instrument.
     fn record<K: Records, T: NumberType>(
@@ -203,11 +86,24 @@ pub trait Handling: Metered {
     /// Ends a handle, and lets it go.
     fn end<T: NumberType>(&mut self, handle: Bound<T>) -> Result<(), Fault>;
 
+    /// Makes a call. Answers the fault with which it was refused, if it was.
+    fn call(&mut self, call: &Call) -> OTelSdkResult;
+
     /// Makes calls.
     fn call_each(&mut self, alloc: Global, calls: &[Call]) -> Result<Vec<Reply>, Fault>;
+
+    /// Makes a request.
+    fn request(&mut self, request: &Request) -> OTelSdkResult;
+
+    /// What a reader collects at a moment.
+    fn collection(&mut self, reader: usize, now: u64) -> Result<ResourceMetrics, Fault>;
 }
 
-impl Handling for SdkMeterProvider {
+impl Metered for SdkMeterProvider {
+    fn meter_named(&mut self, name: &str) -> Result<Meter, Fault> {
+        self.meter(name)
+    }
+
     fn meter_of(&mut self, scope: InstrumentationScope) -> Result<Meter, Fault> {
         self.meter_with_scope(scope)
     }
@@ -220,8 +116,18 @@ impl Handling for SdkMeterProvider {
         builder.build(self, now)
     }
 
-    fn add_up_down(&mut self, counter: UpDownCounter<i64>, value: i64) -> Result<(), Fault> {
-        counter.add(self, value, &[])
+    fn count_observed(&mut self, meter: Meter, name: String) -> Result<(), Fault> {
+        meter.u64_observable_counter(name).build(self, 100)?;
+        Ok(())
+    }
+
+    fn add<K: Adds, T: NumberType>(
+        &mut self,
+        counter: Synchronous<K, T>,
+        value: T,
+        attributes: &[KeyValue],
+    ) -> Result<(), Fault> {
+        counter.add(self, value, attributes)
     }
 
     fn record<K: Records, T: NumberType>(
@@ -252,7 +158,19 @@ impl Handling for SdkMeterProvider {
         handle.end(self)
     }
 
+    fn call(&mut self, call: &Call) -> OTelSdkResult {
+        step(self, call)
+    }
+
     fn call_each(&mut self, alloc: Global, calls: &[Call]) -> Result<Vec<Reply>, Fault> {
         self.run(alloc, calls)
+    }
+
+    fn request(&mut self, request: &Request) -> OTelSdkResult {
+        answer(self, request)
+    }
+
+    fn collection(&mut self, reader: usize, now: u64) -> Result<ResourceMetrics, Fault> {
+        self.collected(reader, now)
     }
 }

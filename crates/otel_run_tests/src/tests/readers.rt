@@ -4,19 +4,9 @@ ghost use Rattle.std.specs.Prelude.{◌≡◌, cond};
 ghost use Rattle.otel_stream.specs.declared.instrument.InstrumentKind.TheVariants.{Counter};
 
 use opentelemetry_sdk::common::{Fault, OTelSdkResult};
-use opentelemetry_sdk::metrics::provider::{MeterProviderBuilder, Parts, ProviderBuilder};
 use opentelemetry_sdk::metrics::reader::{CardinalityLimit, MetricReader};
 use opentelemetry_sdk::metrics::{Aggregation, InstrumentKind, Temporality};
-use std::alloc::Global;
 use std::time::Duration;
-
-/// The builder with one reader more, if that could be made.
-pub fn with_reader<P: Parts>(
-    builder: ProviderBuilder<P>,
-    reader: Result<P::Reader, Fault>,
-) -> Result<ProviderBuilder<P>, Fault> {
-    builder.with_reader(reader?)
-}
 
 /// Wants one temporality for counters and another for all other kinds, counts how often it is asked to flush and to
 /// shut down, and may fail each time.
@@ -38,23 +28,6 @@ impl OwnReader {
             flushes: 0,
             shutdowns: 0,
         }
-    }
-}
-
-/// A builder that takes readers of this type.
-pub trait TakesOwn: Drop + Sized {
-    /// Adds the reader.
-    fn own(self, alloc: Global, reader: OwnReader) -> Result<Self, Fault>;
-}
-
-/// The reader, in a box.
-fn boxed(alloc: Global, reader: OwnReader) -> Result<Box<dyn MetricReader>, Fault> {
-    Ok(Box::new(alloc, reader)?)
-}
-
-impl TakesOwn for MeterProviderBuilder {
-    fn own(self, alloc: Global, reader: OwnReader) -> Result<Self, Fault> {
-        with_reader(self, boxed(alloc, reader))
     }
 }
 

@@ -2,24 +2,24 @@
 
 ghost use Rattle.std.specs.Prelude.{Some};
 
-use super::metered::{Metered, Request};
-use super::readers::{OwnReader, TakesOwn};
+use super::metered::{Metered, Request, answer};
+use super::readers::OwnReader;
+use super::seeds::call;
 use super::shown::assert_collected;
-use super::support::{assert_text, build, counter, write_builds, write_fault, write_requests};
+use super::support::{assert_text, build_faults, fault_of, manual, string, with_manual};
 use opentelemetry_sdk::common::Fault;
-use opentelemetry_sdk::error::SdkError;
+use opentelemetry_sdk::metrics::SdkMeterProvider;
 use opentelemetry_sdk::metrics::Temporality::Cumulative;
 use opentelemetry_sdk::metrics::callback::NoCallback;
-use opentelemetry_sdk::metrics::instrument::{Instrument, Stream};
-use opentelemetry_sdk::metrics::meter::Meter;
-use opentelemetry_sdk::metrics::provider::{Parts, Provider, ProviderBuilder};
+use opentelemetry_sdk::metrics::instrument::{Instrument, SelectorView, Stream};
+use opentelemetry_sdk::metrics::provider::{MeterProviderBuilder, Parts, Provider};
 use opentelemetry_sdk::metrics::view::View;
 use std::alloc::Global;
 use std::process::Abort;
 
 /// Gives each instrument a stream, but may find no memory for those that aren't called `hits`.
 #[derive(Drop)]
-pub struct Scarce {
+struct Scarce {
     stream: Stream,
     is_scarce: bool,
 }
@@ -35,11 +35,11 @@ impl View for Scarce {
     }
 }
 
-/// Readers and views of a program's own, and no callbacks.
-pub struct Own;
+/// Readers of a program's own, and no callbacks.
+struct Own;
 
 impl Parts for Own {
-    type View = Scarce;
+    type View = SelectorView;
 
     type Reader = OwnReader;
 
@@ -48,78 +48,70 @@ impl Parts for Own {
     type ObserveI64 = NoCallback;
 }
 
-impl TakesOwn for ProviderBuilder<Own> {
-    fn own(self, alloc: Global, reader: OwnReader) -> Result<Self, Fault> {
-        let _ = alloc;
-        self.with_reader(reader)
+/// A provider with a reader for each of these, which fails where that is true.
+fn failing(rt: &impl Abort, alloc: Global, fails: &[bool]) -> Provider<Own> {
+    let mut builder = Provider::builder(alloc);
+    for fails in fails {
+        let reader = OwnReader::new(Cumulative, Cumulative, *fails);
+        builder = builder.with_reader(reader).expect(rt, "a reader");
     }
+    builder.build().expect(rt, "a provider")
 }
 
-/// The builder with a reader for each of these, which fails where that is true.
-fn with_failing<B: TakesOwn>(alloc: Global, builder: B, fails: &[bool]) -> Result<B, Fault> {
-    let mut builder = builder;
-    for fails in fails {
-        builder = builder.own(alloc, OwnReader::new(Cumulative, Cumulative, *fails))?;
+/// Makes requests, and writes the answers.
+fn write_answers(
+    rt: &impl Abort,
+    text: &mut String,
+    provider: &mut Provider<Own>,
+    requests: &[Request],
+) {
+    for request in requests {
+        let answered = answer(provider, request);
+        writeln!(text, "{answered:?}").expect(rt, "memory");
     }
-    Ok(builder)
 }
 
 /// Writes how often each reader was asked to flush and to shut down.
-fn write_asked(text: &mut String, readers: &[OwnReader]) -> Result<(), Fault> {
+fn write_asked(rt: &impl Abort, text: &mut String, readers: &[OwnReader]) {
     for reader in readers {
-        write!(text, "| {} {} ", reader.flushes, reader.shutdowns)?;
+        write!(text, "| {} {} ", reader.flushes, reader.shutdowns).expect(rt, "memory");
     }
-    Ok(())
 }
 
-/// Writes how often each reader of a provider was asked to flush and to shut down, and lets the provider go.
-fn write_parted(text: &mut String, provider: Provider<Own>) -> Result<(), Fault> {
-    let (core, views, readers, callbacks) = provider.into_parts();
-    let written = write_asked(text, readers.as_slice());
-    let _provider: Provider<Own> = Provider::from_parts(core, views, readers, callbacks);
-    written
-}
-
-/// Makes requests of a provider, and writes what is seen of the answers, and how often each reader was asked to flush
-/// and to shut down.
-fn write_failing(
-    text: &mut String,
-    provider: Provider<Own>,
-    requests: &[Request],
-) -> Result<(), Fault> {
-    let mut provider = provider;
-    let written = write_requests(text, &mut provider, requests);
-    let parted = write_parted(text, provider);
-    written.and(parted)
-}
-
-/// Asserts what is written when requests are made of a provider whose readers fail where this says so.
+/// Asserts what requests of a provider are answered whose readers fail where this says so, and how often each reader was
+/// asked to flush and to shut down.
 pub fn assert_of_failing(
     rt: &impl Abort,
     alloc: Global,
     fails: &[bool],
     requests: &[Request],
     wanted: &str,
-) -> Result<(), Fault> {
+) {
     let mut text = String::new(alloc);
-    let builder = with_failing(alloc, Provider::builder(alloc), fails)?;
-    write_failing(&mut text, builder.build()?, requests)?;
+    let mut provider = failing(rt, alloc, fails);
+    write_answers(rt, &mut text, &mut provider, requests);
+    let (core, views, readers, callbacks) = provider.into_parts();
+    write_asked(rt, &mut text, readers.as_slice());
+    let _provider: Provider<Own> = Provider::from_parts(core, views, readers, callbacks);
     assert_text(rt, text.as_str(), wanted);
-    Ok(())
 }
 
 /// Each flush asks all readers, and so does a shutdown, also those after one that failed, whether asked by a method or
 /// by a call.
 #[test]
-fn readers_fail(rt: HostRuntime) -> Result<(), Fault> {
+fn readers_fail(rt: HostRuntime) {
     let requests = &[
         Request::Flush,
         Request::Flush,
         Request::Shutdown,
         Request::Shutdown,
     ];
-    let wanted = "10:2,0 10:2,0 10:2,0 8 | 2 1 | 2 1 | 2 1 ";
-    assert_of_failing(&rt, rt.alloc(), &[true, false, true], requests, wanted)?;
+    let wanted = "Err(InternalFailure(Readers { failed: 2, first: 0 }))\n\
+         Err(InternalFailure(Readers { failed: 2, first: 0 }))\n\
+         Err(InternalFailure(Readers { failed: 2, first: 0 }))\n\
+         Err(AlreadyShutdown)\n\
+         | 2 1 | 2 1 | 2 1 ";
+    assert_of_failing(&rt, rt.alloc(), &[true, false, true], requests, wanted);
     let requests = &[
         Request::Flush,
         Request::Flush,
@@ -127,15 +119,27 @@ fn readers_fail(rt: HostRuntime) -> Result<(), Fault> {
         Request::ShutdownCall,
         Request::FlushCall,
     ];
-    let wanted = "10:2,1 10:2,1 10:2,1 10:2,1 8 | 3 1 | 3 1 | 3 1 ";
-    assert_of_failing(&rt, rt.alloc(), &[false, true, true], requests, wanted)
+    let wanted = "Err(InternalFailure(Readers { failed: 2, first: 1 }))\n\
+         Err(InternalFailure(Readers { failed: 2, first: 1 }))\n\
+         Err(InternalFailure(Readers { failed: 2, first: 1 }))\n\
+         Err(InternalFailure(Readers { failed: 2, first: 1 }))\n\
+         Err(AlreadyShutdown)\n\
+         | 3 1 | 3 1 | 3 1 ";
+    assert_of_failing(&rt, rt.alloc(), &[false, true, true], requests, wanted);
 }
 
-/// A view that gives streams of this name.
-fn view(alloc: Global, name: &str, is_scarce: bool) -> Result<Scarce, SdkError> {
-    let name = String::from_str(alloc, name)?;
-    let stream = Stream::builder().with_name(name).build()?;
-    Ok(Scarce { stream, is_scarce })
+/// The builder with a view that gives streams of this name.
+fn with_view(
+    rt: &impl Abort,
+    alloc: Global,
+    builder: MeterProviderBuilder,
+    name: &str,
+    is_scarce: bool,
+) -> MeterProviderBuilder {
+    let stream = Stream::builder().with_name(string(rt, alloc, name)).build();
+    let stream = stream.expect(rt, name);
+    let view: Box<dyn View> = Box::new(alloc, Scarce { stream, is_scarce }).expect(rt, "memory");
+    builder.with_view(view).expect(rt, "a view")
 }
 
 /// What each reader collects after builds that were refused.
@@ -146,46 +150,38 @@ const COLLECTED: &str = "resource -\n\
      metric late ()  u64 sum Cumulative monotonic=true 110 200 exemplars=0\n\
      late: 5\n";
 
-/// Writes the fault numbers of builds of counters, as a call and by builders.
-fn write_refused<M: Metered>(
-    alloc: Global,
-    text: &mut String,
-    provider: &mut M,
-    meter: Meter,
-) -> Result<(), Fault> {
-    let call = build(alloc, "more", "1")?;
-    write_fault(text, provider.call(&call))?;
-    write_builds(alloc, text, provider, meter)
-}
-
 /// Asserts that a refused build leaves nothing behind, as a call or by a builder: the streams that its first view asked
 /// for are as old as the next build.
-fn assert_refused<M: Metered>(
-    rt: &impl Abort,
-    alloc: Global,
-    provider: &mut M,
-) -> Result<(), Fault> {
-    let meter = provider.meter_named("app")?;
-    let mut text = String::new(alloc);
-    write_refused(alloc, &mut text, provider, meter)?;
-    assert_text(rt, text.as_str(), "1 1 1 ");
-    let hits = counter(alloc, provider, meter, "hits", 110)?;
-    provider.add(hits, 5, &[])?;
-    assert_collected(rt, alloc, provider, 0, 200, COLLECTED)?;
-    assert_collected(rt, alloc, provider, 1, 200, COLLECTED)
+fn assert_refused<M: Metered>(rt: &impl Abort, alloc: Global, provider: &mut M) {
+    let meter = provider.meter_named("app").expect(rt, "a meter");
+    let called = fault_of(provider.call(&call(rt, alloc, "build more 1")));
+    let built = build_faults(rt, alloc, provider, meter);
+    let text = format!(in alloc; "{called} {built:?}").expect(rt, "memory");
+    assert_text(rt, text.as_str(), "1 [1, 1]");
+    let builder = meter.u64_counter(string(rt, alloc, "hits"));
+    let hits = provider.make(builder, 110).expect(rt, "a counter");
+    provider.add(hits, 5, &[]).expect(rt, "a record");
+    assert_collected(rt, alloc, provider, 0, 200, COLLECTED);
+    assert_collected(rt, alloc, provider, 1, 200, COLLECTED);
 }
 
 /// A provider with two readers and two views, of which the second finds no memory.
-fn scarce_provider(alloc: Global) -> Result<Provider<Own>, SdkError> {
-    let early = view(alloc, "early", false)?;
-    let late = view(alloc, "late", true)?;
-    let builder = with_failing(alloc, Provider::builder(alloc), &[false, false])?;
-    Ok(builder.with_view(early)?.with_view(late)?.build()?)
+fn scarce_provider(rt: &impl Abort, alloc: Global) -> SdkMeterProvider {
+    let builder = with_manual(
+        rt,
+        alloc,
+        SdkMeterProvider::builder(alloc),
+        manual(Cumulative),
+    );
+    let builder = with_manual(rt, alloc, builder, manual(Cumulative));
+    let builder = with_view(rt, alloc, builder, "early", false);
+    let builder = with_view(rt, alloc, builder, "late", true);
+    builder.build().expect(rt, "a provider")
 }
 
 /// A view that finds no memory refuses the build at both readers.
 #[test]
-fn view_without_memory(rt: HostRuntime) -> Result<(), SdkError> {
-    let mut provider = scarce_provider(rt.alloc())?;
-    Ok(assert_refused(&rt, rt.alloc(), &mut provider)?)
+fn view_without_memory(rt: HostRuntime) {
+    let mut provider = scarce_provider(&rt, rt.alloc());
+    assert_refused(&rt, rt.alloc(), &mut provider);
 }

@@ -1,9 +1,8 @@
 //! Merges of resources, their builders, and the resource of a collection.
 
-use super::metered::write_collected;
-use super::shown::write_resource;
-use super::support::assert_text;
-use opentelemetry_sdk::common::{Fault, KeyValue, StringValue, Value};
+use super::shown::{write_collection, write_resource};
+use super::support::{assert_text, attributes, string};
+use opentelemetry_sdk::common::{StringValue, Value};
 use opentelemetry_sdk::metrics::ManualReader;
 use opentelemetry_sdk::metrics::callback::NoCallback;
 use opentelemetry_sdk::metrics::provider::{Plain, Provider};
@@ -11,106 +10,86 @@ use opentelemetry_sdk::resource::{Resource, ResourceBuilder};
 use std::alloc::Global;
 use std::process::Abort;
 
-/// Adds the attributes that a text shows, in its order. Their values are texts.
-fn push_texts(alloc: Global, attributes: &mut Vec<KeyValue>, shown: &str) -> Result<(), Fault> {
-    for shown in shown.split_whitespace() {
-        let (key, value) = shown.split_once('=').unwrap_or((shown, ""));
-        attributes.push(KeyValue::text(alloc, key, value)?)?;
-    }
-    Ok(())
-}
-
-/// The attributes that a text shows, as `a=x b=`, in its order.
-fn texts(alloc: Global, shown: &str) -> Result<Vec<KeyValue>, Fault> {
-    let mut attributes = Vec::new(alloc);
-    push_texts(alloc, &mut attributes, shown)?;
-    Ok(attributes)
-}
-
 /// A builder with what a text shows: attributes, and behind them a schema URL, or `-` for none.
-fn added(alloc: Global, builder: ResourceBuilder, shown: &str) -> Result<ResourceBuilder, Fault> {
+fn added(rt: &impl Abort, alloc: Global, builder: ResourceBuilder, shown: &str) -> ResourceBuilder {
     let (shown, url) = shown.rsplit_once(' ').unwrap_or(("", shown));
-    let url = String::from_str(alloc, url.strip_prefix('-').unwrap_or(url))?;
-    builder.with_schema_url(texts(alloc, shown)?, url)
+    let url = string(rt, alloc, url.strip_prefix('-').unwrap_or(url));
+    let added = builder.with_schema_url(attributes(rt, alloc, shown), url);
+    added.expect(rt, "memory")
 }
 
 /// The resource that a text shows.
-fn resource(alloc: Global, shown: &str) -> Result<Resource, Fault> {
-    Ok(added(alloc, Resource::builder_empty(alloc), shown)?.build())
+fn resource(rt: &impl Abort, alloc: Global, shown: &str) -> Resource {
+    added(rt, alloc, Resource::builder_empty(alloc), shown).build()
 }
 
 /// The resource of a builder that is given what two texts show.
-fn built(alloc: Global, one: &str, other: &str) -> Result<Resource, Fault> {
-    let builder = added(alloc, Resource::builder_empty(alloc), one)?;
-    Ok(added(alloc, builder, other)?.build())
+fn built(rt: &impl Abort, alloc: Global, one: &str, other: &str) -> Resource {
+    let builder = added(rt, alloc, Resource::builder_empty(alloc), one);
+    added(rt, alloc, builder, other).build()
 }
 
 /// The resource of a builder that is given attributes alone.
-fn of_attributes(alloc: Global, shown: &str) -> Result<Resource, Fault> {
-    let attributes = texts(alloc, shown)?;
-    let builder = Resource::builder_empty(alloc).with_attributes(attributes)?;
-    Ok(builder.build())
+fn of_attributes(rt: &impl Abort, alloc: Global, shown: &str) -> Resource {
+    let builder = Resource::builder_empty(alloc).with_attributes(attributes(rt, alloc, shown));
+    builder.expect(rt, "memory").build()
 }
 
 /// The first resource with the second one merged into it.
-fn merged(alloc: Global, one: &str, other: &str) -> Result<Resource, Fault> {
-    resource(alloc, one)?.merge(&resource(alloc, other)?)
-}
-
-/// The first resource merged with the second one twice, from the left.
-fn merged_from_left(alloc: Global, one: &str, other: &str) -> Result<Resource, Fault> {
-    merged(alloc, one, other)?.merge(&resource(alloc, other)?)
-}
-
-/// The first resource merged with the second one twice, from the right.
-fn merged_from_right(alloc: Global, one: &str, other: &str) -> Result<Resource, Fault> {
-    resource(alloc, one)?.merge(&merged(alloc, other, other)?)
+fn merged(rt: &impl Abort, one: &Resource, other: &Resource) -> Resource {
+    one.merge(other).expect(rt, "memory")
 }
 
 /// How a resource is made of what the texts of a line show.
 pub enum Way {
+    /// The first is merged with the second.
     Merged,
+    /// The first is merged with the second, and that with the second once more.
     MergedFromLeft,
+    /// The second is merged with itself, and the first with that.
     MergedFromRight,
+    /// One builder is given both.
     Built,
+    /// A builder is given attributes alone.
     OfAttributes,
 }
 
 /// Makes a resource of what a text shows.
-fn made(alloc: Global, shown: &str, way: &Way) -> Result<Resource, Fault> {
+fn made(rt: &impl Abort, alloc: Global, shown: &str, way: &Way) -> Resource {
     let (one, other) = shown.split_once(" | ").unwrap_or((shown, ""));
+    let first = resource(rt, alloc, one);
+    let second = resource(rt, alloc, other);
     match way {
-        Way::Merged => merged(alloc, one, other),
-        Way::MergedFromLeft => merged_from_left(alloc, one, other),
-        Way::MergedFromRight => merged_from_right(alloc, one, other),
-        Way::Built => built(alloc, one, other),
-        Way::OfAttributes => of_attributes(alloc, shown),
+        Way::Merged => merged(rt, &first, &second),
+        Way::MergedFromLeft => merged(rt, &merged(rt, &first, &second), &second),
+        Way::MergedFromRight => merged(rt, &first, &merged(rt, &second, &second)),
+        Way::Built => built(rt, alloc, one, other),
+        Way::OfAttributes => of_attributes(rt, alloc, shown),
     }
 }
 
 /// Asserts of each line that what is made of its first texts is shown as its last one.
-pub fn assert_made(rt: &impl Abort, alloc: Global, lines: &str, way: &Way) -> Result<(), Fault> {
+pub fn assert_made(rt: &impl Abort, alloc: Global, lines: &str, way: &Way) {
     for line in lines.lines() {
         let (shown, wanted) = line.rsplit_once(" | ").unwrap_or((line, ""));
         let mut text = String::new(alloc);
-        write_resource(&mut text, &made(alloc, shown, way)?)?;
+        write_resource(rt, &mut text, &made(rt, alloc, shown, way));
         assert_text(rt, text.as_str(), wanted);
     }
-    Ok(())
 }
 
 #[test]
-fn merge_resource_key_value_pairs(rt: HostRuntime) -> Result<(), Fault> {
+fn merge_resource_key_value_pairs(rt: HostRuntime) {
     assert_made(
         &rt,
         rt.alloc(),
         "a= b=b-value d=d-value - | a=a-value c=c-value d= - | a=a-value b=b-value c=c-value d= -",
         &Way::Merged,
-    )
+    );
 }
 
 #[test]
-fn merge_resource_schema_url(rt: HostRuntime) -> Result<(), Fault> {
+fn merge_resource_schema_url(rt: HostRuntime) {
     assert_made(
         &rt,
         rt.alloc(),
@@ -120,11 +99,11 @@ fn merge_resource_schema_url(rt: HostRuntime) -> Result<(), Fault> {
          key= u1 | key= u1 | key= u1\n\
          key= - | key= - | key= -",
         &Way::Merged,
-    )
+    );
 }
 
 #[test]
-fn merge_resource_with_missing_attributes(rt: HostRuntime) -> Result<(), Fault> {
+fn merge_resource_with_missing_attributes(rt: HostRuntime) {
     assert_made(
         &rt,
         rt.alloc(),
@@ -133,47 +112,52 @@ fn merge_resource_with_missing_attributes(rt: HostRuntime) -> Result<(), Fault> 
          key=a u1 | key=b u2 | key=b -\n\
          key=a - | key=b u2 | key=b u2",
         &Way::Merged,
-    )
+    );
 }
 
 /// Merged from the left, the URLs `u1`, `u2` and `u2` leave the last one; merged from the right, they leave none.
 #[test]
-fn urls_merge_from_left_and_right(rt: HostRuntime) -> Result<(), Fault> {
-    assert_made(&rt, rt.alloc(), "u1 | u2 | u2", &Way::MergedFromLeft)?;
-    assert_made(&rt, rt.alloc(), "u1 | u2 | -", &Way::MergedFromRight)
+fn urls_merge_from_left_and_right(rt: HostRuntime) {
+    assert_made(&rt, rt.alloc(), "u1 | u2 | u2", &Way::MergedFromLeft);
+    assert_made(&rt, rt.alloc(), "u1 | u2 | -", &Way::MergedFromRight);
 }
 
 /// If a key stands twice in one list, its last value stays.
 #[test]
-fn new_resource(rt: HostRuntime) -> Result<(), Fault> {
+fn new_resource(rt: HostRuntime) {
     let lines = "a= a=final | a=final -\n\
          a=final a= | a= -";
-    assert_made(&rt, rt.alloc(), lines, &Way::OfAttributes)
+    assert_made(&rt, rt.alloc(), lines, &Way::OfAttributes);
 }
 
 #[test]
-fn builder_with_schema_url(rt: HostRuntime) -> Result<(), Fault> {
+fn builder_with_schema_url(rt: HostRuntime) {
     let lines = "u1 | u2 | -\n\
          - | u2 | u2\n\
          u1 | u1 | u1";
-    assert_made(&rt, rt.alloc(), lines, &Way::Built)
+    assert_made(&rt, rt.alloc(), lines, &Way::Built);
 }
 
 /// A provider of the service `test_service`, without boxes and callbacks.
-fn service(alloc: Global) -> Result<Provider<Plain<NoCallback, NoCallback>>, Fault> {
-    let name = Value::String(StringValue::new(alloc, "test_service")?);
-    let service = Resource::builder_empty(alloc).with_service_name(name)?;
-    Provider::builder(alloc)
-        .with_resource(service.build())?
-        .with_reader(ManualReader::default())?
+fn service(rt: &impl Abort, alloc: Global) -> Provider<Plain<NoCallback, NoCallback>> {
+    let name = Value::String(StringValue::from(string(rt, alloc, "test_service")));
+    let service = Resource::builder_empty(alloc).with_service_name(name);
+    let service = service.expect(rt, "a resource").build();
+    let builder = Provider::builder(alloc).with_resource(service);
+    let builder = builder.expect(rt, "a resource");
+    let builder = builder.with_reader(ManualReader::default());
+    builder
+        .expect(rt, "a reader")
         .build()
+        .expect(rt, "a provider")
 }
 
 #[test]
-fn test_meter_provider_resource(rt: HostRuntime) -> Result<(), Fault> {
-    let mut provider = service(rt.alloc())?;
+fn test_meter_provider_resource(rt: HostRuntime) {
+    let mut provider = service(&rt, rt.alloc());
+    let collected = provider.collected(0, 200).expect(&rt, "a collection");
     let mut text = String::new(rt.alloc());
-    write_collected(&mut text, &mut provider, 0, 200)?;
-    assert_text(&rt, text.as_str(), "resource service.name=test_service -\n");
-    Ok(())
+    write_collection(&rt, &mut text, &collected);
+    let wanted = "resource service.name=test_service -\n";
+    assert_text(&rt, text.as_str(), wanted);
 }

@@ -2,8 +2,7 @@
 
 use super::cases::{Case, assert_of_provider};
 use super::metered::{Metered, Request};
-use super::support::{assert_text, write_builds, write_requests};
-use opentelemetry_sdk::common::Fault;
+use super::support::{assert_text, build_faults, fault_of};
 use opentelemetry_sdk::error::SdkError;
 use opentelemetry_sdk::metrics::reader::CardinalityLimit;
 use std::alloc::Global;
@@ -15,47 +14,25 @@ fn limited<M: Metered>(provider: &mut M, limit: usize) -> Result<(), SdkError> {
     Ok(provider.request(&Request::Shutdown)?)
 }
 
-/// Writes the text of an error.
-fn write_error(text: &mut String, answer: Result<(), SdkError>) -> Result<(), Fault> {
-    match answer {
-        Ok(()) => Ok(text.push_str("nothing\n")?),
-        Err(error) => Ok(writeln!(text, "{error}")?),
-    }
-}
-
-/// Writes what comes of flushes and shutdowns, and with which text a limit and a second shutdown are refused. After a
+/// Asserts what comes of flushes and shutdowns, and with which text a limit and a second shutdown are refused. After a
 /// shutdown a meter has no number, and its instruments are built all the same.
-fn write_shut_down<M: Metered>(
-    alloc: Global,
-    text: &mut String,
-    provider: &mut M,
-) -> Result<(), Fault> {
-    let requests = &[Request::Flush, Request::TimedShutdown, Request::Flush];
-    write_requests(text, provider, requests)?;
-    write_error(text, limited(provider, 0))?;
-    write_error(text, limited(provider, 1))?;
-    let late = provider.meter_named("late")?;
-    write_builds(alloc, text, provider, late)
-}
-
-const WANTED: &str = "0 0 8 Cardinality limit must be greater than 0\n\
-     already shut down\n\
-     0 0 ";
-
-/// Asserts what is written of a provider that is shut down.
-pub fn assert_shut_down<M: Metered>(
-    rt: &impl Abort,
-    alloc: Global,
-    provider: &mut M,
-) -> Result<(), Fault> {
-    let mut text = String::new(alloc);
-    write_shut_down(alloc, &mut text, provider)?;
-    assert_text(rt, text.as_str(), WANTED);
-    Ok(())
+pub fn assert_shut_down<M: Metered>(rt: &impl Abort, alloc: Global, provider: &mut M) {
+    let faults = [
+        fault_of(provider.request(&Request::Flush)),
+        fault_of(provider.request(&Request::TimedShutdown)),
+        fault_of(provider.request(&Request::Flush)),
+    ];
+    let limit = limited(provider, 0).expect_err(rt, "a limit");
+    let again = limited(provider, 1).expect_err(rt, "a shutdown");
+    let late = provider.meter_named("late").expect(rt, "a meter");
+    let built = build_faults(rt, alloc, provider, late);
+    let text = format!(in alloc; "{faults:?}\n{limit}\n{again}\n{built:?}");
+    let wanted = "[0, 0, 8]\nCardinality limit must be greater than 0\nalready shut down\n[0, 0]";
+    assert_text(rt, text.expect(rt, "memory").as_str(), wanted);
 }
 
 /// A provider is shut down once. One error holds faults of streams and of calls.
 #[test]
-fn shutdowns(rt: HostRuntime) -> Result<(), Fault> {
-    assert_of_provider(&rt, rt.alloc(), None, &Case::Shutdowns)
+fn shutdowns(rt: HostRuntime) {
+    assert_of_provider(&rt, rt.alloc(), None, &Case::Shutdowns);
 }

@@ -1,11 +1,11 @@
-//! Providers, instruments and attributes that several tests use, and answers as text.
+//! Providers, counters and attributes that several tests use.
 
-use super::metered::{Metered, Request};
-use super::readers::{OwnReader, TakesOwn, with_reader};
-use opentelemetry_sdk::common::{Fault, InternalFault, KeyValue, OTelSdkResult, StringValue};
+use super::metered::Metered;
+use super::readers::OwnReader;
+use opentelemetry_sdk::common::{Fault, KeyValue};
 use opentelemetry_sdk::metrics::Temporality::{Cumulative, Delta, LowMemory};
-use opentelemetry_sdk::metrics::meter::{Counter, CounterKind, InstrumentBuilder, Meter};
-use opentelemetry_sdk::metrics::provider::{Call, InstrumentSort, MeterProviderBuilder};
+use opentelemetry_sdk::metrics::meter::{Counter, Meter};
+use opentelemetry_sdk::metrics::provider::MeterProviderBuilder;
 use opentelemetry_sdk::metrics::reader::MetricReader;
 use opentelemetry_sdk::metrics::{
     Aggregation, InstrumentKind, ManualReader, ManualReaderBuilder, SdkMeterProvider, Temporality,
@@ -19,139 +19,114 @@ pub fn assert_text(rt: &impl Abort, found: &str, wanted: &str) {
     assert_eq!(rt; found, wanted);
 }
 
-/// A builder that takes manual readers.
-trait TakesManual: TakesOwn {
-    /// Adds the reader of this builder.
-    fn manual(self, alloc: Global, reader: ManualReaderBuilder) -> Result<Self, Fault>;
+/// A copy of a text.
+pub fn string(rt: &impl Abort, alloc: Global, text: &str) -> String {
+    String::from_str(alloc, text).expect(rt, "memory")
 }
 
-/// The reader of a builder, in a box.
-fn boxed(alloc: Global, reader: ManualReaderBuilder) -> Result<Box<dyn MetricReader>, Fault> {
-    Ok(Box::new(alloc, reader.build())?)
-}
-
-impl TakesManual for MeterProviderBuilder {
-    fn manual(self, alloc: Global, reader: ManualReaderBuilder) -> Result<Self, Fault> {
-        with_reader(self, boxed(alloc, reader))
-    }
+/// A text, this many times.
+pub fn repeated(rt: &impl Abort, alloc: Global, text: &str, count: usize) -> String {
+    text.repeat(alloc, count).expect(rt, "memory")
 }
 
 /// A manual reader that wants this temporality.
-fn manual(temporality: Temporality) -> ManualReaderBuilder {
+pub fn manual(temporality: Temporality) -> ManualReaderBuilder {
     ManualReader::builder().with_temporality(temporality)
 }
 
-/// A manual reader that wants delta, and drops observable counters.
-fn dropping() -> ManualReaderBuilder {
-    manual(Delta).with_default_aggregation(InstrumentKind::ObservableCounter, Aggregation::Drop)
+/// The builder with a manual reader.
+pub fn with_manual(
+    rt: &impl Abort,
+    alloc: Global,
+    builder: MeterProviderBuilder,
+    reader: ManualReaderBuilder,
+) -> MeterProviderBuilder {
+    let reader: Box<dyn MetricReader> = Box::new(alloc, reader.build()).expect(rt, "memory");
+    builder.with_reader(reader).expect(rt, "a reader")
 }
 
-/// The builder with a reader of each sort: from 0 on, manual ones that want cumulative, delta and low-memory
-/// temporality; one of a program's own that wants delta for counters alone, and one that wants it for all other kinds;
-/// and a manual one that wants delta, and drops observable counters.
-fn with_each_sort<B: TakesManual>(alloc: Global, builder: B) -> Result<B, Fault> {
-    builder
-        .manual(alloc, manual(Cumulative))?
-        .manual(alloc, manual(Delta))?
-        .manual(alloc, manual(LowMemory))?
-        .own(alloc, OwnReader::new(Delta, Cumulative, false))?
-        .own(alloc, OwnReader::new(LowMemory, Delta, false))?
-        .manual(alloc, dropping())
+/// The builder with a reader of a program's own, which wants one temporality for counters and another for all other
+/// kinds.
+fn with_own(
+    rt: &impl Abort,
+    alloc: Global,
+    builder: MeterProviderBuilder,
+    counters: Temporality,
+    others: Temporality,
+) -> MeterProviderBuilder {
+    let reader = OwnReader::new(counters, others, false);
+    let reader: Box<dyn MetricReader> = Box::new(alloc, reader).expect(rt, "memory");
+    builder.with_reader(reader).expect(rt, "a reader")
 }
 
-/// A builder of a provider whose sets are hashed from a seed, if there is one.
-fn seeded(alloc: Global, seed: Option<u64>) -> MeterProviderBuilder {
-    let builder = SdkMeterProvider::builder(alloc);
-    match seed {
-        Some(seed) => builder.with_hash_seed(seed),
-        None => builder,
-    }
-}
-
-/// A provider of this identity with a reader of each sort, whose sets are hashed from a seed, if there is one.
+/// A provider of this identity with a reader of each sort, whose sets are hashed from a seed, if there is one. From 0 on
+/// its readers are manual ones that want cumulative, delta and low-memory temporality; one of a program's own that wants
+/// delta for counters alone, and one that wants it for all other kinds; and a manual one that wants delta, and drops
+/// observable counters.
 pub fn provider(
+    rt: &impl Abort,
     alloc: Global,
     identity: u64,
     seed: Option<u64>,
-) -> Result<SdkMeterProvider, Fault> {
-    with_each_sort(alloc, seeded(alloc, seed).with_identity(identity))?.build()
+) -> SdkMeterProvider {
+    let mut builder = SdkMeterProvider::builder(alloc).with_identity(identity);
+    if let Some(seed) = seed {
+        builder = builder.with_hash_seed(seed);
+    }
+    let dropping = manual(Delta).with_default_aggregation(
+        InstrumentKind::ObservableCounter,
+        Aggregation::Drop,
+    );
+    let builder = with_manual(rt, alloc, builder, manual(Cumulative));
+    let builder = with_manual(rt, alloc, builder, manual(Delta));
+    let builder = with_manual(rt, alloc, builder, manual(LowMemory));
+    let builder = with_own(rt, alloc, builder, Delta, Cumulative);
+    let builder = with_own(rt, alloc, builder, LowMemory, Delta);
+    let builder = with_manual(rt, alloc, builder, dropping);
+    builder.build().expect(rt, "a provider")
 }
 
-/// The builder of a counter of this name, description and unit.
-pub fn described(
-    alloc: Global,
-    meter: Meter,
-    (name, description, unit): (&str, &str, &str),
-) -> Result<InstrumentBuilder<CounterKind, u64>, Fault> {
-    let name = String::from_str(alloc, name)?;
-    let description = String::from_str(alloc, description)?;
-    let unit = String::from_str(alloc, unit)?;
-    Ok(
-        meter
-            .u64_counter(name)
-            .with_description(description)
-            .with_unit(unit),
-    )
-}
-
-/// Makes a counter of this name.
+/// Makes a counter of this name, at 100.
 pub fn counter<M: Metered>(
+    rt: &impl Abort,
     alloc: Global,
     provider: &mut M,
     meter: Meter,
     name: &str,
-    now: u64,
-) -> Result<Counter<u64>, Fault> {
-    let name = String::from_str(alloc, name)?;
-    provider.count(meter.u64_counter(name), now)
+) -> Counter<u64> {
+    let builder = meter.u64_counter(string(rt, alloc, name));
+    provider.make(builder, 100).expect(rt, name)
 }
 
-/// Writes the fault numbers of builds of a counter and of an observable one.
-pub fn write_builds<M: Metered>(
+/// The fault numbers of builds of a counter and of an observable one.
+pub fn build_faults<M: Metered>(
+    rt: &impl Abort,
     alloc: Global,
-    text: &mut String,
     provider: &mut M,
     meter: Meter,
-) -> Result<(), Fault> {
-    write_fault(text, counter(alloc, provider, meter, "more", 100))?;
-    let seen = String::from_str(alloc, "seen")?;
-    write_fault(text, provider.count_observed(meter, seen))
+) -> [u8; 2] {
+    let more = meter.u64_counter(string(rt, alloc, "more"));
+    let seen = string(rt, alloc, "seen");
+    [
+        fault_of(provider.make(more, 100)),
+        fault_of(provider.count_observed(meter, seen)),
+    ]
 }
 
-/// The build of a counter of the first meter at 100, as a call.
-pub fn build(alloc: Global, name: &str, unit: &str) -> Result<Call, Fault> {
-    let name = StringValue::new(alloc, name)?;
-    let unit = StringValue::new(alloc, unit)?;
-    Ok(Call::Build {
-        meter: Some(0),
-        sort: InstrumentSort::U64Counter,
-        name,
-        description: None,
-        unit: Some(unit),
-        boundaries: None,
-        now: 100,
-    })
-}
-
-/// The attribute that a text shows, whose value is a number.
-fn numbered(alloc: Global, shown: &str) -> Result<KeyValue, Fault> {
-    let (key, value) = shown.split_once('=').unwrap_or((shown, ""));
-    KeyValue::int(alloc, key, value.parse().unwrap_or(0))
-}
-
-/// Adds the attributes that a text shows, in its order.
-fn push_numbered(alloc: Global, attributes: &mut Vec<KeyValue>, shown: &str) -> Result<(), Fault> {
-    for shown in shown.split_whitespace() {
-        attributes.push(numbered(alloc, shown)?)?;
-    }
-    Ok(())
-}
-
-/// The attributes that a text shows, as `b=1 a=2`, in its order. Their values are numbers.
-pub fn attributes(alloc: Global, shown: &str) -> Result<Vec<KeyValue>, Fault> {
+/// The attributes that a text shows, as `b=1 a=x`, in its order. A value that reads as a number is one.
+pub fn attributes(rt: &impl Abort, alloc: Global, shown: &str) -> Vec<KeyValue> {
     let mut attributes = Vec::new(alloc);
-    push_numbered(alloc, &mut attributes, shown)?;
-    Ok(attributes)
+    for shown in shown.split_whitespace() {
+        let (key, value) = shown.split_once('=').unwrap_or((shown, ""));
+        let attribute = match value.parse() {
+            Ok(number) => KeyValue::int(alloc, key, number),
+            Err(_) => KeyValue::text(alloc, key, value),
+        };
+        attributes
+            .push(attribute.expect(rt, "memory"))
+            .expect(rt, "memory");
+    }
+    attributes
 }
 
 /// The number of the fault, or 0 if there is none.
@@ -160,32 +135,4 @@ pub fn fault_of<T: Drop>(answer: Result<T, Fault>) -> u8 {
         Ok(_) => 0,
         Err(fault) => fault.number(),
     }
-}
-
-/// Writes the number of the fault, or 0 if there is none.
-pub fn write_fault<T: Drop>(text: &mut String, answer: Result<T, Fault>) -> Result<(), Fault> {
-    Ok(write!(text, "{} ", fault_of(answer))?)
-}
-
-/// Writes the number of the fault, or 0 if there is none. If readers failed, writes also how many, and the number of the
-/// first of them.
-fn write_answer(text: &mut String, answer: OTelSdkResult) -> Result<(), Fault> {
-    match answer {
-        Err(Fault::InternalFailure(InternalFault::Readers { failed, first })) => {
-            Ok(write!(text, "10:{failed},{first} ")?)
-        }
-        answer => write_fault(text, answer),
-    }
-}
-
-/// Makes requests, and writes what is seen of the answers.
-pub fn write_requests<M: Metered>(
-    text: &mut String,
-    provider: &mut M,
-    requests: &[Request],
-) -> Result<(), Fault> {
-    for request in requests {
-        write_answer(text, provider.request(request))?;
-    }
-    Ok(())
 }

@@ -4,18 +4,19 @@ use super::metered::Request;
 use super::refusing::assert_of_failing;
 use super::resources::{Way, assert_made};
 use super::support::assert_text;
-use super::texts::assert_names;
-use opentelemetry_sdk::common::Fault;
-use opentelemetry_sdk::metrics::instrument::Stream;
+use super::texts::{Setting, assert_each};
+use opentelemetry_sdk::metrics::instrument::{Stream, StreamFault};
 use std::alloc::Global;
 use std::process::Abort;
 
 /// With three readers, of which two fail, the provider is shut down all the same.
 #[test]
-fn row_26(rt: HostRuntime) -> Result<(), Fault> {
+fn row_26(rt: HostRuntime) {
     let requests = &[Request::Shutdown, Request::Shutdown];
-    let wanted = "10:2,1 8 | 0 1 | 0 1 | 0 1 ";
-    assert_of_failing(&rt, rt.alloc(), &[false, true, true], requests, wanted)
+    let wanted = "Err(InternalFailure(Readers { failed: 2, first: 1 }))\n\
+         Err(AlreadyShutdown)\n\
+         | 0 1 | 0 1 | 0 1 ";
+    assert_of_failing(&rt, rt.alloc(), &[false, true, true], requests, wanted);
 }
 
 const EMPTY: &str = "Invalid instrument configuration: name must be non-empty";
@@ -28,22 +29,23 @@ const FIRST: &str =
 const CHARACTER: &str =
     "Invalid instrument configuration: characters in name must be ASCII and belong to the alphanumeric characters, '_', '.', '-' and '/'";
 
-/// Writes why a stream with this limit is refused, if it is.
-fn write_limit(text: &mut String, limit: usize) -> Result<(), Fault> {
+/// Why a stream with this limit is refused, if it is.
+fn limit_fault(limit: usize) -> Option<StreamFault> {
     match Stream::builder().with_cardinality_limit(limit).build() {
-        Ok(_) => Ok(text.push_str("Ok\n")?),
-        Err(fault) => Ok(writeln!(text, "{fault:?}")?),
+        Ok(_) => None,
+        Err(fault) => Some(fault),
     }
 }
 
 /// Asserts which limits of streams are refused.
-fn assert_limits(rt: &impl Abort, alloc: Global) -> Result<(), Fault> {
-    let mut text = String::new(alloc);
-    write_limit(&mut text, 0)?;
-    write_limit(&mut text, usize::MAX)?;
-    write_limit(&mut text, usize::MAX - 1)?;
-    assert_text(rt, text.as_str(), "LimitZero\nLimitMax\nOk\n");
-    Ok(())
+fn assert_limits(rt: &impl Abort, alloc: Global) {
+    let faults = [
+        limit_fault(0),
+        limit_fault(usize::MAX),
+        limit_fault(usize::MAX - 1),
+    ];
+    let text = format!(in alloc; "{faults:?}").expect(rt, "memory");
+    assert_text(rt, text.as_str(), "[Some(LimitZero), Some(LimitMax), None]");
 }
 
 /// Names that start badly.
@@ -56,21 +58,21 @@ const BADLY_STARTED: &str = "_x\n\
 
 /// Names of instruments, each with the answer of its check, and limits of streams.
 #[test]
-fn row_16(rt: HostRuntime) -> Result<(), Fault> {
+fn row_16(rt: HostRuntime) {
     let alloc = rt.alloc();
-    assert_limits(&rt, alloc)?;
-    assert_names(&rt, alloc, "", EMPTY)?;
-    assert_names(&rt, alloc, "a".repeat(alloc, 255)?.as_str(), "Ok")?;
-    assert_names(&rt, alloc, "a".repeat(alloc, 256)?.as_str(), LENGTH)?;
-    assert_names(&rt, alloc, BADLY_STARTED, FIRST)?;
+    assert_limits(&rt, alloc);
+    assert_each(&rt, alloc, &Setting::Name, "", 1, EMPTY);
+    assert_each(&rt, alloc, &Setting::Name, "a", 255, "Ok");
+    assert_each(&rt, alloc, &Setting::Name, "a", 256, LENGTH);
+    assert_each(&rt, alloc, &Setting::Name, BADLY_STARTED, 1, FIRST);
     let good = "validateName\nallow/slash\nallow_under_score\nallow.dots.ok";
-    assert_names(&rt, alloc, good, "Ok")?;
+    assert_each(&rt, alloc, &Setting::Name, good, 1, "Ok");
     let bad = "Total $ Count\nutf8char锈\ninvalid name";
-    assert_names(&rt, alloc, bad, CHARACTER)
+    assert_each(&rt, alloc, &Setting::Name, bad, 1, CHARACTER);
 }
 
 #[test]
-fn row_20(rt: HostRuntime) -> Result<(), Fault> {
+fn row_20(rt: HostRuntime) {
     assert_made(
         &rt,
         rt.alloc(),
@@ -78,5 +80,5 @@ fn row_20(rt: HostRuntime) -> Result<(), Fault> {
          a= b=b-value d=d-value - | a=a-value c=c-value d= u2 | a=a-value b=b-value c=c-value d= u2\n\
          a= b=b-value d=d-value u1 | a=a-value c=c-value d= - | a=a-value b=b-value c=c-value d= u1",
         &Way::Merged,
-    )
+    );
 }
