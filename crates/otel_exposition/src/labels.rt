@@ -2,7 +2,7 @@
 
 ghost use Rattle.std.specs.Prelude.{◌≡◌, ◌++◌, [], ◌∷◌, OnOk};
 ghost use Rattle.std.specs.String.{string_bytes};
-ghost use Rattle.otel_exposition.specs.Samples.{joined, label_text, labels_text, more_labels_text, with_last_text};
+ghost use Rattle.otel_exposition.specs.Samples.{joined, label_text, labels_text};
 
 use crate::escapes::push_escaped;
 use std::alloc::AllocError;
@@ -65,44 +65,14 @@ pub fn push_label(out: &mut Vec<u8>, name: &str, value: &[u8]) -> Result<(), All
     out.extend_from_slice(b"\"")
 }
 
-/// Appends a comma and a label for each, and the closing brace.
-fn push_more_labels(out: &mut Vec<u8>, labels: &[Label]) -> Result<(), AllocError>
-    ensures { OnOk result (out.new.items ≡ out.old.items ++ more_labels_text labels.now) }
-{
-    for label in labels {
-        out.extend_from_slice(b",")?;
-        push_label(out, label.name(), label.value())?;
-    }
-    out.extend_from_slice(b"}")
-}
-
 /// Appends labels in braces, or nothing if there are none. Refused only for want of memory.
 pub fn push_labels(out: &mut Vec<u8>, labels: &[Label]) -> Result<(), AllocError>
     ensures { OnOk result (out.new.items ≡ out.old.items ++ labels_text labels.now) }
 {
-    let Some((first, others)) = labels.split_first() else {
+    let Some((last, others)) = labels.split_last() else {
         return Ok(());
     };
-    out.extend_from_slice(b"{")?;
-    push_label(out, first.name(), first.value())?;
-    push_more_labels(out, others)
-}
-
-/// Appends labels, each with a comma, and then a last one with the closing brace.
-fn push_labels_and_last(
-    out: &mut Vec<u8>,
-    labels: &[Label],
-    name: &str,
-    value: &[u8],
-) -> Result<(), AllocError>
-    ensures { OnOk result (out.new.items ≡ out.old.items ++ with_last_text labels.now (name.now, value.now)) }
-{
-    for label in labels {
-        push_label(out, label.name(), label.value())?;
-        out.extend_from_slice(&[b','])?;
-    }
-    push_label(out, name, value)?;
-    out.extend_from_slice(b"}")
+    push_labels_with(out, others, last.name(), last.value())
 }
 
 /// Appends labels and one more label in braces. Refused only for want of memory.
@@ -115,6 +85,10 @@ pub fn push_labels_with(
     ensures { OnOk result (out.new.items ≡ out.old.items ++ labels_text (labels.now ++ (name.now, value.now) ∷ [])) }
 {
     out.extend_from_slice(b"{")?;
-    push_labels_and_last(out, labels, name, value)?;
-    Ok(())
+    for label in labels {
+        push_label(out, label.name(), label.value())?;
+        out.extend_from_slice(b",")?;
+    }
+    push_label(out, name, value)?;
+    out.extend_from_slice(b"}")
 }

@@ -2,29 +2,10 @@
 
 ghost use Rattle.std.specs.Prelude.{◌≡◌, ◌++◌, OnOk};
 ghost use Rattle.std.specs.Fmt.{signed_decimal};
-ghost use Rattle.otel_exposition.specs.Samples.{line_text, sample_text};
+ghost use Rattle.otel_exposition.specs.Samples.{line_text};
 
-use crate::labels::{Label, push_labels};
 use crate::numbers::Number;
 use std::alloc::AllocError;
-
-/// Appends the line of a sample. Its name is given in two parts. Refused only for want of memory.
-pub fn push_sample<T: Number>(
-    out: &mut Vec<u8>,
-    name: &str,
-    suffix: &str,
-    labels: &[Label],
-    value: T,
-) -> Result<(), AllocError>
-    ensures { OnOk result (out.new.items ≡ out.old.items ++ sample_text (record { name = name.now ++ suffix.now; labels = labels.now; value = T.integer value })) }
-{
-    out.extend_from_slice(name.as_bytes())?;
-    out.extend_from_slice(suffix.as_bytes())?;
-    push_labels(out, labels)?;
-    out.extend_from_slice(b" ")?;
-    value.push_to(out)?;
-    out.extend_from_slice(b"\n")
-}
 
 /// Appends the line of a sample whose labels are spelled already. Its name is given in two parts. Refused only for want
 /// of memory.

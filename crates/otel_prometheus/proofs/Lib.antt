@@ -4,5 +4,6 @@ pub mod LawLemmas
 pub mod LineLemmas
 pub mod PlaceLemmas
 pub mod SeriesLemmas
+pub mod UnitLemmas
 pub mod Valid
 pub mod Whole

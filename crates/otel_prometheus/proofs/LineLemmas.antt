@@ -1,8 +1,9 @@
 -- The text of a few lines.
 use Rattle.std.proofs.Common.{◌≡◌, ℕ, List, [], ◌∷◌, ◌++◌, codes, sym, ap, ◌∙◌, append_assoc, append-nil}
+use Rattle.std.specs.Fmt.{signed_decimal}
 use Rattle.otel_exposition.specs.Lines.{kind, spelled, text_of}
 use Rattle.otel_exposition.specs.Numbers.{unsigned}
-use Rattle.otel_exposition.specs.Samples.{Pair, sample_text}
+use Rattle.otel_exposition.specs.Samples.{Pair, labels_text, line_text, sample_text}
 use Rattle.otel_exposition.specs.declared.formats.Format.{Format}
 use Rattle.otel_prometheus.specs.Collections.{kind_word, kind_end, help_lines, front_lines, target_kind, target_lines}
 use Rattle.otel_prometheus.specs.declared.expositions.LeftOut.{LeftOut}
@@ -25,14 +26,14 @@ front_text f x n m w out mid new en em ew h k =
     ∙ (ap (λ t. out ++ (first ++ t)) (sym (append-nil second))
     ∙ ap (λ t. out ++ t) (sym (text_of_append f (help_lines name x.help) (kind name (kind_word x.heading.kind) ∷ [])))))))))
 
-pub target_text : (f : Format) (l : Pair) (ls all : List Pair) (out mid new : List ℕ)
-    → all ≡ l ∷ ls → mid ≡ out ++ spelled f (target_kind f) → new ≡ mid ++ sample_text (record { name = codes "target_info"; labels = all; value = unsigned 1 })
+pub target_text : (f : Format) (l : Pair) (ls all : List Pair) (labels out mid new : List ℕ)
+    → all ≡ l ∷ ls → mid ≡ out ++ spelled f (target_kind f) → labels ≡ labels_text all → new ≡ mid ++ line_text (codes "target_info") labels (signed_decimal (unsigned 1))
     → new ≡ out ++ text_of f (target_lines f all)
-target_text f l ls all out mid new e h k =
+target_text f l ls all labels out mid new e h p k =
     let first : List ℕ = spelled f (target_kind f) in
     let second : List ℕ = sample_text (record { name = codes "target_info"; labels = l ∷ ls; value = unsigned 1 }) in
     k
-    ∙ (ap (λ t. mid ++ sample_text (record { name = codes "target_info"; labels = t; value = unsigned 1 })) e
+    ∙ (ap (λ t. mid ++ line_text (codes "target_info") t (signed_decimal (unsigned 1))) (p ∙ ap labels_text e)
     ∙ (ap (λ t. t ++ second) h
     ∙ (append_assoc out first second
     ∙ (ap (λ t. out ++ (first ++ t)) (sym (append-nil second))

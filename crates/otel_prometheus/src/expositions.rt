@@ -21,8 +21,8 @@ use otel_common::scopes::InstrumentationScope;
 use otel_data::collections::{Metric, ResourceMetrics, ScopeMetrics};
 use otel_exposition::comments::{push_finish, push_help, push_kind};
 use otel_exposition::formats::Format;
-use otel_exposition::labels::Label;
-use otel_exposition::samples::push_sample;
+use otel_exposition::labels::{Label, push_labels};
+use otel_exposition::samples::push_line;
 use std::alloc::{AllocError, Global};
 
 /// How many points a text leaves out, each modulo 2^64.
@@ -62,8 +62,7 @@ fn add_metric(
     if !is_same_heading(heading, &own) {
         return Ok(());
     }
-    add_content(alloc, settings, scope, heading, metric.data(), out)?;
-    Ok(())
+    add_content(alloc, settings, scope, heading, metric.data(), out)
 }
 
 /// Adds a series for each point of those metrics of a scope that belong to the family.
@@ -137,8 +136,7 @@ fn push_help_line(
     let Some(_) = text.as_bytes().split_first() else {
         return Ok(());
     };
-    push_help(out, format, name, text)?;
-    Ok(())
+    push_help(out, format, name, text)
 }
 
 /// Appends the help text and the type of a family.
@@ -218,26 +216,27 @@ fn push_target_kind(out: &mut Vec<u8>, format: Format) -> Result<(), AllocError>
     ensures { OnOk result (out.new.items ≡ out.old.items ++ spelled format (target_kind format)) }
 {
     match format {
-        Format::Prometheus => {
-            push_kind(out, "target_info", "gauge")?;
-            Ok(())
-        }
-        Format::OpenMetrics => {
-            push_kind(out, "target", "info")?;
-            Ok(())
-        }
+        Format::Prometheus => push_kind(out, "target_info", "gauge"),
+        Format::OpenMetrics => push_kind(out, "target", "info"),
     }
 }
 
 /// Appends labels as what says what the resource is, unless there are none.
-fn push_target_labels(out: &mut Vec<u8>, format: Format, labels: &[Label]) -> Result<(), AllocError>
+fn push_target_labels(
+    alloc: Global,
+    out: &mut Vec<u8>,
+    format: Format,
+    labels: &[Label],
+) -> Result<(), AllocError>
     ensures { OnOk result (out.new.items ≡ out.old.items ++ text_of format (target_lines format labels.now)) }
 {
     let Some(_) = labels.split_first() else {
         return Ok(());
     };
     push_target_kind(out, format)?;
-    push_sample(out, "target_info", "", labels, 1u64)?;
+    let mut text = Vec::new(alloc);
+    push_labels(&mut text, labels)?;
+    push_line(out, "target_info", "", text.as_slice(), 1u64)?;
     Ok(())
 }
 
@@ -252,8 +251,7 @@ fn push_target(
 {
     let mut labels = Vec::new(alloc);
     add_resource(alloc, &mut labels, resource)?;
-    push_target_labels(out, format, labels.as_slice())?;
-    Ok(())
+    push_target_labels(alloc, out, format, labels.as_slice())
 }
 
 /// Appends the end of a text.
@@ -262,10 +260,7 @@ fn push_end(out: &mut Vec<u8>, format: Format) -> Result<(), AllocError>
 {
     match format {
         Format::Prometheus => Ok(()),
-        Format::OpenMetrics => {
-            push_finish(out)?;
-            Ok(())
-        }
+        Format::OpenMetrics => push_finish(out),
     }
 }
 
@@ -304,7 +299,7 @@ pub fn exposition_of(
 {
     says_lines();
     let families = families(alloc, collected)?;
-    let delta = delta_points(alloc, collected)?;
+    let delta = delta_points(collected);
     let conflicting = conflicting_points(alloc, families.as_slice(), collected)?;
     let mut text = Vec::new(alloc);
     let doubled = push_collection(alloc, settings, &mut text, collected, families.as_slice())?;

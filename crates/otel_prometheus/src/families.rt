@@ -6,14 +6,14 @@ ghost use Rattle.otel_prometheus.specs.Headings.{clashes, same_heading};
 ghost use Rattle.otel_prometheus.specs.Totals.{total};
 ghost use Rattle.otel_prometheus.specs.Families.{is_refused, with_metric, with_scope, families, data_length, content_length, delta_in, delta_points, conflicting_in, conflicting_points};
 
-use crate::headings::{Heading, clashes, heading_of, is_reserved, is_same_heading};
+use crate::headings::{Heading, clashes, content_kind, heading_of, is_reserved, is_same_heading};
 use otel_common::strings::StringValue;
 use otel_data::aggregated::{AggregatedMetrics, MetricData};
 use otel_data::collections::{Metric, ResourceMetrics};
 use std::alloc::{AllocError, Global};
 
 /// A family of samples: its name, its type and its help text.
-#[derive(Debug, Drop)]
+#[derive(Drop)]
 pub(crate) struct Family {
     pub(crate) heading: Heading,
     pub(crate) help: StringValue,
@@ -114,53 +114,51 @@ fn content_length(content: &AggregatedMetrics) -> u64
 }
 
 /// How many points of a metric cover one collection alone.
-fn delta_in(alloc: Global, metric: &Metric) -> Result<u64, AllocError>
-    ensures { IfOk result (λ count. count ≡ delta_in metric.now) }
+fn delta_in(metric: &Metric) -> u64
+    ensures { result ≡ delta_in metric.now }
 {
-    match heading_of(alloc, metric)? {
-        Some(_) => Ok(0),
-        None => Ok(content_length(metric.data())),
+    match content_kind(metric.data()) {
+        Some(_) => 0,
+        None => content_length(metric.data()),
     }
 }
 
 /// How many points of metrics cover one collection alone, modulo 2^64.
 #[tactic(auto, using(crate::proofs::SeriesLemmas::counted))]
-fn delta_in_all(alloc: Global, metrics: &[Metric]) -> Result<u64, AllocError>
-    ensures { IfOk result (λ count. count ≡ total delta_in metrics.now % 2 ^ 64) }
+fn delta_in_all(metrics: &[Metric]) -> u64
+    ensures { result ≡ total delta_in metrics.now % 2 ^ 64 }
 {
     let mut count = 0u64;
     for metric in metrics {
-        count = count.wrapping_add(delta_in(alloc, metric)?);
+        count = count.wrapping_add(delta_in(metric));
     }
-    Ok(count)
+    count
 }
 
 /// How many points of a collection cover it alone, modulo 2^64.
 #[tactic(auto, using(crate::proofs::SeriesLemmas::counted_rest))]
-pub(crate) fn delta_points(alloc: Global, collected: &ResourceMetrics) -> Result<u64, AllocError>
-    ensures { IfOk result (λ count. count ≡ delta_points collected.now % 2 ^ 64) }
+pub(crate) fn delta_points(collected: &ResourceMetrics) -> u64
+    ensures { result ≡ delta_points collected.now % 2 ^ 64 }
 {
     let mut count = 0u64;
     let scopes = collected.scope_metrics().as_slice();
     for scope in scopes {
-        count = count.wrapping_add(delta_in_all(alloc, scope.metrics().as_slice())?);
+        count = count.wrapping_add(delta_in_all(scope.metrics().as_slice()));
     }
-    Ok(count)
+    count
 }
 
 /// How many points of a metric could be shown, but have no family.
 fn conflicting_in(alloc: Global, families: &[Family], metric: &Metric) -> Result<u64, AllocError>
     ensures { IfOk result (λ count. count ≡ conflicting_in families.now metric.now) }
 {
-    match heading_of(alloc, metric)? {
-        Some(heading) => {
-            if has_heading(families, &heading) {
-                return Ok(0);
-            }
-            Ok(content_length(metric.data()))
-        }
-        None => Ok(0),
+    let Some(heading) = heading_of(alloc, metric)? else {
+        return Ok(0);
+    };
+    if has_heading(families, &heading) {
+        return Ok(0);
     }
+    Ok(content_length(metric.data()))
 }
 
 /// How many points of metrics could be shown, but have no family, modulo 2^64.

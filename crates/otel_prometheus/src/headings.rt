@@ -13,7 +13,7 @@ use otel_exposition::names::metric_name;
 use std::alloc::{AllocError, Global};
 
 /// The type of a family.
-#[derive(Clone, Copy, Debug)]
+#[derive(Clone, Copy)]
 pub(crate) enum Kind {
     /// A sum that doesn't fall but where it starts anew.
     Counter,
@@ -24,7 +24,7 @@ pub(crate) enum Kind {
 }
 
 /// The name and the type of a family. The name of a counter is without `_total`.
-#[derive(Debug, Drop)]
+#[derive(Drop)]
 pub(crate) struct Heading {
     pub(crate) name: StringValue,
     pub(crate) kind: Kind,
@@ -62,7 +62,7 @@ fn points_kind<T>(points: &MetricData<T>) -> Option<Kind>
 }
 
 /// The type of the family of these points of either number type; none if they can't be shown.
-fn content_kind(content: &AggregatedMetrics) -> Option<Kind>
+pub(crate) fn content_kind(content: &AggregatedMetrics) -> Option<Kind>
     ensures { result ≡ content_kind content.now }
 {
     match content {

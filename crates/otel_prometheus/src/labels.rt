@@ -46,10 +46,7 @@ fn push_version(
     ensures { OnOk result (labels.new.items ≡ labels.old.items ++ version_label (option_map (λ s. s.now) version.entry)) }
 {
     match version {
-        Some(version) => {
-            push_text(alloc, labels, "otel_scope_version", version)?;
-            Ok(())
-        }
+        Some(version) => push_text(alloc, labels, "otel_scope_version", version),
         None => Ok(()),
     }
 }
@@ -65,7 +62,7 @@ fn push_scope(
 {
     if settings.has_scope_labels {
         push_text(alloc, labels, "otel_scope_name", scope.name())?;
-        push_version(alloc, labels, scope.version())?;
+        return push_version(alloc, labels, scope.version());
     }
     Ok(())
 }

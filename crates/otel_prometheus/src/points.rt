@@ -1,8 +1,11 @@
 //! Points as series of samples.
 
-ghost use Rattle.std.specs.Prelude.{◌≡◌, ◌++◌, OnOk, IfOk, [], ◌∷◌, map};
+ghost use Rattle.std.specs.Prelude.{◌≡◌, ◌++◌, Bool, OnOk, IfOk, [], ◌∷◌, map};
+ghost use Rattle.otel_common.specs.declared.scopes.InstrumentationScope.{InstrumentationScope};
 ghost use Rattle.otel_prometheus.specs.Points.{number_series, gauge_series, sum_series, histogram_series, data_series, content_series};
-ghost use Rattle.otel_prometheus.specs.Series.{spelled_series};
+ghost use Rattle.otel_prometheus.specs.Series.{Series, spelled_series};
+ghost use Rattle.otel_prometheus.specs.declared.headings.Heading.{Heading};
+ghost use Rattle.otel_prometheus.specs.declared.settings.Settings.{Settings};
 
 use crate::headings::Heading;
 use crate::labels::point_labels;
@@ -59,86 +62,99 @@ fn number_series<T: Number>(
     Ok(Series::new(key, lines))
 }
 
-/// Returns the series of a point of a histogram.
-fn histogram_series<T: Number>(
-    alloc: Global,
-    settings: Settings,
-    scope: &InstrumentationScope,
-    heading: &Heading,
-    point: &HistogramDataPoint<T>,
-    has_sum: bool,
-) -> Result<Series, AllocError>
-    ensures { IfOk result (λ series. series ≡ spelled_series (histogram_series T.integer settings has_sum scope.now heading.now point.now)) }
-{
-    let attributes = point.attributes().as_slice();
-    let labels = point_labels(alloc, settings, scope, attributes, true)?;
-    let mut key = Vec::with_capacity(alloc, LABELS)?;
-    push_labels(&mut key, labels.as_slice())?;
-    let mut lines = Vec::new(alloc);
-    push_histogram_point(
-        alloc,
-        settings.format,
-        &mut lines,
-        heading.name.as_str(),
-        labels.as_slice(),
-        point,
-        has_sum,
-    )?;
-    Ok(Series::new(key, lines))
+/// A point that can be shown.
+trait Point {
+    /// The series of the point; of a histogram it has a sum only if the test says so.
+    ghost series: { Settings → Bool → InstrumentationScope → Heading → Self → Series };
+
+    /// Returns the series of the point.
+    fn series(
+        &self,
+        alloc: Global,
+        settings: Settings,
+        scope: &InstrumentationScope,
+        heading: &Heading,
+        has_sum: bool,
+    ) -> Result<Series, AllocError>
+        ensures { IfOk result (λ made. made ≡ spelled_series (series settings has_sum scope.now heading.now self.now)) };
 }
 
-/// Adds a series for each point of a gauge.
-fn add_gauge<T: Number>(
-    alloc: Global,
-    settings: Settings,
-    scope: &InstrumentationScope,
-    heading: &Heading,
-    points: &[GaugeDataPoint<T>],
-    out: &mut Vec<Series>,
-) -> Result<(), AllocError>
-    ensures { OnOk result (out.new.items ≡ out.old.items ++ map spelled_series (map (gauge_series T.integer settings scope.now heading.now) points.now)) }
-{
-    for point in points {
-        let attributes = point.attributes().as_slice();
-        let series = number_series(alloc, settings, scope, heading, attributes, point.value())?;
-        push(out, series)?;
+impl<T: Number> Point for GaugeDataPoint<T> {
+    ghost series = { λ s has_sum scope h p. gauge_series T.integer s scope h p };
+
+    fn series(
+        &self,
+        alloc: Global,
+        settings: Settings,
+        scope: &InstrumentationScope,
+        heading: &Heading,
+        _has_sum: bool,
+    ) -> Result<Series, AllocError> {
+        let attributes = self.attributes().as_slice();
+        number_series(alloc, settings, scope, heading, attributes, self.value())
     }
-    Ok(())
 }
 
-/// Adds a series for each point of a sum.
-fn add_sum<T: Number>(
-    alloc: Global,
-    settings: Settings,
-    scope: &InstrumentationScope,
-    heading: &Heading,
-    points: &[SumDataPoint<T>],
-    out: &mut Vec<Series>,
-) -> Result<(), AllocError>
-    ensures { OnOk result (out.new.items ≡ out.old.items ++ map spelled_series (map (sum_series T.integer settings scope.now heading.now) points.now)) }
-{
-    for point in points {
-        let attributes = point.attributes().as_slice();
-        let series = number_series(alloc, settings, scope, heading, attributes, point.value())?;
-        push(out, series)?;
+impl<T: Number> Point for SumDataPoint<T> {
+    ghost series = { λ s has_sum scope h p. sum_series T.integer s scope h p };
+
+    fn series(
+        &self,
+        alloc: Global,
+        settings: Settings,
+        scope: &InstrumentationScope,
+        heading: &Heading,
+        _has_sum: bool,
+    ) -> Result<Series, AllocError> {
+        let attributes = self.attributes().as_slice();
+        number_series(alloc, settings, scope, heading, attributes, self.value())
     }
-    Ok(())
 }
 
-/// Adds a series for each point of a histogram.
-fn add_histogram<T: Number>(
+impl<T: Number> Point for HistogramDataPoint<T> {
+    ghost series = { λ s has_sum scope h p. histogram_series T.integer s has_sum scope h p };
+
+    fn series(
+        &self,
+        alloc: Global,
+        settings: Settings,
+        scope: &InstrumentationScope,
+        heading: &Heading,
+        has_sum: bool,
+    ) -> Result<Series, AllocError> {
+        let attributes = self.attributes().as_slice();
+        let labels = point_labels(alloc, settings, scope, attributes, true)?;
+        let mut key = Vec::with_capacity(alloc, LABELS)?;
+        push_labels(&mut key, labels.as_slice())?;
+        let mut lines = Vec::new(alloc);
+        push_histogram_point(
+            alloc,
+            settings.format,
+            &mut lines,
+            heading.name.as_str(),
+            labels.as_slice(),
+            key.as_slice(),
+            self,
+            has_sum,
+        )?;
+        Ok(Series::new(key, lines))
+    }
+}
+
+/// Adds a series for each of these points.
+fn add_each<P: Point>(
     alloc: Global,
     settings: Settings,
     scope: &InstrumentationScope,
     heading: &Heading,
-    points: &[HistogramDataPoint<T>],
+    points: &[P],
     has_sum: bool,
     out: &mut Vec<Series>,
 ) -> Result<(), AllocError>
-    ensures { OnOk result (out.new.items ≡ out.old.items ++ map spelled_series (map (histogram_series T.integer settings has_sum scope.now heading.now) points.now)) }
+    ensures { OnOk result (out.new.items ≡ out.old.items ++ map spelled_series (map (P.series settings has_sum scope.now heading.now) points.now)) }
 {
     for point in points {
-        let series = histogram_series(alloc, settings, scope, heading, point, has_sum)?;
+        let series = point.series(alloc, settings, scope, heading, has_sum)?;
         push(out, series)?;
     }
     Ok(())
@@ -159,15 +175,15 @@ fn add_points<T: Number>(
     match points {
         MetricData::Gauge(gauge) => {
             let points = gauge.data_points().as_slice();
-            add_gauge(alloc, settings, scope, heading, points, out)
+            add_each(alloc, settings, scope, heading, points, has_sum, out)
         }
         MetricData::Sum(sum) => {
             let points = sum.data_points().as_slice();
-            add_sum(alloc, settings, scope, heading, points, out)
+            add_each(alloc, settings, scope, heading, points, has_sum, out)
         }
         MetricData::Histogram(histogram) => {
             let points = histogram.data_points().as_slice();
-            add_histogram(alloc, settings, scope, heading, points, has_sum, out)
+            add_each(alloc, settings, scope, heading, points, has_sum, out)
         }
     }
 }

@@ -1,7 +1,7 @@
 //! Samples of points.
 
 ghost use Rattle.std.specs.Prelude.{◌≡◌, ◌++◌, OnOk, IfOk, codes};
-ghost use Rattle.otel_exposition.specs.Samples.{sample_text};
+ghost use Rattle.otel_exposition.specs.Samples.{labels_text, sample_text};
 ghost use Rattle.otel_prometheus.specs.Points.{are_natural, bound_text, bucket, buckets, sum_samples, count_samples, histogram_samples, value_end};
 ghost use Rattle.otel_prometheus.specs.Series.{samples_text};
 
@@ -11,7 +11,7 @@ use otel_data::points::HistogramDataPoint;
 use otel_exposition::formats::Format;
 use otel_exposition::labels::{Label, push_labels_with};
 use otel_exposition::numbers::Number;
-use otel_exposition::samples::push_sample;
+use otel_exposition::samples::push_line;
 use std::alloc::{AllocError, Global};
 
 /// What a family of this type adds to its name in the names of values.
@@ -102,16 +102,17 @@ fn push_total<T: Number>(
     out: &mut Vec<u8>,
     name: &str,
     labels: &[Label],
+    spelled: &[u8],
     sum: T,
     has_sum: bool,
 ) -> Result<(), AllocError>
+    requires { spelled.now ≡ labels_text labels.now }
     ensures { OnOk result (out.new.items ≡ out.old.items ++ samples_text (sum_samples has_sum name.now labels.now (T.integer sum))) }
 {
     if !has_sum {
         return Ok(());
     }
-    push_sample(out, name, "_sum", labels, sum)?;
-    Ok(())
+    push_line(out, name, "_sum", spelled, sum)
 }
 
 /// Appends the sample of a count. OpenMetrics has one only beside a sum.
@@ -120,23 +121,25 @@ fn push_count(
     out: &mut Vec<u8>,
     name: &str,
     labels: &[Label],
+    spelled: &[u8],
     count: u64,
     has_sum: bool,
 ) -> Result<(), AllocError>
+    requires { spelled.now ≡ labels_text labels.now }
     ensures { OnOk result (out.new.items ≡ out.old.items ++ samples_text (count_samples format has_sum name.now labels.now count)) }
 {
     match format {
-        Format::Prometheus => push_sample(out, name, "_count", labels, count),
+        Format::Prometheus => push_line(out, name, "_count", spelled, count),
         Format::OpenMetrics => {
-            if has_sum {
-                push_sample(out, name, "_count", labels, count)?;
+            if !has_sum {
+                return Ok(());
             }
-            Ok(())
+            push_line(out, name, "_count", spelled, count)
         }
     }
 }
 
-/// Appends the samples of a point of a histogram.
+/// Appends the samples of a point of a histogram, whose labels are also given as they are spelled.
 #[tactic(auto, using(crate::proofs::SeriesLemmas::samples_text_append))]
 pub(crate) fn push_histogram_point<T: Number>(
     alloc: Global,
@@ -144,9 +147,11 @@ pub(crate) fn push_histogram_point<T: Number>(
     out: &mut Vec<u8>,
     name: &str,
     labels: &[Label],
+    spelled: &[u8],
     point: &HistogramDataPoint<T>,
     has_sum: bool,
 ) -> Result<(), AllocError>
+    requires { spelled.now ≡ labels_text labels.now }
     ensures { OnOk result (out.new.items ≡ out.old.items ++ samples_text (histogram_samples T.integer format has_sum name.now labels.now point.now)) }
 {
     let bounds = point.bounds().as_slice();
@@ -154,6 +159,6 @@ pub(crate) fn push_histogram_point<T: Number>(
     let has_sum = has_sum && are_natural(bounds);
     push_buckets(alloc, format, out, name, labels, bounds, counts)?;
     push_bucket(out, name, labels, b"+Inf", point.count())?;
-    push_total(out, name, labels, point.sum(), has_sum)?;
-    push_count(format, out, name, labels, point.count(), has_sum)
+    push_total(out, name, labels, spelled, point.sum(), has_sum)?;
+    push_count(format, out, name, labels, spelled, point.count(), has_sum)
 }

@@ -10,7 +10,7 @@ use std::alloc::{AllocError, Global};
 use std::marker::Model;
 
 /// The samples of a point: the spelled labels, and the lines. Contracts see it as the pair of both.
-#[derive(Debug, Drop)]
+#[derive(Drop)]
 pub(crate) struct Series {
     labels: Vec<u8>,
     lines: Vec<u8>,

@@ -1,104 +1,77 @@
 //! Units in names of metrics.
 
-ghost use Rattle.std.specs.Prelude.{◌≡◌, ◌++◌, ◌==◌, ◌<◌, OnOk, IfOk, IfSome, length, position};
+ghost use Rattle.std.specs.Prelude.{◌≡◌, ◌++◌, ◌==◌, ◌<◌, OnOk, IfOk, IfSome, length, map, position};
 ghost use Rattle.std.specs.Option.{option_map};
 ghost use Rattle.std.specs.String.{string_bytes};
-ghost use Rattle.otel_prometheus.specs.Units.{word_at, times, decimal_sizes, binary_sizes, measures, rates, unit_word, is_count, worded, ratio, unit_parts, unit_suffix};
+ghost use Rattle.otel_prometheus.specs.Units.{word_at, rates, unit_word, is_count, worded, ratio, unit_parts, unit_suffix};
 
 use otel_exposition::names::label_name;
 use std::alloc::{AllocError, Global};
 
-/// The word for a unit of time.
-fn time_word(unit: &[u8]) -> Option<&'static str>
-    ensures { option_map (λ w. w.now) result ≡ word_at times unit.now }
-{
-    match unit {
-        b"d" => Some("days"),
-        b"h" => Some("hours"),
-        b"min" => Some("minutes"),
-        b"s" => Some("seconds"),
-        b"ms" => Some("milliseconds"),
-        b"us" => Some("microseconds"),
-        b"ns" => Some("nanoseconds"),
-        _ => None,
-    }
-}
+/// Units and their words: of time, of size with steps of 1,000 and of 1,024, and of other quantities.
+const UNITS: [(&str, &str); 25] = [
+    ("d", "days"),
+    ("h", "hours"),
+    ("min", "minutes"),
+    ("s", "seconds"),
+    ("ms", "milliseconds"),
+    ("us", "microseconds"),
+    ("ns", "nanoseconds"),
+    ("By", "bytes"),
+    ("KBy", "kilobytes"),
+    ("MBy", "megabytes"),
+    ("GBy", "gigabytes"),
+    ("TBy", "terabytes"),
+    ("KiBy", "kibibytes"),
+    ("MiBy", "mebibytes"),
+    ("GiBy", "gibibytes"),
+    ("TiBy", "tibibytes"),
+    ("m", "meters"),
+    ("V", "volts"),
+    ("A", "amperes"),
+    ("J", "joules"),
+    ("W", "watts"),
+    ("g", "grams"),
+    ("Cel", "celsius"),
+    ("Hz", "hertz"),
+    ("%", "percent"),
+];
 
-/// The word for a unit of size whose steps are powers of 1,024.
-fn binary_word(unit: &[u8]) -> Option<&'static str>
-    ensures { option_map (λ w. w.now) result ≡ word_at binary_sizes unit.now }
-{
-    match unit {
-        b"KiBy" => Some("kibibytes"),
-        b"MiBy" => Some("mebibytes"),
-        b"GiBy" => Some("gibibytes"),
-        b"TiBy" => Some("tibibytes"),
-        _ => None,
-    }
-}
+/// Units behind `per` and their words.
+const RATES: [(&str, &str); 7] = [
+    ("s", "second"),
+    ("m", "minute"),
+    ("h", "hour"),
+    ("d", "day"),
+    ("w", "week"),
+    ("mo", "month"),
+    ("y", "year"),
+];
 
-/// The word for a unit of size whose steps are powers of 1,000.
-fn decimal_word(unit: &[u8]) -> Option<&'static str>
-    ensures { option_map (λ w. w.now) result ≡ word_at decimal_sizes unit.now }
+/// The word for a unit in a table of units and their words.
+fn word_at(table: &[(&'static str, &'static str)], unit: &[u8]) -> Option<&'static str>
+    ensures { option_map (λ w. w.now) result ≡ word_at (map (λ e. (e.0.now, e.1.now)) table.now) unit.now }
 {
-    match unit {
-        b"By" => Some("bytes"),
-        b"KBy" => Some("kilobytes"),
-        b"MBy" => Some("megabytes"),
-        b"GBy" => Some("gigabytes"),
-        b"TBy" => Some("terabytes"),
-        _ => None,
+    for entry in table {
+        if unit == entry.0.as_bytes() {
+            return Some(entry.1);
+        }
     }
-}
-
-/// The word for a unit of another quantity.
-fn measure_word(unit: &[u8]) -> Option<&'static str>
-    ensures { option_map (λ w. w.now) result ≡ word_at measures unit.now }
-{
-    match unit {
-        b"m" => Some("meters"),
-        b"V" => Some("volts"),
-        b"A" => Some("amperes"),
-        b"J" => Some("joules"),
-        b"W" => Some("watts"),
-        b"g" => Some("grams"),
-        b"Cel" => Some("celsius"),
-        b"Hz" => Some("hertz"),
-        b"%" => Some("percent"),
-        _ => None,
-    }
-}
-
-/// The word for a unit behind `per`.
-fn rate_word(unit: &[u8]) -> Option<&'static str>
-    ensures { option_map (λ w. w.now) result ≡ word_at rates unit.now }
-{
-    match unit {
-        b"s" => Some("second"),
-        b"m" => Some("minute"),
-        b"h" => Some("hour"),
-        b"d" => Some("day"),
-        b"w" => Some("week"),
-        b"mo" => Some("month"),
-        b"y" => Some("year"),
-        _ => None,
-    }
+    None
 }
 
 /// The word for a unit.
 fn unit_word(unit: &[u8]) -> Option<&'static str>
     ensures { option_map (λ w. w.now) result ≡ unit_word unit.now }
 {
-    if let Some(word) = time_word(unit) {
-        return Some(word);
-    }
-    if let Some(word) = decimal_word(unit) {
-        return Some(word);
-    }
-    if let Some(word) = binary_word(unit) {
-        return Some(word);
-    }
-    measure_word(unit)
+    word_at(&UNITS, unit)
+}
+
+/// The word for a unit behind `per`.
+fn rate_word(unit: &[u8]) -> Option<&'static str>
+    ensures { option_map (λ w. w.now) result ≡ word_at rates unit.now }
+{
+    word_at(&RATES, unit)
 }
 
 /// Whether the unit counts things.
@@ -129,14 +102,10 @@ fn push_worded(
     }
     out.push_str(front)?;
     match word {
-        Some(word) => {
-            out.push_str(word)?;
-            Ok(())
-        }
+        Some(word) => out.push_str(word),
         None => {
             let name = label_name(alloc, unit)?;
-            out.push_str(name.as_str())?;
-            Ok(())
+            out.push_str(name.as_str())
         }
     }
 }
@@ -154,29 +123,16 @@ fn push_ratio(alloc: Global, out: &mut String, over: &[u8], under: &[u8]) -> Res
     ensures { OnOk result (string_bytes out.new ≡ string_bytes out.old ++ ratio over.now under.now) }
 {
     push_worded(alloc, out, "_", unit_word(over), over)?;
-    push_worded(alloc, out, "_per_", rate_word(under), under)?;
-    Ok(())
+    push_worded(alloc, out, "_per_", rate_word(under), under)
 }
 
-/// Appends what a unit adds to a name, where the slash stands at this index.
-fn push_parts(
-    alloc: Global,
-    out: &mut String,
-    unit: &[u8],
-    index: Option<usize>,
-) -> Result<(), AllocError>
-    requires { IfSome index (λ i. i < length unit.now) }
-    ensures { OnOk result (string_bytes out.new ≡ string_bytes out.old ++ unit_parts unit.now index) }
+/// Appends what a unit adds to a name.
+fn push_parts(alloc: Global, out: &mut String, unit: &[u8]) -> Result<(), AllocError>
+    ensures { OnOk result (string_bytes out.new ≡ string_bytes out.old ++ unit_parts unit.now (position (λ b. b == 47) unit.now)) }
 {
-    match index {
-        Some(index) => {
-            push_ratio(alloc, out, &unit[..index], &unit[index + 1..])?;
-            Ok(())
-        }
-        None => {
-            push_worded(alloc, out, "_", unit_word(unit), unit)?;
-            Ok(())
-        }
+    match slash(unit) {
+        Some(index) => push_ratio(alloc, out, &unit[..index], &unit[index + 1..]),
+        None => push_worded(alloc, out, "_", unit_word(unit), unit),
     }
 }
 
@@ -192,6 +148,6 @@ pub(crate) fn unit_suffix(
         return String::from_str(alloc, "_ratio");
     }
     let mut suffix = String::new(alloc);
-    push_parts(alloc, &mut suffix, unit, slash(unit))?;
+    push_parts(alloc, &mut suffix, unit)?;
     Ok(suffix)
 }

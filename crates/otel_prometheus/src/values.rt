@@ -1,7 +1,7 @@
 //! Values of attributes as texts.
 
 ghost use Rattle.std.specs.Prelude.{◌≡◌, ◌++◌, OnOk, IfOk};
-ghost use Rattle.json.specs.Json.{boolean, string};
+ghost use Rattle.json.specs.Json.{Json, boolean, string};
 ghost use Rattle.json.specs.Print.{print};
 ghost use Rattle.json.specs.Tree.{json_tokens};
 ghost use Rattle.otel_prometheus.specs.Values.{array_of, whole, items_json, value_text};
@@ -12,40 +12,49 @@ use otel_common::attributes::{Array, Value};
 use otel_common::strings::StringValue;
 use std::alloc::{AllocError, Global};
 
-/// Writes an array of booleans.
-fn write_bools(out: &mut Writer, items: &[bool]) -> Result<(), AllocError>
-    ensures tokens { OnOk result (out.new.tokens ≡ out.old.tokens ++ json_tokens (array_of boolean items.now)) }
-    ensures before { out.new.before ≡ out.old.before }
-{
-    out.begin_array()?;
-    for item in items {
-        out.boolean(*item)?;
-    }
-    out.end_array()?;
-    Ok(())
+/// An item of an array.
+trait Item {
+    /// The item as JSON.
+    ghost json: { Self → Json };
+
+    /// Writes the item.
+    fn write(&self, out: &mut Writer) -> Result<(), AllocError>
+        ensures tokens { OnOk result (out.new.tokens ≡ out.old.tokens ++ json_tokens (json self.now)) }
+        ensures before { out.new.before ≡ out.old.before };
 }
 
-/// Writes an array of integers.
-fn write_integers(out: &mut Writer, items: &[i64]) -> Result<(), AllocError>
-    ensures tokens { OnOk result (out.new.tokens ≡ out.old.tokens ++ json_tokens (array_of whole items.now)) }
-    ensures before { out.new.before ≡ out.old.before }
-{
-    out.begin_array()?;
-    for item in items {
-        out.i64(*item)?;
+impl Item for bool {
+    ghost json = { boolean };
+
+    fn write(&self, out: &mut Writer) -> Result<(), AllocError> {
+        out.boolean(*self)
     }
-    out.end_array()?;
-    Ok(())
 }
 
-/// Writes an array of strings.
-fn write_strings(out: &mut Writer, items: &[StringValue]) -> Result<(), AllocError>
-    ensures tokens { OnOk result (out.new.tokens ≡ out.old.tokens ++ json_tokens (array_of string items.now)) }
+impl Item for i64 {
+    ghost json = { whole };
+
+    fn write(&self, out: &mut Writer) -> Result<(), AllocError> {
+        out.i64(*self)
+    }
+}
+
+impl Item for StringValue {
+    ghost json = { string };
+
+    fn write(&self, out: &mut Writer) -> Result<(), AllocError> {
+        out.string(self.as_str())
+    }
+}
+
+/// Writes items as an array.
+fn write_items<T: Item>(out: &mut Writer, items: &[T]) -> Result<(), AllocError>
+    ensures tokens { OnOk result (out.new.tokens ≡ out.old.tokens ++ json_tokens (array_of T.json items.now)) }
     ensures before { out.new.before ≡ out.old.before }
 {
     out.begin_array()?;
     for item in items {
-        out.string(item.as_str())?;
+        item.write(out)?;
     }
     out.end_array()?;
     Ok(())
@@ -57,9 +66,9 @@ fn write_array(out: &mut Writer, array: &Array) -> Result<(), AllocError>
     ensures before { out.new.before ≡ out.old.before }
 {
     match array {
-        Array::Bool(items) => write_bools(out, items.as_slice()),
-        Array::I64(items) => write_integers(out, items.as_slice()),
-        Array::String(items) => write_strings(out, items.as_slice()),
+        Array::Bool(items) => write_items(out, items.as_slice()),
+        Array::I64(items) => write_items(out, items.as_slice()),
+        Array::String(items) => write_items(out, items.as_slice()),
     }
 }
 

@@ -1,7 +1,7 @@
-use Rattle.std.proofs.Common.{◌≡◌, ◌++◌, take}
+use Rattle.std.proofs.Common.{◌≡◌, ◌++◌, drop}
 use Rattle.otel_exposition.specs.Lines.{help_text}
 use Rattle.otel_exposition.proofs.comments.push_help_text.Given as goal
 
--- what is written stands for the bytes so far
+-- with what stands for the bytes that are left the text is whole
 abbrev pub invariant-loop-byte : goal.invariant-loop-byte
-invariant-loop-byte l = l.out.items ≡ l.fn.out.items ++ help_text l.format (take l.byte-index l.text)
+invariant-loop-byte l = l.out.items ++ help_text l.format (drop l.byte-index l.text) ≡ l.fn.out.items ++ help_text l.format l.text

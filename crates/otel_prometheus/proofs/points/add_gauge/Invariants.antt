@@ -1,8 +1,0 @@
-use Rattle.std.proofs.Common.{◌≡◌, ◌++◌, map, drop}
-use Rattle.otel_prometheus.specs.Points.{gauge_series}
-use Rattle.otel_prometheus.specs.Series.{spelled_series}
-use Rattle.otel_prometheus.proofs.points.add_gauge.Given as goal
-
--- with the points that are left the series are whole
-abbrev pub invariant-loop-point : goal.invariant-loop-point
-invariant-loop-point g l = l.out.items ++ map spelled_series (map (gauge_series g.T.Number.integer l.settings l.scope l.heading) (drop l.point-index l.points)) ≡ l.fn.out.items ++ map spelled_series (map (gauge_series g.T.Number.integer l.settings l.scope l.heading) l.points)
