@@ -1,5 +1,5 @@
 -- Tables of words, one behind another.
-use Rattle.std.proofs.Common.{◌≡◌, ℕ, Bool, true, false, cond, List, [], ◌∷◌, ◌++◌, Option, Some, None, refl, sym, ap, ◌∙◌}
+use Rattle.std.proofs.Common.{◌≡◌, ℕ, Bool, true, false, cond, List, [], ◌∷◌, ◌++◌, Option, Some, refl, ap, ◌∙◌}
 use Rattle.otel_common.specs.Equality.{bytes_eq}
 use Rattle.otel_prometheus.specs.Units.{word_at, times, decimal_sizes, binary_sizes, measures, or_other, unit_word}
 

@@ -2,4 +2,4 @@ use Rattle.otel_exposition.specs.declared.formats.Format.TheVariants.{OpenMetric
 use Rattle.otel_prometheus.proofs.expositions.push_end.Goals as goal
 
 pub returns-in-OpenMetrics : goal.returns-in-OpenMetrics
-returns-in-OpenMetrics c = rw c.in-OpenMetrics.is (c.push_finish-in-OpenMetrics.ensures OpenMetrics)
+returns-in-OpenMetrics c = rw c.in-OpenMetrics.is (c.push_finish.ensures OpenMetrics)

@@ -8,8 +8,8 @@ pub returns-in-Some : goal.returns-in-Some
 returns-in-Some c =
     let unit : List ℕ = c.args.unit.now in
     let i : ℕ = c.in-Some.index in
-    subst (λ t. OnOk c.push_ratio-in-Some.result (string_bytes c.push_ratio-in-Some.new.out ≡ string_bytes c.args.out.now ++ t))
+    subst (λ t. OnOk c.push_ratio.result (string_bytes c.push_ratio.new.out ≡ string_bytes c.args.out.now ++ t))
     (ap (λ under. ratio (take i unit) under) (take_rest unit (i + 1))
     ∙ (ap (λ k. ratio (take i unit) (drop k unit)) (add-one i)
     ∙ ap (unit_parts unit) (sym c.in-Some.is ∙ c.slash.ensures.found)))
-    c.push_ratio-in-Some.ensures
+    c.push_ratio.ensures
