@@ -1,10 +1,9 @@
 -- Members that are written one after another, and then closed.
-use Rattle.std.proofs.Common.{◌≡◌, ℕ, ◌^◌, ℤ, pos, negsuc, Bool, true, false, cond, List, [], ◌∷◌, ◌++◌, Option, Some, None, nat_lt, codes, refl, sym, ap, ◌∙◌, append_assoc, append-nil}
+use Rattle.std.proofs.Common.{◌≡◌, ℕ, List, [], ◌∷◌, ◌++◌, Option, Some, None, refl, sym, ap, ◌∙◌, append_assoc, append-nil}
 use Rattle.json.specs.Json.{Json, Members, no_members, member}
 use Rattle.json.specs.Token.{Token}
 use Rattle.json.specs.Tree.{json_tokens, members_tokens}
 use Rattle.otel_otlp.specs.Arrays.{members_front, optional}
-use Rattle.otel_otlp.specs.Numbers.{quoted, whole, value_member}
 
 -- the closing brace comes last
 pub closed : (ms : Members) → members_tokens ms ≡ members_front ms ++ Token.end_object ∷ []

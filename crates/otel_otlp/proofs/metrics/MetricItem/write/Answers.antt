@@ -1,5 +1,6 @@
-use Rattle.std.proofs.Common.{◌∷◌, ◌++◌, ◌∙◌, sym, codes}
+use Rattle.std.proofs.Common.{[], ◌∷◌, ◌++◌, ◌∙◌, sym, codes}
 use Rattle.json.specs.Token.{Token}
+use Rattle.otel_otlp.specs.Arrays.{members_front}
 use Rattle.otel_otlp.specs.Requests.{points_members}
 use Rattle.otel_otlp.proofs.Fronts.{closed}
 use Rattle.otel_otlp.proofs.Steps.{joined3}
@@ -14,6 +15,7 @@ returns-clause-tokens c =
       c.in_ok-write_parts.ensures.tokens,
       c.data.ensures,
     )
-    (joined3 _ _ _ _
+    (joined3 c.args.out.now.tokens (Token.begin_object ∷ Token.key (codes "name") ∷ Token.string c.name.result.now ∷ Token.key (codes "description") ∷ Token.string c.description.result.now ∷ Token.key (codes "unit") ∷ Token.string c.unit.result.now ∷ [])
+    (members_front (points_members m.content)) (Token.end_object ∷ [])
     ∙ (λ i. c.args.out.now.tokens ++ Token.begin_object ∷ Token.key (codes "name") ∷ Token.string (c.name.ensures i) ∷ Token.key (codes "description") ∷ Token.string (c.description.ensures i)
     ∷ Token.key (codes "unit") ∷ Token.string (c.unit.ensures i) ∷ sym (closed (points_members m.content)) i))

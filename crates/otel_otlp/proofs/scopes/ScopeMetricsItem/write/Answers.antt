@@ -1,9 +1,9 @@
-use Rattle.std.proofs.Common.{◌∷◌, ◌++◌, ◌∙◌, ap, sym, codes}
+use Rattle.std.proofs.Common.{[], ◌∷◌, ◌++◌, ◌∙◌, ap, sym, codes}
 use Rattle.std.specs.Option.{option_map}
 use Rattle.json.specs.Json.{string, no_members}
 use Rattle.json.specs.Token.{Token}
 use Rattle.json.specs.Tree.{json_tokens}
-use Rattle.otel_otlp.specs.Arrays.{array_of, optional}
+use Rattle.otel_otlp.specs.Arrays.{array_of, members_front, optional}
 use Rattle.otel_otlp.specs.Requests.{metric_json, scope_json}
 use Rattle.otel_otlp.proofs.Fronts.{closed}
 use Rattle.otel_otlp.proofs.Steps.{joined6}
@@ -26,5 +26,5 @@ returns-clause-tokens c =
       c.as_slice.ensures.value,
       c.metrics.ensures,
     )
-    (joined6 _ _ _ _ _ _ _
+    (joined6 c.args.out.now.tokens (Token.begin_object ∷ Token.key (codes "scope") ∷ []) (json_tokens (scope_json s.scope)) (Token.key (codes "metrics") ∷ []) (json_tokens (array_of metric_json s.metrics)) (members_front url) (Token.end_object ∷ [])
     ∙ ap (λ x. c.args.out.now.tokens ++ Token.begin_object ∷ Token.key (codes "scope") ∷ (json_tokens (scope_json s.scope) ++ Token.key (codes "metrics") ∷ (json_tokens (array_of metric_json s.metrics) ++ x))) (sym (closed url)))
