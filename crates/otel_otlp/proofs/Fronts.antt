@@ -1,10 +1,9 @@
 -- Members that are written one after another, and then closed.
-use Rattle.std.proofs.Common.{◌≡◌, ℕ, ◌^◌, ℤ, pos, negsuc, Bool, true, false, cond, List, [], ◌∷◌, ◌++◌, Option, Some, None, nat_lt, codes, refl, sym, ap, ◌∙◌, append_assoc, append-nil}
+use Rattle.std.proofs.Common.{◌≡◌, ℕ, List, [], ◌∷◌, ◌++◌, Option, Some, None, refl, sym, ap, ◌∙◌, append_assoc, append-nil}
 use Rattle.json.specs.Json.{Json, Members, no_members, member}
 use Rattle.json.specs.Token.{Token}
 use Rattle.json.specs.Tree.{json_tokens, members_tokens}
 use Rattle.otel_otlp.specs.Arrays.{members_front, optional}
-use Rattle.otel_otlp.specs.Numbers.{quoted, whole, value_member}
 
 -- the closing brace comes last
 pub closed : (ms : Members) → members_tokens ms ≡ members_front ms ++ Token.end_object ∷ []
@@ -17,19 +16,3 @@ closed (member k j ms) =
 pub optional-tokens : (k : List ℕ) (o : Option Json) (rest : Members) → members_tokens (optional k o rest) ≡ members_front (optional k o no_members) ++ members_tokens rest
 optional-tokens k None rest = refl
 optional-tokens k (Some j) rest = ap (λ x. Token.key k ∷ (x ++ members_tokens rest)) (sym (append-nil (json_tokens j)))
-
--- some members, and then the others
-abbrev pub joined_members : Members → Members → Members
-joined_members no_members rest = rest
-joined_members (member k j ms) rest = member k j (joined_members ms rest)
-
-pub front_then : (ms rest : Members) → members_front ms ++ members_tokens rest ≡ members_tokens (joined_members ms rest)
-front_then no_members rest = refl
-front_then (member k j ms) rest =
-    ap (λ x. Token.key k ∷ x) (append_assoc (json_tokens j) (members_front ms) (members_tokens rest))
-    ∙ ap (λ x. Token.key k ∷ (json_tokens j ++ x)) (front_then ms rest)
-
--- a member that may be absent, in front of members that are not closed
-pub optional-front : (k : List ℕ) (o : Option Json) (rest : Members) → members_front (optional k o rest) ≡ members_front (optional k o no_members) ++ members_front rest
-optional-front k None rest = refl
-optional-front k (Some j) rest = ap (λ x. Token.key k ∷ (x ++ members_front rest)) (sym (append-nil (json_tokens j)))

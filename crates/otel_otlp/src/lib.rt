@@ -7,9 +7,11 @@
 #![tactic(auto)]
 
 mod attributes;
+mod items;
 pub mod laws;
 mod metrics;
 mod numbers;
+mod parts;
 mod points;
 pub mod requests;
 mod scopes;

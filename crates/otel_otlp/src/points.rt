@@ -1,15 +1,16 @@
 //! Points.
 
-ghost use Rattle.std.specs.Prelude.{◌≡◌, ◌++◌, OnOk};
+ghost use Rattle.std.specs.Prelude.{◌≡◌, ◌++◌, ℕ, OnOk, pos};
 ghost use Rattle.std.specs.Option.{option_map};
-ghost use Rattle.json.specs.Json.{no_members};
+ghost use Rattle.json.specs.Json.{Json, no_members};
 ghost use Rattle.json.specs.Tree.{json_tokens};
 ghost use Rattle.otel_otlp.specs.Arrays.{array_of, members_front, optional};
 ghost use Rattle.otel_otlp.specs.Numbers.{quoted, whole};
-ghost use Rattle.otel_otlp.specs.Points.{number_point_json, gauge_point_json, sum_point_json, histogram_point_json, gauge_json, sum_json, histogram_json, temporality_json, point_members, moments, totals, buckets, extremes};
+ghost use Rattle.otel_otlp.specs.Points.{number_point_json, gauge_point_json, sum_point_json, histogram_point_json, gauge_json, sum_json, histogram_json, temporality_json};
 
-use crate::attributes::write_attributes;
+use crate::items::{Item, write_items};
 use crate::numbers::Number;
+use crate::parts::{Part, write_parts};
 use json::Writer;
 use otel_common::attributes::KeyValue;
 use otel_common::metrics::Temporality;
@@ -19,32 +20,12 @@ use otel_data::points::{GaugeDataPoint, HistogramDataPoint, SumDataPoint};
 use otel_data::sums::Sum;
 use std::alloc::AllocError;
 
-/// Writes the moments of a point, in nanoseconds since 1970.
-fn write_moments(out: &mut Writer, start: u64, time: u64) -> Result<(), AllocError>
-    ensures tokens { OnOk result (out.new.tokens ≡ out.old.tokens ++ members_front (moments start time no_members)) }
-    ensures before { out.new.before ≡ out.old.before }
-{
-    out.key("startTimeUnixNano")?;
-    out.quoted_u64(start)?;
-    out.key("timeUnixNano")?;
-    out.quoted_u64(time)?;
-    Ok(())
-}
+impl Item for u64 {
+    ghost json = { quoted };
 
-/// Writes what each point begins with: the attributes, the start and the moment of the collection.
-fn write_front(
-    out: &mut Writer,
-    attributes: &[KeyValue],
-    start: u64,
-    time: u64,
-) -> Result<(), AllocError>
-    ensures tokens { OnOk result (out.new.tokens ≡ out.old.tokens ++ members_front (point_members attributes.now start time no_members)) }
-    ensures before { out.new.before ≡ out.old.before }
-{
-    out.key("attributes")?;
-    write_attributes(out, attributes)?;
-    write_moments(out, start, time)?;
-    Ok(())
+    fn write(&self, out: &mut Writer) -> Result<(), AllocError> {
+        out.quoted_u64(*self)
+    }
 }
 
 /// Writes a point of a gauge or a sum.
@@ -58,23 +39,21 @@ fn write_number_point<T: Number>(
     ensures tokens { OnOk result (out.new.tokens ≡ out.old.tokens ++ json_tokens (number_point_json T.integer start time attributes.now value)) }
     ensures before { out.new.before ≡ out.old.before }
 {
-    out.begin_object()?;
-    write_front(out, attributes, start, time)?;
-    value.write_value(out)?;
-    out.end_object()?;
-    Ok(())
-}
-
-/// Writes counts of buckets.
-fn write_counts(out: &mut Writer, counts: &[u64]) -> Result<(), AllocError>
-    ensures tokens { OnOk result (out.new.tokens ≡ out.old.tokens ++ json_tokens (array_of quoted counts.now)) }
-    ensures before { out.new.before ≡ out.old.before }
-{
-    out.begin_array()?;
-    for count in counts {
-        out.quoted_u64(*count)?;
-    }
-    out.end_array()?;
+    write_parts(out, &[Part::BeginObject, Part::Key("attributes")])?;
+    write_items(out, attributes)?;
+    let (name, amount) = value.value();
+    write_parts(
+        out,
+        &[
+            Part::Key("startTimeUnixNano"),
+            Part::QuotedNatural(start),
+            Part::Key("timeUnixNano"),
+            Part::QuotedNatural(time),
+            name,
+            amount,
+            Part::EndObject,
+        ],
+    )?;
     Ok(())
 }
 
@@ -91,30 +70,6 @@ fn write_bounds(out: &mut Writer, bounds: &[i64]) -> Result<(), AllocError>
     Ok(())
 }
 
-/// Writes the counts and the bounds of buckets.
-fn write_buckets(out: &mut Writer, counts: &[u64], bounds: &[i64]) -> Result<(), AllocError>
-    ensures tokens { OnOk result (out.new.tokens ≡ out.old.tokens ++ members_front (buckets counts.now bounds.now no_members)) }
-    ensures before { out.new.before ≡ out.old.before }
-{
-    out.key("bucketCounts")?;
-    write_counts(out, counts)?;
-    out.key("explicitBounds")?;
-    write_bounds(out, bounds)?;
-    Ok(())
-}
-
-/// Writes how many values there are, and their sum.
-fn write_totals<T: Number>(out: &mut Writer, count: u64, sum: T) -> Result<(), AllocError>
-    ensures tokens { OnOk result (out.new.tokens ≡ out.old.tokens ++ members_front (totals count (T.integer sum) no_members)) }
-    ensures before { out.new.before ≡ out.old.before }
-{
-    out.key("count")?;
-    out.quoted_u64(count)?;
-    out.key("sum")?;
-    sum.write_whole(out)?;
-    Ok(())
-}
-
 /// Writes a number under a name, if there is one.
 fn write_extreme<T: Number>(
     out: &mut Writer,
@@ -125,27 +80,9 @@ fn write_extreme<T: Number>(
     ensures before { out.new.before ≡ out.old.before }
 {
     match number {
-        Some(number) => {
-            out.key(name)?;
-            number.write_whole(out)?;
-            Ok(())
-        }
+        Some(number) => write_parts(out, &[Part::Key(name), number.whole()]),
         None => Ok(()),
     }
-}
-
-/// Writes the least and the greatest value, where they are known.
-fn write_extremes<T: Number>(
-    out: &mut Writer,
-    min: Option<T>,
-    max: Option<T>,
-) -> Result<(), AllocError>
-    ensures tokens { OnOk result (out.new.tokens ≡ out.old.tokens ++ members_front (extremes (option_map T.integer min) (option_map T.integer max) no_members)) }
-    ensures before { out.new.before ≡ out.old.before }
-{
-    write_extreme(out, "min", min)?;
-    write_extreme(out, "max", max)?;
-    Ok(())
 }
 
 /// Writes a point of a histogram.
@@ -158,92 +95,92 @@ fn write_histogram_point<T: Number>(
     ensures tokens { OnOk result (out.new.tokens ≡ out.old.tokens ++ json_tokens (histogram_point_json T.integer start time point.now)) }
     ensures before { out.new.before ≡ out.old.before }
 {
-    out.begin_object()?;
-    write_front(out, point.attributes().as_slice(), start, time)?;
-    write_totals(out, point.count(), point.sum())?;
-    write_buckets(
+    write_parts(out, &[Part::BeginObject, Part::Key("attributes")])?;
+    write_items(out, point.attributes().as_slice())?;
+    write_parts(
         out,
-        point.bucket_counts().as_slice(),
-        point.bounds().as_slice(),
+        &[
+            Part::Key("startTimeUnixNano"),
+            Part::QuotedNatural(start),
+            Part::Key("timeUnixNano"),
+            Part::QuotedNatural(time),
+            Part::Key("count"),
+            Part::QuotedNatural(point.count()),
+            Part::Key("sum"),
+            point.sum().whole(),
+            Part::Key("bucketCounts"),
+        ],
     )?;
-    write_extremes(out, point.min(), point.max())?;
+    write_items(out, point.bucket_counts().as_slice())?;
+    out.key("explicitBounds")?;
+    write_bounds(out, point.bounds().as_slice())?;
+    write_extreme(out, "min", point.min())?;
+    write_extreme(out, "max", point.max())?;
     out.end_object()?;
     Ok(())
 }
 
-/// Writes how points relate to those of the collection before.
-fn write_temporality(out: &mut Writer, temporality: Temporality) -> Result<(), AllocError>
-    ensures tokens { OnOk result (out.new.tokens ≡ out.old.tokens ++ json_tokens (temporality_json temporality)) }
-    ensures before { out.new.before ≡ out.old.before }
+/// The number that says how points relate to those of the collection before.
+fn temporality_number(temporality: Temporality) -> u64
+    ensures { whole (pos result) ≡ temporality_json temporality }
 {
     match temporality {
-        Temporality::Cumulative => out.u64(2),
-        Temporality::Delta => out.u64(1),
-        Temporality::LowMemory => out.u64(0),
+        Temporality::Cumulative => 2,
+        Temporality::Delta => 1,
+        Temporality::LowMemory => 0,
     }
 }
 
-/// Writes the points of a gauge, which have this start and this moment.
-fn write_gauge_points<T: Number>(
+/// A point of a metric.
+trait Point {
+    /// The point as JSON, with the start and the moment of its metric.
+    ghost json: { ℕ → ℕ → Self → Json };
+
+    /// Writes the point.
+    fn write(&self, out: &mut Writer, start: u64, time: u64) -> Result<(), AllocError>
+        ensures tokens { OnOk result (out.new.tokens ≡ out.old.tokens ++ json_tokens (json start time self.now)) }
+        ensures before { out.new.before ≡ out.old.before };
+}
+
+impl<T: Number> Point for GaugeDataPoint<T> {
+    ghost json = { λ start time p. gauge_point_json T.integer start time p };
+
+    fn write(&self, out: &mut Writer, start: u64, time: u64) -> Result<(), AllocError> {
+        let attributes = self.attributes().as_slice();
+        write_number_point(out, attributes, start, time, self.value())
+    }
+}
+
+impl<T: Number> Point for SumDataPoint<T> {
+    ghost json = { λ start time p. sum_point_json T.integer start time p };
+
+    fn write(&self, out: &mut Writer, start: u64, time: u64) -> Result<(), AllocError> {
+        let attributes = self.attributes().as_slice();
+        write_number_point(out, attributes, start, time, self.value())
+    }
+}
+
+impl<T: Number> Point for HistogramDataPoint<T> {
+    ghost json = { λ start time p. histogram_point_json T.integer start time p };
+
+    fn write(&self, out: &mut Writer, start: u64, time: u64) -> Result<(), AllocError> {
+        write_histogram_point(out, start, time, self)
+    }
+}
+
+/// Writes points, which have this start and this moment.
+fn write_points<P: Point>(
     out: &mut Writer,
     start: u64,
     time: u64,
-    points: &[GaugeDataPoint<T>],
+    points: &[P],
 ) -> Result<(), AllocError>
-    ensures tokens { OnOk result (out.new.tokens ≡ out.old.tokens ++ json_tokens (array_of (gauge_point_json T.integer start time) points.now)) }
+    ensures tokens { OnOk result (out.new.tokens ≡ out.old.tokens ++ json_tokens (array_of (P.json start time) points.now)) }
     ensures before { out.new.before ≡ out.old.before }
 {
     out.begin_array()?;
     for point in points {
-        write_number_point(
-            out,
-            point.attributes().as_slice(),
-            start,
-            time,
-            point.value(),
-        )?;
-    }
-    out.end_array()?;
-    Ok(())
-}
-
-/// Writes the points of a sum, which have this start and this moment.
-fn write_sum_points<T: Number>(
-    out: &mut Writer,
-    start: u64,
-    time: u64,
-    points: &[SumDataPoint<T>],
-) -> Result<(), AllocError>
-    ensures tokens { OnOk result (out.new.tokens ≡ out.old.tokens ++ json_tokens (array_of (sum_point_json T.integer start time) points.now)) }
-    ensures before { out.new.before ≡ out.old.before }
-{
-    out.begin_array()?;
-    for point in points {
-        write_number_point(
-            out,
-            point.attributes().as_slice(),
-            start,
-            time,
-            point.value(),
-        )?;
-    }
-    out.end_array()?;
-    Ok(())
-}
-
-/// Writes the points of a histogram, which have this start and this moment.
-fn write_histogram_points<T: Number>(
-    out: &mut Writer,
-    start: u64,
-    time: u64,
-    points: &[HistogramDataPoint<T>],
-) -> Result<(), AllocError>
-    ensures tokens { OnOk result (out.new.tokens ≡ out.old.tokens ++ json_tokens (array_of (histogram_point_json T.integer start time) points.now)) }
-    ensures before { out.new.before ≡ out.old.before }
-{
-    out.begin_array()?;
-    for point in points {
-        write_histogram_point(out, start, time, point)?;
+        point.write(out, start, time)?;
     }
     out.end_array()?;
     Ok(())
@@ -255,9 +192,8 @@ pub(crate) fn write_gauge<T: Number>(out: &mut Writer, gauge: &Gauge<T>) -> Resu
     ensures before { out.new.before ≡ out.old.before }
 {
     let start = gauge.start_time().unwrap_or(0);
-    out.begin_object()?;
-    out.key("dataPoints")?;
-    write_gauge_points(out, start, gauge.time(), gauge.data_points().as_slice())?;
+    write_parts(out, &[Part::BeginObject, Part::Key("dataPoints")])?;
+    write_points(out, start, gauge.time(), gauge.data_points().as_slice())?;
     out.end_object()?;
     Ok(())
 }
@@ -267,19 +203,23 @@ pub(crate) fn write_sum<T: Number>(out: &mut Writer, sum: &Sum<T>) -> Result<(),
     ensures tokens { OnOk result (out.new.tokens ≡ out.old.tokens ++ json_tokens (sum_json T.integer sum.now)) }
     ensures before { out.new.before ≡ out.old.before }
 {
-    out.begin_object()?;
-    out.key("dataPoints")?;
-    write_sum_points(
+    write_parts(out, &[Part::BeginObject, Part::Key("dataPoints")])?;
+    write_points(
         out,
         sum.start_time(),
         sum.time(),
         sum.data_points().as_slice(),
     )?;
-    out.key("aggregationTemporality")?;
-    write_temporality(out, sum.temporality())?;
-    out.key("isMonotonic")?;
-    out.boolean(sum.is_monotonic())?;
-    out.end_object()?;
+    write_parts(
+        out,
+        &[
+            Part::Key("aggregationTemporality"),
+            Part::Natural(temporality_number(sum.temporality())),
+            Part::Key("isMonotonic"),
+            Part::Truth(sum.is_monotonic()),
+            Part::EndObject,
+        ],
+    )?;
     Ok(())
 }
 
@@ -291,17 +231,20 @@ pub(crate) fn write_histogram<T: Number>(
     ensures tokens { OnOk result (out.new.tokens ≡ out.old.tokens ++ json_tokens (histogram_json T.integer histogram.now)) }
     ensures before { out.new.before ≡ out.old.before }
 {
-    let points = histogram.data_points();
-    out.begin_object()?;
-    out.key("dataPoints")?;
-    write_histogram_points(
+    write_parts(out, &[Part::BeginObject, Part::Key("dataPoints")])?;
+    write_points(
         out,
         histogram.start_time(),
         histogram.time(),
-        points.as_slice(),
+        histogram.data_points().as_slice(),
     )?;
-    out.key("aggregationTemporality")?;
-    write_temporality(out, histogram.temporality())?;
-    out.end_object()?;
+    write_parts(
+        out,
+        &[
+            Part::Key("aggregationTemporality"),
+            Part::Natural(temporality_number(histogram.temporality())),
+            Part::EndObject,
+        ],
+    )?;
     Ok(())
 }

@@ -5,7 +5,9 @@ ghost use Rattle.json.specs.Json.{document};
 ghost use Rattle.json.specs.Tree.{json_tokens};
 ghost use Rattle.otel_otlp.specs.Requests.{request_of, line_of, resource_metrics_json};
 
-use crate::scopes::{write_optional, write_resource, write_scopes};
+use crate::items::write_items;
+use crate::parts::{Part, write_parts};
+use crate::scopes::{write_optional, write_resource};
 use json::Writer;
 use otel_data::collections::ResourceMetrics;
 use std::alloc::{AllocError, Global};
@@ -15,11 +17,10 @@ fn write_resource_metrics(out: &mut Writer, collected: &ResourceMetrics) -> Resu
     ensures tokens { OnOk result (out.new.tokens ≡ out.old.tokens ++ json_tokens (resource_metrics_json collected.now)) }
     ensures before { out.new.before ≡ out.old.before }
 {
-    out.begin_object()?;
-    out.key("resource")?;
+    write_parts(out, &[Part::BeginObject, Part::Key("resource")])?;
     write_resource(out, collected.resource())?;
     out.key("scopeMetrics")?;
-    write_scopes(out, collected.scope_metrics().as_slice())?;
+    write_items(out, collected.scope_metrics().as_slice())?;
     write_optional(out, "schemaUrl", collected.resource().schema_url())?;
     out.end_object()?;
     Ok(())
@@ -30,12 +31,16 @@ fn write_request(out: &mut Writer, collected: &ResourceMetrics) -> Result<(), Al
     ensures tokens { OnOk result (out.new.tokens ≡ out.old.tokens ++ json_tokens (request_of collected.now)) }
     ensures before { out.new.before ≡ out.old.before }
 {
-    out.begin_object()?;
-    out.key("resourceMetrics")?;
-    out.begin_array()?;
+    write_parts(
+        out,
+        &[
+            Part::BeginObject,
+            Part::Key("resourceMetrics"),
+            Part::BeginArray,
+        ],
+    )?;
     write_resource_metrics(out, collected)?;
-    out.end_array()?;
-    out.end_object()?;
+    write_parts(out, &[Part::EndArray, Part::EndObject])?;
     Ok(())
 }
 

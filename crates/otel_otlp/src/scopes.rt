@@ -4,16 +4,17 @@ ghost use Rattle.std.specs.Prelude.{◌≡◌, ◌++◌, OnOk};
 ghost use Rattle.std.specs.Option.{option_map};
 ghost use Rattle.json.specs.Json.{string, no_members};
 ghost use Rattle.json.specs.Tree.{json_tokens};
-ghost use Rattle.otel_otlp.specs.Arrays.{array_of, members_front, optional};
+ghost use Rattle.otel_otlp.specs.Arrays.{members_front, optional};
 ghost use Rattle.otel_otlp.specs.Attributes.{attributes_json};
-ghost use Rattle.otel_otlp.specs.Requests.{resource_json, metric_json, scope_json, scope_metrics_json};
+ghost use Rattle.otel_otlp.specs.Requests.{resource_json, scope_json, scope_metrics_json};
 
-use crate::attributes::{write_attribute, write_attributes};
-use crate::metrics::write_metric;
+use crate::attributes::write_attribute;
+use crate::items::{Item, write_items};
+use crate::parts::{Part, write_parts};
 use json::Writer;
 use otel_common::resource::Resource;
 use otel_common::scopes::InstrumentationScope;
-use otel_data::collections::{Metric, ScopeMetrics};
+use otel_data::collections::ScopeMetrics;
 use std::alloc::AllocError;
 
 /// Writes a text under a name, if there is one.
@@ -26,11 +27,7 @@ pub(crate) fn write_optional(
     ensures before { out.new.before ≡ out.old.before }
 {
     match text {
-        Some(text) => {
-            out.key(name)?;
-            out.string(text)?;
-            Ok(())
-        }
+        Some(text) => write_parts(out, &[Part::Key(name), Part::Text(text)]),
         None => Ok(()),
     }
 }
@@ -53,8 +50,7 @@ pub(crate) fn write_resource(out: &mut Writer, resource: &Resource) -> Result<()
     ensures tokens { OnOk result (out.new.tokens ≡ out.old.tokens ++ json_tokens (resource_json resource.now)) }
     ensures before { out.new.before ≡ out.old.before }
 {
-    out.begin_object()?;
-    out.key("attributes")?;
+    write_parts(out, &[Part::BeginObject, Part::Key("attributes")])?;
     write_resource_attributes(out, resource)?;
     out.end_object()?;
     Ok(())
@@ -65,53 +61,31 @@ fn write_scope(out: &mut Writer, scope: &InstrumentationScope) -> Result<(), All
     ensures tokens { OnOk result (out.new.tokens ≡ out.old.tokens ++ json_tokens (scope_json scope.now)) }
     ensures before { out.new.before ≡ out.old.before }
 {
-    out.begin_object()?;
-    out.key("name")?;
-    out.string(scope.name())?;
+    write_parts(
+        out,
+        &[
+            Part::BeginObject,
+            Part::Key("name"),
+            Part::Text(scope.name()),
+        ],
+    )?;
     write_optional(out, "version", scope.version())?;
     out.key("attributes")?;
-    write_attributes(out, scope.attributes().as_slice())?;
+    write_items(out, scope.attributes().as_slice())?;
     out.end_object()?;
     Ok(())
 }
 
-/// Writes metrics.
-fn write_metrics(out: &mut Writer, metrics: &[Metric]) -> Result<(), AllocError>
-    ensures tokens { OnOk result (out.new.tokens ≡ out.old.tokens ++ json_tokens (array_of metric_json metrics.now)) }
-    ensures before { out.new.before ≡ out.old.before }
-{
-    out.begin_array()?;
-    for metric in metrics {
-        write_metric(out, metric)?;
-    }
-    out.end_array()?;
-    Ok(())
-}
+impl Item for ScopeMetrics {
+    ghost json = { scope_metrics_json };
 
-/// Writes the metrics of a scope.
-fn write_scope_metrics(out: &mut Writer, scope: &ScopeMetrics) -> Result<(), AllocError>
-    ensures tokens { OnOk result (out.new.tokens ≡ out.old.tokens ++ json_tokens (scope_metrics_json scope.now)) }
-    ensures before { out.new.before ≡ out.old.before }
-{
-    out.begin_object()?;
-    out.key("scope")?;
-    write_scope(out, scope.scope())?;
-    out.key("metrics")?;
-    write_metrics(out, scope.metrics().as_slice())?;
-    write_optional(out, "schemaUrl", scope.scope().schema_url())?;
-    out.end_object()?;
-    Ok(())
-}
-
-/// Writes the metrics of scopes.
-pub(crate) fn write_scopes(out: &mut Writer, scopes: &[ScopeMetrics]) -> Result<(), AllocError>
-    ensures tokens { OnOk result (out.new.tokens ≡ out.old.tokens ++ json_tokens (array_of scope_metrics_json scopes.now)) }
-    ensures before { out.new.before ≡ out.old.before }
-{
-    out.begin_array()?;
-    for scope in scopes {
-        write_scope_metrics(out, scope)?;
+    fn write(&self, out: &mut Writer) -> Result<(), AllocError> {
+        write_parts(out, &[Part::BeginObject, Part::Key("scope")])?;
+        write_scope(out, self.scope())?;
+        out.key("metrics")?;
+        write_items(out, self.metrics().as_slice())?;
+        write_optional(out, "schemaUrl", self.scope().schema_url())?;
+        out.end_object()?;
+        Ok(())
     }
-    out.end_array()?;
-    Ok(())
 }
