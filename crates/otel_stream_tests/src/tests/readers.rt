@@ -99,10 +99,10 @@ const KINDS: [InstrumentKind; 7] = [
     InstrumentKind::ObservableGauge,
 ];
 
-/// Asserts that a reader wants this for each of the seven kinds, and answers it.
+/// Asserts that a reader wants this, a line for each of the seven kinds, and answers it.
 fn assert_wants<R: MetricReader>(rt: &impl Abort, alloc: Global, reader: &R, wanted: &str) {
     let answers = Answers::of(alloc, reader).expect(rt, wanted);
-    assert_shows(rt, alloc, &answers, wanted);
+    let mut text = String::new(alloc);
     for kind in &KINDS {
         let limit = match reader.cardinality_limit(*kind) {
             Some(limit) => Some(limit.get()),
@@ -119,35 +119,37 @@ fn assert_wants<R: MetricReader>(rt: &impl Abort, alloc: Global, reader: &R, wan
             answers.aggregation(*kind),
         );
         assert!(rt; wants == answer);
+        writeln!(text, "{answer:?}").expect(rt, wanted);
     }
+    assert!(rt; text.as_str() == wanted, "{text}");
 }
 
-const CUMULATIVE: &str = "Answers { items: Items { items: [\
-    Answer { temporality: Cumulative, limit: None, aggregation: None }, \
-    Answer { temporality: Cumulative, limit: None, aggregation: None }, \
-    Answer { temporality: Cumulative, limit: None, aggregation: None }, \
-    Answer { temporality: Cumulative, limit: None, aggregation: None }, \
-    Answer { temporality: Cumulative, limit: None, aggregation: None }, \
-    Answer { temporality: Cumulative, limit: None, aggregation: None }, \
-    Answer { temporality: Cumulative, limit: None, aggregation: None }] } }";
+const CUMULATIVE: &str = "\
+    (Cumulative, None, None)\n\
+    (Cumulative, None, None)\n\
+    (Cumulative, None, None)\n\
+    (Cumulative, None, None)\n\
+    (Cumulative, None, None)\n\
+    (Cumulative, None, None)\n\
+    (Cumulative, None, None)\n";
 
-const DELTA: &str = "Answers { items: Items { items: [\
-    Answer { temporality: Delta, limit: None, aggregation: None }, \
-    Answer { temporality: Cumulative, limit: None, aggregation: None }, \
-    Answer { temporality: Delta, limit: None, aggregation: None }, \
-    Answer { temporality: Delta, limit: None, aggregation: None }, \
-    Answer { temporality: Cumulative, limit: None, aggregation: None }, \
-    Answer { temporality: Delta, limit: None, aggregation: None }, \
-    Answer { temporality: Delta, limit: None, aggregation: None }] } }";
+const DELTA: &str = "\
+    (Delta, None, None)\n\
+    (Cumulative, None, None)\n\
+    (Delta, None, None)\n\
+    (Delta, None, None)\n\
+    (Cumulative, None, None)\n\
+    (Delta, None, None)\n\
+    (Delta, None, None)\n";
 
-const LOW_MEMORY: &str = "Answers { items: Items { items: [\
-    Answer { temporality: Delta, limit: None, aggregation: None }, \
-    Answer { temporality: Cumulative, limit: None, aggregation: None }, \
-    Answer { temporality: Delta, limit: None, aggregation: None }, \
-    Answer { temporality: Cumulative, limit: None, aggregation: None }, \
-    Answer { temporality: Cumulative, limit: None, aggregation: None }, \
-    Answer { temporality: Cumulative, limit: None, aggregation: None }, \
-    Answer { temporality: Cumulative, limit: None, aggregation: None }] } }";
+const LOW_MEMORY: &str = "\
+    (Delta, None, None)\n\
+    (Cumulative, None, None)\n\
+    (Delta, None, None)\n\
+    (Cumulative, None, None)\n\
+    (Cumulative, None, None)\n\
+    (Cumulative, None, None)\n\
+    (Cumulative, None, None)\n";
 
 const PREFERENCES: &[(Temporality, &str)] = &[
     (Temporality::Cumulative, CUMULATIVE),
@@ -192,15 +194,14 @@ fn limit(rt: &impl Abort, number: usize) -> CardinalityLimit {
     CardinalityLimit::new(number).expect(rt, "a limit")
 }
 
-const GIVEN_LAST: &str = "Answers { items: Items { items: [\
-    Answer { temporality: Delta, limit: Some(6), aggregation: Some(Drop) }, \
-    Answer { temporality: Cumulative, limit: None, aggregation: None }, \
-    Answer { temporality: Delta, limit: None, \
-    aggregation: Some(ExplicitBucketHistogram { boundaries: Items { items: [10, 20] }, record_min_max: false }) }, \
-    Answer { temporality: Delta, limit: None, aggregation: None }, \
-    Answer { temporality: Cumulative, limit: None, aggregation: None }, \
-    Answer { temporality: Delta, limit: Some(7), aggregation: None }, \
-    Answer { temporality: Delta, limit: None, aggregation: None }] } }";
+const GIVEN_LAST: &str = "\
+    (Delta, Some(6), Some(Drop))\n\
+    (Cumulative, None, None)\n\
+    (Delta, None, Some(ExplicitBucketHistogram { boundaries: Items { items: [10, 20] }, record_min_max: false }))\n\
+    (Delta, None, None)\n\
+    (Cumulative, None, None)\n\
+    (Delta, Some(7), None)\n\
+    (Delta, None, None)\n";
 
 /// A reader with limits for two kinds, one of them given twice, and with aggregations likewise, wants what was given last,
 /// in a box too.
@@ -224,14 +225,14 @@ fn boxes_want_what_is_in_them(rt: HostRuntime) {
     assert_wants(rt, alloc, &boxed, GIVEN_LAST);
 }
 
-const ALL_DELTA: &str = "Answers { items: Items { items: [\
-    Answer { temporality: Delta, limit: None, aggregation: None }, \
-    Answer { temporality: Delta, limit: None, aggregation: None }, \
-    Answer { temporality: Delta, limit: None, aggregation: None }, \
-    Answer { temporality: Delta, limit: None, aggregation: None }, \
-    Answer { temporality: Delta, limit: None, aggregation: None }, \
-    Answer { temporality: Delta, limit: None, aggregation: None }, \
-    Answer { temporality: Delta, limit: None, aggregation: None }] } }";
+const ALL_DELTA: &str = "\
+    (Delta, None, None)\n\
+    (Delta, None, None)\n\
+    (Delta, None, None)\n\
+    (Delta, None, None)\n\
+    (Delta, None, None)\n\
+    (Delta, None, None)\n\
+    (Delta, None, None)\n";
 
 /// A reader of a type of one's own answers no limits and no aggregations, in a box too. A manual reader in a box answers
 /// for a gauge what it prefers.
@@ -249,17 +250,14 @@ fn readers_without_limits_answer_none(rt: HostRuntime) {
     assert_shows(rt, alloc, &answer, "Ok(Delta)");
 }
 
-const EACH: &str = "Answers { items: Items { items: [\
-    Answer { temporality: Cumulative, limit: Some(1), aggregation: Some(Drop) }, \
-    Answer { temporality: Cumulative, limit: Some(2), aggregation: Some(Default) }, \
-    Answer { temporality: Cumulative, limit: Some(3), aggregation: Some(Sum) }, \
-    Answer { temporality: Cumulative, limit: Some(4), aggregation: Some(LastValue) }, \
-    Answer { temporality: Cumulative, limit: Some(5), \
-    aggregation: Some(ExplicitBucketHistogram { boundaries: Items { items: [10, 20] }, record_min_max: false }) }, \
-    Answer { temporality: Cumulative, limit: Some(6), \
-    aggregation: Some(ExplicitBucketHistogram { boundaries: Items { items: [10, 20] }, record_min_max: true }) }, \
-    Answer { temporality: Cumulative, limit: Some(7), \
-    aggregation: Some(ExplicitBucketHistogram { boundaries: Items { items: [] }, record_min_max: false }) }] } }";
+const EACH: &str = "\
+    (Cumulative, Some(1), Some(Drop))\n\
+    (Cumulative, Some(2), Some(Default))\n\
+    (Cumulative, Some(3), Some(Sum))\n\
+    (Cumulative, Some(4), Some(LastValue))\n\
+    (Cumulative, Some(5), Some(ExplicitBucketHistogram { boundaries: Items { items: [10, 20] }, record_min_max: false }))\n\
+    (Cumulative, Some(6), Some(ExplicitBucketHistogram { boundaries: Items { items: [10, 20] }, record_min_max: true }))\n\
+    (Cumulative, Some(7), Some(ExplicitBucketHistogram { boundaries: Items { items: [] }, record_min_max: false }))\n";
 
 /// A reader may have a limit and an aggregation of its own for each kind.
 #[test]
