@@ -1,7 +1,7 @@
 -- Words of the lines that are calls.
 use Rattle.std.specs.Prelude.{◌≡◌, ℕ, List, codes, Option, Some, None}
 use Rattle.std.specs.Str.Parse.{digits_value}
-use Rattle.otel_callback.specs.declared.observation.Observed.{Observed}
+use Rattle.otel_stream.specs.declared.observation.Observed.{Observed}
 use Rattle.otel_core.specs.declared.calls.Call.{Call}
 use Rattle.otel_core.specs.declared.calls.Call.TheVariants.{Collect}
 use Rattle.otel_core.specs.declared.sorts.InstrumentSort.{InstrumentSort}

@@ -6,7 +6,7 @@ ghost use Rattle.std.specs.Str.{IsUtf8};
 ghost use Rattle.metrics_script.specs.Calls.{IsMeterWord, IsSortWord, IsCollectOf, IsObservedOf};
 ghost use Rattle.metrics_script.specs.Refusals.{StandsForNothing};
 ghost use Rattle.metrics_script.specs.Texts.{text_of_word};
-ghost use Rattle.otel_callback.specs.declared.observation.Observed.{Observed};
+ghost use Rattle.otel_stream.specs.declared.observation.Observed.{Observed};
 ghost use Rattle.otel_core.specs.declared.calls.Call.{Call};
 
 use crate::attributes::attributes_of;

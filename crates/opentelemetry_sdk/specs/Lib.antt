@@ -1,5 +1,5 @@
 -- Words of the crates below, for the contracts of programs.
-pub use Rattle.otel_callback.specs.Runs
+pub use Rattle.otel_stream.specs.Runs
 pub use Rattle.otel_common.specs.declared.attributes.KeyValue
 pub use Rattle.otel_common.specs.declared.faults.Fault
 pub use Rattle.otel_core.specs.Checks

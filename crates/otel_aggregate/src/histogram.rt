@@ -9,14 +9,14 @@ use crate::measures::Measures;
 use crate::settings::HistogramSettings;
 use crate::shows::Shows;
 use crate::stream::Stream;
+use otel_aggregators::buckets::{Buckets, BucketsConfig};
+use otel_aggregators::number::Number;
 use otel_common::attributes::KeyValue;
 use otel_common::faults::Fault;
 use otel_common::lists::{Items, SharedItems};
 use otel_common::metrics::Temporality;
 use otel_data::histograms::Histogram as HistogramData;
 use otel_data::points::HistogramDataPoint;
-use otel_value_map::buckets::{Buckets, BucketsConfig};
-use otel_value_map::number::Number;
 use std::alloc::Global;
 
 /// The histograms of a stream's records, by set (Metrics SDK, "Explicit Bucket Histogram Aggregation"). Without bounds

@@ -7,14 +7,14 @@ ghost use Rattle.otel_model_stream.specs.Data.{gauge_point};
 use crate::measures::Measures;
 use crate::shows::Shows;
 use crate::stream::Stream;
+use otel_aggregators::assign::Assign;
+use otel_aggregators::number::Number;
 use otel_common::attributes::KeyValue;
 use otel_common::faults::Fault;
 use otel_common::lists::{Items, SharedItems};
 use otel_common::metrics::Temporality;
 use otel_data::gauges::Gauge;
 use otel_data::points::GaugeDataPoint;
-use otel_value_map::assign::Assign;
-use otel_value_map::number::Number;
 use std::alloc::Global;
 
 /// The last values of a stream's records, by set (Metrics SDK, "Last Value Aggregation"). There are no settings.

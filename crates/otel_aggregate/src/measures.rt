@@ -3,8 +3,8 @@
 ghost use Rattle.std.specs.Prelude.{◌≡◌, Bool};
 ghost use Rattle.otel_model_stream.specs.Folds.{Aggregate, empty_of, sample_of};
 
-use otel_value_map::aggregator::Aggregator;
-use otel_value_map::number::Number;
+use otel_aggregators::aggregator::Aggregator;
+use otel_aggregators::number::Number;
 
 /// An aggregator of the values that a stream records.
 pub trait Measures: Aggregator {

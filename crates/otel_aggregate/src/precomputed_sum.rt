@@ -15,6 +15,8 @@ ghost use Rattle.otel_aggregate.specs.Streams.{is_known};
 ghost use Rattle.otel_aggregate.specs.Observed.{new_observed, observed_set, observed_attributes, observed_after_commit, values_now, since_reported, drained_at, observed_data};
 
 use crate::stream::{Stream, shown_temporality};
+use otel_aggregators::assign::Assign;
+use otel_aggregators::number::Number;
 use otel_bound_map::bound_map::BoundMap;
 use otel_common::attributes::KeyValue;
 use otel_common::faults::Fault;
@@ -23,9 +25,7 @@ use otel_common::lists::{Items, SharedItems};
 use otel_common::metrics::Temporality;
 use otel_data::points::SumDataPoint;
 use otel_data::sums::Sum as SumData;
-use otel_value_map::assign::Assign;
 use otel_value_map::hashing::SetHashBuilder;
-use otel_value_map::number::Number;
 use otel_value_map::saved::Saved;
 use std::alloc::Global;
 use std::marker::Model;

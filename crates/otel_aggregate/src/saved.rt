@@ -2,9 +2,9 @@
 
 ghost use Rattle.std.specs.Prelude.{◌≡◌};
 
-use otel_value_map::aggregator::Increment;
-use otel_value_map::assign::Assign;
-use otel_value_map::buckets::Buckets;
+use otel_aggregators::aggregator::Increment;
+use otel_aggregators::assign::Assign;
+use otel_aggregators::buckets::Buckets;
 use otel_value_map::saved::Saved;
 use std::marker::Model;
 

@@ -1,6 +1,6 @@
 //! What a stream makes of its records.
 
-use otel_value_map::bounds::Bounds;
+use otel_aggregators::bounds::Bounds;
 
 /// The bounds of a histogram's buckets, and what it keeps besides their counts.
 pub struct HistogramSettings {

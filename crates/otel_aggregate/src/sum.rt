@@ -7,14 +7,14 @@ ghost use Rattle.otel_model_stream.specs.Data.{sum_point};
 use crate::measures::Measures;
 use crate::shows::Shows;
 use crate::stream::Stream;
+use otel_aggregators::aggregator::Increment;
+use otel_aggregators::number::Number;
 use otel_common::attributes::KeyValue;
 use otel_common::faults::Fault;
 use otel_common::lists::{Items, SharedItems};
 use otel_common::metrics::Temporality;
 use otel_data::points::SumDataPoint;
 use otel_data::sums::Sum as SumData;
-use otel_value_map::aggregator::Increment;
-use otel_value_map::number::Number;
 use std::alloc::Global;
 
 /// The sums of a stream's records, by set (Metrics SDK, "Sum Aggregation"). The settings say whether only values of at

@@ -1,12 +1,12 @@
 //! Worked rows and ported tests, with each public function called at least once, at both number types. Sets of attributes
 //! are written as texts.
 
+use otel_aggregators::bounds::Bounds;
 use otel_common::attributes::{Array, KeyValue, Value};
 use otel_common::faults::Fault;
 use otel_common::keys::Key;
 use otel_common::lists::{Items, SharedItems};
 use otel_common::strings::StringValue;
-use otel_value_map::bounds::Bounds;
 use std::alloc::Global;
 use steps::Readable;
 

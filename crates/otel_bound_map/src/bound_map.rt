@@ -15,11 +15,11 @@ ghost use Rattle.otel_value_map.specs.Slots.{HasForm, copies};
 ghost use Rattle.otel_bound_map.specs.Handles.{after_bind, after_update, after_unbind};
 
 use crate::links::{Links, add, make_room, number_in, take_out};
+use otel_aggregators::aggregator::Aggregator;
 use otel_common::attributes::KeyValue;
 use otel_common::faults::Fault;
 use otel_common::lists::SharedItems;
 use otel_sets::allowed_keys::AllowedKeys;
-use otel_value_map::aggregator::Aggregator;
 use otel_value_map::hashing::SetHashBuilder;
 use otel_value_map::saved::Saved;
 use otel_value_map::value_map::ValueMap;

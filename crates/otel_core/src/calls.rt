@@ -1,7 +1,6 @@
 //! Calls of a provider and its replies, as values.
 
 use crate::sorts::InstrumentSort;
-use otel_callback::observation::Observed;
 use otel_common::attributes::KeyValue;
 use otel_common::faults::Fault;
 use otel_common::lists::Items;
@@ -9,6 +8,7 @@ use otel_common::scopes::InstrumentationScope;
 use otel_common::strings::StringValue;
 use otel_data::collections::ResourceMetrics;
 use otel_data::numbers::NumberValue;
+use otel_stream::observation::Observed;
 
 /// One call of a provider.
 #[derive(Clone, Debug, Drop)]

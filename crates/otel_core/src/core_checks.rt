@@ -13,12 +13,12 @@ use crate::instrument_checks::{
     validate_bucket_boundaries, validate_instrument_name, validate_instrument_unit,
 };
 use indexmap::IndexSet;
-use otel_callback::observation::Observed;
 use otel_common::faults::Fault;
 use otel_common::scopes::InstrumentationScope;
 use otel_data::numbers::NumberValue;
 use otel_pipeline::about::About;
 use otel_stream::instrument::InstrumentKind;
+use otel_stream::observation::Observed;
 
 /// Whether the bounds of an instrument are good. Only those of a histogram are checked.
 fn has_good_bounds(about: &About<'_>) -> bool

@@ -5,7 +5,7 @@ use Rattle.std.specs.Prelude.{All}
 use Rattle.otel_common.specs.declared.attributes.KeyValue.{KeyValue}
 use Rattle.otel_data.specs.declared.numbers.NumberValue.{NumberValue}
 use Rattle.otel_aggregate.specs.Any.{is_signed_value, amount_of}
-use Rattle.otel_callback.specs.declared.observation.Observed.{Observed}
+use Rattle.otel_stream.specs.declared.observation.Observed.{Observed}
 use Rattle.otel_model_stream.specs.Events.{held_by}
 use Rattle.otel_model_stream.specs.Folds.{Amount, sample_of, wrap}
 use Rattle.otel_model_stream.specs.Machine.{through, let_go}

@@ -2,7 +2,7 @@
 use Rattle.std.proofs.Common.{◌≡◌, ℕ, Bool, true, false, cond, List, [], ◌∷◌, map, fold, Some, slice_get, refl, sym, ◌∙◌, ap, subst, arith, suc}
 use Rattle.std.specs.List.{IsDistinct}
 use Rattle.std.specs.Prelude.{All}
-use Rattle.otel_callback.specs.declared.observation.Observed.{Observed}
+use Rattle.otel_stream.specs.declared.observation.Observed.{Observed}
 use Rattle.otel_common.specs.declared.resource.Resource.{Resource}
 use Rattle.otel_common.specs.declared.scopes.InstrumentationScope.{InstrumentationScope}
 use Rattle.otel_data.specs.declared.collections.ResourceMetrics.{ResourceMetrics}

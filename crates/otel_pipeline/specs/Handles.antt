@@ -1,7 +1,7 @@
 -- Handles in one reader's streams (Metrics API, "Synchronous Instrument API").
 use Rattle.std.specs.Prelude.{◌≡◌, ℕ, true, false, not, List, fold, All, Option, None, Some, slice_get}
 use Rattle.std.specs.List.{AllByRecursion as EachOf}
-use Rattle.otel_callback.specs.declared.observation.Observed.{Observed}
+use Rattle.otel_stream.specs.declared.observation.Observed.{Observed}
 use Rattle.otel_common.specs.declared.attributes.KeyValue.{KeyValue}
 use Rattle.otel_data.specs.declared.numbers.NumberValue.{NumberValue}
 use Rattle.otel_model_stream.specs.Events.{held_by}

@@ -2,7 +2,7 @@
 -- asynchronous callbacks").
 use Rattle.std.specs.Prelude.{◌≡◌, ◌≤◌, ℕ, suc, Bool, true, cond, List, [], ◌∷◌, fold, length, All, Option, None, Some, slice_get}
 use Rattle.std.specs.Bool.{beq}
-use Rattle.otel_callback.specs.declared.observation.Observed.{Observed}
+use Rattle.otel_stream.specs.declared.observation.Observed.{Observed}
 use Rattle.otel_model_stream.specs.Entries.{Table}
 use Rattle.otel_model_stream.specs.Totals.{has_number}
 use Rattle.otel_aggregate.specs.Any.{Form, form_of, is_signed_value, amount_of}

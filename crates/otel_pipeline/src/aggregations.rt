@@ -10,6 +10,7 @@ ghost use Rattle.otel_pipeline.specs.Streams.{IsMakeable, asks_monotonic};
 
 use crate::numbers::bits_of;
 use otel_aggregate::settings::{AnySettings, HistogramSettings};
+use otel_aggregators::bounds::Bounds;
 use otel_common::faults::Fault;
 use otel_common::lists::SharedItems;
 use otel_common::metrics::{Aggregation, Temporality};
@@ -17,7 +18,6 @@ use otel_data::numbers::NumberValue;
 use otel_stream::answers::Answers;
 use otel_stream::demand::Demand;
 use otel_stream::instrument::InstrumentKind;
-use otel_value_map::bounds::Bounds;
 
 /// Whether a demand with this aggregation drops its stream.
 pub(crate) fn is_drop(aggregation: &Aggregation) -> bool

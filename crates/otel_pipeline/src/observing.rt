@@ -11,13 +11,13 @@ use crate::each_stream::{commit_each, finish_each, prepare_each, streams_fed};
 use crate::saved::SavedStream;
 use crate::stream::Stream;
 use indexmap::IndexSet;
-use otel_callback::observation::Observed;
 use otel_common::faults::Fault;
 use otel_common::laws::resource_laws;
 use otel_common::lists::Items;
 use otel_common::resource::Resource;
 use otel_common::scopes::InstrumentationScope;
 use otel_data::collections::ResourceMetrics;
+use otel_stream::observation::Observed;
 use std::alloc::Global;
 
 /// Makes room to save this many streams, of which none is saved yet.

@@ -1,9 +1,9 @@
 -- Callbacks of observable instruments: which are registered, and what a collection does with them (Metrics SDK,
 -- "Collect"; Metrics API, "Asynchronous Instrument API").
 use Rattle.std.specs.Prelude.{◌≡◌, ℕ, cond, List, [], map, Result, Ok, Err}
-use Rattle.otel_callback.specs.declared.observation.Observed.{Observed}
-use Rattle.otel_callback.specs.declared.registered.Callback.{Callback}
-use Rattle.otel_callback.specs.declared.registered.Registered.{Registered}
+use Rattle.otel_stream.specs.declared.observation.Observed.{Observed}
+use Rattle.otel_stream.specs.declared.registered.Callback.{Callback}
+use Rattle.otel_stream.specs.declared.registered.Registered.{Registered}
 use Rattle.otel_common.specs.declared.faults.Fault.{Fault}
 use Rattle.otel_data.specs.declared.collections.ResourceMetrics.{ResourceMetrics}
 use Rattle.otel_model.specs.Calls as model

@@ -1,7 +1,7 @@
 -- What a provider and its builder are in the words of the model. `P` is the bundle of their parts, `V` the type of
 -- their views, `R` that of their readers, `U` and `I` those of their callbacks for unsigned and for signed values.
 use Rattle.std.specs.Prelude.{ℕ, List, Option, map}
-use Rattle.otel_callback.specs.declared.registered.Registered.{Registered}
+use Rattle.otel_stream.specs.declared.registered.Registered.{Registered}
 use Rattle.otel_common.specs.declared.metrics.Aggregation.{Aggregation}
 use Rattle.otel_common.specs.declared.metrics.Temporality.{Temporality}
 use Rattle.otel_model.specs.Demands.{Instrument, ReaderAnswers, StreamSpec, Views}

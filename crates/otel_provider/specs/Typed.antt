@@ -2,7 +2,7 @@
 -- is the bundle of a provider's parts, `V` the type of its views, `R` that of its readers, `U` and `I` those of its
 -- callbacks.
 use Rattle.std.specs.Prelude.{◌≡◌, ℕ, List, [], Option, None, Result, Ok, Err}
-use Rattle.otel_callback.specs.declared.registered.Callback.{Callback}
+use Rattle.otel_stream.specs.declared.registered.Callback.{Callback}
 use Rattle.otel_common.specs.declared.faults.Fault.{Fault}
 use Rattle.otel_common.specs.declared.scopes.InstrumentationScope.{InstrumentationScope}
 use Rattle.otel_data.specs.declared.collections.ResourceMetrics.{ResourceMetrics}

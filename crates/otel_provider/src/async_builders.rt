@@ -2,7 +2,7 @@
 
 ghost use Rattle.std.specs.Prelude.{◌≡◌, ◌≤◌, ◌+◌, ◌++◌, ◌∷◌, [], length, map, vec_len, vec_capacity, Some, None, Err, IfOk, OnErr, IsOkUnless};
 ghost use Rattle.std.specs.String.{string_bytes};
-ghost use Rattle.otel_callback.specs.declared.registered.Callback.TheVariants.{U64, I64};
+ghost use Rattle.otel_stream.specs.declared.registered.Callback.TheVariants.{U64, I64};
 ghost use Rattle.otel_model.specs.Calls as model;
 ghost use Rattle.otel_model.specs.Laws.{KeepsReaders};
 ghost use Rattle.otel_model.specs.Steps.{Step};
@@ -17,9 +17,9 @@ use crate::builders::InstrumentBuilder;
 use crate::meters::Meter;
 use crate::parts::Parts;
 use crate::provider::Provider;
-use otel_callback::registered::{Callback, Registered};
 use otel_common::faults::Fault;
 use otel_core::sorts::InstrumentSort;
+use otel_stream::registered::{Callback, Registered};
 use std::marker::PhantomData;
 
 /// Builds an observable instrument of the kind that `K` marks, with values of type `T`, at a provider with the parts

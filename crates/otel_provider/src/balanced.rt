@@ -18,7 +18,6 @@ ghost use Rattle.otel_provider.specs.Typed.{reply_from};
 ghost use Rattle.otel_stream.specs.Requests.{wanted_by};
 
 use crate::meters::Meter;
-use otel_callback::observation::Observed;
 use otel_common::attributes::KeyValue;
 use otel_common::faults::{Fault, OTelSdkResult};
 use otel_common::scopes::InstrumentationScope;
@@ -29,6 +28,7 @@ use otel_core::sorts::InstrumentSort;
 use otel_data::collections::ResourceMetrics;
 use otel_data::numbers::NumberValue;
 use otel_pipeline::about::About;
+use otel_stream::observation::Observed;
 use otel_stream::reader::MetricReader;
 use otel_stream::view::View;
 use std::alloc::Global;

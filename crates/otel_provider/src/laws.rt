@@ -19,12 +19,12 @@ ghost use Rattle.otel_provider.specs.declared.synchronous.Synchronous.{Synchrono
 use crate::asynchronous::Asynchronous;
 use crate::meters::Meter;
 use crate::synchronous::Synchronous;
-use otel_callback::laws::copied_observed;
 use otel_common::laws::{copied_attributes, copied_scope};
 use otel_core::calls::{Call, Reply};
 use otel_core::sorts::InstrumentSort;
 use otel_data::copies::copied_collection;
 use otel_data::numbers::NumberValue;
+use otel_stream::laws::copied_observed;
 
 /// A copy of an instrument's sort or of a value equals its source.
 pub fn copied_numbers()

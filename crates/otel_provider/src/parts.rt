@@ -3,7 +3,7 @@
 //! A provider is generic over a single bundle of these types, so that functions of other crates can take it, return it
 //! and keep it. With `Boxed`, views, readers and callbacks are boxes, and may differ in type.
 
-use otel_callback::callback::{ObserveI64, ObserveU64};
+use otel_stream::callback::{ObserveI64, ObserveU64};
 use otel_stream::reader::MetricReader;
 use otel_stream::view::View;
 

@@ -2,8 +2,8 @@
 
 ghost use Rattle.std.specs.Prelude.{◌≡◌, ◌++◌, ◌∷◌, [], false, true, List, Option, None, Some, Result, map, IfOk, OnErr, IsOkAnd, IsOkUnless};
 ghost use Rattle.std.specs.List.{list_any};
-ghost use Rattle.otel_callback.specs.Runs.{Ran, RanAll};
-ghost use Rattle.otel_callback.specs.declared.observation.Observed.{Observed};
+ghost use Rattle.otel_stream.specs.Runs.{Ran, RanAll};
+ghost use Rattle.otel_stream.specs.declared.observation.Observed.{Observed};
 ghost use Rattle.otel_common.specs.declared.faults.Fault.{Fault};
 ghost use Rattle.otel_model.specs.Answered.{OfEachMetric, ShowsWindow, ShowsAll, HasFewPoints};
 ghost use Rattle.otel_model.specs.Calls as model;
@@ -25,13 +25,13 @@ ghost use Rattle.otel_stream.specs.Answers.{answers_wanting};
 
 use crate::balanced::BalancedCore;
 use crate::parts::{Boxed, Parts};
-use otel_callback::registered::{Registered, run_callbacks};
 use otel_common::faults::{Fault, OTelSdkResult};
 use otel_common::resource::Resource;
 use otel_core::calls::{Call, Reply};
 use otel_core::fresh::FreshCore;
 use otel_data::collections::ResourceMetrics;
 use otel_stream::reader::MetricReader;
+use otel_stream::registered::{Registered, run_callbacks};
 use std::alloc::Global;
 use std::time::Duration;
 

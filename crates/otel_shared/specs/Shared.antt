@@ -2,7 +2,7 @@
 -- the bundle of the provider's parts, `V` the type of its views, `R` that of its readers, `U` and `I` those of its
 -- callbacks.
 use Rattle.std.specs.Prelude.{ℕ, List}
-use Rattle.otel_callback.specs.declared.registered.Registered.{Registered}
+use Rattle.otel_stream.specs.declared.registered.Registered.{Registered}
 use Rattle.otel_model.specs.State.{State}
 use Rattle.otel_shared.specs.declared.account.Account as account
 use Rattle.otel_shared.specs.declared.locked.Locked.{Locked}

@@ -1,8 +1,8 @@
 //! What lies under the one lock of a shared provider.
 
 ghost use Rattle.std.specs.Prelude.{◌≡◌, ◌≤◌, ◌+◌, ◌-◌, ◌%◌, ◌^◌, ◌==◌, true, false, if◌then◌else◌, List, Option, Result, [], map, sum_by, vec_len, is_ok, None, Some, IfOk, IfErr, OnOk, OnErr};
-ghost use Rattle.otel_callback.specs.Runs.{Ran, RanAll};
-ghost use Rattle.otel_callback.specs.declared.observation.Observed.{Observed};
+ghost use Rattle.otel_stream.specs.Runs.{Ran, RanAll};
+ghost use Rattle.otel_stream.specs.declared.observation.Observed.{Observed};
 ghost use Rattle.otel_common.specs.declared.faults.Fault.{Fault};
 ghost use Rattle.otel_core.specs.Checks.{collect_refusal};
 ghost use Rattle.otel_core.specs.Correspondence.{call_of, reply_of};
@@ -24,12 +24,12 @@ ghost use Rattle.otel_stream.specs.Requests.{wanted_by};
 use crate::account::Account;
 use crate::booked::{Booked, Receipt};
 use crate::worker::Worker;
-use otel_callback::registered::{Registered, run_callbacks};
 use otel_common::faults::Fault;
 use otel_core::calls::{Call, Reply};
 use otel_data::collections::ResourceMetrics;
 use otel_provider::parts::{Boxed, Parts};
 use otel_provider::provider::Provider;
+use otel_stream::registered::{Registered, run_callbacks};
 use std::sync::Mutex;
 use std::sync::ledger::Blank;
 

@@ -9,3 +9,4 @@ pub mod Selectors
 pub mod Settings
 pub mod Units
 pub mod Wants
+pub mod Runs

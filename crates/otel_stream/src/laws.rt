@@ -1,8 +1,9 @@
 //! Laws: two kinds of instruments are equal exactly if they are the same, and two instruments exactly if their parts
 //! are; a boxed reader wants and does what the reader in the box wants and does, and a boxed view answers what the view
-//! in the box answers; and what a reader answers if it wants no limits and no aggregations.
+//! in the box answers; what a reader answers if it wants no limits and no aggregations; and a copy of what was observed
+//! equals its source.
 //!
-//! `kind_laws`, `equal_instruments`, `boxed_reader`, `boxed_view` and `plain_answers` do nothing. A function whose
+//! `kind_laws`, `equal_instruments`, `boxed_reader`, `boxed_view`, `plain_answers` and `copied_observed` do nothing. A function whose
 //! contract needs one of these laws calls it first.
 
 ghost use Rattle.std.specs.Prelude.{◌≡◌, ◌↔◌, ℕ, Option, None, IfOk};
@@ -16,12 +17,14 @@ ghost use Rattle.otel_stream.specs.Requests.{Outcome};
 ghost use Rattle.otel_stream.specs.Wants.{temporality_alone, limit_of, aggregation_of};
 ghost use Rattle.otel_stream.specs.declared.instrument.Instrument.{Instrument};
 ghost use Rattle.otel_stream.specs.declared.instrument.InstrumentKind.{InstrumentKind};
+ghost use Rattle.otel_stream.specs.declared.observation.Observed.{Observed};
 
 use crate::instrument::{Instrument, InstrumentKind};
 use crate::manual_reader::ManualReader;
+use crate::observation::Observed;
 use crate::reader::MetricReader;
 use crate::view::View;
-use otel_common::laws::equal_scopes;
+use otel_common::laws::{copied_attributes, equal_scopes};
 use otel_common::metrics::Temporality;
 use std::alloc::{AllocError, Global};
 
@@ -79,3 +82,10 @@ pub fn plain_answers()
     ensures plain { (temporality : InstrumentKind → Temporality) (limit : InstrumentKind → Option ℕ) (aggregation : InstrumentKind → Option Aggregation) → ((kind : InstrumentKind) → limit kind ≡ None) → ((kind : InstrumentKind) → aggregation kind ≡ None) → answers_wanting temporality limit aggregation ≡ answers_by temporality }
     ensures manual { (temporality : Temporality) → answers_wanting (λ kind. temporality_preference kind temporality) (limit_of (temporality_alone temporality)) (aggregation_of (temporality_alone temporality)) ≡ answers_preferring temporality }
 {}
+
+/// A copy of what was observed equals its source.
+pub fn copied_observed()
+    ensures { (x y : Observed) → ⟦<Observed as Clone>⟧.is_clone x y → y ≡ x }
+{
+    copied_attributes();
+}

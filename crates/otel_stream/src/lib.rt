@@ -1,9 +1,11 @@
-//! Kinds of instruments, readers, views, and the settings of streams.
+//! Kinds of instruments, readers, views, callbacks, and the settings of streams.
 #![tactic(auto)]
 
 pub mod answers;
 pub mod boxed;
+pub mod boxed_callback;
 mod by_kind;
+pub mod callback;
 pub mod compatible;
 pub mod demand;
 pub mod each_reader;
@@ -11,7 +13,10 @@ pub mod instrument;
 pub mod laws;
 pub mod limit;
 pub mod manual_reader;
+pub mod no_callback;
+pub mod observation;
 pub mod reader;
+pub mod registered;
 pub mod selector;
 pub mod stream;
 pub mod stream_fault;

@@ -9,6 +9,4 @@ pub mod SettledLemmas
 pub mod ShownLemmas
 pub mod PlanLemmas
 pub mod PlaceLemmas
-pub mod BoundLemmas
-pub mod FoldLaws
 pub mod WeightLemmas

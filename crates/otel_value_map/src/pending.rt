@@ -10,10 +10,10 @@ ghost use Rattle.otel_value_map.specs.Slots.{kept_of, new_kept};
 ghost use Rattle.otel_value_map.specs.Held.{IsPlan, IsPlanAt, is_new, is_pending, leads};
 ghost use Rattle.otel_value_map.specs.declared.pending.Pending.TheVariants.{Nothing, At};
 
-use crate::aggregator::Aggregator;
 use crate::sets::overflow_set;
 use crate::slots::Slot;
 use crate::table::Table;
+use otel_aggregators::aggregator::Aggregator;
 use otel_common::attributes::KeyValue;
 use otel_common::faults::Fault;
 use otel_sets::allowed_keys::AllowedKeys;

@@ -4,8 +4,8 @@ ghost use Rattle.std.specs.Prelude.{◌≡◌};
 ghost use Rattle.otel_value_map.specs.Numbers.{without_handles};
 ghost use Rattle.otel_value_map.specs.Slots.{HasForm};
 
-use crate::aggregator::Aggregator;
 use crate::table::Table;
+use otel_aggregators::aggregator::Aggregator;
 use std::marker::Model;
 use std::mem::swap;
 

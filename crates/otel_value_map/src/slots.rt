@@ -4,7 +4,7 @@ ghost use Rattle.std.specs.Prelude.{◌≡◌, ◌<◌, ◌-◌, ◌^◌, false,
 ghost use Rattle.slab.specs.Slab.{get, HasRoomFor};
 ghost use Rattle.otel_value_map.specs.Slots.{SameLook, look_in, kept_of, new_kept, with_slot, at_slot, changed_at, written, held, released, forgotten, left_of};
 
-use crate::aggregator::Aggregator;
+use otel_aggregators::aggregator::Aggregator;
 use slab::Slab;
 
 /// What is kept of the records of one set.

@@ -18,10 +18,10 @@ ghost use Rattle.otel_value_map.specs.Keyed.{Fits, found, IsNew, IsSpelling, wit
 ghost use Rattle.otel_value_map.specs.Numbers.{number_of, handles_at, entry_without_handles, without_handles, AreNamed, AreNumbered, KeepLeft, IsNumberOf, is_number};
 ghost use Rattle.otel_value_map.specs.Slots.{HasForm, SameLook, look_in, kept_of, changed_each, left_of, entry_of, entry_at, copies};
 
-use crate::aggregator::Aggregator;
 use crate::hashing::SetHashBuilder;
 use crate::slots::{Slot, fill, forget, free, hold, release, settle, touch};
 use indexmap::IndexMap;
+use otel_aggregators::aggregator::Aggregator;
 use otel_common::attributes::KeyValue;
 use otel_common::faults::Fault;
 use otel_common::lists::SharedItems;

@@ -15,13 +15,13 @@ ghost use Rattle.otel_value_map.specs.Faults.{IsBindFault};
 ghost use Rattle.otel_value_map.specs.Numbers.{number_of, is_number, without_handles, handles_at, AreNamed, AreNumbered, spelling_of, is_placed, KeepNumbers, KeepLeft};
 ghost use Rattle.otel_value_map.specs.Slots.{HasForm, copies};
 
-use crate::aggregator::Aggregator;
 use crate::hashing::SetHashBuilder;
 use crate::pending::{Pending, Prepared, led_to, make_ready, plan, take_slot};
 use crate::saved::Saved;
 use crate::sets::overflow_set;
 use crate::slots::Slot;
 use crate::table::Table;
+use otel_aggregators::aggregator::Aggregator;
 use otel_common::attributes::KeyValue;
 use otel_common::faults::Fault;
 use otel_common::lists::SharedItems;

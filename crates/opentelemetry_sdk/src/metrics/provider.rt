@@ -1,8 +1,6 @@
 //! The provider, its calls and their replies.
 
 pub use crate::metrics::plain::Plain;
-pub use otel_callback::laws::copied_observed;
-pub use otel_callback::observation::Observed;
 pub use otel_core::calls::{Call, Reply};
 pub use otel_core::sorts::InstrumentSort;
 pub use otel_data::numbers::NumberValue;
@@ -13,3 +11,5 @@ pub use otel_provider::parts::{
 pub use otel_provider::provider::{
     MeterProviderBuilder, Provider, ProviderBuilder, SdkMeterProvider,
 };
+pub use otel_stream::laws::copied_observed;
+pub use otel_stream::observation::Observed;

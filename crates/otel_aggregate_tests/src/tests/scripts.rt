@@ -5,10 +5,10 @@ use super::aggregates::{assert_stream, histogram};
 use super::keys;
 use super::steps::{Readable, parts};
 use super::value_maps::maps::assert_map;
+use otel_aggregators::aggregator::Increment;
+use otel_aggregators::assign::Assign;
+use otel_aggregators::buckets::Buckets;
 use otel_common::metrics::Temporality;
-use otel_value_map::aggregator::Increment;
-use otel_value_map::assign::Assign;
-use otel_value_map::buckets::Buckets;
 use std::alloc::Global;
 use std::process::Abort;
 

@@ -3,10 +3,10 @@
 ghost use Rattle.std.specs.Prelude.{◌≡◌, ◌+◌, ℕ, IfOk, false};
 
 use super::assert_shows;
-use otel_callback::callback::{ObserveI64, ObserveU64};
-use otel_callback::observation::Observation;
-use otel_callback::registered::{Callback, Registered, run_callbacks};
 use otel_common::faults::Fault;
+use otel_stream::callback::{ObserveI64, ObserveU64};
+use otel_stream::observation::Observation;
+use otel_stream::registered::{Callback, Registered, run_callbacks};
 use std::alloc::Global;
 use std::process::Abort;
 

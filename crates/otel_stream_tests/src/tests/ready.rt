@@ -1,11 +1,11 @@
 //! What saves programs a line: attributes, observations, moments and seeds ready to use, and how they print.
 
 use super::{assert_prints, assert_shows, list_of};
-use otel_callback::observation::Observation;
 use otel_common::attributes::{Array, KeyValue, Value};
 use otel_common::keys::Key;
 use otel_common::lists::Items;
 use otel_common::outside::{now_nanos, random_seed};
+use otel_stream::observation::Observation;
 use std::io;
 use std::random::RandomSource;
 use std::time::{Clock, Duration};

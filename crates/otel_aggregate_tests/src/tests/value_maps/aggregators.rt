@@ -2,11 +2,11 @@
 
 use super::super::bounds;
 use super::Written;
+use otel_aggregators::aggregator::{Increment, create_fold, reset_fold, update_fold};
+use otel_aggregators::assign::Assign;
+use otel_aggregators::buckets::{Buckets, BucketsConfig};
 use otel_common::bounds::is_rising;
 use otel_common::faults::Fault;
-use otel_value_map::aggregator::{Increment, create_fold, reset_fold, update_fold};
-use otel_value_map::assign::Assign;
-use otel_value_map::buckets::{Buckets, BucketsConfig};
 use std::alloc::Global;
 use std::process::Abort;
 

@@ -1,6 +1,6 @@
 //! Numbers of both types.
 
-use otel_value_map::number::Number;
+use otel_aggregators::number::Number;
 
 #[test]
 fn numbers_wrap(rt: HostRuntime) {

@@ -1,5 +1,5 @@
 use Rattle.std.proofs.Common.{Ok, Err, arith, map, refl, subst, sym}
-use Rattle.otel_callback.specs.Runs.{Ran, RanAll}
+use Rattle.otel_stream.specs.Runs.{Ran, RanAll}
 use Rattle.otel_model.specs.Calls as model
 use Rattle.otel_model.specs.Steps.{Step}
 use Rattle.otel_core.specs.Correspondence.{observed_of}
