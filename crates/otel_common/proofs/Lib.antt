@@ -1,4 +1,5 @@
 pub mod CanonLaws
+pub mod EqualParts
 pub mod Merging
 pub mod Permuting
 pub mod Rising

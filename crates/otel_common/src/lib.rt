@@ -21,3 +21,4 @@ mod resource_iter;
 pub mod scopes;
 mod sets;
 pub mod strings;
+mod words;
