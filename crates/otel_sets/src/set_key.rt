@@ -135,6 +135,20 @@ impl<'a> SetKey<'a> {
         }
     }
 
+    /// A key of the same set, which it borrows from this one.
+    #[inline]
+    pub fn lent(&self) -> SetKey<'_>
+        ensures { result ≡ self.now }
+    {
+        let form = match &self.form {
+            Form::Owned(set) => Form::Given(set.as_slice()),
+            Form::Given(attributes) => Form::Given(*attributes),
+            Form::Referenced(references) => Form::Referenced(*references),
+            Form::Held(attributes) => Form::Held(*attributes),
+        };
+        SetKey { form }
+    }
+
     /// The set as a list, if it stands as one.
     #[inline]
     fn whole(&self) -> Option<&[KeyValue]>

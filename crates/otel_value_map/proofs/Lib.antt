@@ -1,4 +1,5 @@
 pub mod CanonicalSets
+pub mod HashedLemmas
 pub mod SlotLemmas
 pub mod TableLemmas
 pub mod KeyedLemmas

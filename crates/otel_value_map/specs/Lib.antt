@@ -1,3 +1,4 @@
+pub mod Hashed
 pub mod Hashing
 pub mod Held
 pub mod Keyed

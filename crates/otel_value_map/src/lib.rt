@@ -1,7 +1,9 @@
 //! A bounded map from sets of attributes to aggregators.
 #![tactic(auto)]
 
+mod hashed_key;
 pub mod hashing;
+mod key_table;
 mod pending;
 pub mod saved;
 pub mod sets;

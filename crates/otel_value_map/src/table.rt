@@ -19,8 +19,8 @@ ghost use Rattle.otel_value_map.specs.Numbers.{number_of, handles_at, entry_with
 ghost use Rattle.otel_value_map.specs.Slots.{HasForm, SameLook, look_in, kept_of, changed_each, left_of, entry_of, entry_at, copies};
 
 use crate::hashing::SetHashBuilder;
+use crate::key_table::KeyTable;
 use crate::slots::{Slot, fill, forget, free, hold, release, settle, touch};
-use indexmap::IndexMap;
 use otel_aggregators::aggregator::Aggregator;
 use otel_common::attributes::KeyValue;
 use otel_common::faults::Fault;
@@ -30,33 +30,27 @@ use slab::Slab;
 use std::alloc::{AllocError, Global};
 use std::marker::Model;
 
-/// Keys with the numbers of the slots that they lead to, in order of making.
-type Numbered = IndexMap<SetKey<'static>, usize, SetHashBuilder>;
-
 /// The entries of a map. Each entry is in a slot and keeps the slot's number as long as it exists; a freed slot is
 /// used again.
 pub struct Table<A: Aggregator> {
     slots: Slab<Slot<A>>,
     /// The slot of the empty set, which has no key.
     none: usize,
-    /// Slots by canonical set, so that a list that is canonical as given is found without a copy.
-    sets: Numbered,
-    /// Slots by list as given, for lists that admitted a set in another form.
-    given: Numbered,
+    /// The slots that sets and lists lead to.
+    keys: KeyTable,
 }
 
 impl<A: Aggregator> Model for Table<A> {
-    ghost use Rattle.std.specs.Prelude.{◌+◌, ◌&&◌, nat_lt, nat_le};
+    ghost use Rattle.std.specs.Prelude.{◌+◌, ◌&&◌, nat_le};
     ghost use Rattle.slab.specs.Slab.{slab_len};
-    ghost use Rattle.indexmap.specs.IndexMap.{spare};
     ghost use Rattle.otel_value_map.specs.Slots.{look_in};
     ghost use Rattle.otel_value_map.specs.Keyed.{Slotted, slotted, IsKept};
 
     ghost Value = { Slotted };
 
-    ghost view = { λ t. slotted (look_in A.meaning t.slots) t.none t.sets.entries t.given.entries (nat_le (slab_len t.slots + 1) t.slots.capacity && (nat_lt 0 (spare t.sets) && nat_lt 0 (spare t.given))) };
+    ghost view = { λ t. slotted (look_in A.meaning t.slots) t.none t.keys.sets t.keys.given (nat_le (slab_len t.slots + 1) t.slots.capacity && t.keys.room) };
 
-    ghost invariant = { λ t. IsKept (look_in A.meaning t.slots) t.none t.sets.entries t.given.entries };
+    ghost invariant = { λ t. IsKept (look_in A.meaning t.slots) t.none t.keys.sets t.keys.given };
 }
 
 impl<A: Aggregator> Drop for Table<A> {
@@ -65,83 +59,23 @@ impl<A: Aggregator> Drop for Table<A> {
         let Table {
             slots: _slots,
             none: _,
-            sets: _sets,
-            given: _given,
+            keys: _keys,
         } = self;
     }
 }
 
-/// The number that a key leads to.
-fn number_in<'s>(
-    map: &'s IndexMap<SetKey<'s>, usize, SetHashBuilder>,
-    key: &'s SetKey<'s>,
-) -> Option<usize>
-    ensures { result ≡ lookup (set_eq key.now) map.now.entries }
-{
-    map.get(key).copied()
-}
-
-/// The number that a list leads to, by the key of a set or else by that of a list as given.
-fn found_in<'s>(
-    sets: &'s IndexMap<SetKey<'s>, usize, SetHashBuilder>,
-    given: &'s IndexMap<SetKey<'s>, usize, SetHashBuilder>,
-    list: &'s SetKey<'s>,
-) -> Option<usize>
-    ensures { result ≡ found list.now sets.now.entries given.now.entries }
-{
-    match number_in(sets, list) {
-        Some(number) => Some(number),
-        None if given.is_empty() => None,
-        None => number_in(given, list),
-    }
-}
-
-/// Adds a key, for which there is room.
-fn add_key(map: &mut Numbered, key: SetKey<'static>, number: usize)
-    requires absent { lookup (set_eq key) map.old.entries ≡ None }
-    requires room { 0 < spare map.old }
-    ensures keys { map.new.entries ≡ map.old.entries ++ (key.entry, number) ∷ [] }
-{
-    map.insert(key, number).unwrap();
-}
-
-/// Makes room for one more slot and a key in each map.
+/// Makes room for one more slot and a key of each kind.
 fn reserve_one<A: Aggregator>(
     slots: &mut Slab<Slot<A>>,
-    sets: &mut Numbered,
-    given: &mut Numbered,
+    keys: &mut KeyTable,
 ) -> Result<(), AllocError>
     ensures look { look_in A.meaning slots.new ≡ look_in A.meaning slots.old }
-    ensures sets { sets.new.entries ≡ sets.old.entries }
-    ensures given { given.new.entries ≡ given.old.entries }
-    ensures room { OnOk result ((nat_le (slab_len slots.new + 1) slots.new.capacity && (nat_lt 0 (spare sets.new) && nat_lt 0 (spare given.new))) ≡ true) }
+    ensures sets { keys.new.sets ≡ keys.old.sets }
+    ensures given { keys.new.given ≡ keys.old.given }
+    ensures room { OnOk result ((nat_le (slab_len slots.new + 1) slots.new.capacity && keys.new.room) ≡ true) }
 {
     slots.reserve(1)?;
-    sets.reserve(1)?;
-    given.reserve(1)?;
-    Ok(())
-}
-
-/// Maps that have no room for more keys than this keep it.
-const SMALL: usize = 64;
-
-/// Gives memory back if a map has far fewer keys than there is room for, since clearing a map and removing from it take
-/// time for that room. For what stays, it takes memory anew; if that is refused, the room stays.
-fn trim(map: &mut Numbered)
-    ensures { map.new.entries ≡ map.old.entries }
-{
-    let room = map.capacity();
-    if room > SMALL && map.len() < room / 8 {
-        map.shrink_to(2 * map.len());
-    }
-}
-
-/// Removes the keys that lead to free slots.
-fn keep_filled<A: Aggregator>(map: &mut Numbered, slots: &Slab<Slot<A>>)
-    ensures { map.new.entries ≡ filter (λ e. is_some (look_in A.meaning slots.now e.1)) map.old.entries }
-{
-    map.retain(|_key, number| slots.contains(*number));
-    trim(map);
+    keys.reserve_one()
 }
 
 /// Adds the point of a set, with a copy of the slot's aggregator.
@@ -181,22 +115,22 @@ fn first_points<A: Aggregator>(
 fn copy_out<A: Aggregator>(
     alloc: Global,
     slots: &Slab<Slot<A>>,
-    sets: &Numbered,
+    keys: &KeyTable,
     every: bool,
     points: &mut Vec<(SharedItems<KeyValue>, A)>,
 ) -> Result<(), Fault>
-    requires { AllByRecursion (Fits (look_in A.meaning slots.now)) sets.now.entries }
-    ensures points { OnOk result (copies A.meaning points.new.items ≡ copies A.meaning points.old.items ++ map point_of_entry (filter (λ entry. every || entry.updated) (map (entry_at (look_in A.meaning slots.now)) sets.now.entries))) }
+    requires { AllByRecursion (Fits (look_in A.meaning slots.now)) keys.now.sets }
+    ensures points { OnOk result (copies A.meaning points.new.items ≡ copies A.meaning points.old.items ++ map point_of_entry (filter (λ entry. every || entry.updated) (map (entry_at (look_in A.meaning slots.now)) keys.now.sets))) }
     ensures only_memory { IsOkUnless result Fault.OutOfMemory }
 {
     if every {
-        points.reserve(sets.len())?;
+        points.reserve(keys.count_sets())?;
     }
-    for (set, number) in sets.iter() {
+    for (set, number) in keys.sets() {
         if let Some(slot) = slots.get(*number) {
             let is_shown = every || slot.updated;
             if is_shown {
-                push_point(alloc, set.share(alloc)?, slot, points)?;
+                push_point(alloc, set.key().share(alloc)?, slot, points)?;
             }
         }
     }
@@ -221,11 +155,11 @@ fn weight_shown<A: Aggregator>(slots: &Slab<Slot<A>>, number: usize, every: bool
 }
 
 /// What the records that the points of the sets show add up to, modulo 2^64.
-fn total_of<A: Aggregator>(slots: &Slab<Slot<A>>, sets: &Numbered, every: bool) -> u64
-    ensures { result ≡ wrap (points_total (map point_of_entry (filter (λ entry. every || entry.updated) (map (entry_at (look_in A.meaning slots.now)) sets.now.entries)))) }
+fn total_of<A: Aggregator>(slots: &Slab<Slot<A>>, keys: &KeyTable, every: bool) -> u64
+    ensures { result ≡ wrap (points_total (map point_of_entry (filter (λ entry. every || entry.updated) (map (entry_at (look_in A.meaning slots.now)) keys.now.sets)))) }
 {
     let mut total: u64 = 0;
-    for (_, number) in sets.iter() {
+    for (_, number) in keys.sets() {
         total = total.wrapping_add(weight_shown(slots, *number, every));
     }
     total
@@ -243,11 +177,11 @@ fn is_counted<A: Aggregator>(slots: &Slab<Slot<A>>, number: usize) -> bool
 
 /// How many of the sets the limit counts.
 #[tactic(auto, using(crate::proofs::TableLemmas::counted_cons, crate::proofs::TableLemmas::counted_few))]
-fn count_counted<A: Aggregator>(slots: &Slab<Slot<A>>, sets: &Numbered) -> usize
-    ensures { result ≡ number_counted (map (entry_at (look_in A.meaning slots.now)) sets.now.entries) }
+fn count_counted<A: Aggregator>(slots: &Slab<Slot<A>>, keys: &KeyTable) -> usize
+    ensures { result ≡ number_counted (map (entry_at (look_in A.meaning slots.now)) keys.now.sets) }
 {
     let mut count = 0;
-    for (_, number) in sets.iter() {
+    for (_, number) in keys.sets() {
         if is_counted(slots, *number) {
             count += 1;
         }
@@ -256,21 +190,21 @@ fn count_counted<A: Aggregator>(slots: &Slab<Slot<A>>, sets: &Numbered) -> usize
 }
 
 /// Forgets the records in the slots of the sets, or frees those that evictions don't spare.
-fn settle_each<A: Aggregator>(slots: &mut Slab<Slot<A>>, sets: &Numbered)
-    requires apart { IsDistinct nat_eq (values_of sets.now.entries) }
-    ensures look { SameLook (look_in A.meaning slots.new) (changed_each left_of sets.now.entries (look_in A.meaning slots.old)) }
+fn settle_each<A: Aggregator>(slots: &mut Slab<Slot<A>>, keys: &KeyTable)
+    requires apart { IsDistinct nat_eq (values_of keys.now.sets) }
+    ensures look { SameLook (look_in A.meaning slots.new) (changed_each left_of keys.now.sets (look_in A.meaning slots.old)) }
 {
-    for (_, number) in sets.iter() {
+    for (_, number) in keys.sets() {
         settle(slots, *number);
     }
 }
 
 /// Frees the slots of the sets.
-fn free_each<A: Aggregator>(slots: &mut Slab<Slot<A>>, sets: &Numbered)
-    requires apart { IsDistinct nat_eq (values_of sets.now.entries) }
-    ensures look { SameLook (look_in A.meaning slots.new) (changed_each (λ _. None) sets.now.entries (look_in A.meaning slots.old)) }
+fn free_each<A: Aggregator>(slots: &mut Slab<Slot<A>>, keys: &KeyTable)
+    requires apart { IsDistinct nat_eq (values_of keys.now.sets) }
+    ensures look { SameLook (look_in A.meaning slots.new) (changed_each (λ _. None) keys.now.sets (look_in A.meaning slots.old)) }
 {
-    for (_, number) in sets.iter() {
+    for (_, number) in keys.sets() {
         free(slots, *number);
     }
 }
@@ -336,8 +270,7 @@ impl<A: Aggregator> Table<A> {
         Ok(Table {
             slots,
             none,
-            sets: IndexMap::with_hasher(alloc, hasher),
-            given: IndexMap::with_hasher(alloc, hasher),
+            keys: KeyTable::new(alloc, hasher),
         })
     }
 
@@ -369,7 +302,7 @@ impl<A: Aggregator> Table<A> {
         ensures placed { is_some result ≡ has set.now self.now.table.entries }
         ensures named { IfSome result (λ n. IsNumberOf set.now n self.now.numbers) }
     {
-        number_in(&self.sets, set)
+        self.keys.find_set(set)
     }
 
     /// The number that a list leads to as given: as a set, or as the list that admitted one.
@@ -379,7 +312,7 @@ impl<A: Aggregator> Table<A> {
         ensures placed { IfSome result (λ _. has (canon list.now) self.now.table.entries ≡ true) }
         ensures named { IfSome result (λ n. IsNumberOf (canon list.now) n self.now.numbers) }
     {
-        found_in(&self.sets, &self.given, list)
+        self.keys.find(list)
     }
 
     /// How many keys lead to entries: those of sets, and those of lists as given.
@@ -387,7 +320,7 @@ impl<A: Aggregator> Table<A> {
         ensures number { result ≡ length self.now.table.entries + length self.now.given }
         ensures few { result ≤ 2 * length self.now.table.entries }
     {
-        self.sets.len() + self.given.len()
+        self.keys.keys()
     }
 
     /// Makes room for one more entry, with a key for its set and one for another list.
@@ -397,7 +330,7 @@ impl<A: Aggregator> Table<A> {
         ensures given { self.new.given ≡ self.old.given }
         ensures room { OnOk result (self.new.room ≡ true) }
     {
-        reserve_one(&mut self.slots, &mut self.sets, &mut self.given)
+        reserve_one(&mut self.slots, &mut self.keys)
     }
 
     /// Takes a record into the entry with this number, without a look-up.
@@ -430,9 +363,8 @@ impl<A: Aggregator> Table<A> {
         ensures given { keys_of self.new.given ≡ filter (λ l. has (canon l) (evicted_table self.old.table).entries) (keys_of self.old.given) }
     {
         settle(&mut self.slots, self.none);
-        settle_each(&mut self.slots, &self.sets);
-        keep_filled(&mut self.sets, &self.slots);
-        keep_filled(&mut self.given, &self.slots);
+        settle_each(&mut self.slots, &self.keys);
+        self.keys.keep_filled(&self.slots);
     }
 
     /// Adds an entry for a set that has none, and returns its number. The entry gets a slot, a key for the set, and a
@@ -453,10 +385,7 @@ impl<A: Aggregator> Table<A> {
         ensures given { self.new.given ≡ with_spelling list.entry result self.old.given }
     {
         let number = fill(&mut self.slots, slot);
-        add_key(&mut self.sets, set, number);
-        if let Some(list) = list {
-            add_key(&mut self.given, list, number);
-        }
+        self.keys.add(set, list, number);
         number
     }
 
@@ -489,12 +418,9 @@ impl<A: Aggregator> Table<A> {
         ensures sets { self.new.numbers.sets ≡ [] }
         ensures given { self.new.given ≡ [] }
     {
-        free_each(&mut self.slots, &self.sets);
+        free_each(&mut self.slots, &self.keys);
         forget(&mut self.slots, self.none);
-        trim(&mut self.sets);
-        trim(&mut self.given);
-        self.sets.clear();
-        self.given.clear();
+        self.keys.clear();
     }
 
     /// The points: that of the empty set if it was updated, then those of the sets in order of making, either all or
@@ -508,7 +434,7 @@ impl<A: Aggregator> Table<A> {
         ensures only_memory { IsOkUnless result Fault.OutOfMemory }
     {
         let mut points = first_points(alloc, &self.slots, self.none)?;
-        copy_out(alloc, &self.slots, &self.sets, every, &mut points)?;
+        copy_out(alloc, &self.slots, &self.keys, every, &mut points)?;
         Ok(points)
     }
 
@@ -516,7 +442,7 @@ impl<A: Aggregator> Table<A> {
     pub fn total(&self, every: bool) -> u64
         ensures { result ≡ wrap (points_total (points every self.now.table)) }
     {
-        let rest = total_of(&self.slots, &self.sets, every);
+        let rest = total_of(&self.slots, &self.keys, every);
         rest.wrapping_add(weight_shown(&self.slots, self.none, false))
     }
 
@@ -524,7 +450,7 @@ impl<A: Aggregator> Table<A> {
     pub fn count_counted(&self) -> usize
         ensures { result ≡ number_counted self.now.table.entries }
     {
-        count_counted(&self.slots, &self.sets)
+        count_counted(&self.slots, &self.keys)
     }
 
     /// The aggregator of a set as a draining collection would show it, or `None` if it would show no point of the set.
@@ -545,8 +471,8 @@ impl<A: Aggregator> Table<A> {
         ensures only_memory { IsOkUnless result Fault.OutOfMemory }
     {
         let none = self.slots.get(self.none).unwrap();
-        let mut made = Table::with_none(alloc, *self.sets.hasher(), copy_slot(alloc, none)?)?;
-        copy_entries(alloc, &self.slots, &self.sets, &mut made)?;
+        let mut made = Table::with_none(alloc, self.keys.hasher(), copy_slot(alloc, none)?)?;
+        copy_entries(alloc, &self.slots, &self.keys, &mut made)?;
         Ok(made)
     }
 }
@@ -555,20 +481,21 @@ impl<A: Aggregator> Table<A> {
 fn copy_entries<A: Aggregator>(
     alloc: Global,
     slots: &Slab<Slot<A>>,
-    sets: &Numbered,
+    keys: &KeyTable,
     made: &mut Table<A>,
 ) -> Result<(), Fault>
-    requires fits { AllByRecursion (Fits (look_in A.meaning slots.now)) sets.now.entries }
+    requires fits { AllByRecursion (Fits (look_in A.meaning slots.now)) keys.now.sets }
+    requires unique { IsDistinct set_eq (keys_of keys.now.sets) }
     requires first { made.old.numbers.sets ≡ [] }
     requires empty { made.old.table.entries ≡ [] }
-    ensures table { OnOk result (made.new.table ≡ record made.old.table { entries = map entry_without_handles (map (entry_at (look_in A.meaning slots.now)) sets.now.entries) }) }
+    ensures table { OnOk result (made.new.table ≡ record made.old.table { entries = map entry_without_handles (map (entry_at (look_in A.meaning slots.now)) keys.now.sets) }) }
     ensures only_memory { IsOkUnless result Fault.OutOfMemory }
 {
-    for (set, number) in sets.iter() {
+    for (set, number) in keys.sets() {
         if let Some(slot) = slots.get(*number) {
             made.make_room()?;
             let slot = copy_slot(alloc, slot)?;
-            let set = SetKey::owned(set.share(alloc)?);
+            let set = SetKey::owned(set.key().share(alloc)?);
             made.add(set, None, slot);
         }
     }

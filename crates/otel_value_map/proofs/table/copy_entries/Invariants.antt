@@ -1,6 +1,7 @@
 use Rattle.std.proofs.Common.{◌≡◌, ◌++◌, map}
 use Rattle.std.specs.List.{AllByRecursion}
 use Rattle.std.specs.Map.{keys_of}
+use Rattle.otel_value_map.specs.Hashed.{plain}
 use Rattle.otel_value_map.specs.Slots.{look_in, entry_at}
 use Rattle.otel_value_map.specs.Keyed.{Fits}
 use Rattle.otel_value_map.specs.Numbers.{entry_without_handles}
@@ -10,7 +11,7 @@ use Rattle.otel_value_map.proofs.table.copy_entries.Given as goal
 abbrev pub invariant-loop-set : goal.invariant-loop-set
 invariant-loop-set g l =
     let look = look_in g.A.Aggregator.meaning l.slots in
-    AllByRecursion (Fits look) l.set-iterator
+    AllByRecursion (Fits look) (map plain l.set-iterator)
     × (l.made.table.none ≡ l.fn.made.table.none)
-    × (l.made.table.entries ++ map entry_without_handles (map (entry_at look) l.set-iterator) ≡ map entry_without_handles (map (entry_at look) l.fn.sets.entries))
-    × (keys_of l.made.numbers.sets ++ keys_of l.set-iterator ≡ keys_of l.fn.sets.entries)
+    × (l.made.table.entries ++ map entry_without_handles (map (entry_at look) (map plain l.set-iterator)) ≡ map entry_without_handles (map (entry_at look) l.fn.keys.sets))
+    × (keys_of l.made.numbers.sets ++ keys_of (map plain l.set-iterator) ≡ keys_of l.fn.keys.sets)

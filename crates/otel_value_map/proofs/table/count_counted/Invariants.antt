@@ -1,5 +1,6 @@
 use Rattle.std.proofs.Common.{◌≡◌, ◌+◌, map}
 use Rattle.otel_model_stream.specs.Entries.{number_counted}
+use Rattle.otel_value_map.specs.Hashed.{plain}
 use Rattle.otel_value_map.specs.Slots.{look_in, entry_at}
 use Rattle.otel_value_map.proofs.table.count_counted.Given as goal
 
@@ -7,4 +8,4 @@ use Rattle.otel_value_map.proofs.table.count_counted.Given as goal
 abbrev pub invariant-loop-number : goal.invariant-loop-number
 invariant-loop-number g l =
     let look = look_in g.A.Aggregator.meaning l.slots in
-    l.count + number_counted (map (entry_at look) l.number-iterator) ≡ number_counted (map (entry_at look) l.fn.sets.entries)
+    l.count + number_counted (map (entry_at look) (map plain l.number-iterator)) ≡ number_counted (map (entry_at look) l.fn.keys.sets)

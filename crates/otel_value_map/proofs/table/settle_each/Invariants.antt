@@ -1,3 +1,5 @@
+use Rattle.std.proofs.Common.{map}
+use Rattle.otel_value_map.specs.Hashed.{plain}
 use Rattle.otel_value_map.specs.Slots.{SameLook, look_in, left_of}
 use Rattle.otel_value_map.proofs.SlotLemmas.{through}
 use Rattle.otel_value_map.proofs.table.settle_each.Given as goal
@@ -6,4 +8,4 @@ use Rattle.otel_value_map.proofs.table.settle_each.Given as goal
 abbrev pub invariant-loop-number : goal.invariant-loop-number
 invariant-loop-number g l =
     let meaning = g.A.Aggregator.meaning in
-    SameLook (through left_of l.number-iterator (look_in meaning l.slots)) (through left_of l.fn.sets.entries (look_in meaning l.fn.slots))
+    SameLook (through left_of (map plain l.number-iterator) (look_in meaning l.slots)) (through left_of l.fn.keys.sets (look_in meaning l.fn.slots))

@@ -1,7 +1,9 @@
-use Rattle.std.proofs.Common.{◌≡◌, ◌+◌, ◌||◌, ◌∷◌, Bool, List, ap, sym, ◌∙◌, arith, map, rules}
+use Rattle.std.proofs.Common.{◌≡◌, ◌+◌, ◌||◌, ◌∷◌, Bool, List, ℕ, ap, sym, ◌∙◌, arith, map, rules}
 use Rattle.otel_model_stream.specs.Folds.{wrap}
 use Rattle.otel_model_stream.specs.Entries.{Entry}
 use Rattle.otel_model_stream.specs.Totals.{points_total}
+use Rattle.otel_value_map.specs.Hashed.{plain}
+use Rattle.otel_value_map.specs.declared.hashed_key.HashedKey.{HashedKey}
 use Rattle.otel_value_map.specs.Slots.{look_in, entry_at}
 use Rattle.otel_value_map.proofs.WeightLemmas.{passed, total-turn, total-end}
 use Rattle.otel_value_map.proofs.table.total_of.Goals as goal
@@ -13,13 +15,13 @@ pub loop-number-preserved : goal.loop-number-preserved
 loop-number-preserved g c =
     let look = look_in g.A.Aggregator.meaning c.args.slots.now in
     let shows : Entry → Bool = λ (e : Entry). c.args.every || e.updated in
-    let e : Entry = entry_at look (c.in-Some.field-0-0.now, c.in-Some.number.now) in
-    let left : List Entry = map (entry_at look) c.next.new.self in
-    let steps : map (entry_at look) c.loop-number.number-iterator ≡ e ∷ left = ap (map (entry_at look)) c.in-Some.ensures.steps in
-    total-turn shows e left c.loop-number.total c.weight_shown-total.result _ (c.weight_shown-total.ensures c.in-Some.field-0-0.now) (ap (λ (es : List Entry). wrap (c.loop-number.total + points_total (passed shows es))) (sym steps) ∙ c.loop-number.invariant)
+    let e : Entry = entry_at look (c.in-Some.field-0-0.now.key, c.in-Some.number.now) in
+    let left : List Entry = map (entry_at look) (map plain c.next.new.self) in
+    let steps : map (entry_at look) (map plain c.loop-number.number-iterator) ≡ e ∷ left = ap (λ (es : List (HashedKey × ℕ)). map (entry_at look) (map plain es)) c.in-Some.ensures.steps in
+    total-turn shows e left c.loop-number.total c.weight_shown-total.result _ (c.weight_shown-total.ensures c.in-Some.field-0-0.now.key) (ap (λ (es : List Entry). wrap (c.loop-number.total + points_total (passed shows es))) (sym steps) ∙ c.loop-number.invariant)
 
 pub returns : goal.returns
 returns g c =
     let look = look_in g.A.Aggregator.meaning c.args.slots.now in
     let shows : Entry → Bool = λ (e : Entry). c.args.every || e.updated in
-    total-end shows (map (entry_at look) c.loop-number.number-iterator) c.loop-number.total _ (omega (arith, c.loop-number.auto.total-fits)) (ap (map (entry_at look)) c.in-None.ensures.steps.0) c.loop-number.invariant
+    total-end shows (map (entry_at look) (map plain c.loop-number.number-iterator)) c.loop-number.total _ (omega (arith, c.loop-number.auto.total-fits)) (ap (λ (es : List (HashedKey × ℕ)). map (entry_at look) (map plain es)) c.in-None.ensures.steps.0) c.loop-number.invariant

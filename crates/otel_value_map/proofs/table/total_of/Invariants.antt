@@ -1,6 +1,7 @@
 use Rattle.std.proofs.Common.{◌≡◌, ◌+◌, map}
 use Rattle.otel_model_stream.specs.Folds.{wrap}
 use Rattle.otel_model_stream.specs.Totals.{points_total}
+use Rattle.otel_value_map.specs.Hashed.{plain}
 use Rattle.otel_value_map.specs.Slots.{look_in, entry_at}
 use Rattle.otel_value_map.proofs.TableLemmas.{shown_of}
 use Rattle.otel_value_map.proofs.table.total_of.Given as goal
@@ -9,4 +10,4 @@ use Rattle.otel_value_map.proofs.table.total_of.Given as goal
 abbrev pub invariant-loop-number : goal.invariant-loop-number
 invariant-loop-number g l =
     let look = look_in g.A.Aggregator.meaning l.slots in
-    wrap (l.total + points_total (shown_of l.every (map (entry_at look) l.number-iterator))) ≡ wrap (points_total (shown_of l.every (map (entry_at look) l.fn.sets.entries)))
+    wrap (l.total + points_total (shown_of l.every (map (entry_at look) (map plain l.number-iterator)))) ≡ wrap (points_total (shown_of l.every (map (entry_at look) l.fn.keys.sets)))

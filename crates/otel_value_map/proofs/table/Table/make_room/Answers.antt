@@ -5,11 +5,11 @@ use Rattle.otel_value_map.proofs.table.Table.make_room.Goals as goal
 
 pub invariant_of-self : goal.invariant_of-self
 invariant_of-self g c =
-    let laws = subst (λ (look : Look). IsKept look c.self.inside.none c.self.inside.sets.entries c.self.inside.given.entries) (sym c.reserve_one.ensures.look) c.self.invariant in
+    let laws = subst (λ (look : Look). IsKept look c.self.inside.none c.self.inside.keys.sets c.self.inside.keys.given) (sym c.reserve_one.ensures.look) c.self.invariant in
     rw (c.reserve_one.ensures.sets, c.reserve_one.ensures.given) laws
 
 pub returns-clause-table : goal.returns-clause-table
 returns-clause-table g c =
-    ap (λ (look : Look). table_at look c.self.inside.none c.reserve_one.new.sets.entries) c.reserve_one.ensures.look
+    ap (λ (look : Look). table_at look c.self.inside.none c.reserve_one.new.keys.sets) c.reserve_one.ensures.look
     ∙ ap (λ (es : List Keyed). table_at (look_in g.A.Aggregator.meaning c.self.inside.slots) c.self.inside.none es) c.reserve_one.ensures.sets
     ∙ ap (λ (t : Slotted). t.table) c.self.view_is

@@ -1,8 +1,6 @@
 use Rattle.std.proofs.Common.{◌∙◌, Some, ap, sym}
 use Rattle.otel_model_stream.specs.Entries.{Table}
-use Rattle.otel_model_stream.specs.Maps.{MapState}
 use Rattle.otel_model_stream.specs.Sets.{none_set}
-use Rattle.otel_value_map.specs.Held.{Held}
 use Rattle.otel_value_map.proofs.PlaceLemmas.{sound-nothing}
 use Rattle.otel_value_map.proofs.value_map.ValueMap.measure_none.Goals as goal
 

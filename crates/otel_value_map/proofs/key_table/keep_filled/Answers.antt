@@ -3,7 +3,7 @@ use Rattle.std.proofs.lemmas.Map.Made.{filter_same_pairs}
 use Rattle.slab.specs.Slab.{get}
 use Rattle.otel_value_map.specs.Slots.{look_in, kept_of}
 use Rattle.otel_value_map.proofs.TableLemmas.{is_some-map}
-use Rattle.otel_value_map.proofs.table.keep_filled.Goals as goal
+use Rattle.otel_value_map.proofs.key_table.keep_filled.Goals as goal
 
 pub returns : goal.returns
 returns g c =
