@@ -1,5 +1,5 @@
 -- Which of a reader's streams an identity has.
-use Rattle.std.proofs.Common.{◌≡◌, ℕ, zero, suc, ◌+◌, ◌<◌, Bool, true, false, cond, not, ◌||◌, List, [], ◌∷◌, ◌++◌, length, Option, Some, None, slice_get, get_or, refl, sym, ◌∙◌, ap, subst, arith, true≢false}
+use Rattle.std.proofs.Common.{◌≡◌, ℕ, zero, suc, ◌+◌, ◌<◌, Bool, true, false, cond, not, ◌||◌, List, [], ◌∷◌, ◌++◌, length, Option, Some, None, slice_get, refl, sym, ◌∙◌, ap, subst, arith, true≢false}
 use Rattle.std.specs.Prelude.{is_some, nat_lt, position}
 use Rattle.std.specs.List.{list_any, position_or_len}
 use Rattle.std.specs.Option.{option_map}
@@ -10,11 +10,6 @@ use Rattle.otel_model.proofs.Gather.{identity_eq_true, identity_eq_self}
 use Rattle.otel_pipeline.specs.Pipelines.{identity_of, fates_of, stream_identities, stream_number, drops_at}
 use Rattle.otel_pipeline.specs.Streams.{Held}
 use Rattle.otel_pipeline.proofs.Identities.{test-flip}
-
-pub get-item : (ks : List Held) (n : ℕ) (k : Held) → n < length ks → k ≡ get_or ks n k → slice_get ks n ≡ Some k
-get-item [] n k h e = absurd (omega arith)
-get-item (x ∷ ks) zero k h e = ap (λ z. Some z) (sym e)
-get-item (x ∷ ks) (suc n) k h e = get-item ks n k (omega arith) e
 
 -- whether a stream that is there drops
 pub drops-is : (ks : List Held) (n : ℕ) (k : Held) → slice_get ks n ≡ Some k → drops_at ks n ≡ model.is_drop k.stream.demand.aggregation

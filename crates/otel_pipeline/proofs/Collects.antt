@@ -1,5 +1,6 @@
 -- Collections that are made of the streams are the model's.
 use Rattle.std.proofs.Common.{◌≡◌, ℕ, Bool, true, false, cond, List, [], ◌∷◌, map, filter, refl, sym, ◌∙◌, ap}
+use Rattle.std.proofs.lemmas.Simd.{map-map}
 use Rattle.otel_common.specs.declared.resource.Resource.{Resource}
 use Rattle.otel_common.specs.declared.metrics.Temporality.TheVariants as temporality
 use Rattle.otel_common.specs.declared.scopes.InstrumentationScope.{InstrumentationScope}
@@ -12,9 +13,9 @@ use Rattle.otel_model.specs.Machine.{part_after_call, points_at, stream_after}
 use Rattle.otel_model.specs.State.{Stream}
 use Rattle.otel_model.specs.Streams.{is_delta, is_monotonic_kind}
 use Rattle.otel_pipeline.specs.Collections.{scoped_metric, all_scoped, scopes_shown, IsCollectedFrom}
-use Rattle.otel_pipeline.specs.Pipelines.{part_by, named_identities, is_streamed, model_streams, AreAnswered, all_without_pending, all_after_collection}
+use Rattle.otel_pipeline.specs.Pipelines.{part_by, fates_of, named_identities, is_streamed, model_streams, AreAnswered, all_without_pending, all_after_collection}
 use Rattle.otel_pipeline.specs.Streams.{Held, shown_metric, shown_values, without_pending, held_after_collection}
-use Rattle.otel_pipeline.proofs.PipelineLemmas.{part-settled, demands-finished, feeds-same}
+use Rattle.otel_pipeline.proofs.PipelineLemmas.{feeds-same, filter-map, settled-part}
 
 module _ (answers : ReaderAnswers) (feeds : List (List Identity)) (now : ℕ) where
   -- ======== what is shown ========
@@ -60,13 +61,7 @@ module _ (answers : ReaderAnswers) (feeds : List (List Identity)) (now : ℕ) wh
 
 -- which records are prepared makes no difference
 filter-settled : (now : ℕ) (ks : List Held) → all_scoped now (all_without_pending ks) ≡ all_scoped now ks
-filter-settled now [] = refl
-filter-settled now (k ∷ ks) = by (is_streamed k) (filter-settled now ks)
-  where
-    by : (b : Bool) → all_scoped now (all_without_pending ks) ≡ all_scoped now ks
-        → map (scoped_metric now) (cond b (without_pending k ∷ filter is_streamed (all_without_pending ks)) (filter is_streamed (all_without_pending ks))) ≡ map (scoped_metric now) (cond b (k ∷ filter is_streamed ks) (filter is_streamed ks))
-    by true rest = ap (λ l. scoped_metric now k ∷ l) rest
-    by false rest = rest
+filter-settled now ks = ap (map (scoped_metric now)) (filter-map is_streamed without_pending ks) ∙ map-map (scoped_metric now) without_pending (filter is_streamed ks)
 
 pub shown-settled : (now : ℕ) (meters : List InstrumentationScope) (a b : List Held) → all_without_pending a ≡ all_without_pending b → scopes_shown now a meters ≡ scopes_shown now b meters
 shown-settled now meters a b e =
@@ -74,8 +69,9 @@ shown-settled now meters a b e =
     (sym (filter-settled now a) ∙ (ap (all_scoped now) e ∙ filter-settled now b))
 
 finished-once : (now : ℕ) (ks : List Held) → all_without_pending (all_after_collection now (all_without_pending ks)) ≡ all_without_pending (all_after_collection now ks)
-finished-once now [] = refl
-finished-once now (k ∷ ks) = ap (λ l. without_pending (held_after_collection now k) ∷ l) (finished-once now ks)
+finished-once now ks =
+    ap all_without_pending (map-map (held_after_collection now) without_pending ks)
+    ∙ (map-map without_pending (λ (k : Held). held_after_collection now (without_pending k)) ks ∙ sym (map-map without_pending (held_after_collection now) ks))
 
 pub finished-settled : (now : ℕ) (a b : List Held) → all_without_pending a ≡ all_without_pending b → all_without_pending (all_after_collection now a) ≡ all_without_pending (all_after_collection now b)
 finished-settled now a b e = sym (finished-once now a) ∙ (ap (λ ks. all_without_pending (all_after_collection now ks)) e ∙ finished-once now b)
@@ -92,12 +88,11 @@ collected-is resource meters now answers ks feeds c all r e s to_resource to_met
 pub part-finished : (answers : ReaderAnswers) (next r now : ℕ) (old new : List Held) (feeds : List (List ℕ)) → AreAnswered answers old → all_without_pending new ≡ all_without_pending (all_after_collection now old)
     → part_by answers new feeds ≡ part_after_call next (model.Call.Collect r now []) (part_by answers old feeds)
 part-finished answers next r now old new feeds all e =
-    sym (part-settled answers new feeds)
-    ∙ ap (λ ks. part_by answers ks feeds) e
-    ∙ part-settled answers (all_after_collection now old) feeds
+    let same : fates_of (all_after_collection now old) ≡ fates_of old = map-map (λ (k : Held). k.stream.demand) (held_after_collection now) old in
+    settled-part answers new (all_after_collection now old) feeds e
     ∙ λ i. record {
       answers = answers;
-      fates = demands-finished now old i;
+      fates = same i;
       streams = sym (streams-finished answers (map (named_identities old) feeds) now next r old all) i;
-      feeds = feeds-same (all_after_collection now old) old (demands-finished now old) feeds i;
+      feeds = feeds-same (all_after_collection now old) old same feeds i;
     }

@@ -1,7 +1,6 @@
 -- What is done to handles stream by stream is the model's call.
-use Rattle.std.proofs.Common.{◌≡◌, ℕ, zero, suc, ◌+◌, ◌<◌, ◌==◌, length, eq-eqb, eqb-true, Bool, true, false, cond, not, ◌&&◌, ◌||◌, List, [], ◌∷◌, map, Option, Some, None, is_none, slice_get, refl, sym, ◌∙◌, ap, subst, arith, true≢false, get_or}
-use Rattle.std.specs.List.{AllByRecursion as EachOf, IsDistinct}
-use Rattle.std.specs.Prelude.{All}
+use Rattle.std.proofs.Common.{◌≡◌, ℕ, zero, suc, ◌+◌, ◌<◌, ◌==◌, length, eq-eqb, Bool, true, false, cond, not, ◌&&◌, ◌||◌, List, [], ◌∷◌, map, Option, Some, None, is_none, slice_get, refl, sym, ◌∙◌, ap, subst, arith, true≢false, get_or}
+use Rattle.std.specs.List.{AllByRecursion as EachOf}
 use Rattle.otel_common.specs.declared.attributes.KeyValue.{KeyValue}
 use Rattle.otel_data.specs.declared.numbers.NumberValue.{NumberValue}
 use Rattle.otel_aggregate.specs.Any.{is_signed_value, amount_of}
@@ -11,21 +10,18 @@ use Rattle.otel_model_stream.specs.Folds.{Amount, sample_of, wrap}
 use Rattle.otel_model_stream.specs.Machine.{through, let_go}
 use Rattle.otel_model_stream.specs.Sets.{AttributeSet}
 use Rattle.otel_model_stream.specs.Totals.{has_number, size}
-use Rattle.otel_model.specs.Calls.{InstrumentKind, Counter, UpDownCounter, Histogram, ObservableCounter, ObservableUpDownCounter, Gauge, ObservableGauge, is_observable, or_else, Number, Bind, RecordBound, Unbind}
+use Rattle.otel_model.specs.Calls.{InstrumentKind, Counter, UpDownCounter, Histogram, ObservableCounter, ObservableUpDownCounter, Gauge, ObservableGauge, is_observable, Number, Bind, RecordBound, Unbind}
 use Rattle.otel_model.specs.Demands as model
 use Rattle.otel_model.specs.Machine.{stream_after, part_after_call, if_held}
 use Rattle.otel_model.specs.Sent.{is_fed, set_for}
 use Rattle.otel_model.specs.State.{Stream}
 use Rattle.otel_model.specs.Streams.{aggregate_of, is_drained, observes_sums}
-use Rattle.otel_pipeline.specs.Handles.{FeedsSynchronous, FeedsObservable, AreObservableFor, IsNewAt, IsHeldByFed, IsReadyToBind, IsReadyIfThere, IsReadyToBindAt, bound_each, part_after_bind, updated_each, unbound_each}
-use Rattle.otel_pipeline.specs.Observations.{AreObservable, AreObservableIn}
-use Rattle.otel_pipeline.specs.Pipelines.{Piped, AreFedOnce, AreNumbers, FeedsType, identity_of, is_streamed, fates_of, model_streams, named_identities, number_of, part_by, part_of, fed_by, stream_identities}
+use Rattle.otel_pipeline.specs.Handles.{FeedsSynchronous, AreObservableFor, IsNewAt, IsHeldByFed, IsReadyToBind, IsReadyIfThere, IsReadyToBindAt, part_after_bind}
+use Rattle.otel_pipeline.specs.Observations.{AreObservableIn}
+use Rattle.otel_pipeline.specs.Pipelines.{Piped, IsLawful, FeedsType, identity_of, is_streamed, model_streams, named_identities, number_of, part_of, part_changed_by, fed_by}
 use Rattle.otel_pipeline.specs.Streams.{Held, with_bind, bound_by, held_after_bind, with_update, held_after_update, without_handle, held_after_unbind}
-use Rattle.otel_pipeline.proofs.Answered.{KeepsAnswer}
-use Rattle.otel_pipeline.proofs.Commits.{fold-changed}
-use Rattle.otel_pipeline.proofs.Identities.{AreApart, are_apart}
-use Rattle.otel_pipeline.proofs.PipelineLemmas.{demands-changed, feeds-same}
-use Rattle.otel_pipeline.proofs.Records.{all_sent, each-sent, fed-at, fed-numbers, fits, some_same, typed-fits}
+use Rattle.otel_pipeline.proofs.Answered.{binds, unbinds, updates}
+use Rattle.otel_pipeline.proofs.Records.{each-sent, fed-at, fits, some_same, there-at, typed-fits}
 
 -- ======== kinds ========
 drained-by : (kind : InstrumentKind) → is_observable kind ≡ false → observes_sums kind ≡ false
@@ -64,15 +60,6 @@ of-streamed P (m ∷ ks) all zero k at s =
     subst (λ (x : Held). P x.stream) same (of-first P m ks all (ap is_streamed same ∙ s))
 of-streamed P (m ∷ ks) all (suc i) k at s = of-streamed P ks (of-rest P m ks all) i k at s
 
--- what holds of the elements of these numbers
-there-at : (P : Option Held → Type 0) (ks : List Held) (ns : List ℕ) → All (λ n. P (slice_get ks n)) ns → (i : ℕ) (k : Held) → slice_get ks i ≡ Some k → has_number i ns ≡ true → P (Some k)
-there-at P ks [] all i k at h = absurd (true≢false (sym h))
-there-at P ks (n ∷ ns) all i k at h = by (n == i) refl h (λ q. there-at P ks ns (λ j d g. all (suc j) d (omega arith)) i k at q)
-  where
-    by : (b : Bool) → (n == i) ≡ b → (b || has_number i ns) ≡ true → (has_number i ns ≡ true → P (Some k)) → P (Some k)
-    by true t q rest = subst P (ap (slice_get ks) (eqb-true n i t) ∙ at) (all 0 n (omega arith))
-    by false t q rest = rest q
-
 -- ======== observations ========
 number-there : (ns : List ℕ) (i d : ℕ) → i < length ns → has_number (get_or ns i d) ns ≡ true
 number-there [] i d h = absurd (omega arith)
@@ -83,14 +70,11 @@ number-there (n ∷ ns) (suc i) d h = by (n == get_or ns i d) (number-there ns i
     by true e = refl
     by false e = e
 
-observable-fed : (answers : model.ReaderAnswers) (ks : List Held) → AreApart ks → (feeds : List (List ℕ)) (n : ℕ) → All (AreNumbers ks) feeds → FeedsObservable n (part_by answers ks feeds) → AreObservable ks (or_else (slice_get feeds n) [])
-observable-fed answers ks apart feeds n numbers seen i d h k at =
-    let ns = or_else (slice_get feeds n) [] in
-    seen (identity_of k) (fed-at ks apart feeds n (fed-numbers ks feeds n numbers) (get_or ns i d) k at ∙ number-there ns i d h)
-
 -- streams that take observations in are observable
-pub observable-in : (answers : model.ReaderAnswers) (os : List Observed) (ks : List Held) → AreApart ks → (feeds : List (List ℕ)) → All (AreNumbers ks) feeds → AreObservableFor os (part_by answers ks feeds) → AreObservableIn feeds os ks
-observable-in answers os ks apart feeds numbers all i d h = observable-fed answers ks apart feeds (get_or os i d).instrument numbers (all i d h)
+pub observable-in : (os : List Observed) (p : Piped) → IsLawful p → AreObservableFor os (part_of p) → AreObservableIn p.feeds os p.streams
+observable-in os p lawful all i d h j e g k at =
+    let n = (get_or os i d).instrument in
+    all i d h (identity_of k) (fed-at p lawful n (get_or (fed_by n p) j e) k at ∙ number-there (fed_by n p) j e g)
 
 -- ======== binds ========
 bind-if : (answers : model.ReaderAnswers) (h n : ℕ) (l : List KeyValue) (feeds : List (List model.Identity)) (k : Held) (b : Bool) → is_fed feeds n (identity_of k) ≡ b
@@ -98,68 +82,23 @@ bind-if : (answers : model.ReaderAnswers) (h n : ℕ) (l : List KeyValue) (feeds
 bind-if answers h n l feeds k true e = rw e refl
 bind-if answers h n l feeds k false e = rw e refl
 
-bound-answer : (h : ℕ) (b : Bool) (o : Option AttributeSet) (k : Held) → ((cond b (bound_by o h k) k).resets ≡ k.resets) × ((cond b (bound_by o h k) k).stream.demand ≡ k.stream.demand)
-bound-answer h true None k = (refl, refl)
-bound-answer h true (Some s) k = (refl, refl)
-bound-answer h false o k = (refl, refl)
-
-pub binds : (h : ℕ) → KeepsAnswer (held_after_bind h)
-binds h k = bound-answer h (not (is_observable k.stream.demand.identity.kind) && (k.room && is_none (held_by h k.stream.machine.live))) k.pending k
-
 abbrev can_bind : ℕ → Held → Bool
 can_bind h k = not (is_observable k.stream.demand.identity.kind) && (k.room && is_none (held_by h k.stream.machine.live))
 
--- a bind is made once
-bound-once : (h : ℕ) (b : Bool) (o : Option AttributeSet) (k : Held) → k.pending ≡ o → can_bind h k ≡ b → held_after_bind h (cond b (bound_by o h k) k) ≡ cond b (bound_by o h k) k
-bound-once h false o k e t = ap (λ b. cond b (bound_by k.pending h k) k) t
-bound-once h true None k e t = ap (λ b. cond b (bound_by k.pending h k) k) t ∙ ap (λ p. bound_by p h k) e
-bound-once h true (Some s) k e t = by (not (is_observable k.stream.demand.identity.kind))
-  where
-    by : (b : Bool) → cond (b && (false && is_none (held_by h (with_bind h s k).stream.machine.live))) (with_bind h s k) (with_bind h s k) ≡ with_bind h s k
-    by true = refl
-    by false = refl
-
-bound-twice : (h : ℕ) (k : Held) → held_after_bind h (held_after_bind h k) ≡ held_after_bind h k
-bound-twice h k = bound-once h (can_bind h k) k.pending k refl refl
-
 pub bound-sent : (h n : ℕ) (l : List KeyValue) (p : Piped) → IsReadyToBindAt n l p → FeedsSynchronous n (part_of p) → IsNewAt h (part_of p) → part_after_bind n h p ≡ part_after_call h (Bind n l) (part_of p)
-bound-sent h n l p ready sync new =
-    let same : fates_of (bound_each h (fed_by n p) p.streams) ≡ fates_of p.streams = demands-changed (held_after_bind h) (λ k. (binds h k).1) (fed_by n p) p.streams in
-    λ i. record {
-      answers = p.answers;
-      fates = same i;
-      streams = (ap model_streams (fold-changed (held_after_bind h) (bound-twice h) (fed_by n p) p.streams)
-          ∙ sym (all_sent p.answers p.streams (are_apart p.streams ready.lawful.apart) p.feeds h n (Bind n l) (held_after_bind h) (fed-numbers p.streams p.feeds n ready.lawful.numbers) (λ k. (binds h k).1)
-          (λ i k at s t fed. bind-if p.answers h n l (map (named_identities p.streams) p.feeds) k true fed ∙ made i k at s t fed)
-          (λ i k at s fed. bind-if p.answers h n l (map (named_identities p.streams) p.feeds) k false fed))) i;
-      feeds = feeds-same (bound_each h (fed_by n p) p.streams) p.streams same p.feeds i;
-    }
-  where
-    made : (i : ℕ) (k : Held) → slice_get p.streams i ≡ Some k → is_streamed k ≡ true → has_number i (fed_by n p) ≡ true → is_fed (map (named_identities p.streams) p.feeds) n (identity_of k) ≡ true
-        → (with_bind h (set_for k.stream.demand l) k).stream ≡ (held_after_bind h k).stream
-    made i k at s t fed =
-        let is : IsReadyToBind l k = there-at (IsReadyIfThere l) p.streams (fed_by n p) ready.ready i k at t in
-        let kind : is_observable k.stream.demand.identity.kind ≡ false = sync (identity_of k) fed in
-        let room : k.room ≡ true = is.room ∙ ap not (undrained k.stream.demand kind) in
-        let away : held_by h k.stream.machine.live ≡ None = of-streamed (λ (q : Stream). held_by h q.machine.live ≡ None) p.streams new i k at s in
-        let can : can_bind h k ≡ true = λ j. not (kind j) && (room j && is_none (away j)) in
-        ap (λ o. (bound_by o h k).stream) (sym is.set) ∙ ap (λ b. (cond b (bound_by k.pending h k) k).stream) (sym can)
+bound-sent h n l p ready sync new = each-sent p ready.lawful h n (Bind n l) (held_after_bind h) (binds h)
+    (λ i k at s t fed.
+    let is : IsReadyToBind l k = there-at (IsReadyIfThere l) p.streams (fed_by n p) ready.ready i k at t in
+    let kind : is_observable k.stream.demand.identity.kind ≡ false = sync (identity_of k) fed in
+    let room : k.room ≡ true = is.room ∙ ap not (undrained k.stream.demand kind) in
+    let away : held_by h k.stream.machine.live ≡ None = of-streamed (λ (q : Stream). held_by h q.machine.live ≡ None) p.streams new i k at s in
+    let can : can_bind h k ≡ true = λ j. not (kind j) && (room j && is_none (away j)) in
+    bind-if p.answers h n l (map (named_identities p.streams) p.feeds) k true fed
+    ∙ ap (λ o. (bound_by o h k).stream) (sym is.set)
+    ∙ ap (λ b. (cond b (bound_by k.pending h k) k).stream) (sym can))
+    (λ i k at s fed. bind-if p.answers h n l (map (named_identities p.streams) p.feeds) k false fed)
 
 -- ======== what handles do to one stream ========
-updated-answer : (b : Bool) (o : Option AttributeSet) (v : Amount) (k : Held) → ((cond b (with_update o v k) k).resets ≡ k.resets) × ((cond b (with_update o v k) k).stream.demand ≡ k.stream.demand)
-updated-answer true o v k = (refl, refl)
-updated-answer false o v k = (refl, refl)
-
-pub updates : (h : ℕ) (value : NumberValue) → KeepsAnswer (held_after_update h value)
-updates h value k = updated-answer (not (is_drained k.stream.demand) && fits value k.stream.demand) (held_by h k.stream.machine.live) (amount_of value) k
-
-unbound-answer : (h : ℕ) (b : Bool) (k : Held) → ((cond b k (without_handle h k)).resets ≡ k.resets) × ((cond b k (without_handle h k)).stream.demand ≡ k.stream.demand)
-unbound-answer h true k = (refl, refl)
-unbound-answer h false k = (refl, refl)
-
-pub unbinds : (h : ℕ) → KeepsAnswer (held_after_unbind h)
-unbinds h k = unbound-answer h (is_drained k.stream.demand) k
-
 -- a record through a handle, by what the stream has of it
 abbrev update_by : Option AttributeSet → Amount → Stream → Stream
 update_by o v q = record {
@@ -182,21 +121,24 @@ unbind-is : (answers : model.ReaderAnswers) (feeds : List (List model.Identity))
 unbind-is answers feeds next h q o e = ap (λ p. unbind_by p h q) e
 
 -- ======== all streams that an instrument feeds ========
-module _ (answers : model.ReaderAnswers) (ks : List Held) (feeds : List (List ℕ)) (n : ℕ) (apart : IsDistinct model.identity_eq (stream_identities ks)) (numbers : All (AreNumbers ks) feeds) (once : EachOf AreFedOnce feeds) where
-  -- ======== records through handles ========
-  pub update-sent : (h : ℕ) (value : NumberValue) → FeedsType n (is_signed_value value) (part_by answers ks feeds) → FeedsSynchronous n (part_by answers ks feeds) → IsHeldByFed n h (part_by answers ks feeds)
-      → part_by answers (updated_each h value (or_else (slice_get feeds n) []) ks) feeds ≡ part_after_call 0 (RecordBound h (number_of value)) (part_by answers ks feeds)
-  update-sent h value typed sync held = each-sent answers ks feeds n apart numbers once (RecordBound h (number_of value)) (held_after_update h value) (updates h value)
+module _ (n h : ℕ) (p : Piped) (lawful : IsLawful p) (sync : FeedsSynchronous n (part_of p)) (held : IsHeldByFed n h (part_of p)) where
+  -- a stream that is not fed has no such handle
+  unfed-free : (i : ℕ) (k : Held) → slice_get p.streams i ≡ Some k → is_streamed k ≡ true → is_fed (map (named_identities p.streams) p.feeds) n (identity_of k) ≡ false → held_by h k.stream.machine.live ≡ None
+  unfed-free i k at s fed = of-streamed (λ (q : Stream). is_fed (map (named_identities p.streams) p.feeds) n q.demand.identity ≡ false → held_by h q.machine.live ≡ None) p.streams held i k at s fed
+
+  -- records through handles
+  pub update-sent : (value : NumberValue) → FeedsType n (is_signed_value value) (part_of p) → part_changed_by (held_after_update h value) n p ≡ part_after_call 0 (RecordBound h (number_of value)) (part_of p)
+  update-sent value typed = each-sent p lawful 0 n (RecordBound h (number_of value)) (held_after_update h value) (updates h value)
       (λ i k at s t fed.
       let free : is_drained k.stream.demand ≡ false = undrained k.stream.demand (sync (identity_of k) fed) in
-      let fit : fits value k.stream.demand ≡ true = typed-fits n value (part_by answers ks feeds) k.stream.demand typed fed in
+      let fit : fits value k.stream.demand ≡ true = typed-fits n value (part_of p) k.stream.demand typed fed in
       λ j. (cond (not (sym free j) && sym fit j) (with_update (held_by h k.stream.machine.live) (amount_of value) k) k).stream)
-      (λ i k at s fed. update-is answers (map (named_identities ks) feeds) 0 h (number_of value) k.stream None (of-streamed (λ (q : Stream). is_fed (map (named_identities ks) feeds) n q.demand.identity ≡ false → held_by h q.machine.live ≡ None) ks held i k at s fed))
+      (λ i k at s fed. update-is p.answers (map (named_identities p.streams) p.feeds) 0 h (number_of value) k.stream None (unfed-free i k at s fed))
 
-  -- ======== the end of handles ========
-  pub unbind-sent : (h : ℕ) → FeedsSynchronous n (part_by answers ks feeds) → IsHeldByFed n h (part_by answers ks feeds) → part_by answers (unbound_each h (or_else (slice_get feeds n) []) ks) feeds ≡ part_after_call 0 (Unbind h) (part_by answers ks feeds)
-  unbind-sent h sync held = each-sent answers ks feeds n apart numbers once (Unbind h) (held_after_unbind h) (unbinds h)
+  -- the end of handles
+  pub unbind-sent : part_changed_by (held_after_unbind h) n p ≡ part_after_call 0 (Unbind h) (part_of p)
+  unbind-sent = each-sent p lawful 0 n (Unbind h) (held_after_unbind h) (unbinds h)
       (λ i k at s t fed.
       let free : is_drained k.stream.demand ≡ false = undrained k.stream.demand (sync (identity_of k) fed) in
       λ j. (cond (sym free j) k (without_handle h k)).stream)
-      (λ i k at s fed. unbind-is answers (map (named_identities ks) feeds) 0 h k.stream None (of-streamed (λ (q : Stream). is_fed (map (named_identities ks) feeds) n q.demand.identity ≡ false → held_by h q.machine.live ≡ None) ks held i k at s fed))
+      (λ i k at s fed. unbind-is p.answers (map (named_identities p.streams) p.feeds) 0 h k.stream None (unfed-free i k at s fed))

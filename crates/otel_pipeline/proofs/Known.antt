@@ -6,11 +6,11 @@ use Rattle.std.proofs.lemmas.Bool.{and_parts}
 use Rattle.std.proofs.lemmas.Option.{slice_get-map}
 use Rattle.otel_common.specs.declared.attributes.KeyValue.{KeyValue}
 use Rattle.otel_model.specs.Demands.{Identity, identity_eq}
-use Rattle.otel_pipeline.specs.Known.{is_known_to, is_known_by, IsKnownIfThere}
-use Rattle.otel_pipeline.specs.Pipelines.{all_without_pending, identity_of, is_streamed, model_streams, named_identities}
+use Rattle.otel_pipeline.specs.Known.{is_known_to, is_known_by, is_known_at, IsKnownIfThere}
+use Rattle.otel_pipeline.specs.Pipelines.{IsLawful, Piped, all_without_pending, fed_by, identity_of, is_streamed, model_streams, named_identities, part_of}
 use Rattle.otel_pipeline.specs.Streams.{Held, without_pending}
-use Rattle.otel_pipeline.proofs.Identities.{AreApart}
-use Rattle.otel_pipeline.proofs.Records.{HaveStreams, identity_at-is, some_same}
+use Rattle.otel_pipeline.proofs.Identities.{AreApart, are_apart}
+use Rattle.otel_pipeline.proofs.Records.{HaveStreams, fed-named, fed-numbers, identity_at-is, numbers-named, some_same}
 
 either : (a b : Bool) → (a || b) ≡ true → (a ≡ true) ⊎ (b ≡ true)
 either true b e = inl refl
@@ -42,7 +42,7 @@ known-of l ks apart n m at e =
     subst (λ (k : Held). is_known_to l k.stream ≡ true) same f.4
 
 -- if each identity that is named is known, so is each stream of these numbers
-pub known-numbers : (l : List KeyValue) (ks : List Held) → AreApart ks → (ns : List ℕ) → HaveStreams ns ks → list_all (is_known_by l (model_streams ks)) (named_identities ks ns) ≡ true
+known-numbers : (l : List KeyValue) (ks : List Held) → AreApart ks → (ns : List ℕ) → HaveStreams ns ks → list_all (is_known_by l (model_streams ks)) (named_identities ks ns) ≡ true
     → All (λ n. IsKnownIfThere l (slice_get (all_without_pending ks) n)) ns
 known-numbers l ks apart [] all e = λ i d h. absurd (omega arith)
 known-numbers l ks apart (n ∷ ns) all e = go (known-numbers l ks apart ns all.1 parts.1)
@@ -59,3 +59,8 @@ known-numbers l ks apart (n ∷ ns) all e = go (known-numbers l ks apart ns all.
     go : All (λ n. IsKnownIfThere l (slice_get (all_without_pending ks) n)) ns → (i d : ℕ) → i < length (n ∷ ns) → IsKnownIfThere l (slice_get (all_without_pending ks) (get_or (n ∷ ns) i d))
     go rest zero d h = first
     go rest (suc i) d h = rest i d (omega arith)
+
+pub known-at : (l : List KeyValue) (p : Piped) → IsLawful p → (n : ℕ) → is_known_at n l (part_of p) ≡ true → All (λ k. IsKnownIfThere l (slice_get (all_without_pending p.streams) k)) (fed_by n p)
+known-at l p lawful n known =
+    known-numbers l p.streams (are_apart p.streams lawful.apart) (fed_by n p) (numbers-named p.streams (fed_by n p) (fed-numbers p.streams p.feeds n lawful.numbers))
+    (ap (list_all (is_known_by l (model_streams p.streams))) (sym (fed-named p.streams p.feeds n)) ∙ known)

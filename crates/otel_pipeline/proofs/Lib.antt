@@ -2,7 +2,6 @@ pub mod Answered
 pub mod Asked
 pub mod Builds
 pub mod Collects
-pub mod Commits
 pub mod Identities
 pub mod Observes
 pub mod Once

@@ -1,14 +1,14 @@
 -- Observations that are taken in stream by stream, and a collection after them, are the model's collection.
-use Rattle.std.proofs.Common.{◌≡◌, ℕ, Bool, true, false, cond, List, [], ◌∷◌, map, fold, Some, slice_get, refl, sym, ◌∙◌, ap, subst, arith, suc}
+use Rattle.std.proofs.Common.{◌≡◌, ℕ, Bool, true, false, cond, List, [], ◌∷◌, map, fold, refl, sym, ◌∙◌, ap, subst, arith}
 use Rattle.std.specs.List.{IsDistinct}
 use Rattle.std.specs.Prelude.{All}
+use Rattle.std.proofs.lemmas.List.Elements.{All-tail}
 use Rattle.otel_stream.specs.declared.observation.Observed.{Observed}
 use Rattle.otel_common.specs.declared.resource.Resource.{Resource}
 use Rattle.otel_common.specs.declared.scopes.InstrumentationScope.{InstrumentationScope}
 use Rattle.otel_data.specs.declared.collections.ResourceMetrics.{ResourceMetrics}
 use Rattle.otel_aggregate.specs.Any.{is_signed_value, amount_of}
 use Rattle.otel_model_stream.specs.Events.{Event}
-use Rattle.otel_model_stream.specs.Totals.{has_number}
 use Rattle.otel_model.specs.Calls as model
 use Rattle.otel_model.specs.Demands.{Demand, Identity, ReaderAnswers, identity_eq}
 use Rattle.otel_model.specs.Collections.{metric, collection, ScopedMetric}
@@ -19,13 +19,14 @@ use Rattle.otel_model.specs.Steps.{collect_from}
 use Rattle.otel_model.specs.Streams.{aggregate_of, is_delta, kind_of}
 use Rattle.otel_model.proofs.Follow.{run_append, recorded_append}
 use Rattle.otel_pipeline.specs.Collections.{IsCollectedFrom, scopes_shown}
-use Rattle.otel_pipeline.specs.Observations.{observed_of, AreTypedFor, observed_one, changed_in, observing_numbers, observed_in, observed_all}
-use Rattle.otel_pipeline.specs.Pipelines.{AreAnswered, AreNumbers, FeedsType, all_without_pending, fates_of, all_after_collection, identity_of, named_identities, number_of, part_by, stream_identities}
+use Rattle.otel_pipeline.specs.Observations.{observed_of, AreTypedFor, observed_one, observed_in, observed_all}
+use Rattle.otel_pipeline.specs.Pipelines.{AreAnswered, FeedsType, IsLawful, Piped, all_without_pending, fates_of, fed_by, all_after_collection, part_by, part_changed_by, part_of}
 use Rattle.otel_pipeline.specs.Streams.{Held, with_record}
+use Rattle.otel_pipeline.proofs.Answered.{answered-same, answers-observed, observes}
 use Rattle.otel_pipeline.proofs.Collects.{collected-is, part-finished}
-use Rattle.otel_pipeline.proofs.Identities.{are_apart}
-use Rattle.otel_pipeline.proofs.PipelineLemmas.{feeds-same, identities-same, length-from, numbers-kept}
-use Rattle.otel_pipeline.proofs.Records.{record_sent, fed-numbers, fits, typed-fits}
+use Rattle.otel_pipeline.proofs.PipelineLemmas.{fates-changed, feeds-same, identities-same, numbers-kept}
+use Rattle.otel_pipeline.proofs.Records.{record-sent}
+use Rattle.otel_pipeline.proofs.Writes.{length-seen}
 
 -- ======== the model: records of observations, and a collection without ========
 -- an observation as a record
@@ -111,92 +112,40 @@ collected-from s now os p =
     ∙ ap (collection s.resource s.meters) (shown_after p.answers p.feeds now os p.streams)
 
 -- ======== the code: observations taken in stream by stream ========
-keeps_if : (b : Bool) (o : Observed) (k : Held) → ((cond b (with_record (set_for k.stream.demand o.attributes) (amount_of o.value) k) k).resets ≡ k.resets) × ((cond b (with_record (set_for k.stream.demand o.attributes) (amount_of o.value) k) k).stream.demand ≡ k.stream.demand)
-keeps_if true o k = (refl, refl)
-keeps_if false o k = (refl, refl)
+-- one observation is a record
+one-observed : (o : Observed) (p : Piped) → IsLawful p → FeedsType o.instrument (is_signed_value o.value) (part_of p) → part_changed_by (observed_one o) o.instrument p ≡ part_after_call 0 (record_of (observed_of o)) (part_of p)
+one-observed o p lawful typed = record-sent p lawful 0 o.instrument o.value o.attributes typed (observed_one o) (observes o)
+    (λ i k at h fit. ap (λ b. (cond b (with_record (set_for k.stream.demand o.attributes) (amount_of o.value) k) k).stream) (sym fit))
 
-pub keeps : (o : Observed) (k : Held) → ((observed_one o k).resets ≡ k.resets) × ((observed_one o k).stream.demand ≡ k.stream.demand)
-keeps o k = keeps_if (fits o.value k.stream.demand) o k
+answered-observed : (os : List Observed) (p : Piped) → AreAnswered p.answers p.streams → AreAnswered p.answers (observed_all p.feeds os p.streams)
+answered-observed os p all = answered-same (λ resets d. resets ≡ is_delta p.answers d) (observed_all p.feeds os p.streams) p.streams (answers-observed p.feeds os p.streams) all
 
-module _ (o : Observed) (ns : List ℕ) where
-  keeps_at : (b : Bool) (k : Held) → ((cond b (observed_one o k) k).resets ≡ k.resets) × ((cond b (observed_one o k) k).stream.demand ≡ k.stream.demand)
-  keeps_at true k = keeps o k
-  keeps_at false k = (refl, refl)
+-- the reader, with these streams
+abbrev with_streams : List Held → Piped → Piped
+with_streams ks p = record { answers = p.answers; streams = ks; feeds = p.feeds; plan = p.plan; room = p.room }
 
-  demands-changed : (i : ℕ) (ks : List Held) → fates_of (changed_in ns (observed_one o) i ks) ≡ fates_of ks
-  demands-changed i [] = refl
-  demands-changed i (k ∷ ks) = λ j. (keeps_at (has_number i ns) k).1 j ∷ demands-changed (suc i) ks j
-
-  answered_one : (answers : ReaderAnswers) (i : ℕ) (ks : List Held) → AreAnswered answers ks → AreAnswered answers (changed_in ns (observed_one o) i ks)
-  answered_one answers i [] all = tt
-  answered_one answers i (k ∷ ks) all = (by (has_number i ns), answered_one answers (suc i) ks all.1)
-    where
-      by : (b : Bool) → (cond b (observed_one o k) k).resets ≡ is_delta answers (cond b (observed_one o k) k).stream.demand
-      by true = rw ((keeps o k).0, (keeps o k).1) all.0
-      by false = all.0
-
--- demands stay
-pub demands-observed : (feeds : List (List ℕ)) (os : List Observed) (ks : List Held) → fates_of (observed_all feeds os ks) ≡ fates_of ks
-demands-observed feeds [] ks = refl
-demands-observed feeds (o ∷ os) ks = demands-observed feeds os (observed_in feeds ks o) ∙ demands-changed o (observing_numbers feeds o) 0 ks
-
-pub answered-observed : (answers : ReaderAnswers) (feeds : List (List ℕ)) (os : List Observed) (ks : List Held) → AreAnswered answers ks → AreAnswered answers (observed_all feeds os ks)
-answered-observed answers feeds [] ks all = all
-answered-observed answers feeds (o ∷ os) ks all = answered-observed answers feeds os (observed_in feeds ks o) (answered_one o (observing_numbers feeds o) answers 0 ks all)
-
-module _ (answers : ReaderAnswers) (feeds : List (List ℕ)) where
-  -- one observation is a record
-  one_part : (o : Observed) (ks : List Held) → IsDistinct identity_eq (stream_identities ks) → All (AreNumbers ks) feeds → FeedsType o.instrument (is_signed_value o.value) (part_by answers ks feeds)
-      → part_by answers (observed_in feeds ks o) feeds ≡ part_after_call 0 (record_of (observed_of o)) (part_by answers ks feeds)
-  one_part o ks apart numbers typed =
-      let same : fates_of (observed_in feeds ks o) ≡ fates_of ks = demands-changed o (observing_numbers feeds o) 0 ks in
-      λ i. record {
-        answers = answers;
-        fates = same i;
-        streams = sym (record_sent answers ks (are_apart ks apart) feeds 0 o.instrument (number_of o.value) o.attributes (observed_one o) (fed-numbers ks feeds o.instrument numbers) (λ k. (keeps o k).1) made) i;
-        feeds = feeds-same (observed_in feeds ks o) ks same feeds i;
-      }
-    where
-      made : (i : ℕ) (k : Held) → slice_get ks i ≡ Some k → has_number i (observing_numbers feeds o) ≡ true → is_fed (map (named_identities ks) feeds) o.instrument (identity_of k) ≡ true
-          → (with_record (set_for k.stream.demand o.attributes) (amount_of o.value) k).stream ≡ (observed_one o k).stream
-      made i k at h fed =
-          ap (λ b. (cond b (with_record (set_for k.stream.demand o.attributes) (amount_of o.value) k) k).stream) (sym (typed-fits o.instrument o.value (part_by answers ks feeds) k.stream.demand typed fed))
-
-  -- which types instruments feed is read off the demands
-  typed_same : (os : List Observed) (a b : List Held) → fates_of a ≡ fates_of b → AreTypedFor os (part_by answers b feeds) → AreTypedFor os (part_by answers a feeds)
-  typed_same os a b e typed = subst (λ (fs : List (List Identity)). All (λ (o : Observed). (x : Identity) → is_fed fs o.instrument x ≡ true → x.signed ≡ is_signed_value o.value) os) (sym (feeds-same a b e feeds)) typed
-
-  tail_all : {X : Type 0} (P : X → Type 0) (x : X) (xs : List X) → All P (x ∷ xs) → All P xs
-  tail_all P x xs all = λ i d h. all (suc i) d (omega arith)
-
-  all_parts : (os : List Observed) (ks : List Held) → IsDistinct identity_eq (stream_identities ks) → All (AreNumbers ks) feeds → AreTypedFor os (part_by answers ks feeds)
-      → part_by answers (observed_all feeds os ks) feeds ≡ records_sent (map observed_of os) (part_by answers ks feeds)
-  all_parts [] ks apart numbers typed = refl
-  all_parts (o ∷ os) ks apart numbers typed =
-      let next : List Held = observed_in feeds ks o in
-      let same : fates_of next ≡ fates_of ks = demands-changed o (observing_numbers feeds o) 0 ks in
-      let ids : stream_identities next ≡ stream_identities ks = identities-same next ks same in
-      all_parts os next (subst (IsDistinct identity_eq) (sym ids) apart) (numbers-kept ks next feeds (length-from ks next (sym ids)) numbers)
-      (typed_same os next ks same (tail_all (λ q. FeedsType q.instrument (is_signed_value q.value) (part_by answers ks feeds)) o os typed))
-      ∙ ap (records_sent (map observed_of os)) (one_part o ks apart numbers (typed 0 o (omega arith)))
-
-  pub observed-part : (os : List Observed) (ks : List Held) → IsDistinct identity_eq (stream_identities ks) → All (AreNumbers ks) feeds → AreTypedFor os (part_by answers ks feeds)
-      → part_by answers (observed_all feeds os ks) feeds ≡ records_sent (map observed_of os) (part_by answers ks feeds)
-  observed-part = all_parts
+observed-sent : (os : List Observed) (p : Piped) → IsLawful p → AreTypedFor os (part_of p) → part_by p.answers (observed_all p.feeds os p.streams) p.feeds ≡ records_sent (map observed_of os) (part_of p)
+observed-sent [] p lawful typed = refl
+observed-sent (o ∷ os) p lawful typed =
+    let next : List Held = observed_in p.feeds p.streams o in
+    let same : fates_of next ≡ fates_of p.streams = fates-changed (observed_one o) (observes o) (fed_by o.instrument p) p.streams in
+    observed-sent os (with_streams next p)
+    (record { apart = subst (IsDistinct identity_eq) (sym (identities-same next p.streams same)) lawful.apart; numbers = numbers-kept p.streams next p.feeds (length-seen (λ (k : Held). k.stream.demand) p.streams next (sym same)) lawful.numbers; once = lawful.once })
+    (subst (λ (fs : List (List Identity)). All (λ (q : Observed). (x : Identity) → is_fed fs q.instrument x ≡ true → x.signed ≡ is_signed_value q.value) os) (sym (feeds-same next p.streams same p.feeds))
+    (All-tail (λ (q : Observed). FeedsType q.instrument (is_signed_value q.value) (part_of p)) o os typed))
+    ∙ ap (records_sent (map observed_of os)) (one-observed o p lawful (typed 0 o (omega arith)))
 
 -- a collection that took observations in has the scopes that are shown
-pub observed-is : (resource : Resource) (meters : List InstrumentationScope) (now : ℕ) (answers : ReaderAnswers) (os : List Observed) (ks : List Held) (feeds : List (List ℕ)) (c : ResourceMetrics)
-    → IsDistinct identity_eq (stream_identities ks) → All (AreNumbers ks) feeds → AreTypedFor os (part_by answers ks feeds) → AreAnswered answers ks
-    → c.resource ≡ resource → c.scope_metrics ≡ scopes_shown now (observed_all feeds os ks) meters → IsCollectedFrom resource meters now (map observed_of os) (part_by answers ks feeds) c
-observed-is resource meters now answers os ks feeds c apart numbers typed all r e = λ s to_resource to_meters.
-    collected-is resource meters now answers (observed_all feeds os ks) feeds c (answered-observed answers feeds os ks all) r e s to_resource to_meters
-    ∙ (ap (collect_from s now []) (observed-part answers feeds os ks apart numbers typed) ∙ collected-from s now (map observed_of os) (part_by answers ks feeds))
+pub observed-is : (resource : Resource) (meters : List InstrumentationScope) (now : ℕ) (os : List Observed) (p : Piped) (c : ResourceMetrics)
+    → IsLawful p → AreTypedFor os (part_of p) → AreAnswered p.answers p.streams → c.resource ≡ resource → c.scope_metrics ≡ scopes_shown now (observed_all p.feeds os p.streams) meters → IsCollectedFrom resource meters now (map observed_of os) (part_of p) c
+observed-is resource meters now os p c lawful typed all r e = λ s to_resource to_meters.
+    collected-is resource meters now p.answers (observed_all p.feeds os p.streams) p.feeds c (answered-observed os p all) r e s to_resource to_meters
+    ∙ (ap (collect_from s now []) (observed-sent os p lawful typed) ∙ collected-from s now (map observed_of os) (part_of p))
 
 -- and it leaves what the model says
-pub observed-finished : (answers : ReaderAnswers) (r now : ℕ) (os : List Observed) (old new : List Held) (feeds : List (List ℕ))
-    → IsDistinct identity_eq (stream_identities old) → All (AreNumbers old) feeds → AreTypedFor os (part_by answers old feeds) → AreAnswered answers old
-    → all_without_pending new ≡ all_without_pending (all_after_collection now (observed_all feeds os old))
-    → part_by answers new feeds ≡ part_after_call 0 (model.Call.Collect r now (map observed_of os)) (part_by answers old feeds)
-observed-finished answers r now os old new feeds apart numbers typed all e =
-    part-finished answers 0 r now (observed_all feeds os old) new feeds (answered-observed answers feeds os old all) e
-    ∙ (ap (part_after_call 0 (model.Call.Collect r now [])) (observed-part answers feeds os old apart numbers typed) ∙ collected-sent r now (map observed_of os) (part_by answers old feeds))
+pub observed-finished : (r now : ℕ) (os : List Observed) (p : Piped) (new : List Held) → IsLawful p → AreTypedFor os (part_of p) → AreAnswered p.answers p.streams
+    → all_without_pending new ≡ all_without_pending (all_after_collection now (observed_all p.feeds os p.streams))
+    → part_by p.answers new p.feeds ≡ part_after_call 0 (model.Call.Collect r now (map observed_of os)) (part_of p)
+observed-finished r now os p new lawful typed all e =
+    part-finished p.answers 0 r now (observed_all p.feeds os p.streams) new p.feeds (answered-observed os p all) e
+    ∙ (ap (part_after_call 0 (model.Call.Collect r now [])) (observed-sent os p lawful typed) ∙ collected-sent r now (map observed_of os) (part_of p))

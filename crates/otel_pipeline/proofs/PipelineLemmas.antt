@@ -1,43 +1,30 @@
--- What records leave of a reader's streams: their identities, and so their number.
-use Rattle.std.proofs.Common.{fold, Bool, true, false, cond, ◌&&◌, ◌≡◌, ℕ, List, [], ◌∷◌, ◌++◌, map, filter, length, Option, Some, None, slice_get, refl, sym, ◌∙◌, ap, arith, zero, suc}
+-- What calls leave of a reader's streams: their identities, and so their number.
+use Rattle.std.proofs.Common.{Bool, true, false, cond, ◌&&◌, ◌≡◌, ℕ, zero, suc, List, [], ◌∷◌, ◌++◌, map, filter, length, Option, Some, None, slice_get, refl, sym, ◌∙◌, ap, subst, arith}
+use Rattle.std.specs.Bool.{Decides}
+use Rattle.std.specs.List.{AllByRecursion, IsDistinct}
 use Rattle.std.specs.Prelude.{All}
-use Rattle.std.proofs.lemmas.List.{length-map}
-use Rattle.otel_data.specs.declared.numbers.NumberValue.{NumberValue}
-use Rattle.otel_model.specs.Demands.{Identity, Demand, ReaderAnswers}
-use Rattle.otel_model.specs.Machine.{changed_at}
-use Rattle.otel_pipeline.specs.Pipelines.{AreNumbers, all_without_pending, committed_each, fates_of, all_after_collection, stream_identities, identity_of, part_by, named_identities, identity_at, is_streamed, model_streams}
-use Rattle.otel_pipeline.specs.Streams.{Held, held_after_commit, without_pending}
-use Rattle.otel_pipeline.proofs.Answered.{commits}
-
--- ======== demands stay ========
-pub demands-settled : (ks : List Held) → fates_of (all_without_pending ks) ≡ fates_of ks
-demands-settled [] = refl
-demands-settled (k ∷ ks) = ap (λ ds. k.stream.demand ∷ ds) (demands-settled ks)
-
-module _ (f : Held → Held) (keeps : (k : Held) → (f k).stream.demand ≡ k.stream.demand) where
-  demands-at : (n : ℕ) (ks : List Held) → fates_of (changed_at n f ks) ≡ fates_of ks
-  demands-at n [] = refl
-  demands-at zero (k ∷ ks) = ap (λ d. d ∷ fates_of ks) (keeps k)
-  demands-at (suc n) (k ∷ ks) = ap (λ ds. k.stream.demand ∷ ds) (demands-at n ks)
-
-  pub demands-changed : (ns : List ℕ) (ks : List Held) → fates_of (fold (λ ss n. changed_at n f ss) ks ns) ≡ fates_of ks
-  demands-changed [] ks = refl
-  demands-changed (n ∷ ns) ks = demands-changed ns (changed_at n f ks) ∙ demands-at n ks
-
-pub demands-committed : (value : NumberValue) (ns : List ℕ) (ks : List Held) → fates_of (committed_each value ns ks) ≡ fates_of ks
-demands-committed value ns ks = demands-changed (held_after_commit value) (λ k. (commits value k).1) ns ks
-
-pub demands-finished : (now : ℕ) (ks : List Held) → fates_of (all_after_collection now ks) ≡ fates_of ks
-demands-finished now [] = refl
-demands-finished now (k ∷ ks) = ap (λ ds. k.stream.demand ∷ ds) (demands-finished now ks)
+use Rattle.std.proofs.lemmas.Simd.{map-map}
+use Rattle.otel_model.specs.Calls.{InstrumentKind, or_else}
+use Rattle.otel_model.specs.Demands.{Identity, Demand, ReaderAnswers, identity_eq}
+use Rattle.otel_model.specs.Streams.{is_delta}
+use Rattle.otel_pipeline.specs.Pipelines.{AreAnswered, AreFedOnce, AreNumbers, IsLawful, Piped, all_without_pending, changed_each, fates_of, stream_identities, part_by, part_changed_by, named_identities, identity_at, is_streamed, model_streams}
+use Rattle.otel_pipeline.specs.Streams.{Held, without_pending}
+use Rattle.otel_pipeline.proofs.Answered.{KeepsAnswer, answer_of, answered-same, answers-settled}
+use Rattle.otel_pipeline.proofs.Identities.{distinct-same, test_of}
+use Rattle.otel_pipeline.proofs.Writes.{length-seen, unseen-each}
 
 -- ======== what is read off the demands ========
-identities-demands : (ks : List Held) → stream_identities ks ≡ map (λ (d : Demand). d.identity) (fates_of ks)
-identities-demands [] = refl
-identities-demands (k ∷ ks) = ap (λ xs. identity_of k ∷ xs) (identities-demands ks)
+pub fates-same : (a b : List Held) → map answer_of a ≡ map answer_of b → fates_of a ≡ fates_of b
+fates-same a b e = sym (map-map (λ (p : Bool × Demand). p.1) answer_of a) ∙ (ap (map (λ (p : Bool × Demand). p.1)) e ∙ map-map (λ (p : Bool × Demand). p.1) answer_of b)
+
+pub fates-changed : (f : Held → Held) → KeepsAnswer f → (ns : List ℕ) (ks : List Held) → fates_of (changed_each f ns ks) ≡ fates_of ks
+fates-changed f keeps ns ks = fates-same (changed_each f ns ks) ks (unseen-each answer_of f keeps ns ks)
 
 pub identities-same : (a b : List Held) → fates_of a ≡ fates_of b → stream_identities a ≡ stream_identities b
-identities-same a b e = identities-demands a ∙ (ap (map (λ (d : Demand). d.identity)) e ∙ sym (identities-demands b))
+identities-same a b e = sym (identities-demands a) ∙ (ap (map (λ (d : Demand). d.identity)) e ∙ identities-demands b)
+  where
+    identities-demands : (ks : List Held) → map (λ (d : Demand). d.identity) (fates_of ks) ≡ stream_identities ks
+    identities-demands ks = map-map (λ (d : Demand). d.identity) (λ (h : Held). h.stream.demand) ks
 
 abbrev one_named : Option Demand → List Identity
 one_named None = []
@@ -56,13 +43,40 @@ pub feeds-same : (a b : List Held) → fates_of a ≡ fates_of b → (feeds : Li
 feeds-same a b e [] = refl
 feeds-same a b e (ns ∷ feeds) = λ i. named-same a b e ns i ∷ feeds-same a b e feeds i
 
--- ======== numbers stay ========
-pub length-from : (a b : List Held) → stream_identities a ≡ stream_identities b → length a ≡ length b
-length-from a b e = omega (arith, ap length e, length-map {A = Held} {B = Identity})
-
+-- ======== what stays true ========
 -- numbers of as many streams
 pub numbers-kept : (a b : List Held) (feeds : List (List ℕ)) → length a ≡ length b → All (AreNumbers a) feeds → All (AreNumbers b) feeds
 numbers-kept a b feeds e all k d h k' d' h' = let q = all k d h k' d' h' in omega arith
+
+-- what holds of a reader's streams and of their keys
+abbrev IsSound : ReaderAnswers → List Identity → List (List ℕ) → List Held → Type 0
+IsSound answers keys feeds ks = (keys ≡ stream_identities ks) × All (AreNumbers ks) feeds × AreAnswered answers ks × AllByRecursion AreFedOnce feeds
+
+pub sound-same : (answers : ReaderAnswers) (keys : List Identity) (feeds : List (List ℕ)) (old new : List Held) → map answer_of new ≡ map answer_of old → IsSound answers keys feeds old → IsSound answers keys feeds new
+sound-same answers keys feeds old new e sound = (
+  sound.0 ∙ sym (identities-same new old (fates-same new old e)),
+  numbers-kept old new feeds (length-seen answer_of old new (sym e)) sound.1,
+  answered-same (λ resets d. resets ≡ is_delta answers d) new old e sound.2,
+  sound.3,
+)
+
+pub sound-changed : (answers : ReaderAnswers) (keys : List Identity) (feeds : List (List ℕ)) (old new : List Held) (f : Held → Held) → KeepsAnswer f → (ns : List ℕ) → new ≡ changed_each f ns old → IsSound answers keys feeds old → IsSound answers keys feeds new
+sound-changed answers keys feeds old new f keeps ns e sound = sound-same answers keys feeds old new (ap (map answer_of) e ∙ unseen-each answer_of f keeps ns old) sound
+
+pub sound-settled : (answers : ReaderAnswers) (keys : List Identity) (feeds : List (List ℕ)) (old new : List Held) → all_without_pending new ≡ all_without_pending old → IsSound answers keys feeds old → IsSound answers keys feeds new
+sound-settled answers keys feeds old new e sound = sound-same answers keys feeds old new (answers-settled new old e) sound
+
+-- by whichever test of identities the keys are apart
+pub lawful-keys : (same : InstrumentKind → InstrumentKind → Bool) (law : (x y : InstrumentKind) → Decides (same x y) (x ≡ y)) (keys : List Identity) (p : Piped) → IsDistinct (test_of same law) keys → IsSound p.answers keys p.feeds p.streams → IsLawful p
+lawful-keys same law keys p unique sound = record {
+  apart = subst (IsDistinct identity_eq) sound.0 (distinct-same same law keys unique);
+  numbers = sound.1;
+  once = sound.3;
+}
+
+-- a reader with these streams, without a plan
+abbrev pub reader_of : ReaderAnswers → List Held → List (List ℕ) → Piped
+reader_of answers streams feeds = record { answers = answers; streams = streams; feeds = feeds; plan = None; room = false }
 
 pub all_true : (a b c : Bool) → a ≡ true → b ≡ true → c ≡ true → (a && (b && c)) ≡ true
 all_true a b c p q r = λ i. p i && (q i && r i)
@@ -72,14 +86,24 @@ all_true a b c p q r = λ i. p i && (q i && r i)
 pub part-same : (answers : ReaderAnswers) (a b : List Held) (feeds more : List (List ℕ)) → a ≡ b → feeds ≡ more → part_by answers a feeds ≡ part_by answers b more
 part-same answers a b feeds more e f = λ i. part_by answers (e i) (f i)
 
-streams-settled : (ks : List Held) → model_streams (all_without_pending ks) ≡ model_streams ks
-streams-settled [] = refl
-streams-settled (k ∷ ks) = by (is_streamed k) (streams-settled ks)
+pub filter-map : {X Y : Type 0} (p : Y → Bool) (f : X → Y) (xs : List X) → filter p (map f xs) ≡ map f (filter (λ x. p (f x)) xs)
+filter-map p f [] = refl
+filter-map p f (x ∷ xs) = by (p (f x)) (filter-map p f xs)
   where
-    by : (b : Bool) → model_streams (all_without_pending ks) ≡ model_streams ks
-        → map (λ (h : Held). h.stream) (cond b (without_pending k ∷ filter is_streamed (all_without_pending ks)) (filter is_streamed (all_without_pending ks))) ≡ map (λ (h : Held). h.stream) (cond b (k ∷ filter is_streamed ks) (filter is_streamed ks))
-    by true rest = ap (λ ss. k.stream ∷ ss) rest
+    by : (b : Bool) → filter p (map f xs) ≡ map f (filter (λ x. p (f x)) xs) → cond b (f x ∷ filter p (map f xs)) (filter p (map f xs)) ≡ map f (cond b (x ∷ filter (λ x. p (f x)) xs) (filter (λ x. p (f x)) xs))
+    by true rest = ap (λ ys. f x ∷ ys) rest
     by false rest = rest
 
-pub part-settled : (answers : ReaderAnswers) (ks : List Held) (feeds : List (List ℕ)) → part_by answers (all_without_pending ks) feeds ≡ part_by answers ks feeds
-part-settled answers ks feeds = λ i. record { answers = answers; fates = demands-settled ks i; streams = streams-settled ks i; feeds = feeds-same (all_without_pending ks) ks (demands-settled ks) feeds i }
+streams-settled : (ks : List Held) → model_streams (all_without_pending ks) ≡ model_streams ks
+streams-settled ks = ap (map (λ (h : Held). h.stream)) (filter-map is_streamed without_pending ks) ∙ map-map (λ (h : Held). h.stream) without_pending (filter is_streamed ks)
+
+part-settled : (answers : ReaderAnswers) (ks : List Held) (feeds : List (List ℕ)) → part_by answers (all_without_pending ks) feeds ≡ part_by answers ks feeds
+part-settled answers ks feeds =
+    let same : fates_of (all_without_pending ks) ≡ fates_of ks = map-map (λ (h : Held). h.stream.demand) without_pending ks in
+    λ i. record { answers = answers; fates = same i; streams = streams-settled ks i; feeds = feeds-same (all_without_pending ks) ks same feeds i }
+
+pub settled-part : (answers : ReaderAnswers) (a b : List Held) (feeds : List (List ℕ)) → all_without_pending a ≡ all_without_pending b → part_by answers a feeds ≡ part_by answers b feeds
+settled-part answers a b feeds e = sym (part-settled answers a feeds) ∙ (ap (λ ks. part_by answers ks feeds) e ∙ part-settled answers b feeds)
+
+pub changed-part : (p : Piped) (n : ℕ) (f : Held → Held) (feeds : List (List ℕ)) (ns : List ℕ) (new : List Held) → feeds ≡ p.feeds → ns ≡ or_else (slice_get feeds n) [] → new ≡ changed_each f ns p.streams → part_by p.answers new p.feeds ≡ part_changed_by f n p
+changed-part p n f feeds ns new same fed made = ap (λ ks. part_by p.answers ks p.feeds) (made ∙ ap (λ l. changed_each f l p.streams) (fed ∙ ap (λ l. or_else (slice_get l n) []) same))

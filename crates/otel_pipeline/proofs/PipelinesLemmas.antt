@@ -1,10 +1,6 @@
 -- Lists whose elements are changed one after another.
-use Rattle.std.proofs.Common.{◌≡◌, ◌≢◌, ℕ, zero, suc, ◌+◌, ◌<◌, ◌≤◌, List, [], ◌∷◌, map, length, get_or, set, refl, ◌∙◌, ap, arith, length-set, get_or-set_other, get_or-set_same, below_more}
-
-within-any : {X : Type 0} (ps : List X) (i : ℕ) (d e : X) → i < length ps → get_or ps i d ≡ get_or ps i e
-within-any [] i d e h = absurd (omega arith)
-within-any (p ∷ ps) zero d e h = refl
-within-any (p ∷ ps) (suc i) d e h = within-any ps i d e (omega arith)
+use Rattle.std.proofs.lemmas.List.{get_or_default}
+use Rattle.std.proofs.Common.{◌≡◌, ◌≢◌, ℕ, suc, ◌+◌, ◌<◌, ◌≤◌, List, [], ◌∷◌, map, length, get_or, set, refl, ◌∙◌, ap, arith, length-set, get_or-set_other, get_or-set_same, below_more}
 
 -- `seen` is what is seen of an element, `g` what is to be seen of it afterwards
 module _ {X Y : Type 0} (seen g : X → Y) where
@@ -23,7 +19,7 @@ module _ {X Y : Type 0} (seen g : X → Y) where
     long = omega (arith, length-set {A = X}, so_far.long);
     done = below_more _ _
         (λ k l e. let other : k ≢ i = omega arith in rw get_or-set_other (so_far.done k l e))
-        (λ e. rw get_or-set_same (made ∙ ap g (so_far.rest i (omega arith) d ∙ within-any old i d e (omega (arith, so_far.long)))));
+        (λ e. rw get_or-set_same (made ∙ ap g (so_far.rest i (omega arith) d ∙ get_or_default old i d e (omega (arith, so_far.long)))));
     rest = λ k l e. let other : k ≢ i = omega arith in rw get_or-set_other (so_far.rest k (omega arith) e);
   }
 

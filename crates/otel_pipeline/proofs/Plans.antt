@@ -2,8 +2,13 @@
 use Rattle.std.proofs.Common.{◌≡◌, ◌⊎◌, inl, inr, ℕ, zero, suc, ◌+◌, ◌<◌, ◌≤◌, Bool, true, false, cond, not, ◌||◌, List, [], ◌∷◌, ◌++◌, map, filter, fold, length, Option, Some, None, slice_get, refl, sym, ◌∙◌, ap, subst, arith, append_assoc, true≢false, ne_eqb, get_or}
 use Rattle.std.specs.Prelude.{is_some, position, All, IsTrue, ◌&&◌}
 use Rattle.std.specs.Bool.{Decides}
+use Rattle.std.specs.Cmp.{IsEquivalence}
+use Rattle.std.proofs.Math.Bool.{or-false, or_assoc}
+use Rattle.std.proofs.lemmas.Map.Keys.{IsDistinct-push}
+use Rattle.std.proofs.lemmas.Option.{slice_get_read}
 use Rattle.std.specs.List.{list_any, IsDistinct, AllByRecursion}
 use Rattle.std.specs.Option.{option_map}
+use Rattle.std.proofs.lemmas.Bool.{and_parts}
 use Rattle.std.proofs.lemmas.List.Folds.{list_any-append}
 use Rattle.std.proofs.lemmas.List.{append-nil, map-append, length-map, length-append}
 use Rattle.std.proofs.lemmas.List.Elements.{All-push, filter-append}
@@ -21,7 +26,7 @@ use Rattle.indexmap.specs.IndexSet.{insert_key, insert_all}
 use Rattle.otel_pipeline.specs.Pipelines.{Piped, Planned, demands_in, dropped_with, part_of, part_by, piped_after_build, built_by, IsPlanned, IsReadyFor, identity_at, named_identities, identity_of, fates_of, is_streamed, model_streams, stream_identities, stream_number, drops_at, with_drop, found_at, counted_from, fed_once, IsPlanOf, AreNumbers}
 use Rattle.otel_pipeline.specs.Streams.{Held, new_held}
 use Rattle.otel_pipeline.proofs.Answered.{OfAnswer, answered-push}
-use Rattle.otel_pipeline.proofs.Builds.{IsStreamOf, found, known, fate-new, any-position, position-cons, position-within, get-item, drops-is}
+use Rattle.otel_pipeline.proofs.Builds.{IsStreamOf, found, known, fate-new, any-position, position-cons, position-within, drops-is}
 use Rattle.otel_pipeline.proofs.Identities.{test_of, test-same, test-flip, are_apart}
 use Rattle.otel_pipeline.proofs.Records.{HaveStreams, identity_at-is, numbers-named, named-has}
 
@@ -83,10 +88,6 @@ fed-push q ds d =
     by true c = gone (q d.identity)
     by false c = kept (q d.identity)
 
-or_false : (b : Bool) → (b || false) ≡ b
-or_false true = refl
-or_false false = refl
-
 or_true : (b c : Bool) → c ≡ true → (b || c) ≡ true
 or_true true c q = refl
 or_true false c q = q
@@ -134,7 +135,7 @@ module _ (q : Identity → Bool) (x : Identity) (kept : q x ≡ false) where
 
 -- an identity that is not dropped is fed exactly if it is demanded
 fed-has : (q : Identity → Bool) (ds : List Demand) (x : Identity) → q x ≡ false → has (model.fed_identities q ds) x ≡ has (ids ds) x
-fed-has q ds x kept = sym (or_false (has (model.fed_identities q ds) x)) ∙ (kept_has q x kept [] (ids ds) ∙ or_false (has (ids ds) x))
+fed-has q ds x kept = sym (or-false (has (model.fed_identities q ds) x)) ∙ (kept_has q x kept [] (ids ds) ∙ or-false (has (ids ds) x))
 
 -- two that drop the same of what is demanded
 kept-same : (p q : Identity → Bool) (seen xs : List Identity) → ((y : Identity) → has xs y ≡ true → p y ≡ q y) → kept_once p seen xs ≡ kept_once q seen xs
@@ -212,17 +213,13 @@ enter-known fs d y = by (model.is_known fs d.identity) refl
 
     by : (b : Bool) → model.is_known fs d.identity ≡ b → model.is_known (cond b fs (fs ++ d ∷ [])) y ≡ (model.is_known fs y || identity_eq d.identity y)
     by true t = within (model.is_known fs y) (identity_eq d.identity y) (λ e. ap (model.is_known fs) (sym (identity_eq_true d.identity y e)) ∙ t)
-    by false f = known-append fs (d ∷ []) y ∙ ap (λ b. model.is_known fs y || b) (or_false (identity_eq d.identity y))
+    by false f = known-append fs (d ∷ []) y ∙ ap (λ b. model.is_known fs y || b) (or-false (identity_eq d.identity y))
 
 entered-known : (fs ds : List Demand) (y : Identity) → model.is_known (fold machine.enter fs ds) y ≡ (model.is_known fs y || has (ids ds) y)
-entered-known fs [] y = sym (or_false (model.is_known fs y))
+entered-known fs [] y = sym (or-false (model.is_known fs y))
 entered-known fs (d ∷ ds) y =
     entered-known (machine.enter fs d) ds y
     ∙ (ap (λ b. b || has (ids ds) y) (enter-known fs d y) ∙ or_assoc (model.is_known fs y) (identity_eq d.identity y) (has (ids ds) y))
-  where
-    or_assoc : (a b c : Bool) → ((a || b) || c) ≡ (a || (b || c))
-    or_assoc true b c = refl
-    or_assoc false b c = refl
 
 -- a longer table gives what is known the same fate
 fate-known : (fs ms : List Demand) (y : Identity) → model.is_known fs y ≡ true → model.is_dropped (fs ++ ms) y ≡ model.is_dropped fs y
@@ -332,19 +329,12 @@ number-new ks (m ∷ ns) n h all =
     let below : m < length ks = all 0 m (omega arith) in
     λ i. ne_eqb m n (λ e. absurd (omega (arith, e, below, h))) i || number-new ks ns n h (λ j d l. all (suc j) d (omega arith)) i
 
-distinct-push : (xs : List Identity) (x : Identity) → IsDistinct identity_eq xs → list_any (identity_eq x) xs ≡ false → IsDistinct identity_eq (xs ++ x ∷ [])
-unfolding IsDistinct
-distinct-push [] x apart e = (tt, tt)
-distinct-push (z ∷ xs) x apart e = by (identity_eq x z) refl e (λ f. distinct-push xs x apart.1 f)
-  where
-    others : (ys : List Identity) → AllByRecursion (λ y. identity_eq z y ≡ false) ys → identity_eq z x ≡ false → AllByRecursion (λ y. identity_eq z y ≡ false) (ys ++ x ∷ [])
-    others [] all f = (f, tt)
-    others (y ∷ ys) all f = (all.0, others ys all.1 f)
-
-    by : (b : Bool) → identity_eq x z ≡ b → (b || list_any (identity_eq x) xs) ≡ false → (list_any (identity_eq x) xs ≡ false → IsDistinct identity_eq (xs ++ x ∷ []))
-        → AllByRecursion (λ y. identity_eq z y ≡ false) (xs ++ x ∷ []) × IsDistinct identity_eq (xs ++ x ∷ [])
-    by true t f rest = absurd (true≢false f)
-    by false t f rest = (others xs apart.0 (test-flip x z ∙ t), rest f)
+identities-equivalent : IsEquivalence identity_eq
+identities-equivalent = record {
+  refl = identity_eq_self;
+  symm = λ x y. test-flip y x;
+  congr = λ x y z e. ap (λ w. identity_eq w z) (identity_eq_true x y e);
+}
 
 module _ (answers : ReaderAnswers) (made : List Held) (now : ℕ) (ds : List Demand) (d : Demand) (plan : Planned) (is : IsPlanOf answers made now ds plan) where
   abbrev all : List Held
@@ -402,7 +392,7 @@ module _ (answers : ReaderAnswers) (made : List Held) (now : ℕ) (ds : List Dem
   pub plan-new : (resets : Bool) → stream_number d.identity (stream_identities all) ≡ None → resets ≡ is_delta answers d
       → IsPlanOf answers made now (ds ++ d ∷ []) (record { feeds = fed_once (model.is_drop d.aggregation) (length all) plan.feeds; added = plan.added ++ new_held resets d now ∷ [] })
   plan-new resets e delta = record {
-    apart = subst (λ (l : List Held). IsDistinct identity_eq (stream_identities l)) longer (subst (IsDistinct identity_eq) (sym (map-append identity_of all (fresh ∷ []))) (distinct-push (stream_identities all) d.identity is.apart absent));
+    apart = subst (λ (l : List Held). IsDistinct identity_eq (stream_identities l)) longer (subst (IsDistinct identity_eq) (sym (map-append identity_of all (fresh ∷ []))) (IsDistinct-push identities-equivalent (stream_identities all) d.identity is.apart absent));
     numbers = subst (λ (l : List Held). AreNumbers l (fed_once (model.is_drop d.aggregation) (length all) plan.feeds)) longer (numbers-once (all ++ fresh ∷ []) (model.is_drop d.aggregation) (length all) plan.feeds (omega (arith, length-append {A = Held})) numbers-more);
     answered = answered-push (λ resets d. resets ≡ is_delta answers d) plan.added fresh is.answered delta;
     streams = ap (λ (l : List Held). part_by answers l []) (sym longer) ∙ (sym (demanded-new now answers all d resets unknown) ∙ sym after-more);
@@ -510,7 +500,7 @@ identities-append ks ms = map-append identity_of ks ms
 pub found-made : (x : Identity) (ks ms : List Held) (n : ℕ) (k : Held) → stream_number x (stream_identities ks) ≡ Some n → k ≡ get_or ks n k
     → ◌≡◌ {A = Option (ℕ × Bool)} (Some (n, model.is_drop k.stream.demand.aggregation)) (found_at x (ks ++ ms))
 found-made x ks ms n k e is =
-    let at : slice_get ks n ≡ Some k = get-item ks n k (omega (arith, position-within (identity_eq x) (stream_identities ks) n e, length-map {A = Held} {B = Identity})) is in
+    let at : slice_get ks n ≡ Some k = slice_get_read ks (length ks) n k refl (omega (arith, position-within (identity_eq x) (stream_identities ks) n e, length-map {A = Held} {B = Identity})) is in
     (λ i. Some (n, sym (drops-is (ks ++ ms) n k (get-append ks ms n k at)) i))
     ∙ sym (ap (option_map (with_drop (ks ++ ms))) (ap (position (identity_eq x)) (identities-append ks ms) ∙ position-front (identity_eq x) (stream_identities ks) (stream_identities ms) n e))
 
@@ -532,7 +522,7 @@ found-past x ks ms first long none =
 pub found-new : (x : Identity) (ms : List Held) (first n : ℕ) (k : Held) (b : Bool) → stream_number x (stream_identities ms) ≡ Some n → k ≡ get_or ms n k → b ≡ model.is_drop k.stream.demand.aggregation
     → ◌≡◌ {A = Option (ℕ × Bool)} (Some (first + n, b)) (option_map (counted_from first) (found_at x ms))
 found-new x ms first n k b e is drops =
-    let at : slice_get ms n ≡ Some k = get-item ms n k (omega (arith, position-within (identity_eq x) (stream_identities ms) n e, length-map {A = Held} {B = Identity})) is in
+    let at : slice_get ms n ≡ Some k = slice_get_read ms (length ms) n k refl (omega (arith, position-within (identity_eq x) (stream_identities ms) n e, length-map {A = Held} {B = Identity})) is in
     (λ i. Some (first + n, (drops ∙ sym (drops-is ms n k at)) i)) ∙ sym (ap (λ o. option_map (counted_from first) (option_map (with_drop ms) o)) e)
 
 -- what was found is where it was found
@@ -650,15 +640,12 @@ numbers-built ks ms feeds ns all last =
 
 -- what holds of each of two lists of streams
 pub each-append : (P : Bool → Demand → Type 0) (ks ms : List Held) → OfAnswer P ks → OfAnswer P ms → OfAnswer P (ks ++ ms)
-each-append P [] ms all more = more
-each-append P (k ∷ ks) ms all more = (all.0, each-append P ks ms all.1 more)
+each-append P [] ms each more = more
+each-append P (k ∷ ks) ms each more = (each.0, each-append P ks ms each.1 more)
 
 -- what there is room for
 pub room-parts : (a b c : Bool) → IsTrue (a && (b && c)) → (a ≡ true) × (b ≡ true) × (c ≡ true)
-room-parts true true true e = (refl, refl, refl)
-room-parts true true false e = absurd (true≢false (sym e))
-room-parts true false c e = absurd (true≢false (sym e))
-room-parts false b c e = absurd (true≢false (sym e))
+room-parts a b c e = let p = and_parts a (b && c) e in let q = and_parts b c p.1 in (p.0, q.0, q.1)
 
 -- carrying out a plan
 pub built-is : (answers : ReaderAnswers) (ks : List Held) (feeds : List (List ℕ)) (o : Option Planned) (room : Bool) (plan : Planned) → Some plan ≡ o

@@ -1,20 +1,20 @@
 -- What was kept of streams is enough to undo what was done to them since.
-use Rattle.std.proofs.Common.{◌≡◌, ℕ, zero, suc, ◌+◌, ◌<◌, ◌≤◌, Bool, true, false, cond, List, [], ◌∷◌, ◌++◌, length, take, drop, set, get_or, replicate, Option, Some, None, refl, sym, ◌∙◌, ap, subst, arith}
-use Rattle.std.proofs.lemmas.List.{length-map}
+use Rattle.std.proofs.Common.{◌≡◌, ℕ, zero, suc, ◌+◌, ◌<◌, ◌≤◌, Bool, true, false, cond, List, [], ◌∷◌, ◌++◌, length, take, drop, set, get_or, replicate, Option, Some, None, refl, sym, ◌∙◌, ap, subst, arith, length-set}
+use Rattle.std.specs.Bool.{beq}
 use Rattle.std.specs.Prelude.{All}
+use Rattle.std.proofs.lemmas.List.{get_or_default, set-get_or}
+use Rattle.std.proofs.lemmas.List.Elements.{All-tail}
+use Rattle.std.proofs.lemmas.Simd.{map-map}
 use Rattle.otel_data.specs.declared.numbers.NumberValue.{NumberValue}
 use Rattle.otel_model.specs.Calls.{is_observable}
 use Rattle.otel_model.specs.Machine.{changed_at}
 use Rattle.otel_model.specs.Demands.{Demand}
 use Rattle.otel_model.specs.Streams.{aggregate_of}
-use Rattle.otel_model_stream.specs.Folds.{Amount}
 use Rattle.otel_model_stream.specs.Sets.{AttributeSet}
 use Rattle.otel_aggregate.specs.Any.{is_signed_value, amount_of, form_of}
-use Rattle.std.specs.Bool.{beq}
-use Rattle.otel_pipeline.specs.Observations.{AreSavedOf, IsSaved, IsSavedOf, IsUndone, SavedHeld, kept_or, held_after_restore, restored_all, restored_if, saved_by}
-use Rattle.otel_pipeline.specs.Pipelines.{all_without_pending, committed_each}
+use Rattle.otel_pipeline.specs.Observations.{AreSavedOf, IsSaved, IsSavedOf, SavedHeld, kept_or, held_after_restore, restored_all, restored_if, saved_by}
+use Rattle.otel_pipeline.specs.Pipelines.{all_without_pending, changed_each, fates_of}
 use Rattle.otel_pipeline.specs.Streams.{Held, held_after_commit, committed_by, without_pending}
-use Rattle.otel_pipeline.proofs.Writes.{length-changed}
 
 abbrev Kept : Type 0
 Kept = List (Option SavedHeld)
@@ -31,16 +31,8 @@ none-kept (suc n) [] = tt
 none-kept (suc n) (k ∷ ks) = none-kept n ks
 
 -- ======== one stream more is kept ========
-abbrev pub head_or : Held → List Held → Held
-head_or d [] = d
-head_or d (k ∷ ks) = k
-
-abbrev pub tail_of : List Held → List Held
-tail_of [] = []
-tail_of (k ∷ ks) = ks
-
-saved-same-one : (o : Option SavedHeld) (k : Held) (ss : Kept) (ks : List Held) → restored_all (o ∷ ss) (k ∷ ks) ≡ all_without_pending (k ∷ ks) → restored_all ss ks ≡ all_without_pending ks
-saved-same-one o k ss ks e = ap tail_of e
+saved-parts : (o : Option SavedHeld) (k : Held) (ss : Kept) (ks : List Held) → restored_all (o ∷ ss) (k ∷ ks) ≡ all_without_pending (k ∷ ks) → (restored_if o k ≡ without_pending k) × (restored_all ss ks ≡ all_without_pending ks)
+saved-parts o k ss ks e = (cc, cc)
 
 once-same : (o : Option SavedHeld) (k m : Held) → k ≡ m → restored_if o m ≡ without_pending m → restored_if (kept_or o (saved_by k)) m ≡ without_pending m
 once-same None k m at e = ap (λ (x : Held). without_pending (held_after_restore (saved_by x) m)) at
@@ -50,8 +42,8 @@ pub set-same : (ss : Kept) (ks : List Held) (n : ℕ) (k : Held) (o p : Option S
 set-same [] ks n k o p at was is e = e
 set-same (s ∷ ss) [] zero k o p at was is e = e
 set-same (s ∷ ss) [] (suc n) k o p at was is e = e
-set-same (s ∷ ss) (m ∷ ks) zero k o p at was is e = λ i. (ap (λ x. restored_if x m) (is ∙ ap (λ x. kept_or x (saved_by k)) was) ∙ once-same s k m at (ap (head_or m) e)) i ∷ saved-same-one s m ss ks e i
-set-same (s ∷ ss) (m ∷ ks) (suc n) k o p at was is e = λ i. head_or m (e i) ∷ set-same ss ks n k o p at was is (saved-same-one s m ss ks e) i
+set-same (s ∷ ss) (m ∷ ks) zero k o p at was is e = λ i. (ap (λ x. restored_if x m) (is ∙ ap (λ x. kept_or x (saved_by k)) was) ∙ once-same s k m at (saved-parts s m ss ks e).0) i ∷ (saved-parts s m ss ks e).1 i
+set-same (s ∷ ss) (m ∷ ks) (suc n) k o p at was is e = λ i. (saved-parts s m ss ks e).0 i ∷ set-same ss ks n k o p at was is (saved-parts s m ss ks e).1 i
 
 kept-rest : (o : Option SavedHeld) (k : Held) (ss : Kept) (ks : List Held) → AreSavedOf (o ∷ ss) (k ∷ ks) → AreSavedOf ss ks
 kept-rest None k ss ks all = all
@@ -62,8 +54,7 @@ kept-more None k m ss zs ks ms f e all = f all
 kept-more (Some s) k m ss zs ks ms f e all = (record { number = all.0.number ∙ ap (λ (d : Demand). d.identity.signed) (sym e); form = all.0.form ∙ ap (λ (d : Demand). form_of (aggregate_of d)) (sym e); observable = ap (λ (d : Demand). is_observable d.identity.kind) e ∙ all.0.observable }, f all.1)
 
 once-kept : (o p : Option SavedHeld) (k m : Held) (ss : Kept) (ks : List Held) → k ≡ m → is_observable k.stream.demand.identity.kind ≡ true → p ≡ kept_or o (saved_by k) → AreSavedOf (o ∷ ss) (m ∷ ks) → AreSavedOf (p ∷ ss) (m ∷ ks)
-once-kept None p k m ss ks at seen is all =
-    subst (λ x. AreSavedOf (x ∷ ss) (m ∷ ks)) (sym is) (record { number = ap (λ (x : Held). x.stream.demand.identity.signed) at; form = ap (λ (x : Held). form_of (aggregate_of x.stream.demand)) at; observable = ap (λ (x : Held). is_observable x.stream.demand.identity.kind) (sym at) ∙ seen }, all)
+once-kept None p k m ss ks at seen is all = subst (λ x. AreSavedOf (x ∷ ss) (m ∷ ks)) (sym is) (subst (IsSavedOf (saved_by k)) at (record { number = refl; form = refl; observable = seen }), all)
 once-kept (Some s) p k m ss ks at seen is all = subst (λ x. AreSavedOf (x ∷ ss) (m ∷ ks)) (sym is) all
 
 pub set-kept : (ss : Kept) (ks : List Held) (n : ℕ) (k : Held) (o p : Option SavedHeld) → k ≡ get_or ks n k → is_observable k.stream.demand.identity.kind ≡ true → o ≡ get_or ss n o → p ≡ kept_or o (saved_by k) → AreSavedOf ss ks → AreSavedOf (set ss n p) ks
@@ -95,57 +86,31 @@ restored-settled-one None k = refl
 restored-settled-one (Some s) k = refl
 
 restored-settled : (ss : Kept) (ks : List Held) → restored_all ss (all_without_pending ks) ≡ restored_all ss ks
-restored-settled [] ks = settled-twice ks
-  where
-    settled-twice : (ks : List Held) → all_without_pending (all_without_pending ks) ≡ all_without_pending ks
-    settled-twice [] = refl
-    settled-twice (k ∷ ks) = ap (λ l. without_pending k ∷ l) (settled-twice ks)
+restored-settled [] ks = map-map without_pending without_pending ks
 restored-settled (s ∷ ss) [] = refl
 restored-settled (s ∷ ss) (k ∷ ks) = λ i. restored-settled-one s k i ∷ restored-settled ss ks i
 
 pub restored-same : (ss : Kept) (a b : List Held) → all_without_pending a ≡ all_without_pending b → restored_all ss a ≡ restored_all ss b
 restored-same ss a b e = sym (restored-settled ss a) ∙ (ap (restored_all ss) e ∙ restored-settled ss b)
 
-kept-settled : (ss : Kept) (ks : List Held) → AreSavedOf ss ks → AreSavedOf ss (all_without_pending ks)
-kept-settled [] ks all = tt
-kept-settled (s ∷ ss) [] all = tt
-kept-settled (s ∷ ss) (k ∷ ks) all = kept-more s k (without_pending k) ss ss ks (all_without_pending ks) (kept-settled ss ks) refl all
-
-settled-kept : (ss : Kept) (ks : List Held) → AreSavedOf ss (all_without_pending ks) → AreSavedOf ss ks
-settled-kept [] ks all = tt
-settled-kept (s ∷ ss) [] all = tt
-settled-kept (s ∷ ss) (k ∷ ks) all = kept-more s (without_pending k) k ss ss (all_without_pending ks) ks (settled-kept ss ks) refl all
-
-pub kept-same : (ss : Kept) (a b : List Held) → all_without_pending a ≡ all_without_pending b → AreSavedOf ss a → AreSavedOf ss b
-kept-same ss a b e all = settled-kept ss b (subst (AreSavedOf ss) e (kept-settled ss a all))
-
-pub length-settled : (a b : List Held) → all_without_pending a ≡ all_without_pending b → length a ≡ length b
-length-settled a b e = sym (length-map a without_pending) ∙ (ap length e ∙ length-map b without_pending)
-
--- nothing is seen to change
-pub undone-same : (ss : Kept) (old new : List Held) → all_without_pending new ≡ all_without_pending old → IsUndone ss old new
-undone-same ss old new e = record { many = length-settled new old e; same = restored-same ss new old e; kept = kept-same ss old new (sym e) }
-
-pub undone-then : (ss : Kept) (a b c : List Held) → IsUndone ss a b → IsUndone ss b c → IsUndone ss a c
-undone-then ss a b c x y = record { many = y.many ∙ x.many; same = y.same ∙ x.same; kept = λ all. y.kept (x.kept all) }
+-- what can be put back into streams is read off their demands
+pub kept-same : (ss : Kept) (a b : List Held) → fates_of a ≡ fates_of b → AreSavedOf ss a → AreSavedOf ss b
+kept-same [] a b e all = tt
+kept-same (s ∷ ss) a [] e all = tt
+kept-same (s ∷ ss) [] (m ∷ b) e all = absurd (cc)
+kept-same (s ∷ ss) (k ∷ a) (m ∷ b) e all =
+    let parts : (m.stream.demand ≡ k.stream.demand) × (fates_of a ≡ fates_of b) = (cc, cc) in
+    kept-more s k m ss ss a b (kept-same ss a b parts.1) parts.0 all
 
 -- ======== records of streams that are kept ========
 module _ (value : NumberValue) where
-  demand-if : (b : Bool) (v : Amount) (o : Option AttributeSet) (k : Held) → (cond b (committed_by o v k) k).stream.demand ≡ k.stream.demand
-  demand-if true v None k = refl
-  demand-if true v (Some s) k = refl
-  demand-if false v o k = refl
-
-  demand-stays : (k : Held) → (held_after_commit value k).stream.demand ≡ k.stream.demand
-  demand-stays k = demand-if (beq (is_signed_value value) k.stream.demand.identity.signed) (amount_of value) k.pending k
-
-  undone-if : (s : SavedHeld) (b : Bool) (v : Amount) (o : Option AttributeSet) (k : Held) → held_after_restore s (cond b (committed_by o v k) k) ≡ held_after_restore s k
-  undone-if s true v None k = refl
-  undone-if s true v (Some g) k = refl
-  undone-if s false v o k = refl
-
   undone-one : (s : SavedHeld) (k : Held) → held_after_restore s (held_after_commit value k) ≡ held_after_restore s k
-  undone-one s k = undone-if s (beq (is_signed_value value) k.stream.demand.identity.signed) (amount_of value) k.pending k
+  undone-one s k = by (beq (is_signed_value value) k.stream.demand.identity.signed) k.pending
+    where
+      by : (b : Bool) (o : Option AttributeSet) → held_after_restore s (cond b (committed_by o (amount_of value) k) k) ≡ held_after_restore s k
+      by true None = refl
+      by true (Some g) = refl
+      by false o = refl
 
   some-in : (o : Option SavedHeld) (s : SavedHeld) (k : Held) → Some o ≡ Some (Some s) → restored_if o (held_after_commit value k) ≡ restored_if o k
   some-in None s k e = absurd (cc)
@@ -157,20 +122,9 @@ module _ (value : NumberValue) where
   changed-same (o ∷ ss) zero (k ∷ ks) is = ap (λ x. x ∷ restored_all ss ks) (some-in o is.0 k is.1)
   changed-same (o ∷ ss) (suc n) (k ∷ ks) is = ap (λ l. restored_if o k ∷ l) (changed-same ss n ks is)
 
-  changed-kept : (ss : Kept) (n : ℕ) (ks : List Held) → AreSavedOf ss ks → AreSavedOf ss (changed_at n (held_after_commit value) ks)
-  changed-kept [] n ks all = tt
-  changed-kept (o ∷ ss) n [] all = tt
-  changed-kept (o ∷ ss) zero (k ∷ ks) all = kept-more o k (held_after_commit value k) ss ss ks ks (λ x. x) (demand-stays k) all
-  changed-kept (o ∷ ss) (suc n) (k ∷ ks) all = kept-more o k k ss ss ks (changed_at n (held_after_commit value) ks) (changed-kept ss n ks) refl all
-
-  changed-undone : (ss : Kept) (n : ℕ) (ks : List Held) → IsSaved ss n → IsUndone ss ks (changed_at n (held_after_commit value) ks)
-  changed-undone ss n ks is = record { many = length-changed (held_after_commit value) n ks; same = changed-same ss n ks is; kept = changed-kept ss n ks }
-
-  pub undone-committed : (ss : Kept) (ns : List ℕ) (ks : List Held) → All (IsSaved ss) ns → IsUndone ss ks (committed_each value ns ks)
-  undone-committed ss [] ks all = undone-same ss ks ks refl
-  undone-committed ss (n ∷ ns) ks all =
-      undone-then ss ks (changed_at n (held_after_commit value) ks) (committed_each value ns (changed_at n (held_after_commit value) ks)) (changed-undone ss n ks (all 0 n (omega arith)))
-      (undone-committed ss ns (changed_at n (held_after_commit value) ks) (λ i d h. all (suc i) d (omega arith)))
+  pub undone-committed : (ss : Kept) (ns : List ℕ) (ks : List Held) → All (IsSaved ss) ns → restored_all ss (changed_each (held_after_commit value) ns ks) ≡ restored_all ss ks
+  undone-committed ss [] ks all = refl
+  undone-committed ss (n ∷ ns) ks all = undone-committed ss ns (changed_at n (held_after_commit value) ks) (All-tail (IsSaved ss) n ns all) ∙ changed-same ss n ks (all 0 n (omega arith))
 
 -- ======== what was kept is put back, one stream after another ========
 -- the first streams are restored, and what is left of what was kept is for the others
@@ -190,11 +144,6 @@ step-kept o ss [] n y h all = absurd (omega arith)
 step-kept o ss (k ∷ ks) zero y h all = kept-rest o k ss ks all
 step-kept o ss (k ∷ ks) (suc n) y h all = step-kept o ss ks n y (omega arith) all
 
-length-after : (ks : List Held) (n : ℕ) (y : Held) → length (set ks n y) ≡ length ks
-length-after [] n y = refl
-length-after (k ∷ ks) zero y = refl
-length-after (k ∷ ks) (suc n) y = ap suc (length-after ks n y)
-
 pub restored-step : (ss : Kept) (old : List Held) (o : Option SavedHeld) (left : Kept) (ks : List Held) (n : ℕ) (x y : Held) → x ≡ get_or ks n x → without_pending y ≡ restored_if o x
     → IsRestoredTo ss old (o ∷ left) ks n → IsRestoredTo ss old left (set ks n y) (n + 1)
 restored-step ss old o left ks n x y at e is =
@@ -203,30 +152,20 @@ restored-step ss old o left ks n x y at e is =
     rw next (record {
       same = step-same o left ks n x y inside at e ∙ is.same;
       kept = step-kept o left ks n y inside is.kept;
-      many = omega (arith, is.many, length-after ks n y);
+      many = omega (arith, is.many, length-set {A = Held});
     })
 
 -- a stream of which nothing was kept stays
-skip-same : (ss : Kept) (ks : List Held) (n : ℕ) → n < length ks → take (suc n) (all_without_pending ks) ++ restored_all ss (drop (suc n) ks) ≡ take n (all_without_pending ks) ++ restored_all (None ∷ ss) (drop n ks)
-skip-same ss [] n h = absurd (omega arith)
-skip-same ss (k ∷ ks) zero h = refl
-skip-same ss (k ∷ ks) (suc n) h = ap (λ l. without_pending k ∷ l) (skip-same ss ks n (omega arith))
-
-skip-kept : (ss : Kept) (ks : List Held) (n : ℕ) → n < length ks → AreSavedOf (None ∷ ss) (drop n ks) → AreSavedOf ss (drop (suc n) ks)
-skip-kept ss [] n h all = absurd (omega arith)
-skip-kept ss (k ∷ ks) zero h all = all
-skip-kept ss (k ∷ ks) (suc n) h all = skip-kept ss ks n (omega arith) all
-
 pub restored-skip : (ss : Kept) (old : List Held) (left : Kept) (ks : List Held) (n : ℕ) → IsRestoredTo ss old (None ∷ left) ks n → IsRestoredTo ss old left ks (n + 1)
-restored-skip ss old left ks n is =
-    let inside : n < length ks = omega (arith, is.many) in
-    let next : n + 1 ≡ suc n = omega arith in
-    rw next (record { same = skip-same left ks n inside ∙ is.same; kept = skip-kept left ks n inside is.kept; many = omega (arith, is.many) })
+restored-skip ss old left [] n is = absurd (omega (arith, is.many))
+restored-skip ss old left (k ∷ ks) n is =
+    let x : Held = get_or (k ∷ ks) n k in
+    subst (λ l. IsRestoredTo ss old left l (n + 1)) (set-get_or (k ∷ ks) n k) (restored-step ss old None left (k ∷ ks) n x x (get_or_default (k ∷ ks) n k x (omega (arith, is.many))) refl is)
 
 -- what was kept of the next stream is of its kind
 pub kept-next : (s : SavedHeld) (left : Kept) (ks : List Held) (n : ℕ) (x : Held) → n < length ks → x ≡ get_or ks n x → AreSavedOf (Some s ∷ left) (drop n ks) → IsSavedOf s x
 kept-next s left [] n x h at all = absurd (omega arith)
-kept-next s left (k ∷ ks) zero x h at all = record { number = all.0.number ∙ ap (λ (z : Held). z.stream.demand.identity.signed) (sym at); form = all.0.form ∙ ap (λ (z : Held). form_of (aggregate_of z.stream.demand)) (sym at); observable = ap (λ (z : Held). is_observable z.stream.demand.identity.kind) at ∙ all.0.observable }
+kept-next s left (k ∷ ks) zero x h at all = subst (IsSavedOf s) (sym at) all.0
 kept-next s left (k ∷ ks) (suc n) x h at all = kept-next s left ks n x (omega arith) at all
 
 pub restored-start : (ss : Kept) (old : List Held) → length ss ≤ length old → AreSavedOf ss old → IsRestoredTo ss old ss old 0

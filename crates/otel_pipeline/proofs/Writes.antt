@@ -1,6 +1,9 @@
 -- Lists in which one element after another is written.
-use Rattle.std.proofs.Common.{◌≡◌, ℕ, ◌+◌, ◌<◌, List, [], ◌∷◌, length, get_or, set, map, fold, drop, refl, arith, sym, ◌∙◌, ap, suc, zero, add-one, Option, Some, slice_get}
+use Rattle.std.proofs.Common.{◌≡◌, ℕ, ◌+◌, ◌<◌, List, [], ◌∷◌, length, get_or, set, map, drop, refl, arith, sym, ◌∙◌, ap, suc, zero, add-one, Option, Some, slice_get, length-set, drop-cons}
+use Rattle.std.proofs.lemmas.List.{length-map}
+use Rattle.std.specs.Prelude.{All}
 use Rattle.otel_model.specs.Machine.{changed_at}
+use Rattle.otel_pipeline.specs.Pipelines.{changed_each}
 
 -- a write that is not seen
 pub seen_same : {X Y : Type 0} (v : X → Y) (xs : List X) (k : ℕ) (d x y : X) → x ≡ get_or xs k d → v y ≡ v x → map v (set xs k y) ≡ map v xs
@@ -14,33 +17,39 @@ set-changed f [] k x y h at e = absurd (omega arith)
 set-changed f (t ∷ xs) zero x y h at e = ap (λ z. z ∷ xs) (e ∙ ap f at)
 set-changed f (t ∷ xs) (suc k) x y h at e = ap (λ zs. t ∷ zs) (set-changed f xs k x y (omega arith) at e)
 
-pub length-changed : {X : Type 0} (f : X → X) (k : ℕ) (xs : List X) → length (changed_at k f xs) ≡ length xs
-length-changed f k [] = refl
-length-changed f zero (x ∷ xs) = refl
-length-changed f (suc k) (x ∷ xs) = ap suc (length-changed f k xs)
+-- ======== f at one number after another ========
+module _ {X : Type 0} (f : X → X) (ns : List ℕ) where
+  -- what is left of the numbers leads to what all of them lead to, and no element comes or goes
+  pub record IsChangedUpto (old new : List X) (i : ℕ) : Type 0 where
+    pub left : changed_each f (drop i ns) new ≡ changed_each f ns old
+    pub long : length new ≡ length old
 
--- f at the numbers that are left
-abbrev pub changed_each : {X : Type 0} → (X → X) → List ℕ → List X → List X
-changed_each f ns xs = fold (λ ys n. changed_at n f ys) xs ns
+  pub number-inside : (old new : List X) (i : ℕ) → All (λ n. n < length old) ns → i < length ns → IsChangedUpto old new i → get_or ns i 0 < length new
+  number-inside old new i numbers h is = omega (arith, numbers i 0 h, is.long)
 
-changed-suc : {X : Type 0} (f : X → X) (ns : List ℕ) (i : ℕ) (xs : List X) → i < length ns → changed_each f (drop i ns) xs ≡ changed_each f (drop (suc i) ns) (changed_at (get_or ns i 0) f xs)
-changed-suc f [] i xs h = absurd (omega arith)
-changed-suc f (n ∷ ns) zero xs h = refl
-changed-suc f (n ∷ ns) (suc i) xs h = changed-suc f ns i xs (omega arith)
+  -- one more is written
+  pub changed-more : (old new : List X) (i : ℕ) (x y : X) → All (λ n. n < length old) ns → i < length ns → x ≡ get_or new (get_or ns i 0) x → y ≡ f x → IsChangedUpto old new i
+      → IsChangedUpto old (set new (get_or ns i 0) y) (i + 1)
+  changed-more old new i x y numbers h at e is = record {
+    left = rw (add-one, set-changed f new (get_or ns i 0) x y (number-inside old new i numbers h is) at e) (sym (ap (λ l. changed_each f l new) (drop-cons ns i 0 h))) ∙ is.left;
+    long = omega (arith, length-set {A = X}, is.long);
+  }
 
--- one more is written
-pub changed-more : {X : Type 0} (f : X → X) (ns : List ℕ) (i : ℕ) (xs : List X) (x y : X) → i < length ns → get_or ns i 0 < length xs → x ≡ get_or xs (get_or ns i 0) x → y ≡ f x
-    → changed_each f (drop (i + 1) ns) (set xs (get_or ns i 0) y) ≡ changed_each f (drop i ns) xs
-changed-more f ns i xs x y h inside at e =
-    rw (add-one, set-changed f xs (get_or ns i 0) x y inside at e) (sym (changed-suc f ns i xs h))
+-- what f leaves of an element stays
+module _ {X Y : Type 0} (v : X → Y) (f : X → X) (same : (x : X) → v (f x) ≡ v x) where
+  unseen-at : (n : ℕ) (xs : List X) → map v (changed_at n f xs) ≡ map v xs
+  unseen-at n [] = refl
+  unseen-at zero (x ∷ xs) = ap (λ y. y ∷ map v xs) (same x)
+  unseen-at (suc n) (x ∷ xs) = ap (λ ys. v x ∷ ys) (unseen-at n xs)
+
+  pub unseen-each : (ns : List ℕ) (xs : List X) → map v (changed_each f ns xs) ≡ map v xs
+  unseen-each [] xs = refl
+  unseen-each (n ∷ ns) xs = unseen-each ns (changed_at n f xs) ∙ unseen-at n xs
+
+pub length-seen : {X Y : Type 0} (v : X → Y) (xs ys : List X) → map v xs ≡ map v ys → length xs ≡ length ys
+length-seen v xs ys e = sym (length-map xs v) ∙ (ap length e ∙ length-map ys v)
 
 -- ======== what holds of elements ========
--- an element, by its number
-pub get-at : {X : Type 0} (xs : List X) (k : ℕ) (x : X) → k < length xs → x ≡ get_or xs k x → slice_get xs k ≡ Some x
-get-at [] k x h at = absurd (omega arith)
-get-at (t ∷ xs) zero x h at = ap Some (sym at)
-get-at (t ∷ xs) (suc k) x h at = get-at xs k x (omega arith) at
-
 -- what holds of an element where there is one, once it is written
 module _ {X : Type 0} (P : Option X → Type 0) where
   pub there-set_same : (xs : List X) (n : ℕ) (x : X) → n < length xs → P (Some x) → P (slice_get (set xs n x) n)

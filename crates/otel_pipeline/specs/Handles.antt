@@ -1,18 +1,16 @@
 -- Handles in one reader's streams (Metrics API, "Synchronous Instrument API").
-use Rattle.std.specs.Prelude.{◌≡◌, ℕ, true, false, not, List, fold, All, Option, None, Some, slice_get}
+use Rattle.std.specs.Prelude.{◌≡◌, ℕ, true, false, not, List, All, Option, None, Some, slice_get}
 use Rattle.std.specs.List.{AllByRecursion as EachOf}
 use Rattle.otel_stream.specs.declared.observation.Observed.{Observed}
 use Rattle.otel_common.specs.declared.attributes.KeyValue.{KeyValue}
-use Rattle.otel_data.specs.declared.numbers.NumberValue.{NumberValue}
 use Rattle.otel_model_stream.specs.Events.{held_by}
 use Rattle.otel_model.specs.Calls.{is_observable}
 use Rattle.otel_model.specs.Demands.{Identity}
-use Rattle.otel_model.specs.Machine.{changed_at}
 use Rattle.otel_model.specs.Sent.{is_fed, set_for}
 use Rattle.otel_model.specs.State.{Stream, ReaderPart}
 use Rattle.otel_model.specs.Streams.{is_drained}
-use Rattle.otel_pipeline.specs.Pipelines.{Piped, IsLawful, fed_by, part_by}
-use Rattle.otel_pipeline.specs.Streams.{Held, held_after_bind, held_after_update, held_after_unbind}
+use Rattle.otel_pipeline.specs.Pipelines.{Piped, IsLawful, fed_by, part_changed_by}
+use Rattle.otel_pipeline.specs.Streams.{Held, held_after_bind}
 
 -- ======== what the streams of a reader have ========
 -- the instrument feeds only streams of synchronous instruments
@@ -56,19 +54,6 @@ pub record IsReadyToBindAt (instrument : ℕ) (attributes : List KeyValue) (p : 
   pub lawful : IsLawful p
   pub ready : AreReadyToBind attributes p.streams (fed_by instrument p)
 
--- the streams, once the bind is made in each with one of these numbers
-abbrev pub bound_each : ℕ → List ℕ → List Held → List Held
-bound_each h ns streams = fold (λ ss n. changed_at n (held_after_bind h) ss) streams ns
-
 -- the reader's part, once the bind is made in each stream that the instrument feeds
 abbrev pub part_after_bind : ℕ → ℕ → Piped → ReaderPart
-part_after_bind instrument h p = part_by p.answers (bound_each h (fed_by instrument p) p.streams) p.feeds
-
--- ======== records through handles, and their end ========
--- the streams, once the record is made through the handle in each with one of these numbers
-abbrev pub updated_each : ℕ → NumberValue → List ℕ → List Held → List Held
-updated_each h value ns streams = fold (λ ss n. changed_at n (held_after_update h value) ss) streams ns
-
--- the streams, once the handle is ended in each with one of these numbers
-abbrev pub unbound_each : ℕ → List ℕ → List Held → List Held
-unbound_each h ns streams = fold (λ ss n. changed_at n (held_after_unbind h) ss) streams ns
+part_after_bind instrument h p = part_changed_by (held_after_bind h) instrument p

@@ -1,17 +1,16 @@
 -- How a collection takes observations in, and what is saved to undo that (Metrics SDK, "Observations inside
 -- asynchronous callbacks").
-use Rattle.std.specs.Prelude.{◌≡◌, ◌≤◌, ℕ, suc, Bool, true, cond, List, [], ◌∷◌, fold, length, All, Option, None, Some, slice_get}
+use Rattle.std.specs.Prelude.{◌≡◌, ◌≤◌, ℕ, Bool, true, cond, List, [], ◌∷◌, fold, length, All, Option, None, Some, slice_get}
 use Rattle.std.specs.Bool.{beq}
 use Rattle.otel_stream.specs.declared.observation.Observed.{Observed}
 use Rattle.otel_model_stream.specs.Entries.{Table}
-use Rattle.otel_model_stream.specs.Totals.{has_number}
 use Rattle.otel_aggregate.specs.Any.{Form, form_of, is_signed_value, amount_of}
 use Rattle.otel_model.specs.Calls as model
 use Rattle.otel_model.specs.Calls.{or_else, is_observable}
 use Rattle.otel_model.specs.Sent.{set_for}
 use Rattle.otel_model.specs.State.{ReaderPart}
 use Rattle.otel_model.specs.Streams.{aggregate_of}
-use Rattle.otel_pipeline.specs.Pipelines.{FeedsType, all_without_pending}
+use Rattle.otel_pipeline.specs.Pipelines.{FeedsType, all_without_pending, changed_each}
 use Rattle.otel_pipeline.specs.Streams.{Held, with_record, without_pending}
 
 -- an observation in the words of the model
@@ -27,18 +26,13 @@ AreTypedFor os p = All (λ o. FeedsType o.instrument (is_signed_value o.value) p
 abbrev pub observed_one : Observed → Held → Held
 observed_one o h = cond (beq (is_signed_value o.value) h.stream.demand.identity.signed) (with_record (set_for h.stream.demand o.attributes) (amount_of o.value) h) h
 
--- the elements, with f applied to those with these numbers; the first has number i
-abbrev pub changed_in : {X : Type 0} → List ℕ → (X → X) → ℕ → List X → List X
-changed_in ns f i [] = []
-changed_in ns f i (x ∷ xs) = cond (has_number i ns) (f x) x ∷ changed_in ns f (suc i) xs
-
 -- the numbers of the streams that take an observation in
 abbrev pub observing_numbers : List (List ℕ) → Observed → List ℕ
 observing_numbers feeds o = or_else (slice_get feeds o.instrument) []
 
 -- the streams, once those that its instrument feeds take an observation in
 abbrev pub observed_in : List (List ℕ) → List Held → Observed → List Held
-observed_in feeds streams o = changed_in (observing_numbers feeds o) (observed_one o) 0 streams
+observed_in feeds streams o = changed_each (observed_one o) (observing_numbers feeds o) streams
 
 -- the streams, once these observations are taken in, one after another
 abbrev pub observed_all : List (List ℕ) → List Observed → List Held → List Held
@@ -124,9 +118,3 @@ pub record CanUndo (feeds : List (List ℕ)) (os : List Observed) (streams : Lis
   pub same : restored_all ss streams ≡ all_without_pending streams
   pub kept : AreSavedOf ss streams
   pub all : All (λ o. All (IsSaved ss) (observing_numbers feeds o)) os
-
--- the new streams, with what was saved put back, are the same as the old ones with it put back
-pub record IsUndone (ss : List (Option SavedHeld)) (old new : List Held) : Type 0 where
-  pub many : length new ≡ length old
-  pub same : restored_all ss new ≡ restored_all ss old
-  pub kept : AreSavedOf ss old → AreSavedOf ss new

@@ -13,7 +13,7 @@ use Rattle.otel_model.specs.Machine.{changed_at, part_after_demand, enter}
 use Rattle.otel_model.specs.Sent.{is_fed, set_for}
 use Rattle.otel_model.specs.Streams.{is_delta}
 use Rattle.otel_model_stream.specs.Totals.{has_number}
-use Rattle.otel_pipeline.specs.Streams.{Held, held_after_commit, held_after_none, without_pending, held_after_collection}
+use Rattle.otel_pipeline.specs.Streams.{Held, held_after_commit, without_pending, held_after_collection}
 
 -- what a build is going to do: the numbers of the streams that the instrument will feed, and the new streams
 pub record Planned : Type 0 where
@@ -102,10 +102,11 @@ AreFedOnce (n ∷ ns) = (has_number n ns ≡ false) × AreFedOnce ns
 abbrev pub AreAnswered : ReaderAnswers → List Held → Type 0
 AreAnswered answers streams = AllByRecursion (λ h. h.resets ≡ is_delta answers h.stream.demand) streams
 
--- no two streams have the same identity, and the instruments feed only streams that are there
+-- no two streams have the same identity, and the instruments feed only streams that are there, each once
 pub record IsLawful (p : Piped) : Type 0 where
   pub apart : IsDistinct identity_eq (stream_identities p.streams)
   pub numbers : All (AreNumbers p.streams) p.feeds
+  pub once : AllByRecursion AreFedOnce p.feeds
 
 -- ======== builds ========
 -- the instrument can be built: if it is a histogram with bounds of its own, these rise
@@ -194,6 +195,10 @@ piped_after_build p = built_by p.plan p
 abbrev pub number_of : NumberValue → Number
 number_of value = record { signed = is_signed_value value; amount = amount_of value }
 
+-- the elements, once f is done to the one with each of these numbers
+abbrev pub changed_each : {X : Type 0} → (X → X) → List ℕ → List X → List X
+changed_each f ns xs = fold (λ ys n. changed_at n f ys) xs ns
+
 -- the numbers of the streams that the instrument feeds
 abbrev pub fed_by : ℕ → Piped → List ℕ
 fed_by instrument p = or_else (slice_get p.feeds instrument) []
@@ -220,17 +225,13 @@ pub record IsPreparedFor (instrument : ℕ) (attributes : List KeyValue) (p : Pi
 abbrev pub all_without_pending : List Held → List Held
 all_without_pending streams = map without_pending streams
 
--- the streams, once the record is made in each with one of these numbers
-abbrev pub committed_each : NumberValue → List ℕ → List Held → List Held
-committed_each value ns streams = fold (λ ss n. changed_at n (held_after_commit value) ss) streams ns
+-- the reader's part, once f is done to each stream that the instrument feeds
+abbrev pub part_changed_by : (Held → Held) → ℕ → Piped → ReaderPart
+part_changed_by f instrument p = part_by p.answers (changed_each f (fed_by instrument p) p.streams) p.feeds
 
--- the reader's part, once the record is made in each stream that the instrument feeds
+-- the same, once the prepared record is made
 abbrev pub part_after_record : ℕ → NumberValue → Piped → ReaderPart
-part_after_record instrument value p = part_by p.answers (committed_each value (fed_by instrument p) p.streams) p.feeds
-
--- the streams, once a record without attributes is made in each with one of these numbers
-abbrev pub measured_each : NumberValue → List ℕ → List Held → List Held
-measured_each value ns streams = fold (λ ss n. changed_at n (held_after_none value) ss) streams ns
+part_after_record instrument value p = part_changed_by (held_after_commit value) instrument p
 
 -- ======== collections ========
 -- the streams after a collection at a moment

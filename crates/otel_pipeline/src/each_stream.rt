@@ -2,9 +2,10 @@
 
 ghost use Rattle.std.specs.Prelude.{◌≡◌, ◌<◌, [], All, slice_get, OnOk, IsOk, IsOkUnless};
 ghost use Rattle.otel_model.specs.Calls.{or_else};
-ghost use Rattle.otel_pipeline.specs.Handles.{AreReadyToBind, bound_each, updated_each, unbound_each};
+ghost use Rattle.otel_pipeline.specs.Handles.{AreReadyToBind};
 ghost use Rattle.otel_pipeline.specs.Known.{IsKnownIfThere};
-ghost use Rattle.otel_pipeline.specs.Pipelines.{AreNumbers, ArePrepared, all_without_pending, committed_each, measured_each, all_after_collection};
+ghost use Rattle.otel_pipeline.specs.Pipelines.{AreNumbers, ArePrepared, all_without_pending, changed_each, all_after_collection};
+ghost use Rattle.otel_pipeline.specs.Streams.{held_after_bind, held_after_commit, held_after_none, held_after_unbind, held_after_update};
 
 use crate::stream::Stream;
 use otel_common::attributes::KeyValue;
@@ -63,7 +64,7 @@ pub(crate) fn prepare_bind_each(
 /// Carries out the prepared bind in each of these streams, for this handle.
 pub(crate) fn commit_bind_each(streams: &mut Vec<Stream>, feeds: &[usize], handle: u64)
     requires { AreNumbers streams.old.items feeds.now }
-    ensures { streams.new.items ≡ bound_each handle feeds.now streams.old.items }
+    ensures { streams.new.items ≡ changed_each (held_after_bind handle) feeds.now streams.old.items }
 {
     for k in feeds {
         streams[*k].commit_bind(handle);
@@ -79,7 +80,7 @@ pub(crate) fn record_held_each(
     value: NumberValue,
 )
     requires { AreNumbers streams.old.items feeds.now }
-    ensures { streams.new.items ≡ updated_each handle value feeds.now streams.old.items }
+    ensures { streams.new.items ≡ changed_each (held_after_update handle value) feeds.now streams.old.items }
 {
     for k in feeds {
         streams[*k].record_held(handle, value);
@@ -89,7 +90,7 @@ pub(crate) fn record_held_each(
 /// Ends this handle in each of these streams.
 pub(crate) fn unbind_each(streams: &mut Vec<Stream>, feeds: &[usize], handle: u64)
     requires { AreNumbers streams.old.items feeds.now }
-    ensures { streams.new.items ≡ unbound_each handle feeds.now streams.old.items }
+    ensures { streams.new.items ≡ changed_each (held_after_unbind handle) feeds.now streams.old.items }
 {
     for k in feeds {
         streams[*k].unbind(handle);
@@ -109,7 +110,7 @@ pub(crate) fn finish_each(streams: &mut Vec<Stream>, now: u64)
 #[inline(always)]
 pub(crate) fn commit_each(streams: &mut Vec<Stream>, feeds: &[usize], value: NumberValue)
     requires { AreNumbers streams.old.items feeds.now }
-    ensures { streams.new.items ≡ committed_each value feeds.now streams.old.items }
+    ensures { streams.new.items ≡ changed_each (held_after_commit value) feeds.now streams.old.items }
 {
     for k in feeds {
         streams[*k].commit(value);
@@ -120,7 +121,7 @@ pub(crate) fn commit_each(streams: &mut Vec<Stream>, feeds: &[usize], value: Num
 #[inline(always)]
 pub(crate) fn record_none_each(streams: &mut Vec<Stream>, feeds: &[usize], value: NumberValue)
     requires { AreNumbers streams.old.items feeds.now }
-    ensures { streams.new.items ≡ measured_each value feeds.now streams.old.items }
+    ensures { streams.new.items ≡ changed_each (held_after_none value) feeds.now streams.old.items }
 {
     for k in feeds {
         streams[*k].record_none(value);

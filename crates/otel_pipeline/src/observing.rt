@@ -1,10 +1,11 @@
 //! How a collection takes in what was observed, and how that is undone.
 
 ghost use Rattle.std.specs.Prelude.{◌≡◌, ◌≤◌, ℕ, true, All, List, Option, None, length, map, replicate, IfOk, OnOk, OnErr, IsOkUnless};
+ghost use Rattle.std.specs.List.{AllByRecursion};
 ghost use Rattle.otel_model.specs.Calls.{is_observable};
 ghost use Rattle.otel_pipeline.specs.Collections.{scopes_shown};
-ghost use Rattle.otel_pipeline.specs.Observations.{AreObservable, AreObservableIn, AreSavedOf, CanUndo, IsSaved, IsUndone, SavedHeld, changed_in, kept_or, saved_by, observed_all, observed_one, restored_all};
-ghost use Rattle.otel_pipeline.specs.Pipelines.{AreNumbers, all_without_pending, all_after_collection};
+ghost use Rattle.otel_pipeline.specs.Observations.{AreObservable, AreObservableIn, AreSavedOf, CanUndo, IsSaved, SavedHeld, kept_or, saved_by, observed_all, observed_one, restored_all};
+ghost use Rattle.otel_pipeline.specs.Pipelines.{AreFedOnce, AreNumbers, all_without_pending, all_after_collection, changed_each, fates_of};
 
 use crate::collecting::scopes_of;
 use crate::each_stream::{commit_each, finish_each, prepare_each, streams_fed};
@@ -98,10 +99,11 @@ fn observe_in(
     numbers: &[usize],
     observation: &Observed,
 ) -> Result<(), Fault>
-    requires { AreNumbers (all_without_pending streams.old.items) numbers.now }
-    ensures observed { OnOk result (all_without_pending streams.new.items ≡ all_without_pending (changed_in numbers.now (observed_one observation.now) 0 streams.old.items)) }
-    ensures undone { (saved : List (Option SavedHeld)) → All (IsSaved saved) numbers.now → IsUndone saved streams.old.items streams.new.items }
-    ensures many { length streams.new.items ≡ length streams.old.items }
+    requires numbers { AreNumbers (all_without_pending streams.old.items) numbers.now }
+    requires once { AreFedOnce numbers.now }
+    ensures observed { OnOk result (all_without_pending streams.new.items ≡ all_without_pending (changed_each (observed_one observation.now) numbers.now streams.old.items)) }
+    ensures undone { (saved : List (Option SavedHeld)) → All (IsSaved saved) numbers.now → restored_all saved streams.new.items ≡ restored_all saved streams.old.items }
+    ensures demands { fates_of streams.new.items ≡ fates_of streams.old.items }
     ensures only_memory { IsOkUnless result Fault.OutOfMemory }
 {
     prepare_each(streams, numbers, observation.attributes.as_slice())?;
@@ -115,9 +117,11 @@ fn observe_each(
     feeds: &[Items<usize>],
     observations: &[Observed],
 ) -> Result<(), Fault>
-    requires { All (AreNumbers streams.old.items) feeds.now }
+    requires numbers { All (AreNumbers streams.old.items) feeds.now }
+    requires once { AllByRecursion AreFedOnce feeds.now }
     ensures observed { OnOk result (all_without_pending streams.new.items ≡ all_without_pending (observed_all feeds.now observations.now streams.old.items)) }
-    ensures undone { (saved : List (Option SavedHeld)) → CanUndo feeds.now observations.now streams.old.items saved → IsUndone saved streams.old.items streams.new.items }
+    ensures undone { (saved : List (Option SavedHeld)) → CanUndo feeds.now observations.now streams.old.items saved → restored_all saved streams.new.items ≡ restored_all saved streams.old.items }
+    ensures demands { fates_of streams.new.items ≡ fates_of streams.old.items }
     ensures only_memory { IsOkUnless result Fault.OutOfMemory }
 {
     for observation in observations {
@@ -152,11 +156,13 @@ fn observe_and_collect(
     observations: &[Observed],
     now: u64,
 ) -> Result<ResourceMetrics, Fault>
-    requires { All (AreNumbers streams.old.items) feeds.now }
+    requires numbers { All (AreNumbers streams.old.items) feeds.now }
+    requires once { AllByRecursion AreFedOnce feeds.now }
     ensures resource { IfOk result (λ c. c.resource ≡ resource.now) }
     ensures scopes { IfOk result (λ c. c.scope_metrics ≡ scopes_shown now (observed_all feeds.now observations.now streams.old.items) meters.now.keys) }
     ensures streams { OnOk result (all_without_pending streams.new.items ≡ all_without_pending (all_after_collection now (observed_all feeds.now observations.now streams.old.items))) }
-    ensures undone { OnErr result ((saved : List (Option SavedHeld)) → CanUndo feeds.now observations.now streams.old.items saved → IsUndone saved streams.old.items streams.new.items) }
+    ensures undone { OnErr result ((saved : List (Option SavedHeld)) → CanUndo feeds.now observations.now streams.old.items saved → restored_all saved streams.new.items ≡ restored_all saved streams.old.items) }
+    ensures demands { OnErr result (fates_of streams.new.items ≡ fates_of streams.old.items) }
     ensures only_memory { IsOkUnless result Fault.OutOfMemory }
 {
     resource_laws();
@@ -178,6 +184,7 @@ pub(crate) fn collect_observed(
     now: u64,
 ) -> Result<ResourceMetrics, Fault>
     requires numbers { All (AreNumbers streams.old.items) feeds.now }
+    requires once { AllByRecursion AreFedOnce feeds.now }
     requires observable { AreObservableIn feeds.now observations.now streams.old.items }
     ensures resource { IfOk result (λ c. c.resource ≡ resource.now) }
     ensures scopes { IfOk result (λ c. c.scope_metrics ≡ scopes_shown now (observed_all feeds.now observations.now streams.old.items) meters.now.keys) }

@@ -1,13 +1,13 @@
-use Rattle.std.proofs.Common.{rules, ◌≡◌, ◌<◌, ◌∙◌, ap, sym, subst, List, arith, get_or, length, below_more, slice_get, Some, option_map}
+use Rattle.std.proofs.Common.{rules, ◌≡◌, ◌<◌, ◌∙◌, ap, refl, sym, subst, List, arith, get_or, length, below_more, slice_get, Some, option_map}
 use Rattle.std.specs.Prelude.{IsOk}
 use Rattle.std.proofs.lemmas.List.{length-map}
-use Rattle.std.proofs.lemmas.Option.{slice_get-map}
+use Rattle.std.proofs.lemmas.Option.{slice_get-map, slice_get_read}
 use Rattle.std.proofs.lemmas.List.Elements.{All-from_get_or}
 use Rattle.otel_model.specs.Sent.{set_for}
 use Rattle.otel_pipeline.specs.Known.{IsKnownIfThere}
 use Rattle.otel_pipeline.specs.Pipelines.{IsPrepared, all_without_pending}
 use Rattle.otel_pipeline.specs.Streams.{Held, without_pending}
-use Rattle.otel_pipeline.proofs.Writes.{get-at, seen_same, there-set, there-set_same}
+use Rattle.otel_pipeline.proofs.Writes.{seen_same, there-set, there-set_same}
 use Rattle.otel_pipeline.proofs.each_stream.prepare_each.Goals as goal
 
 pub index_mut-requires : goal.index_mut-requires
@@ -24,7 +24,7 @@ returns-in_err-prepare-clause-known c = λ known.
     (let k = get_or c.args.feeds.now c.loop-k.k-index 0 in
     let inside : k < length c.loop-k.streams.items = omega (arith, c.requires c.loop-k.k-index 0 c.loop-k-test.true, ap length c.loop-k.invariant.same, length-map {A = Held} {B = Held}) in
     let there : slice_get (all_without_pending c.loop-k.streams.items) k ≡ Some (without_pending c.index_mut.result.now) =
-    slice_get-map without_pending c.loop-k.streams.items k ∙ ap (option_map without_pending) (get-at c.loop-k.streams.items k c.index_mut.result.now inside c.index_mut.ensures.value) in
+    slice_get-map without_pending c.loop-k.streams.items k ∙ ap (option_map without_pending) (slice_get_read c.loop-k.streams.items (length c.loop-k.streams.items) k c.index_mut.result.now refl inside c.index_mut.ensures.value) in
     let one : IsKnownIfThere c.args.attributes.now (Some (without_pending c.index_mut.result.now)) =
     subst (IsKnownIfThere c.args.attributes.now) (ap (λ (hs : List Held). slice_get hs k) (sym c.loop-k.invariant.same) ∙ there) (known c.loop-k.k-index 0 c.loop-k-test.true) in
     let ok : IsOk c.prepare.result = c.prepare.ensures.known one in

@@ -1,10 +1,6 @@
-use Rattle.std.proofs.Common.{◌≡◌, length, drop}
-use Rattle.otel_pipeline.specs.Handles.{updated_each}
+use Rattle.otel_pipeline.specs.Streams.{held_after_update}
+use Rattle.otel_pipeline.proofs.Writes.{IsChangedUpto}
 use Rattle.otel_pipeline.proofs.each_stream.record_held_each.Given as goal
 
--- what is left to record leads to what all of it leads to, and no stream comes or goes
 abbrev pub invariant-loop-k : goal.invariant-loop-k
-invariant-loop-k l = record {
-  left : updated_each l.handle l.value (drop l.k-index l.feeds) l.streams.items ≡ updated_each l.handle l.value l.feeds l.initial.streams.items;
-  long : length l.streams.items ≡ length l.initial.streams.items;
-}
+invariant-loop-k l = IsChangedUpto (held_after_update l.handle l.value) l.feeds l.initial.streams.items l.streams.items l.k-index

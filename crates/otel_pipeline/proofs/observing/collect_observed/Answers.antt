@@ -1,16 +1,17 @@
-use Rattle.std.proofs.Common.{◌∙◌, sym, subst, arith}
-use Rattle.otel_pipeline.specs.Observations.{CanUndo}
+use Rattle.std.proofs.Common.{◌∙◌, sym, ap, arith, length}
+use Rattle.otel_pipeline.specs.Pipelines.{fates_of}
+use Rattle.otel_pipeline.specs.Streams.{Held}
 use Rattle.otel_pipeline.proofs.Outcomes.{refused}
+use Rattle.otel_pipeline.proofs.Undone.{kept-same}
+use Rattle.otel_pipeline.proofs.Writes.{length-seen}
 use Rattle.otel_pipeline.proofs.observing.collect_observed.Goals as goal
 
 pub restore_each-requires-clause-many : goal.restore_each-requires-clause-many
 restore_each-requires-clause-many c =
-    let can = subst (λ ks. CanUndo c.args.feeds.now c.args.observations.now ks c.in_ok-saved.saved.items) c.deref.ensures.value c.in_ok-saved.ensures.saved in
-    let undone = refused c.observe_and_collect-collected.result (sym c.is_err.ensures.value ∙ c.if-is_err.true) c.observe_and_collect-collected.ensures.undone c.in_ok-saved.saved.items can in
-    omega (arith, can.many, undone.many)
+    let same = refused c.observe_and_collect-collected.result (sym c.is_err.ensures.value ∙ c.if-is_err.true) c.observe_and_collect-collected.ensures.demands in
+    omega (arith, c.in_ok-saved.ensures.saved.many, ap length c.deref.ensures.value, length-seen (λ (k : Held). k.stream.demand) c.observe_and_collect-collected.new.streams.items c.args.streams.now.items same)
 
 pub restore_each-requires-clause-kept : goal.restore_each-requires-clause-kept
 restore_each-requires-clause-kept c =
-    let can = subst (λ ks. CanUndo c.args.feeds.now c.args.observations.now ks c.in_ok-saved.saved.items) c.deref.ensures.value c.in_ok-saved.ensures.saved in
-    let undone = refused c.observe_and_collect-collected.result (sym c.is_err.ensures.value ∙ c.if-is_err.true) c.observe_and_collect-collected.ensures.undone c.in_ok-saved.saved.items can in
-    undone.kept can.kept
+    let same = refused c.observe_and_collect-collected.result (sym c.is_err.ensures.value ∙ c.if-is_err.true) c.observe_and_collect-collected.ensures.demands in
+    kept-same c.in_ok-saved.saved.items c.deref.result.now c.observe_and_collect-collected.new.streams.items (ap fates_of c.deref.ensures.value ∙ sym same) c.in_ok-saved.ensures.saved.kept

@@ -1,39 +1,46 @@
-use Rattle.std.proofs.Common.{◌∙◌, sym, subst, refl}
+use Rattle.std.proofs.Common.{◌≡◌, ◌∙◌, ℕ, ◌<◌, List, Option, length, get_or, sym, subst, refl}
 use Rattle.std.proofs.lemmas.List.{length-map}
 use Rattle.std.specs.Prelude.{All}
-use Rattle.otel_pipeline.specs.Observations.{IsSaved, observing_numbers}
-use Rattle.otel_pipeline.specs.Pipelines.{all_without_pending}
-use Rattle.otel_pipeline.specs.Streams.{without_pending}
-use Rattle.otel_pipeline.proofs.Taken.{observed-more, observing-within, numbers-longer}
-use Rattle.otel_pipeline.proofs.Undone.{undone-same, undone-then}
+use Rattle.otel_stream.specs.declared.observation.Observed.{Observed}
+use Rattle.otel_pipeline.specs.Observations.{CanUndo, IsSaved, SavedHeld, observing_numbers, restored_all}
+use Rattle.otel_pipeline.specs.Pipelines.{AreFedOnce, AreNumbers, all_without_pending}
+use Rattle.otel_pipeline.specs.Streams.{Held, without_pending}
+use Rattle.otel_pipeline.proofs.Once.{fed-once}
+use Rattle.otel_pipeline.proofs.Records.{fed-numbers}
+use Rattle.otel_pipeline.proofs.Taken.{numbers-longer, observed-more}
+use Rattle.otel_pipeline.proofs.Writes.{length-seen}
 use Rattle.otel_pipeline.proofs.observing.observe_each.Goals as goal
 
 pub loop-observation-init : goal.loop-observation-init
-loop-observation-init c = record { observed = refl; many = refl; undone = λ saved can. undone-same saved c.args.streams.now.items c.args.streams.now.items refl }
+loop-observation-init c = record { observed = refl; demands = refl; undone = λ saved can. refl }
 
-pub observe_in-requires : goal.observe_in-requires
-observe_in-requires c =
+pub observe_in-requires-clause-numbers : goal.observe_in-requires-clause-numbers
+observe_in-requires-clause-numbers c =
     let old = c.args.streams.now.items in
     let now = c.loop-observation.streams.items in
-    let fed = observing-within old c.args.feeds.now c.observation-item.result.instrument c.streams_fed-numbers.result.now c.streams_fed-numbers.ensures c.requires in
-    numbers-longer old (all_without_pending now) c.streams_fed-numbers.result.now (sym (length-map now without_pending ∙ c.loop-observation.invariant.many)) fed
+    let fed = subst (AreNumbers old) (sym c.streams_fed-numbers.ensures) (fed-numbers old c.args.feeds.now c.observation-item.result.instrument c.requires.numbers) in
+    numbers-longer old (all_without_pending now) c.streams_fed-numbers.result.now (sym (length-map now without_pending ∙ length-seen (λ (k : Held). k.stream.demand) now old c.loop-observation.invariant.demands)) fed
 
-pub loop-observation-preserved : goal.loop-observation-preserved
-loop-observation-preserved c =
-    let o = c.observation-item.result in
-    let i = c.loop-observation.observation-index in
-    let fed = c.streams_fed-numbers.ensures in
-    record {
-      observed = observed-more c.args.feeds.now c.args.observations.now i o c.streams_fed-numbers.result.now c.args.streams.now.items c.loop-observation.streams.items c.observe_in.new.streams.items
-          c.loop-observation-test.true c.observation-item.is fed c.loop-observation.invariant.observed c.in_ok-observe_in.ensures.observed;
-      many = c.observe_in.ensures.many ∙ c.loop-observation.invariant.many;
-      undone = λ saved can. undone-then saved c.args.streams.now.items c.loop-observation.streams.items c.observe_in.new.streams.items (c.loop-observation.invariant.undone saved can)
-          (c.observe_in.ensures.undone saved (subst (All (IsSaved saved)) (sym c.streams_fed-numbers.ensures) (subst (λ p. All (IsSaved saved) (observing_numbers c.args.feeds.now p)) (sym c.observation-item.is) (can.all i o c.loop-observation-test.true))));
-    }
+pub observe_in-requires-clause-once : goal.observe_in-requires-clause-once
+observe_in-requires-clause-once c = subst AreFedOnce (sym c.streams_fed-numbers.ensures) (fed-once c.args.feeds.now c.observation-item.result.instrument c.requires.once)
+
+undone-more : (feeds : List (List ℕ)) (os : List Observed) (i : ℕ) (o : Observed) (ns : List ℕ) (old mid new : List Held) → i < length os → o ≡ get_or os i o → ns ≡ observing_numbers feeds o
+    → ((saved : List (Option SavedHeld)) → All (IsSaved saved) ns → restored_all saved new ≡ restored_all saved mid)
+    → ((saved : List (Option SavedHeld)) → CanUndo feeds os old saved → restored_all saved mid ≡ restored_all saved old)
+    → (saved : List (Option SavedHeld)) → CanUndo feeds os old saved → restored_all saved new ≡ restored_all saved old
+undone-more feeds os i o ns old mid new h at fed one before saved can =
+    one saved (subst (All (IsSaved saved)) (sym fed) (subst (λ p. All (IsSaved saved) (observing_numbers feeds p)) (sym at) (can.all i o h))) ∙ before saved can
 
 pub returns-in_err-observe_in-clause-undone : goal.returns-in_err-observe_in-clause-undone
 returns-in_err-observe_in-clause-undone c =
-    let o = c.observation-item.result in
-    let i = c.loop-observation.observation-index in
-    λ saved can. undone-then saved c.args.streams.now.items c.loop-observation.streams.items c.observe_in.new.streams.items (c.loop-observation.invariant.undone saved can)
-    (c.observe_in.ensures.undone saved (subst (All (IsSaved saved)) (sym c.streams_fed-numbers.ensures) (subst (λ p. All (IsSaved saved) (observing_numbers c.args.feeds.now p)) (sym c.observation-item.is) (can.all i o c.loop-observation-test.true))))
+    undone-more c.args.feeds.now c.args.observations.now c.loop-observation.observation-index c.observation-item.result c.streams_fed-numbers.result.now c.args.streams.now.items c.loop-observation.streams.items c.observe_in.new.streams.items
+    c.loop-observation-test.true c.observation-item.is c.streams_fed-numbers.ensures c.observe_in.ensures.undone c.loop-observation.invariant.undone
+
+pub loop-observation-preserved : goal.loop-observation-preserved
+loop-observation-preserved c = record {
+  observed = observed-more c.args.feeds.now c.args.observations.now c.loop-observation.observation-index c.observation-item.result c.streams_fed-numbers.result.now c.args.streams.now.items c.loop-observation.streams.items c.observe_in.new.streams.items
+      c.loop-observation-test.true c.observation-item.is (subst AreFedOnce (sym c.streams_fed-numbers.ensures) (fed-once c.args.feeds.now c.observation-item.result.instrument c.requires.once)) c.streams_fed-numbers.ensures c.loop-observation.invariant.observed c.in_ok-observe_in.ensures.observed;
+  demands = c.observe_in.ensures.demands ∙ c.loop-observation.invariant.demands;
+  undone = undone-more c.args.feeds.now c.args.observations.now c.loop-observation.observation-index c.observation-item.result c.streams_fed-numbers.result.now c.args.streams.now.items c.loop-observation.streams.items c.observe_in.new.streams.items
+      c.loop-observation-test.true c.observation-item.is c.streams_fed-numbers.ensures c.observe_in.ensures.undone c.loop-observation.invariant.undone;
+}

@@ -1,28 +1,31 @@
-use Rattle.std.proofs.Common.{◌∙◌, sym, subst, ap, length}
-use Rattle.otel_pipeline.specs.Observations.{IsUndone}
-use Rattle.otel_pipeline.proofs.Taken.{taken-in, length-committed}
-use Rattle.otel_pipeline.proofs.Undone.{length-settled, undone-same, undone-then, undone-committed}
+use Rattle.std.proofs.Common.{◌∙◌, ap}
+use Rattle.otel_pipeline.specs.Observations.{restored_all}
+use Rattle.otel_pipeline.specs.Pipelines.{fates_of}
+use Rattle.otel_pipeline.specs.Streams.{held_after_commit}
+use Rattle.otel_pipeline.proofs.Answered.{answers-settled, commits}
+use Rattle.otel_pipeline.proofs.PipelineLemmas.{fates-changed, fates-same}
+use Rattle.otel_pipeline.proofs.Taken.{taken-in}
+use Rattle.otel_pipeline.proofs.Undone.{restored-same, undone-committed}
 use Rattle.otel_pipeline.proofs.observing.observe_in.Goals as goal
 
 pub returns-in_err-prepare_each-clause-undone : goal.returns-in_err-prepare_each-clause-undone
-returns-in_err-prepare_each-clause-undone c = λ saved all. undone-same saved c.args.streams.now.items c.prepare_each.new.streams.items c.prepare_each.ensures.same
+returns-in_err-prepare_each-clause-undone c = λ saved all. restored-same saved c.prepare_each.new.streams.items c.args.streams.now.items c.prepare_each.ensures.same
 
-pub returns-in_err-prepare_each-clause-many : goal.returns-in_err-prepare_each-clause-many
-returns-in_err-prepare_each-clause-many c = length-settled c.prepare_each.new.streams.items c.args.streams.now.items c.prepare_each.ensures.same
+pub returns-in_err-prepare_each-clause-demands : goal.returns-in_err-prepare_each-clause-demands
+returns-in_err-prepare_each-clause-demands c = fates-same _ _ (answers-settled c.prepare_each.new.streams.items c.args.streams.now.items c.prepare_each.ensures.same)
 
 pub returns-clause-observed : goal.returns-clause-observed
 returns-clause-observed c =
     taken-in c.args.observation.now c.as_slice.result.now c.args.numbers.now c.args.streams.now.items c.prepare_each.new.streams.items c.commit_each.new.streams.items
-    c.as_slice.ensures c.prepare_each.ensures.same c.in_ok-prepare_each.ensures.prepared c.commit_each.ensures
+    c.requires.once c.as_slice.ensures c.prepare_each.ensures.same c.in_ok-prepare_each.ensures.prepared c.commit_each.ensures
 
 pub returns-clause-undone : goal.returns-clause-undone
 returns-clause-undone c = λ saved all.
-    let old = c.args.streams.now.items in
-    let mid = c.prepare_each.new.streams.items in
-    undone-then saved old mid c.commit_each.new.streams.items (undone-same saved old mid c.prepare_each.ensures.same)
-    (subst (IsUndone saved mid) (sym c.commit_each.ensures) (undone-committed c.args.observation.now.value saved c.args.numbers.now mid all))
+    ap (restored_all saved) c.commit_each.ensures
+    ∙ (undone-committed c.args.observation.now.value saved c.args.numbers.now c.prepare_each.new.streams.items all ∙ restored-same saved c.prepare_each.new.streams.items c.args.streams.now.items c.prepare_each.ensures.same)
 
-pub returns-clause-many : goal.returns-clause-many
-returns-clause-many c =
-    ap length c.commit_each.ensures
-    ∙ (length-committed c.args.observation.now c.args.numbers.now c.prepare_each.new.streams.items ∙ length-settled c.prepare_each.new.streams.items c.args.streams.now.items c.prepare_each.ensures.same)
+pub returns-clause-demands : goal.returns-clause-demands
+returns-clause-demands c =
+    ap fates_of c.commit_each.ensures
+    ∙ (fates-changed (held_after_commit c.args.observation.now.value) (commits c.args.observation.now.value) c.args.numbers.now c.prepare_each.new.streams.items
+    ∙ fates-same _ _ (answers-settled c.prepare_each.new.streams.items c.args.streams.now.items c.prepare_each.ensures.same))

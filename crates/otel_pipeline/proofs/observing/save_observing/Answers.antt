@@ -1,8 +1,11 @@
-use Rattle.std.proofs.Common.{◌∙◌, ap, sym, subst, refl, arith, length}
-use Rattle.std.proofs.lemmas.List.{length-replicate, take_all}
+use Rattle.std.proofs.Common.{◌∙◌, ap, sym, subst, refl, arith, length, take}
+use Rattle.std.proofs.lemmas.List.{length-replicate, take_all, take_more}
+use Rattle.std.proofs.lemmas.List.Elements.{All-push}
 use Rattle.std.specs.Prelude.{All}
+use Rattle.otel_stream.specs.declared.observation.Observed.{Observed}
 use Rattle.otel_pipeline.specs.Observations.{AreObservable, AreSavedOf, IsSaved, observing_numbers, restored_all}
-use Rattle.otel_pipeline.proofs.Taken.{all-more, observing-within}
+use Rattle.otel_pipeline.specs.Pipelines.{AreNumbers}
+use Rattle.otel_pipeline.proofs.Records.{fed-numbers}
 use Rattle.otel_pipeline.proofs.Undone.{none-same, none-kept}
 use Rattle.otel_pipeline.proofs.observing.save_observing.Goals as goal
 
@@ -18,7 +21,7 @@ loop-observation-init c =
     }
 
 pub save_each-requires-clause-numbers : goal.save_each-requires-clause-numbers
-save_each-requires-clause-numbers c = observing-within c.args.streams.now c.args.feeds.now c.observation-item.result.instrument c.streams_fed-numbers.result.now c.streams_fed-numbers.ensures c.requires.numbers
+save_each-requires-clause-numbers c = subst (AreNumbers c.args.streams.now) (sym c.streams_fed-numbers.ensures) (fed-numbers c.args.streams.now c.args.feeds.now c.observation-item.result.instrument c.requires.numbers)
 
 pub save_each-requires-clause-observable : goal.save_each-requires-clause-observable
 save_each-requires-clause-observable c =
@@ -32,13 +35,13 @@ pub loop-observation-preserved : goal.loop-observation-preserved
 loop-observation-preserved c =
     let now = c.save_each.new.saved.items in
     let made = c.in_ok-save_each.ensures in
+    let P : Observed → Type 0 = λ o. All (IsSaved now) (observing_numbers c.args.feeds.now o) in
     record {
       long = made.long;
       same = made.same;
       kept = made.kept;
-      all = all-more (λ o. All (IsSaved now) (observing_numbers c.args.feeds.now o)) c.args.observations.now c.loop-observation.observation-index c.observation-item.result c.loop-observation-test.true c.observation-item.is
-          (λ i d h j e g. made.before _ (c.loop-observation.invariant.all i d h j e g))
-          (subst (All (IsSaved now)) c.streams_fed-numbers.ensures made.all);
+      all = subst (All P) (sym (take_more c.args.observations.now c.loop-observation.observation-index c.observation-item.result c.loop-observation-test.true))
+          (All-push P (take c.loop-observation.observation-index c.args.observations.now) _ (λ i d h j e g. made.before _ (c.loop-observation.invariant.all i d h j e g)) (subst P c.observation-item.is (subst (All (IsSaved now)) c.streams_fed-numbers.ensures made.all)));
     }
 
 pub returns-clause-saved : goal.returns-clause-saved

@@ -2,7 +2,6 @@ use Rattle.std.proofs.Common.{◌∙◌, ap, not, sym, [], slice_get}
 use Rattle.otel_model.specs.Calls.{or_else}
 use Rattle.otel_pipeline.specs.Pipelines.{some_stream}
 use Rattle.otel_pipeline.proofs.Feeds.{some-or-none, streams-fed}
-use Rattle.otel_pipeline.proofs.Records.{fed-numbers}
 use Rattle.otel_pipeline.proofs.pipeline.Pipeline.has_stream.Goals as goal
 
 -- identities are fed as numbers are
@@ -13,4 +12,4 @@ returns c =
     let n = c.args.instrument in
     rw (← c.self.view_is) (ap not c.is_empty.ensures ∙ (some-or-none c.streams_fed.result.now
     ∙ (ap some_stream (c.streams_fed.ensures ∙ ap (λ f. or_else (slice_get f n) []) c.deref.ensures.value)
-    ∙ sym (streams-fed c.self.inside.answers ks feeds n (fed-numbers ks feeds n c.self.invariant.1)))))
+    ∙ sym (streams-fed c.self.inside.answers ks feeds n c.self.invariant.1))))

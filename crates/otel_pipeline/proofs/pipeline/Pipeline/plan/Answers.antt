@@ -28,6 +28,7 @@ returns-clause-ready c =
       lawful = record {
         apart = subst (IsDistinct identity_eq) (kept ∙ are) unique;
         numbers = rw c.in_ok-reserve-3.ensures.items (numbers-kept c.self.inside.streams.items c.reserve-2.new.self.items c.self.inside.feeds.items (ap length (sym same)) c.self.invariant.1);
+        once = rw c.in_ok-reserve-3.ensures.items c.self.invariant.3;
       };
       planned = c.in_ok-plan.plan;
       plan = refl;

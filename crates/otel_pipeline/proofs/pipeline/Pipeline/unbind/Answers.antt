@@ -1,38 +1,18 @@
-use Rattle.std.proofs.Common.{◌≡◌, ◌∙◌, ap, sym, subst, List, [], ℕ, slice_get}
-use Rattle.std.specs.List.{IsDistinct}
-use Rattle.otel_model.specs.Calls.{or_else}
-use Rattle.otel_model.specs.Demands.{identity_eq}
-use Rattle.otel_model.specs.Streams.{is_delta}
-use Rattle.otel_pipeline.specs.Pipelines.{stream_identities, AreAnswered, part_by}
-use Rattle.otel_pipeline.specs.Handles.{unbound_each}
+use Rattle.std.proofs.Common.{◌∙◌}
+use Rattle.otel_pipeline.specs.Pipelines.{Piped}
 use Rattle.otel_pipeline.specs.Streams.{held_after_unbind}
-use Rattle.otel_pipeline.proofs.Handles.{unbind-sent, unbinds}
-use Rattle.otel_pipeline.proofs.Answered.{answered-each}
-use Rattle.otel_pipeline.proofs.Identities.{distinct-same}
-use Rattle.otel_pipeline.proofs.PipelineLemmas.{demands-changed, identities-same, length-from, numbers-kept}
+use Rattle.otel_pipeline.proofs.Answered.{unbinds}
+use Rattle.otel_pipeline.proofs.Handles.{unbind-sent}
+use Rattle.otel_pipeline.proofs.PipelineLemmas.{changed-part, lawful-keys, reader_of, sound-changed}
 use Rattle.otel_pipeline.proofs.pipeline.Pipeline.unbind.Goals as goal
 
--- the end of a handle keeps the demands of the streams
 pub invariant_of-self : goal.invariant_of-self
-invariant_of-self c =
-    let answers = c.self.inside.answers in
-    let old = c.self.inside.streams.items in
-    let new = c.unbind_each.new.streams.items in
-    let fed = c.streams_fed.result.now in
-    let same : stream_identities old ≡ stream_identities new = sym (ap stream_identities c.unbind_each.ensures ∙ identities-same _ old (demands-changed (held_after_unbind c.args.handle) (λ k. (unbinds c.args.handle k).1) fed old)) in (
-      c.self.invariant.0 ∙ same,
-      numbers-kept old new c.self.inside.feeds.items (length-from old new same) c.self.invariant.1,
-      subst (AreAnswered answers) (sym c.unbind_each.ensures) (answered-each (λ resets d. resets ≡ is_delta answers d) (held_after_unbind c.args.handle) (unbinds c.args.handle) fed old c.self.invariant.2),
-      c.self.invariant.3,
-    )
+invariant_of-self c = sound-changed c.self.inside.answers c.self.inside.identities.keys c.self.inside.feeds.items c.self.inside.streams.items c.unbind_each.new.streams.items (held_after_unbind c.args.handle) (unbinds c.args.handle) c.streams_fed.result.now c.unbind_each.ensures c.self.invariant
 
 -- the end of the handle is sent to the streams that the instrument feeds
 pub returns : goal.returns
 returns c =
-    let answers = c.self.inside.answers in
-    let old = c.self.inside.streams.items in
-    let feeds : List (List ℕ) = c.self.inside.feeds.items in
-    let n = c.args.instrument in
-    let apart : IsDistinct identity_eq (stream_identities old) = subst (IsDistinct identity_eq) c.self.invariant.0 (distinct-same _ c.kind_laws.ensures.equal c.self.inside.identities.keys c.len.ensures.unique) in
-    let made : c.unbind_each.new.streams.items ≡ unbound_each c.args.handle (or_else (slice_get feeds n) []) old = c.unbind_each.ensures ∙ ap (λ ns. unbound_each c.args.handle ns old) (c.streams_fed.ensures ∙ ap (λ f. or_else (slice_get f n) []) c.deref.ensures.value) in
-    rw (← c.self.view_is) (ap (λ ks. part_by answers ks feeds) made ∙ unbind-sent answers old feeds n apart c.self.invariant.1 c.self.invariant.3 c.args.handle (rw (← c.self.view_is) at c.requires.synchronous) (rw (← c.self.view_is) at c.requires.held))
+    let p : Piped = reader_of c.self.inside.answers c.self.inside.streams.items c.self.inside.feeds.items in
+    let lawful = lawful-keys _ c.kind_laws.ensures.equal c.self.inside.identities.keys p c.len.ensures.unique c.self.invariant in
+    rw (← c.self.view_is) (changed-part p c.args.instrument (held_after_unbind c.args.handle) c.deref.result.now c.streams_fed.result.now c.unbind_each.new.streams.items c.deref.ensures.value c.streams_fed.ensures c.unbind_each.ensures
+    ∙ unbind-sent c.args.instrument c.args.handle p lawful (rw (← c.self.view_is) at c.requires.synchronous) (rw (← c.self.view_is) at c.requires.held))
