@@ -1,5 +1,5 @@
 -- Where the names of attributes rise, their labels stand as they do, around those of the scope.
-use Rattle.std.proofs.Common.{◌≡◌, ℕ, suc, ◌+◌, ◌<◌, ◌≤◌, ◌&&◌, Bool, true, false, cond, List, [], ◌∷◌, ◌++◌, Option, Some, None, map, fold, take, drop, length, slice_set, slice_index_or, codes, refl, sym, ap, subst, ◌∙◌, append_assoc, append-nil, add_assoc, add-one, one-add, drop-cons, arith}
+use Rattle.std.proofs.Common.{◌≡◌, ℕ, suc, ◌+◌, ◌<◌, ◌≤◌, ◌&&◌, Bool, true, false, cond, List, [], ◌∷◌, ◌++◌, Option, Some, None, map, fold, take, drop, length, slice_set, slice_index_or, codes, refl, sym, ap, subst, ◌∙◌, append_assoc, append-nil, add_assoc, add-one, one-add, drop-cons, length-append, arith}
 use Rattle.std.specs.Cmp.Lexicographic.{slice_cmp}
 use Rattle.std.specs.Ordering.{nat_cmp, is_lt, ordering_reverse}
 use Rattle.std.specs.declared.cmp.Ordering.{Ordering}
@@ -11,7 +11,7 @@ use Rattle.std.proofs.lemmas.List.{take-append-drop, take-map, drop-map}
 use Rattle.otel_common.specs.declared.attributes.KeyValue.{KeyValue}
 use Rattle.otel_common.specs.declared.scopes.InstrumentationScope.{InstrumentationScope}
 use Rattle.otel_exposition.specs.Names.{name_of}
-use Rattle.otel_exposition.specs.Samples.{Pair, is_label_byte, label_text, more_labels_text, labels_text}
+use Rattle.otel_exposition.specs.Samples.{Pair, is_label_byte, label_text, more_labels_text, labels_text, line_text}
 use Rattle.otel_prometheus.specs.Labels.{own_name, placed, with_label, label_of, with_attributes, text_label, version_label, scope_labels, point_labels}
 use Rattle.otel_prometheus.specs.Rising.{name_in, rises, count_below, place_at, place_of_scope, comma_texts, named}
 use Rattle.otel_prometheus.specs.declared.settings.Settings.{Settings}
@@ -266,3 +266,60 @@ in_braces [] text e h = absurd (omega (arith, h, ap length e))
 in_braces (l ∷ ls) text e h =
     ap (λ t. slice_set t 0 123 ++ 125 ∷ []) e
     ∙ ap (λ t. 123 ∷ t) (append_assoc (label_text l) (comma_texts ls) (125 ∷ []) ∙ ap (λ t. label_text l ++ t) (closing_brace ls))
+
+-- ======== one more label ========
+more_with_more : (ls : List Pair) (m : Pair) → more_labels_text (ls ++ m ∷ []) ≡ comma_texts ls ++ 44 ∷ (label_text m ++ 125 ∷ [])
+more_with_more [] m = refl
+more_with_more (l ∷ ls) m =
+    ap (λ t. 44 ∷ t) (ap (λ t. label_text l ++ t) (more_with_more ls m)
+    ∙ sym (append_assoc (label_text l) (comma_texts ls) (44 ∷ (label_text m ++ 125 ∷ []))))
+
+same_front : (xs ys : List ℕ) (a b : ℕ) → xs ++ a ∷ [] ≡ ys ++ b ∷ [] → xs ≡ ys
+same_front [] [] a b e = refl
+same_front [] (y ∷ ys) a b e = absurd (omega (arith, ap length e, length-append ys (b ∷ [])))
+same_front (x ∷ xs) [] a b e = absurd (omega (arith, ap length e, length-append xs (a ∷ [])))
+same_front (x ∷ xs) (y ∷ ys) a b e =
+    let first : x ≡ y = cc in
+    let rest : xs ++ a ∷ [] ≡ ys ++ b ∷ [] = cc in
+    λ i. first i ∷ same_front xs ys a b rest i
+
+-- without the closing brace and with a comma, one more label can follow
+opened : (ls : List Pair) (m : Pair) (text front : List ℕ) (b : ℕ) → text ≡ labels_text ls → text ≡ front ++ b ∷ [] → (front ++ 44 ∷ []) ++ (label_text m ++ 125 ∷ []) ≡ labels_text (ls ++ m ∷ [])
+opened [] m text front b e f = absurd (omega (arith, ap length e, ap length f, length-append front (b ∷ [])))
+opened (l ∷ ls) m text front b e f =
+    let body : List ℕ = 123 ∷ (label_text l ++ comma_texts ls) in
+    let rest : List ℕ = label_text m ++ 125 ∷ [] in
+    let whole : text ≡ body ++ 125 ∷ [] =
+    e ∙ ap (λ t. 123 ∷ t) (ap (λ t. label_text l ++ t) (sym (closing_brace ls)) ∙ sym (append_assoc (label_text l) (comma_texts ls) (125 ∷ []))) in
+    ap (λ t. (t ++ 44 ∷ []) ++ rest) (same_front front body b 125 (sym f ∙ whole))
+    ∙ (append_assoc body (44 ∷ []) rest
+    ∙ ap (λ t. 123 ∷ t) (append_assoc (label_text l) (comma_texts ls) (44 ∷ rest) ∙ ap (λ t. label_text l ++ t) (sym (more_with_more ls m))))
+
+pub opened_none : (ls : List Pair) (m : Pair) (text : List ℕ) → text ≡ labels_text ls → length text ≡ 0 → 123 ∷ (label_text m ++ 125 ∷ []) ≡ labels_text (ls ++ m ∷ [])
+opened_none [] m text e h = refl
+opened_none (l ∷ ls) m text e h = absurd (omega (arith, h, ap length e))
+
+pub pushed_open : (ls : List Pair) (m : Pair) (text front : List ℕ) (b : ℕ) (old mid new : List ℕ) → text ≡ labels_text ls → text ≡ front ++ b ∷ [] → mid ≡ old ++ front → new ≡ mid ++ 44 ∷ []
+    → new ++ (label_text m ++ 125 ∷ []) ≡ old ++ labels_text (ls ++ m ∷ [])
+pushed_open ls m text front b old mid new e f g h =
+    let rest : List ℕ = label_text m ++ 125 ∷ [] in
+    ap (λ t. t ++ rest) (h ∙ ap (λ t. t ++ 44 ∷ []) g)
+    ∙ (ap (λ t. t ++ rest) (append_assoc old front (44 ∷ []))
+    ∙ (append_assoc old (front ++ 44 ∷ []) rest
+    ∙ ap (λ t. old ++ t) (opened ls m text front b e f)))
+
+-- the line of a bucket
+bucket_line : (old name end opened label labels digits : List ℕ) → opened ++ (label ++ 125 ∷ []) ≡ ((old ++ name) ++ end) ++ labels
+    → (((opened ++ label) ++ 125 ∷ 32 ∷ []) ++ digits) ++ 10 ∷ [] ≡ old ++ line_text (name ++ end) labels digits
+bucket_line old name end opened label labels digits e =
+    let rest : List ℕ = 32 ∷ (digits ++ 10 ∷ []) in
+    let left : (((opened ++ label) ++ 125 ∷ 32 ∷ []) ++ digits) ++ 10 ∷ [] ≡ (opened ++ (label ++ 125 ∷ [])) ++ rest = simp append_assoc in
+    let right : (((old ++ name) ++ end) ++ labels) ++ rest ≡ old ++ ((name ++ end) ++ (labels ++ rest)) = simp append_assoc in
+    left ∙ (ap (λ t. t ++ rest) e ∙ right)
+
+pub bucket_pushed : (old name label labels digits n e o l b d new : List ℕ) → n ≡ old ++ name → e ≡ n ++ codes "_bucket" → o ++ (label ++ 125 ∷ []) ≡ e ++ labels → l ≡ o ++ label → b ≡ l ++ 125 ∷ 32 ∷ []
+    → d ≡ b ++ digits → new ≡ d ++ 10 ∷ [] → new ≡ old ++ line_text (name ++ codes "_bucket") labels digits
+bucket_pushed old name label labels digits n e o l b d new f g h k p q r =
+    r
+    ∙ (ap (λ t. t ++ 10 ∷ []) (q ∙ ap (λ t. t ++ digits) (p ∙ ap (λ t. t ++ 125 ∷ 32 ∷ []) k))
+    ∙ bucket_line old name (codes "_bucket") o label labels digits (h ∙ ap (λ t. t ++ labels) (g ∙ ap (λ t. t ++ codes "_bucket") f)))

@@ -10,7 +10,6 @@ ghost use Rattle.otel_prometheus.specs.declared.headings.Heading.{Heading};
 ghost use Rattle.otel_prometheus.specs.declared.settings.Settings.{Settings};
 
 use crate::headings::Heading;
-use crate::labels::point_labels;
 use crate::rising::Spelling;
 use crate::samples::{push_histogram_point, value_end};
 use crate::series::Series;
@@ -19,7 +18,6 @@ use otel_common::attributes::KeyValue;
 use otel_common::scopes::InstrumentationScope;
 use otel_data::aggregated::{AggregatedMetrics, MetricData};
 use otel_data::points::{GaugeDataPoint, HistogramDataPoint, SumDataPoint};
-use otel_exposition::labels::push_labels;
 use otel_exposition::numbers::Number;
 use otel_exposition::samples::push_line;
 use std::alloc::{AllocError, Global};
@@ -146,20 +144,18 @@ impl<T: Number> Point for HistogramDataPoint<T> {
         settings: Settings,
         scope: &InstrumentationScope,
         heading: &Heading,
-        _spelling: &mut Spelling,
+        spelling: &mut Spelling,
         has_sum: bool,
     ) -> Result<Series, AllocError> {
         let attributes = self.attributes().as_slice();
-        let labels = point_labels(alloc, settings, scope, attributes, true)?;
         let mut key = Vec::with_capacity(alloc, LABELS)?;
-        push_labels(&mut key, labels.as_slice())?;
+        spelling.push_labels(alloc, &mut key, settings, scope, attributes, true)?;
         let mut lines = Vec::new(alloc);
         push_histogram_point(
             alloc,
             settings.format,
             &mut lines,
             heading.name.as_str(),
-            labels.as_slice(),
             key.as_slice(),
             self,
             has_sum,
