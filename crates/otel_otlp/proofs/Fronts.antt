@@ -16,3 +16,14 @@ closed (member k j ms) =
 pub optional-tokens : (k : List ℕ) (o : Option Json) (rest : Members) → members_tokens (optional k o rest) ≡ members_front (optional k o no_members) ++ members_tokens rest
 optional-tokens k None rest = refl
 optional-tokens k (Some j) rest = ap (λ x. Token.key k ∷ (x ++ members_tokens rest)) (sym (append-nil (json_tokens j)))
+
+-- some members, and then the others
+abbrev pub joined_members : Members → Members → Members
+joined_members no_members rest = rest
+joined_members (member k j ms) rest = member k j (joined_members ms rest)
+
+pub front_then : (ms rest : Members) → members_front ms ++ members_tokens rest ≡ members_tokens (joined_members ms rest)
+front_then no_members rest = refl
+front_then (member k j ms) rest =
+    ap (λ x. Token.key k ∷ x) (append_assoc (json_tokens j) (members_front ms) (members_tokens rest))
+    ∙ ap (λ x. Token.key k ∷ (json_tokens j ++ x)) (front_then ms rest)

@@ -1,9 +1,8 @@
 -- Parts of a text in JSON, and the tokens that they stand for.
 use Rattle.std.specs.Prelude.{decimal}
-use Rattle.std.specs.Fmt.{signed_decimal}
 use Rattle.json.specs.Token.{Token}
 use Rattle.otel_otlp.specs.declared.parts.Part.{Part}
-use Rattle.otel_otlp.specs.declared.parts.Part.TheVariants.{BeginObject, EndObject, BeginArray, EndArray, Key, Text, Truth, Natural, Integer, QuotedNatural, QuotedInteger}
+use Rattle.otel_otlp.specs.declared.parts.Part.TheVariants.{BeginObject, EndObject, BeginArray, EndArray, Key, Text, Truth, Natural}
 
 abbrev pub part_token : Part → Token
 part_token BeginObject = Token.begin_object
@@ -14,6 +13,3 @@ part_token (Key s) = Token.key s.now
 part_token (Text s) = Token.string s.now
 part_token (Truth b) = Token.boolean b
 part_token (Natural n) = Token.number (decimal n)
-part_token (Integer z) = Token.number (signed_decimal z)
-part_token (QuotedNatural n) = Token.string (decimal n)
-part_token (QuotedInteger z) = Token.string (signed_decimal z)

@@ -21,12 +21,6 @@ pub(crate) enum Part<'a> {
     Truth(bool),
     /// An unsigned number.
     Natural(u64),
-    /// A number.
-    Integer(i64),
-    /// An unsigned number in quotes.
-    QuotedNatural(u64),
-    /// A number in quotes.
-    QuotedInteger(i64),
 }
 
 /// Writes a part.
@@ -43,9 +37,6 @@ fn write_part(out: &mut Writer, part: Part<'_>) -> Result<(), AllocError>
         Part::Text(text) => out.string(text),
         Part::Truth(truth) => out.boolean(truth),
         Part::Natural(number) => out.u64(number),
-        Part::Integer(number) => out.i64(number),
-        Part::QuotedNatural(number) => out.quoted_u64(number),
-        Part::QuotedInteger(number) => out.quoted_i64(number),
     }
 }
 

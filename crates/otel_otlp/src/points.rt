@@ -1,12 +1,13 @@
 //! Points.
 
-ghost use Rattle.std.specs.Prelude.{◌≡◌, ◌++◌, ℕ, OnOk, pos};
+ghost use Rattle.std.specs.Prelude.{◌≡◌, ◌++◌, ◌∷◌, ℕ, OnOk, pos};
 ghost use Rattle.std.specs.Option.{option_map};
 ghost use Rattle.json.specs.Json.{Json, no_members};
+ghost use Rattle.json.specs.Token.{begin_object};
 ghost use Rattle.json.specs.Tree.{json_tokens};
 ghost use Rattle.otel_otlp.specs.Arrays.{array_of, members_front, optional};
 ghost use Rattle.otel_otlp.specs.Numbers.{quoted, whole};
-ghost use Rattle.otel_otlp.specs.Points.{number_point_json, gauge_point_json, sum_point_json, histogram_point_json, gauge_json, sum_json, histogram_json, temporality_json};
+ghost use Rattle.otel_otlp.specs.Points.{number_point_json, gauge_point_json, sum_point_json, histogram_point_json, gauge_json, sum_json, histogram_json, point_members, temporality_json, totals};
 
 use crate::items::{Item, write_items};
 use crate::numbers::Number;
@@ -28,6 +29,26 @@ impl Item for u64 {
     }
 }
 
+/// Begins a point: writes its attributes, its start and its moment in nanoseconds since 1970.
+fn begin_point(
+    out: &mut Writer,
+    attributes: &[KeyValue],
+    start: u64,
+    time: u64,
+) -> Result<(), AllocError>
+    ensures tokens { OnOk result (out.new.tokens ≡ out.old.tokens ++ begin_object ∷ members_front (point_members attributes.now start time no_members)) }
+    ensures before { out.new.before ≡ out.old.before }
+{
+    out.begin_object()?;
+    out.key("attributes")?;
+    write_items(out, attributes)?;
+    out.key("startTimeUnixNano")?;
+    out.quoted_u64(start)?;
+    out.key("timeUnixNano")?;
+    out.quoted_u64(time)?;
+    Ok(())
+}
+
 /// Writes a point of a gauge or a sum.
 fn write_number_point<T: Number>(
     out: &mut Writer,
@@ -39,21 +60,9 @@ fn write_number_point<T: Number>(
     ensures tokens { OnOk result (out.new.tokens ≡ out.old.tokens ++ json_tokens (number_point_json T.integer start time attributes.now value)) }
     ensures before { out.new.before ≡ out.old.before }
 {
-    write_parts(out, &[Part::BeginObject, Part::Key("attributes")])?;
-    write_items(out, attributes)?;
-    let (name, amount) = value.value();
-    write_parts(
-        out,
-        &[
-            Part::Key("startTimeUnixNano"),
-            Part::QuotedNatural(start),
-            Part::Key("timeUnixNano"),
-            Part::QuotedNatural(time),
-            name,
-            amount,
-            Part::EndObject,
-        ],
-    )?;
+    begin_point(out, attributes, start, time)?;
+    value.write_value(out)?;
+    out.end_object()?;
     Ok(())
 }
 
@@ -70,6 +79,18 @@ fn write_bounds(out: &mut Writer, bounds: &[i64]) -> Result<(), AllocError>
     Ok(())
 }
 
+/// Writes how many values there are, and their sum.
+fn write_totals<T: Number>(out: &mut Writer, count: u64, sum: T) -> Result<(), AllocError>
+    ensures tokens { OnOk result (out.new.tokens ≡ out.old.tokens ++ members_front (totals count (T.integer sum) no_members)) }
+    ensures before { out.new.before ≡ out.old.before }
+{
+    out.key("count")?;
+    out.quoted_u64(count)?;
+    out.key("sum")?;
+    sum.write_whole(out)?;
+    Ok(())
+}
+
 /// Writes a number under a name, if there is one.
 fn write_extreme<T: Number>(
     out: &mut Writer,
@@ -80,7 +101,11 @@ fn write_extreme<T: Number>(
     ensures before { out.new.before ≡ out.old.before }
 {
     match number {
-        Some(number) => write_parts(out, &[Part::Key(name), number.whole()]),
+        Some(number) => {
+            out.key(name)?;
+            number.write_whole(out)?;
+            Ok(())
+        }
         None => Ok(()),
     }
 }
@@ -95,22 +120,9 @@ fn write_histogram_point<T: Number>(
     ensures tokens { OnOk result (out.new.tokens ≡ out.old.tokens ++ json_tokens (histogram_point_json T.integer start time point.now)) }
     ensures before { out.new.before ≡ out.old.before }
 {
-    write_parts(out, &[Part::BeginObject, Part::Key("attributes")])?;
-    write_items(out, point.attributes().as_slice())?;
-    write_parts(
-        out,
-        &[
-            Part::Key("startTimeUnixNano"),
-            Part::QuotedNatural(start),
-            Part::Key("timeUnixNano"),
-            Part::QuotedNatural(time),
-            Part::Key("count"),
-            Part::QuotedNatural(point.count()),
-            Part::Key("sum"),
-            point.sum().whole(),
-            Part::Key("bucketCounts"),
-        ],
-    )?;
+    begin_point(out, point.attributes().as_slice(), start, time)?;
+    write_totals(out, point.count(), point.sum())?;
+    out.key("bucketCounts")?;
     write_items(out, point.bucket_counts().as_slice())?;
     out.key("explicitBounds")?;
     write_bounds(out, point.bounds().as_slice())?;

@@ -3,6 +3,7 @@ pub mod BucketLemmas
 pub mod LawLemmas
 pub mod LineLemmas
 pub mod PlaceLemmas
+pub mod RisingLemmas
 pub mod SeriesLemmas
 pub mod UnitLemmas
 pub mod Valid

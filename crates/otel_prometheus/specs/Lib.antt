@@ -4,6 +4,7 @@ pub mod Headings
 pub mod Labels
 pub mod Laws
 pub mod Places
+pub mod Rising
 pub mod Points
 pub mod Series
 pub mod Totals

@@ -52,7 +52,7 @@ fn push_version(
 }
 
 /// Adds the labels of a scope.
-fn push_scope(
+pub(crate) fn push_scope(
     alloc: Global,
     labels: &mut Vec<Label>,
     settings: Settings,
@@ -68,7 +68,7 @@ fn push_scope(
 }
 
 /// Returns the name of the label of an attribute.
-fn own_name(alloc: Global, key: &str, has_bounds: bool) -> Result<String, AllocError>
+pub(crate) fn own_name(alloc: Global, key: &str, has_bounds: bool) -> Result<String, AllocError>
     ensures { IfOk result (λ name. string_bytes name ≡ own_name has_bounds (name_of is_label_byte key.now)) }
 {
     let name = label_name(alloc, key.as_bytes())?;

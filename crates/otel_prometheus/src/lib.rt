@@ -13,6 +13,7 @@ mod labels;
 pub mod laws;
 mod places;
 mod points;
+mod rising;
 mod samples;
 mod series;
 pub mod settings;

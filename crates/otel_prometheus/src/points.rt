@@ -3,12 +3,14 @@
 ghost use Rattle.std.specs.Prelude.{◌≡◌, ◌++◌, Bool, OnOk, IfOk, [], ◌∷◌, map};
 ghost use Rattle.otel_common.specs.declared.scopes.InstrumentationScope.{InstrumentationScope};
 ghost use Rattle.otel_prometheus.specs.Points.{number_series, gauge_series, sum_series, histogram_series, data_series, content_series};
+ghost use Rattle.otel_prometheus.specs.Labels.{scope_labels};
+ghost use Rattle.otel_prometheus.specs.Rising.{comma_texts};
 ghost use Rattle.otel_prometheus.specs.Series.{Series, spelled_series};
 ghost use Rattle.otel_prometheus.specs.declared.headings.Heading.{Heading};
 ghost use Rattle.otel_prometheus.specs.declared.settings.Settings.{Settings};
 
 use crate::headings::Heading;
-use crate::labels::point_labels;
+use crate::rising::Spelling;
 use crate::samples::{push_histogram_point, value_end};
 use crate::series::Series;
 use crate::settings::Settings;
@@ -16,7 +18,6 @@ use otel_common::attributes::KeyValue;
 use otel_common::scopes::InstrumentationScope;
 use otel_data::aggregated::{AggregatedMetrics, MetricData};
 use otel_data::points::{GaugeDataPoint, HistogramDataPoint, SumDataPoint};
-use otel_exposition::labels::push_labels;
 use otel_exposition::numbers::Number;
 use otel_exposition::samples::push_line;
 use std::alloc::{AllocError, Global};
@@ -43,14 +44,16 @@ fn number_series<T: Number>(
     settings: Settings,
     scope: &InstrumentationScope,
     heading: &Heading,
+    spelling: &mut Spelling,
     attributes: &[KeyValue],
     value: T,
 ) -> Result<Series, AllocError>
-    ensures { IfOk result (λ series. series ≡ spelled_series (number_series T.integer settings scope.now heading.now attributes.now value)) }
+    requires { spelling.old.scope_text.items ≡ comma_texts (scope_labels settings scope.now) }
+    ensures series { IfOk result (λ series. series ≡ spelled_series (number_series T.integer settings scope.now heading.now attributes.now value)) }
+    ensures of_scope { spelling.new.scope_text.items ≡ spelling.old.scope_text.items }
 {
-    let labels = point_labels(alloc, settings, scope, attributes, false)?;
     let mut key = Vec::with_capacity(alloc, LABELS)?;
-    push_labels(&mut key, labels.as_slice())?;
+    spelling.push_labels(alloc, &mut key, settings, scope, attributes, false)?;
     let mut lines = Vec::with_capacity(alloc, key.len().saturating_add(BESIDE_LABELS))?;
     push_line(
         &mut lines,
@@ -74,9 +77,12 @@ trait Point {
         settings: Settings,
         scope: &InstrumentationScope,
         heading: &Heading,
+        spelling: &mut Spelling,
         has_sum: bool,
     ) -> Result<Series, AllocError>
-        ensures { IfOk result (λ made. made ≡ spelled_series (series settings has_sum scope.now heading.now self.now)) };
+        requires { spelling.old.scope_text.items ≡ comma_texts (scope_labels settings scope.now) }
+        ensures series { IfOk result (λ made. made ≡ spelled_series (series settings has_sum scope.now heading.now self.now)) }
+        ensures of_scope { spelling.new.scope_text.items ≡ spelling.old.scope_text.items };
 }
 
 impl<T: Number> Point for GaugeDataPoint<T> {
@@ -88,10 +94,19 @@ impl<T: Number> Point for GaugeDataPoint<T> {
         settings: Settings,
         scope: &InstrumentationScope,
         heading: &Heading,
+        spelling: &mut Spelling,
         _has_sum: bool,
     ) -> Result<Series, AllocError> {
         let attributes = self.attributes().as_slice();
-        number_series(alloc, settings, scope, heading, attributes, self.value())
+        number_series(
+            alloc,
+            settings,
+            scope,
+            heading,
+            spelling,
+            attributes,
+            self.value(),
+        )
     }
 }
 
@@ -104,10 +119,19 @@ impl<T: Number> Point for SumDataPoint<T> {
         settings: Settings,
         scope: &InstrumentationScope,
         heading: &Heading,
+        spelling: &mut Spelling,
         _has_sum: bool,
     ) -> Result<Series, AllocError> {
         let attributes = self.attributes().as_slice();
-        number_series(alloc, settings, scope, heading, attributes, self.value())
+        number_series(
+            alloc,
+            settings,
+            scope,
+            heading,
+            spelling,
+            attributes,
+            self.value(),
+        )
     }
 }
 
@@ -120,19 +144,18 @@ impl<T: Number> Point for HistogramDataPoint<T> {
         settings: Settings,
         scope: &InstrumentationScope,
         heading: &Heading,
+        spelling: &mut Spelling,
         has_sum: bool,
     ) -> Result<Series, AllocError> {
         let attributes = self.attributes().as_slice();
-        let labels = point_labels(alloc, settings, scope, attributes, true)?;
         let mut key = Vec::with_capacity(alloc, LABELS)?;
-        push_labels(&mut key, labels.as_slice())?;
+        spelling.push_labels(alloc, &mut key, settings, scope, attributes, true)?;
         let mut lines = Vec::new(alloc);
         push_histogram_point(
             alloc,
             settings.format,
             &mut lines,
             heading.name.as_str(),
-            labels.as_slice(),
             key.as_slice(),
             self,
             has_sum,
@@ -153,8 +176,9 @@ fn add_each<P: Point>(
 ) -> Result<(), AllocError>
     ensures { OnOk result (out.new.items ≡ out.old.items ++ map spelled_series (map (P.series settings has_sum scope.now heading.now) points.now)) }
 {
+    let mut spelling = Spelling::of_scope(alloc, settings, scope)?;
     for point in points {
-        let series = point.series(alloc, settings, scope, heading, has_sum)?;
+        let series = point.series(alloc, settings, scope, heading, &mut spelling, has_sum)?;
         push(out, series)?;
     }
     Ok(())

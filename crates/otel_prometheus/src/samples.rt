@@ -1,7 +1,7 @@
 //! Samples of points.
 
-ghost use Rattle.std.specs.Prelude.{◌≡◌, ◌++◌, OnOk, IfOk, codes};
-ghost use Rattle.otel_exposition.specs.Samples.{labels_text, sample_text};
+ghost use Rattle.std.specs.Prelude.{◌≡◌, ◌++◌, [], ◌∷◌, List, OnOk};
+ghost use Rattle.otel_exposition.specs.Samples.{Pair, label_text, labels_text, sample_text};
 ghost use Rattle.otel_prometheus.specs.Points.{are_natural, bound_text, bucket, buckets, sum_samples, count_samples, histogram_samples, value_end};
 ghost use Rattle.otel_prometheus.specs.Series.{samples_text};
 
@@ -9,7 +9,7 @@ use crate::headings::Kind;
 use itoa::Buffer;
 use otel_data::points::HistogramDataPoint;
 use otel_exposition::formats::Format;
-use otel_exposition::labels::{Label, push_labels_with};
+use otel_exposition::labels::push_label;
 use otel_exposition::numbers::Number;
 use otel_exposition::samples::push_line;
 use std::alloc::{AllocError, Global};
@@ -25,37 +25,49 @@ pub(crate) fn value_end(kind: Kind) -> &'static str
     }
 }
 
-/// Returns a bound of a bucket as text. In OpenMetrics it is written as a float.
-fn bound_text(alloc: Global, format: Format, bound: i64) -> Result<Vec<u8>, AllocError>
-    ensures { IfOk result (λ text. text.items ≡ bound_text format bound) }
+/// Appends a bound of a bucket. In OpenMetrics it is written as a float.
+fn push_bound(out: &mut Vec<u8>, format: Format, bound: i64) -> Result<(), AllocError>
+    ensures { OnOk result (out.new.items ≡ out.old.items ++ bound_text format bound) }
 {
     let mut buffer = Buffer::new();
-    let mut text = Vec::from_slice(alloc, buffer.format(bound).as_bytes())?;
+    out.extend_from_slice(buffer.format(bound).as_bytes())?;
     match format {
-        Format::Prometheus => Ok(text),
-        Format::OpenMetrics => {
-            text.extend_from_slice(b".0")?;
-            Ok(text)
-        }
+        Format::Prometheus => Ok(()),
+        Format::OpenMetrics => out.extend_from_slice(b".0"),
     }
+}
+
+/// Appends spelled labels up to where one more can follow.
+fn push_open(out: &mut Vec<u8>, spelled: &[u8]) -> Result<(), AllocError>
+    ensures { (labels : List Pair) (more : Pair) → spelled.now ≡ labels_text labels → OnOk result (out.new.items ++ (label_text more ++ 125 ∷ []) ≡ out.old.items ++ labels_text (labels ++ more ∷ [])) }
+{
+    let Some((_, front)) = spelled.split_last() else {
+        out.extend_from_slice(b"{")?;
+        return Ok(());
+    };
+    out.extend_from_slice(front)?;
+    out.extend_from_slice(b",")?;
+    Ok(())
 }
 
 /// Appends the sample of a bucket.
 fn push_bucket(
     out: &mut Vec<u8>,
     name: &str,
-    labels: &[Label],
+    spelled: &[u8],
     bound: &[u8],
     count: u64,
 ) -> Result<(), AllocError>
-    ensures { OnOk result (out.new.items ≡ out.old.items ++ sample_text (bucket name.now labels.now bound.now count)) }
+    ensures { (labels : List Pair) → spelled.now ≡ labels_text labels → OnOk result (out.new.items ≡ out.old.items ++ sample_text (bucket name.now labels bound.now count)) }
 {
     out.extend_from_slice(name.as_bytes())?;
     out.extend_from_slice(b"_bucket")?;
-    push_labels_with(out, labels, "le", bound)?;
-    out.extend_from_slice(b" ")?;
+    push_open(out, spelled)?;
+    push_label(out, "le", bound)?;
+    out.extend_from_slice(b"} ")?;
     count.push_to(out)?;
-    out.extend_from_slice(b"\n")
+    out.extend_from_slice(b"\n")?;
+    Ok(())
 }
 
 /// Appends the samples of the buckets that have bounds. Each counts the values of those before it too.
@@ -64,22 +76,24 @@ fn push_buckets(
     format: Format,
     out: &mut Vec<u8>,
     name: &str,
-    labels: &[Label],
+    spelled: &[u8],
     bounds: &[i64],
     counts: &[u64],
 ) -> Result<(), AllocError>
-    ensures { OnOk result (out.new.items ≡ out.old.items ++ samples_text (buckets format name.now labels.now 0 bounds.now counts.now)) }
+    ensures { (labels : List Pair) → spelled.now ≡ labels_text labels → OnOk result (out.new.items ≡ out.old.items ++ samples_text (buckets format name.now labels 0 bounds.now counts.now)) }
 {
     let mut before = 0u64;
     let mut left = counts;
+    let mut text = Vec::new(alloc);
     for bound in bounds {
         let Some((count, rest)) = left.split_first() else {
             return Ok(());
         };
         before = before.wrapping_add(*count);
         left = rest;
-        let text = bound_text(alloc, format, *bound)?;
-        push_bucket(out, name, labels, text.as_slice(), before)?;
+        text.clear();
+        push_bound(&mut text, format, *bound)?;
+        push_bucket(out, name, spelled, text.as_slice(), before)?;
     }
     Ok(())
 }
@@ -101,18 +115,17 @@ fn are_natural(bounds: &[i64]) -> bool
 fn push_total<T: Number>(
     out: &mut Vec<u8>,
     name: &str,
-    labels: &[Label],
     spelled: &[u8],
     sum: T,
     has_sum: bool,
 ) -> Result<(), AllocError>
-    requires { spelled.now ≡ labels_text labels.now }
-    ensures { OnOk result (out.new.items ≡ out.old.items ++ samples_text (sum_samples has_sum name.now labels.now (T.integer sum))) }
+    ensures { (labels : List Pair) → spelled.now ≡ labels_text labels → OnOk result (out.new.items ≡ out.old.items ++ samples_text (sum_samples has_sum name.now labels (T.integer sum))) }
 {
     if !has_sum {
         return Ok(());
     }
-    push_line(out, name, "_sum", spelled, sum)
+    push_line(out, name, "_sum", spelled, sum)?;
+    Ok(())
 }
 
 /// Appends the sample of a count. OpenMetrics has one only beside a sum.
@@ -120,45 +133,42 @@ fn push_count(
     format: Format,
     out: &mut Vec<u8>,
     name: &str,
-    labels: &[Label],
     spelled: &[u8],
     count: u64,
     has_sum: bool,
 ) -> Result<(), AllocError>
-    requires { spelled.now ≡ labels_text labels.now }
-    ensures { OnOk result (out.new.items ≡ out.old.items ++ samples_text (count_samples format has_sum name.now labels.now count)) }
+    ensures { (labels : List Pair) → spelled.now ≡ labels_text labels → OnOk result (out.new.items ≡ out.old.items ++ samples_text (count_samples format has_sum name.now labels count)) }
 {
-    match format {
-        Format::Prometheus => push_line(out, name, "_count", spelled, count),
-        Format::OpenMetrics => {
-            if !has_sum {
-                return Ok(());
-            }
-            push_line(out, name, "_count", spelled, count)
-        }
+    let is_shown = match format {
+        Format::Prometheus => true,
+        Format::OpenMetrics => has_sum,
+    };
+    if !is_shown {
+        return Ok(());
     }
+    push_line(out, name, "_count", spelled, count)?;
+    Ok(())
 }
 
-/// Appends the samples of a point of a histogram, whose labels are also given as they are spelled.
+/// Appends the samples of a point of a histogram, whose labels are given as they are spelled.
 #[tactic(auto, using(crate::proofs::SeriesLemmas::samples_text_append))]
 pub(crate) fn push_histogram_point<T: Number>(
     alloc: Global,
     format: Format,
     out: &mut Vec<u8>,
     name: &str,
-    labels: &[Label],
     spelled: &[u8],
     point: &HistogramDataPoint<T>,
     has_sum: bool,
 ) -> Result<(), AllocError>
-    requires { spelled.now ≡ labels_text labels.now }
-    ensures { OnOk result (out.new.items ≡ out.old.items ++ samples_text (histogram_samples T.integer format has_sum name.now labels.now point.now)) }
+    ensures { (labels : List Pair) → spelled.now ≡ labels_text labels → OnOk result (out.new.items ≡ out.old.items ++ samples_text (histogram_samples T.integer format has_sum name.now labels point.now)) }
 {
     let bounds = point.bounds().as_slice();
     let counts = point.bucket_counts().as_slice();
     let has_sum = has_sum && are_natural(bounds);
-    push_buckets(alloc, format, out, name, labels, bounds, counts)?;
-    push_bucket(out, name, labels, b"+Inf", point.count())?;
-    push_total(out, name, labels, spelled, point.sum(), has_sum)?;
-    push_count(format, out, name, labels, spelled, point.count(), has_sum)
+    push_buckets(alloc, format, out, name, spelled, bounds, counts)?;
+    push_bucket(out, name, spelled, b"+Inf", point.count())?;
+    push_total(out, name, spelled, point.sum(), has_sum)?;
+    push_count(format, out, name, spelled, point.count(), has_sum)?;
+    Ok(())
 }

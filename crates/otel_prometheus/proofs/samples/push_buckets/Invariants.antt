@@ -1,8 +1,10 @@
-use Rattle.std.proofs.Common.{◌≡◌, ◌++◌, drop}
+use Rattle.std.proofs.Common.{◌≡◌, ◌++◌, List, drop}
+use Rattle.otel_exposition.specs.Samples.{Pair, labels_text}
 use Rattle.otel_prometheus.specs.Points.{buckets}
 use Rattle.otel_prometheus.specs.Series.{samples_text}
 use Rattle.otel_prometheus.proofs.samples.push_buckets.Given as goal
 
 -- with the buckets that are left the text is whole
 abbrev pub invariant-loop-bound : goal.invariant-loop-bound
-invariant-loop-bound l = l.out.items ++ samples_text (buckets l.format l.name l.labels l.before (drop l.bound-index l.bounds) l.left) ≡ l.fn.out.items ++ samples_text (buckets l.format l.name l.labels 0 l.bounds l.counts)
+invariant-loop-bound l = (labels : List Pair) → l.spelled ≡ labels_text labels
+    → l.out.items ++ samples_text (buckets l.format l.name labels l.before (drop l.bound-index l.bounds) l.left) ≡ l.fn.out.items ++ samples_text (buckets l.format l.name labels 0 l.bounds l.counts)

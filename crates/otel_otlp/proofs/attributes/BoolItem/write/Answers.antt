@@ -1,0 +1,5 @@
+use Rattle.std.proofs.Common.{refl, append_assoc}
+use Rattle.otel_otlp.proofs.attributes.BoolItem.write.Goals as goal
+
+pub returns-clause-tokens : goal.returns-clause-tokens
+returns-clause-tokens c = simp (c.in_ok-end_object.ensures.ok, c.in_ok-boolean.ensures.ok, c.in_ok-key.ensures.ok, c.in_ok-begin_object.ensures.ok, append_assoc) refl

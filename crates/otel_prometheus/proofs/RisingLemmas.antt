@@ -1,0 +1,325 @@
+-- Where the names of attributes rise, their labels stand as they do, around those of the scope.
+use Rattle.std.proofs.Common.{◌≡◌, ℕ, suc, ◌+◌, ◌<◌, ◌≤◌, ◌&&◌, Bool, true, false, cond, List, [], ◌∷◌, ◌++◌, Option, Some, None, map, fold, take, drop, length, slice_set, slice_index_or, codes, refl, sym, ap, subst, ◌∙◌, append_assoc, append-nil, add_assoc, add-one, one-add, drop-cons, length-append, arith}
+use Rattle.std.specs.Cmp.Lexicographic.{slice_cmp}
+use Rattle.std.specs.Ordering.{nat_cmp, is_lt, ordering_reverse}
+use Rattle.std.specs.declared.cmp.Ordering.{Ordering}
+use Rattle.std.specs.declared.cmp.Ordering.TheVariants.{Less, Equal, Greater}
+use Rattle.std.proofs.lemmas.Bool.{true≢false}
+use Rattle.std.proofs.lemmas.Cmp.{nat_list_cmp_total}
+use Rattle.std.proofs.lemmas.Grind.{fold-append, flat_map-append}
+use Rattle.std.proofs.lemmas.List.{take-append-drop, take-map, drop-map}
+use Rattle.otel_common.specs.declared.attributes.KeyValue.{KeyValue}
+use Rattle.otel_common.specs.declared.scopes.InstrumentationScope.{InstrumentationScope}
+use Rattle.otel_exposition.specs.Names.{name_of}
+use Rattle.otel_exposition.specs.Samples.{Pair, is_label_byte, label_text, more_labels_text, labels_text, line_text}
+use Rattle.otel_prometheus.specs.Labels.{own_name, placed, with_label, label_of, with_attributes, text_label, version_label, scope_labels, point_labels}
+use Rattle.otel_prometheus.specs.Rising.{name_in, rises, count_below, place_at, place_of_scope, comma_texts, named}
+use Rattle.otel_prometheus.specs.declared.settings.Settings.{Settings}
+
+abbrev Below : List ℕ → List ℕ → Type 0
+Below a b = slice_cmp nat_cmp a b ≡ Less
+
+through : (a b c : List ℕ) → Below a b → Below b c → Below a c
+through a b c = nat_list_cmp_total.trans a b c
+
+turned : (a b : List ℕ) → Below a b → slice_cmp nat_cmp b a ≡ Greater
+turned a b e = nat_list_cmp_total.antisymm b a ∙ ap ordering_reverse e
+
+-- each name is greater than the one before it
+abbrev Rise : List ℕ → List (List ℕ) → Type 0
+Rise before [] = Unit {0}
+Rise before (n ∷ ns) = Below before n × Rise n ns
+
+-- each name is less than this one
+abbrev AreBelow : List ℕ → List (List ℕ) → Type 0
+AreBelow high [] = Unit {0}
+AreBelow high (n ∷ ns) = Below n high × AreBelow high ns
+
+-- this many names come before those of a scope's labels, the others behind them, and all rise
+record AroundScope (names : List (List ℕ)) (count : ℕ) : Type 0 where
+  below : AreBelow (codes "otel_scope_name") (take count names)
+  first : Rise [] (take count names)
+  last : Rise (codes "otel_scope_version") (drop count names)
+
+is_less : (o : Ordering) → is_lt o ≡ true → o ≡ Less
+is_less Less e = refl
+is_less Equal e = absurd (true≢false (sym e))
+is_less Greater e = absurd (true≢false (sym e))
+
+both : (a b : Bool) → (a && b) ≡ true → (a ≡ true) × (b ≡ true)
+both true b e = (refl, e)
+both false b e = absurd (true≢false (sym e))
+
+do_rise : (before : List ℕ) (ns : List (List ℕ)) → rises before ns ≡ true → Rise before ns
+do_rise before [] e = tt
+do_rise before (n ∷ ns) e =
+    let h : (is_lt (slice_cmp nat_cmp before n) ≡ true) × (rises n ns ≡ true) = both (is_lt (slice_cmp nat_cmp before n)) (rises n ns) e in
+    (is_less (slice_cmp nat_cmp before n) h.0, do_rise n ns h.1)
+
+below_or_none : (b : Bool) (n : List ℕ) (ns : List (List ℕ)) → b ≡ is_lt (slice_cmp nat_cmp n (codes "otel_scope_name")) → AreBelow (codes "otel_scope_name") (take (count_below ns) ns) → AreBelow (codes "otel_scope_name") (take (cond b (1 + count_below ns) 0) (n ∷ ns))
+below_or_none true n ns e h = subst (λ k. AreBelow (codes "otel_scope_name") (take k (n ∷ ns))) (sym (one-add (count_below ns))) (is_less (slice_cmp nat_cmp n (codes "otel_scope_name")) (sym e), h)
+below_or_none false n ns e h = tt
+
+are_below : (ns : List (List ℕ)) → AreBelow (codes "otel_scope_name") (take (count_below ns) ns)
+are_below [] = tt
+are_below (n ∷ ns) = below_or_none (is_lt (slice_cmp nat_cmp n (codes "otel_scope_name"))) n ns refl (are_below ns)
+
+within_or_none : (b : Bool) (k m : ℕ) → k ≤ m → cond b (1 + k) 0 ≤ suc m
+within_or_none true k m h = omega (arith, h)
+within_or_none false k m h = omega arith
+
+pub count_within : (ns : List (List ℕ)) → count_below ns ≤ length ns
+count_within [] = omega arith
+count_within (n ∷ ns) = within_or_none (is_lt (slice_cmp nat_cmp n (codes "otel_scope_name"))) (count_below ns) (length ns) (count_within ns)
+
+-- at a name that is not less no more are counted
+pub none_more : (names : List (List ℕ)) (i count : ℕ) (n : List ℕ) (o : Ordering) → i < length names → n ≡ slice_index_or names i n → o ≡ slice_cmp nat_cmp n (codes "otel_scope_name") → is_lt o ≡ false → count + count_below (drop i names) ≡ count
+none_more names i count n o h e f k =
+    ap (λ t. count + count_below t) (drop-cons names i n h)
+    ∙ (ap (λ x. count + count_below (x ∷ drop (suc i) names)) (sym e)
+    ∙ (ap (λ b. count + cond b (1 + count_below (drop (suc i) names)) 0) (ap is_lt (sym f) ∙ k)
+    ∙ omega arith))
+
+pub one_more : (names : List (List ℕ)) (i count : ℕ) (n : List ℕ) (o : Ordering) → i < length names → n ≡ slice_index_or names i n → o ≡ slice_cmp nat_cmp n (codes "otel_scope_name") → is_lt o ≡ true → (count + 1) + count_below (drop (i + 1) names) ≡ count + count_below (drop i names)
+one_more names i count n o h e f k =
+    ap (λ j. (count + 1) + count_below (drop j names)) (add-one i)
+    ∙ (add_assoc count 1 (count_below (drop (suc i) names))
+    ∙ (ap (λ b. count + cond b (1 + count_below (drop (suc i) names)) 0) (sym (ap is_lt (sym f) ∙ k))
+    ∙ (ap (λ x. count + count_below (x ∷ drop (suc i) names)) e
+    ∙ ap (λ t. count + count_below t) (sym (drop-cons names i n h)))))
+
+-- with a key that is that of the next attribute
+pub same_keys : (ps : List KeyValue) (i : ℕ) (a : KeyValue) (left rest : List (List ℕ)) (key : List ℕ) → i < length ps → a ≡ slice_index_or ps i a → left ≡ key ∷ rest → key ≡ a.key → rest ≡ map (λ a. a.key) (drop (i + 1) ps) → left ≡ map (λ a. a.key) (drop i ps)
+same_keys ps i a left rest key h e f g k =
+    f
+    ∙ ((λ j. g j ∷ (k ∙ ap (λ m. map (λ a. a.key) (drop m ps)) (add-one i)) j)
+    ∙ (ap (λ x. map (λ a. a.key) (x ∷ drop (suc i) ps)) e
+    ∙ ap (map (λ a. a.key)) (sym (drop-cons ps i a h))))
+
+is_count : (b : Bool) (n count : ℕ) → cond b (Some n) None ≡ Some count → (b ≡ true) × (n ≡ count)
+is_count true n count e = (refl, cc)
+is_count false n count e = absurd cc
+
+stands_around : (names : List (List ℕ)) (count : ℕ) → place_of_scope names ≡ Some count → AroundScope names count
+stands_around names count e =
+    let n = count_below names in
+    let h : ((rises [] (take n names) && rises (codes "otel_scope_version") (drop n names)) ≡ true) × (n ≡ count) = is_count (rises [] (take n names) && rises (codes "otel_scope_version") (drop n names)) n count e in
+    let r : (rises [] (take n names) ≡ true) × (rises (codes "otel_scope_version") (drop n names) ≡ true) = both (rises [] (take n names)) (rises (codes "otel_scope_version") (drop n names)) h.0 in
+    subst (AroundScope names) h.1 (record { below = are_below names; first = do_rise [] (take n names) r.0; last = do_rise (codes "otel_scope_version") (drop n names) r.1 })
+
+pub place_within : (names : List (List ℕ)) (count : ℕ) → place_of_scope names ≡ Some count → count ≤ length names
+place_within names count e =
+    let n = count_below names in
+    let h : ((rises [] (take n names) && rises (codes "otel_scope_version") (drop n names)) ≡ true) × (n ≡ count) = is_count (rises [] (take n names) && rises (codes "otel_scope_version") (drop n names)) n count e in
+    subst (λ k. k ≤ length names) h.1 (count_within names)
+
+-- the name is greater than those of the labels
+abbrev Above : List Pair → List ℕ → Type 0
+Above [] n = Unit {0}
+Above (l ∷ ls) n = Below l.0 n × Above ls n
+
+higher : (ls : List Pair) (n m : List ℕ) → Above ls n → Below n m → Above ls m
+higher [] n m h b = tt
+higher (l ∷ ls) n m h b = (through l.0 n m h.0 b, higher ls n m h.1 b)
+
+both_above : (a b : List Pair) (n : List ℕ) → Above a n → Above b n → Above (a ++ b) n
+both_above [] b n h k = k
+both_above (l ∷ a) b n h k = (h.0, both_above a b n h.1 k)
+
+-- a label belongs behind those with lesser names
+behind : (front back : List Pair) (p : Pair) → Above front p.0 → with_label (front ++ back) p ≡ front ++ with_label back p
+behind [] back p h = refl
+behind (l ∷ front) back p h =
+    ap (λ o. placed o p l (front ++ back) (with_label (front ++ back) p)) (turned l.0 p.0 h.0)
+    ∙ ap (λ t. l ∷ t) (behind front back p h.1)
+
+last : (front : List Pair) (p : Pair) → Above front p.0 → with_label front p ≡ front ++ p ∷ []
+last [] p h = refl
+last (l ∷ front) p h = ap (λ o. placed o p l front (with_label front p)) (turned l.0 p.0 h.0) ∙ ap (λ t. l ∷ t) (last front p h.1)
+
+one_above : (front : List Pair) (before : List ℕ) (p : Pair) → ((n : List ℕ) → Below before n → Above front n) → Below before p.0 → (n : List ℕ) → Below p.0 n → Above (front ++ p ∷ []) n
+one_above front before p h b n c = both_above front (p ∷ []) n (h n (through before p.0 n b c)) (c, tt)
+
+-- attributes whose names come before those of the labels of the scope
+module _ (has_bounds : Bool) (s : List Pair) (high : List ℕ) (first : (p : Pair) → Below p.0 high → with_label s p ≡ p ∷ s) where
+  lows : (ps : List KeyValue) (front : List Pair) (before : List ℕ) → ((n : List ℕ) → Below before n → Above front n) → Rise before (map (name_in has_bounds) ps) → AreBelow high (map (name_in has_bounds) ps)
+      → with_attributes has_bounds (front ++ s) ps ≡ (front ++ map (label_of has_bounds) ps) ++ s
+  lows [] front before h r b = ap (λ t. t ++ s) (sym (append-nil front))
+  lows (a ∷ ps) front before h r b =
+      let p = label_of has_bounds a in
+      ap (λ t. with_attributes has_bounds t ps) (behind front s p (h p.0 r.0) ∙ (ap (λ t. front ++ t) (first p b.0) ∙ sym (append_assoc front (p ∷ []) s)))
+      ∙ (lows ps (front ++ p ∷ []) p.0 (one_above front before p h r.0) r.1 b.1
+      ∙ ap (λ t. t ++ s) (append_assoc front (p ∷ []) (map (label_of has_bounds) ps)))
+
+-- attributes whose names come behind those of all labels so far
+highs : (has_bounds : Bool) (ps : List KeyValue) (front : List Pair) (before : List ℕ) → ((n : List ℕ) → Below before n → Above front n) → Rise before (map (name_in has_bounds) ps)
+    → with_attributes has_bounds front ps ≡ front ++ map (label_of has_bounds) ps
+highs has_bounds [] front before h r = sym (append-nil front)
+highs has_bounds (a ∷ ps) front before h r =
+    let p = label_of has_bounds a in
+    ap (λ t. with_attributes has_bounds t ps) (last front p (h p.0 r.0))
+    ∙ (highs has_bounds ps (front ++ p ∷ []) p.0 (one_above front before p h r.0) r.1
+    ∙ append_assoc front (p ∷ []) (map (label_of has_bounds) ps))
+
+-- ======== the labels of the scope ========
+abbrev block : Bool → List ℕ → Option (List ℕ) → List Pair
+block b name v = cond b (text_label (codes "otel_scope_name") name ++ version_label v) []
+
+to_version : (n : List ℕ) → Below n (codes "otel_scope_name") → Below n (codes "otel_scope_version")
+to_version n h = through n (codes "otel_scope_name") (codes "otel_scope_version") h refl
+
+to_name : (n : List ℕ) → Below (codes "otel_scope_version") n → Below (codes "otel_scope_name") n
+to_name n h = through (codes "otel_scope_name") (codes "otel_scope_version") n refl h
+
+scope_behind : (b : Bool) (name : List ℕ) (v : Option (List ℕ)) (p : Pair) → Below p.0 (codes "otel_scope_name") → with_label (block b name v) p ≡ p ∷ block b name v
+scope_behind false name v p h = refl
+scope_behind true (x ∷ xs) v p h = ap (λ o. placed o p (codes "otel_scope_name", x ∷ xs) (version_label v) (with_label (version_label v) p)) h
+scope_behind true [] None p h = refl
+scope_behind true [] (Some []) p h = refl
+scope_behind true [] (Some (x ∷ xs)) p h = ap (λ o. placed o p (codes "otel_scope_version", x ∷ xs) [] (p ∷ [])) (to_version p.0 h)
+
+scope_before : (b : Bool) (name : List ℕ) (v : Option (List ℕ)) (n : List ℕ) → Below (codes "otel_scope_version") n → Above (block b name v) n
+scope_before false name v n h = tt
+scope_before true (x ∷ xs) None n h = (to_name n h, tt)
+scope_before true (x ∷ xs) (Some []) n h = (to_name n h, tt)
+scope_before true (x ∷ xs) (Some (y ∷ ys)) n h = (to_name n h, (h, tt))
+scope_before true [] None n h = tt
+scope_before true [] (Some []) n h = tt
+scope_before true [] (Some (y ∷ ys)) n h = (h, tt)
+
+lows_above : (has_bounds : Bool) (ps : List KeyValue) (n : List ℕ) → AreBelow (codes "otel_scope_name") (map (name_in has_bounds) ps) → Below (codes "otel_scope_version") n → Above (map (label_of has_bounds) ps) n
+lows_above has_bounds [] n b h = tt
+lows_above has_bounds (a ∷ ps) n b h = (through (name_in has_bounds a) (codes "otel_scope_version") n (to_version (name_in has_bounds a) b.0) h, lows_above has_bounds ps n b.1 h)
+
+two_parts : (s : Settings) (has_bounds : Bool) (scope : InstrumentationScope) (low high : List KeyValue)
+    → AreBelow (codes "otel_scope_name") (map (name_in has_bounds) low) → Rise [] (map (name_in has_bounds) low) → Rise (codes "otel_scope_version") (map (name_in has_bounds) high)
+    → point_labels s has_bounds scope (low ++ high) ≡ (map (label_of has_bounds) low ++ scope_labels s scope) ++ map (label_of has_bounds) high
+two_parts s has_bounds scope low high b r q =
+    let own = scope_labels s scope in
+    fold-append (λ found a. with_label found (label_of has_bounds a)) own low high
+    ∙ (ap (λ t. with_attributes has_bounds t high) (lows has_bounds own (codes "otel_scope_name") (scope_behind s.has_scope_labels scope.name scope.version) low [] [] (λ n h. tt) r b)
+    ∙ highs has_bounds high (map (label_of has_bounds) low ++ own) (codes "otel_scope_version")
+    (λ n h. both_above (map (label_of has_bounds) low) own n (lows_above has_bounds low n b h) (scope_before s.has_scope_labels scope.name scope.version n h)) q)
+
+named_labels : (has_bounds : Bool) (ps : List KeyValue) → named (map (name_in has_bounds) ps) ps ≡ map (label_of has_bounds) ps
+named_labels has_bounds [] = refl
+named_labels has_bounds (a ∷ ps) = ap (λ t. label_of has_bounds a ∷ t) (named_labels has_bounds ps)
+
+comma_texts-append : (a b : List Pair) → comma_texts (a ++ b) ≡ comma_texts a ++ comma_texts b
+comma_texts-append a b = flat_map-append (λ l. 44 ∷ label_text l) a b
+
+-- ======== the text ========
+named_texts : (has_bounds : Bool) (count : ℕ) (ps : List KeyValue) → named (take count (map (name_in has_bounds) ps)) (take count ps) ≡ map (label_of has_bounds) (take count ps)
+named_texts has_bounds count ps = ap (λ t. named t (take count ps)) (take-map (name_in has_bounds) count ps) ∙ named_labels has_bounds (take count ps)
+
+named_rest : (has_bounds : Bool) (count : ℕ) (ps : List KeyValue) → named (drop count (map (name_in has_bounds) ps)) (drop count ps) ≡ map (label_of has_bounds) (drop count ps)
+named_rest has_bounds count ps = ap (λ t. named t (drop count ps)) (drop-map (name_in has_bounds) count ps) ∙ named_labels has_bounds (drop count ps)
+
+three_parts : (a s b : List Pair) → comma_texts ((a ++ s) ++ b) ≡ comma_texts a ++ (comma_texts s ++ comma_texts b)
+three_parts a s b =
+    comma_texts-append (a ++ s) b
+    ∙ (ap (λ t. t ++ comma_texts b) (comma_texts-append a s)
+    ∙ append_assoc (comma_texts a) (comma_texts s) (comma_texts b))
+
+around_scope : (s : Settings) (has_bounds : Bool) (scope : InstrumentationScope) (ps : List KeyValue) (count : ℕ) → AroundScope (map (name_in has_bounds) ps) count
+    → comma_texts (named (take count (map (name_in has_bounds) ps)) (take count ps)) ++ (comma_texts (scope_labels s scope) ++ comma_texts (named (drop count (map (name_in has_bounds) ps)) (drop count ps)))
+    ≡ comma_texts (point_labels s has_bounds scope ps)
+around_scope s has_bounds scope ps count h =
+    let low = take count ps in
+    let high = drop count ps in
+    let own = scope_labels s scope in
+    let below : AreBelow (codes "otel_scope_name") (map (name_in has_bounds) low) = subst (AreBelow (codes "otel_scope_name")) (take-map (name_in has_bounds) count ps) h.below in
+    let first : Rise [] (map (name_in has_bounds) low) = subst (Rise []) (take-map (name_in has_bounds) count ps) h.first in
+    let last : Rise (codes "otel_scope_version") (map (name_in has_bounds) high) = subst (Rise (codes "otel_scope_version")) (drop-map (name_in has_bounds) count ps) h.last in
+    (λ i. comma_texts (named_texts has_bounds count ps i) ++ (comma_texts own ++ comma_texts (named_rest has_bounds count ps i)))
+    ∙ (sym (three_parts (map (label_of has_bounds) low) own (map (label_of has_bounds) high))
+    ∙ (ap comma_texts (sym (two_parts s has_bounds scope low high below first last))
+    ∙ ap (λ t. comma_texts (point_labels s has_bounds scope t)) (take-append-drop count ps)))
+
+-- names that were made of the keys of attributes
+pub spelled_around : (s : Settings) (has_bounds : Bool) (scope : InstrumentationScope) (ps : List KeyValue) (names : List (List ℕ)) (count : ℕ) (text : List ℕ)
+    → names ≡ map (name_in has_bounds) ps → place_of_scope names ≡ Some count → text ≡ comma_texts (scope_labels s scope)
+    → comma_texts (named (take count names) (take count ps)) ++ (text ++ comma_texts (named (drop count names) (drop count ps))) ≡ comma_texts (point_labels s has_bounds scope ps)
+spelled_around s has_bounds scope ps names count text e h k =
+    ap (λ t. comma_texts (named (take count names) (take count ps)) ++ (t ++ comma_texts (named (drop count names) (drop count ps)))) k
+    ∙ ((λ i. comma_texts (named (take count (e i)) (take count ps)) ++ (comma_texts (scope_labels s scope) ++ comma_texts (named (drop count (e i)) (drop count ps))))
+    ∙ around_scope s has_bounds scope ps count (subst (λ t. AroundScope t count) e (stands_around names count h)))
+
+names_of_keys : (has_bounds : Bool) (ps : List KeyValue) → map (λ key. own_name has_bounds (name_of is_label_byte key)) (map (λ a. a.key) ps) ≡ map (name_in has_bounds) ps
+names_of_keys has_bounds [] = refl
+names_of_keys has_bounds (a ∷ ps) = ap (λ t. name_in has_bounds a ∷ t) (names_of_keys has_bounds ps)
+
+pub made_of_keys : (has_bounds : Bool) (ps : List KeyValue) (keys names : List (List ℕ)) → keys ≡ map (λ a. a.key) ps → names ≡ map (λ key. own_name has_bounds (name_of is_label_byte key)) keys → names ≡ map (name_in has_bounds) ps
+made_of_keys has_bounds ps keys names e f = f ∙ (ap (map (λ key. own_name has_bounds (name_of is_label_byte key))) e ∙ names_of_keys has_bounds ps)
+
+-- ======== the braces ========
+closing_brace : (ls : List Pair) → comma_texts ls ++ 125 ∷ [] ≡ more_labels_text ls
+closing_brace [] = refl
+closing_brace (l ∷ ls) = ap (λ t. 44 ∷ t) (append_assoc (label_text l) (comma_texts ls) (125 ∷ []) ∙ ap (λ t. label_text l ++ t) (closing_brace ls))
+
+pub no_braces : (ls : List Pair) (text : List ℕ) → text ≡ comma_texts ls → length text ≡ 0 → text ≡ labels_text ls
+no_braces [] text e h = e
+no_braces (l ∷ ls) text e h = absurd (omega (arith, h, ap length e))
+
+pub in_braces : (ls : List Pair) (text : List ℕ) → text ≡ comma_texts ls → 0 < length text → slice_set text 0 123 ++ 125 ∷ [] ≡ labels_text ls
+in_braces [] text e h = absurd (omega (arith, h, ap length e))
+in_braces (l ∷ ls) text e h =
+    ap (λ t. slice_set t 0 123 ++ 125 ∷ []) e
+    ∙ ap (λ t. 123 ∷ t) (append_assoc (label_text l) (comma_texts ls) (125 ∷ []) ∙ ap (λ t. label_text l ++ t) (closing_brace ls))
+
+-- ======== one more label ========
+more_with_more : (ls : List Pair) (m : Pair) → more_labels_text (ls ++ m ∷ []) ≡ comma_texts ls ++ 44 ∷ (label_text m ++ 125 ∷ [])
+more_with_more [] m = refl
+more_with_more (l ∷ ls) m =
+    ap (λ t. 44 ∷ t) (ap (λ t. label_text l ++ t) (more_with_more ls m)
+    ∙ sym (append_assoc (label_text l) (comma_texts ls) (44 ∷ (label_text m ++ 125 ∷ []))))
+
+same_front : (xs ys : List ℕ) (a b : ℕ) → xs ++ a ∷ [] ≡ ys ++ b ∷ [] → xs ≡ ys
+same_front [] [] a b e = refl
+same_front [] (y ∷ ys) a b e = absurd (omega (arith, ap length e, length-append ys (b ∷ [])))
+same_front (x ∷ xs) [] a b e = absurd (omega (arith, ap length e, length-append xs (a ∷ [])))
+same_front (x ∷ xs) (y ∷ ys) a b e =
+    let first : x ≡ y = cc in
+    let rest : xs ++ a ∷ [] ≡ ys ++ b ∷ [] = cc in
+    λ i. first i ∷ same_front xs ys a b rest i
+
+-- without the closing brace and with a comma, one more label can follow
+opened : (ls : List Pair) (m : Pair) (text front : List ℕ) (b : ℕ) → text ≡ labels_text ls → text ≡ front ++ b ∷ [] → (front ++ 44 ∷ []) ++ (label_text m ++ 125 ∷ []) ≡ labels_text (ls ++ m ∷ [])
+opened [] m text front b e f = absurd (omega (arith, ap length e, ap length f, length-append front (b ∷ [])))
+opened (l ∷ ls) m text front b e f =
+    let body : List ℕ = 123 ∷ (label_text l ++ comma_texts ls) in
+    let rest : List ℕ = label_text m ++ 125 ∷ [] in
+    let whole : text ≡ body ++ 125 ∷ [] =
+    e ∙ ap (λ t. 123 ∷ t) (ap (λ t. label_text l ++ t) (sym (closing_brace ls)) ∙ sym (append_assoc (label_text l) (comma_texts ls) (125 ∷ []))) in
+    ap (λ t. (t ++ 44 ∷ []) ++ rest) (same_front front body b 125 (sym f ∙ whole))
+    ∙ (append_assoc body (44 ∷ []) rest
+    ∙ ap (λ t. 123 ∷ t) (append_assoc (label_text l) (comma_texts ls) (44 ∷ rest) ∙ ap (λ t. label_text l ++ t) (sym (more_with_more ls m))))
+
+pub opened_none : (ls : List Pair) (m : Pair) (text : List ℕ) → text ≡ labels_text ls → length text ≡ 0 → 123 ∷ (label_text m ++ 125 ∷ []) ≡ labels_text (ls ++ m ∷ [])
+opened_none [] m text e h = refl
+opened_none (l ∷ ls) m text e h = absurd (omega (arith, h, ap length e))
+
+pub pushed_open : (ls : List Pair) (m : Pair) (text front : List ℕ) (b : ℕ) (old mid new : List ℕ) → text ≡ labels_text ls → text ≡ front ++ b ∷ [] → mid ≡ old ++ front → new ≡ mid ++ 44 ∷ []
+    → new ++ (label_text m ++ 125 ∷ []) ≡ old ++ labels_text (ls ++ m ∷ [])
+pushed_open ls m text front b old mid new e f g h =
+    let rest : List ℕ = label_text m ++ 125 ∷ [] in
+    ap (λ t. t ++ rest) (h ∙ ap (λ t. t ++ 44 ∷ []) g)
+    ∙ (ap (λ t. t ++ rest) (append_assoc old front (44 ∷ []))
+    ∙ (append_assoc old (front ++ 44 ∷ []) rest
+    ∙ ap (λ t. old ++ t) (opened ls m text front b e f)))
+
+-- the line of a bucket
+bucket_line : (old name end opened label labels digits : List ℕ) → opened ++ (label ++ 125 ∷ []) ≡ ((old ++ name) ++ end) ++ labels
+    → (((opened ++ label) ++ 125 ∷ 32 ∷ []) ++ digits) ++ 10 ∷ [] ≡ old ++ line_text (name ++ end) labels digits
+bucket_line old name end opened label labels digits e =
+    let rest : List ℕ = 32 ∷ (digits ++ 10 ∷ []) in
+    let left : (((opened ++ label) ++ 125 ∷ 32 ∷ []) ++ digits) ++ 10 ∷ [] ≡ (opened ++ (label ++ 125 ∷ [])) ++ rest = simp append_assoc in
+    let right : (((old ++ name) ++ end) ++ labels) ++ rest ≡ old ++ ((name ++ end) ++ (labels ++ rest)) = simp append_assoc in
+    left ∙ (ap (λ t. t ++ rest) e ∙ right)
+
+pub bucket_pushed : (old name label labels digits n e o l b d new : List ℕ) → n ≡ old ++ name → e ≡ n ++ codes "_bucket" → o ++ (label ++ 125 ∷ []) ≡ e ++ labels → l ≡ o ++ label → b ≡ l ++ 125 ∷ 32 ∷ []
+    → d ≡ b ++ digits → new ≡ d ++ 10 ∷ [] → new ≡ old ++ line_text (name ++ codes "_bucket") labels digits
+bucket_pushed old name label labels digits n e o l b d new f g h k p q r =
+    r
+    ∙ (ap (λ t. t ++ 10 ∷ []) (q ∙ ap (λ t. t ++ digits) (p ∙ ap (λ t. t ++ 125 ∷ 32 ∷ []) k))
+    ∙ bucket_line old name (codes "_bucket") o label labels digits (h ∙ ap (λ t. t ++ labels) (g ∙ ap (λ t. t ++ codes "_bucket") f)))

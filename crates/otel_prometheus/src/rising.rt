@@ -1,0 +1,313 @@
+//! Labels that stand as their attributes do, since the names of both rise.
+
+ghost use Rattle.std.specs.Prelude.{◌≡◌, ◌++◌, [], ◌∷◌, ◌≤◌, List, length, take, drop, IsTrue, IfOk, OnOk, map};
+ghost use Rattle.otel_exposition.specs.Names.{name_of};
+ghost use Rattle.otel_exposition.specs.Samples.{Pair, is_label_byte, label_text, labels_text};
+ghost use Rattle.otel_prometheus.specs.Labels.{own_name, point_labels, scope_labels};
+ghost use Rattle.otel_prometheus.specs.Rising.{rises, count_below, place_of_scope, comma_texts, named};
+ghost use Rattle.otel_prometheus.specs.Values.{value_text};
+
+use crate::labels::{own_name, point_labels, push_scope};
+use crate::settings::Settings;
+use crate::values::value_text;
+use otel_common::attributes::{KeyValue, Value};
+use otel_common::scopes::InstrumentationScope;
+use otel_common::strings::StringValue;
+use otel_exposition::labels::{Label, push_label, push_labels};
+use std::alloc::{AllocError, Global};
+
+/// Whether each name is greater than the one before it, and the first than these bytes.
+fn rises(before: &[u8], names: &[StringValue]) -> bool
+    ensures { result ≡ rises before.now names.now }
+{
+    let mut last = before;
+    for name in names {
+        let bytes = name.as_str().as_bytes();
+        if !last.cmp(bytes).is_lt() {
+            return false;
+        }
+        last = bytes;
+    }
+    true
+}
+
+/// How many names, from the front, are less than the first name of a label of a scope.
+fn count_below(names: &[StringValue]) -> usize
+    ensures { result ≡ count_below names.now }
+{
+    let mut count = 0;
+    for name in names {
+        let bytes = name.as_str().as_bytes();
+        if !bytes.cmp(b"otel_scope_name".as_slice()).is_lt() {
+            return count;
+        }
+        count += 1;
+    }
+    count
+}
+
+/// How many names come before those of a scope's labels; none if the names don't rise, or one stands between these.
+#[tactic(auto, using(crate::proofs::RisingLemmas::count_within))]
+fn place_of_scope(names: &[StringValue]) -> Option<usize>
+    ensures { result ≡ place_of_scope names.now }
+{
+    let count = count_below(names);
+    let (low, high) = names.split_at(count);
+    if rises(b"", low) && rises(b"otel_scope_version", high) {
+        return Some(count);
+    }
+    None
+}
+
+/// Adds a text at the end.
+fn push(texts: &mut Vec<StringValue>, text: StringValue) -> Result<(), AllocError>
+    ensures { OnOk result (texts.new.items ≡ texts.old.items ++ text ∷ []) }
+{
+    match texts.push(text) {
+        Ok(()) => Ok(()),
+        Err(_) => Err(AllocError),
+    }
+}
+
+/// Returns the keys of attributes.
+fn keys_of(alloc: Global, attributes: &[KeyValue]) -> Result<Vec<StringValue>, AllocError>
+    ensures { IfOk result (λ keys. keys.items ≡ map (λ a. a.key) attributes.now) }
+{
+    let mut keys = Vec::with_capacity(alloc, attributes.len())?;
+    for attribute in attributes {
+        push(&mut keys, StringValue::new(alloc, attribute.key.as_str())?)?;
+    }
+    Ok(keys)
+}
+
+/// Returns the names of the labels of attributes with these keys.
+fn names_of(
+    alloc: Global,
+    keys: &[StringValue],
+    has_bounds: bool,
+) -> Result<Vec<StringValue>, AllocError>
+    ensures { IfOk result (λ names. names.items ≡ map (λ key. own_name has_bounds (name_of is_label_byte key)) keys.now) }
+{
+    let mut names = Vec::with_capacity(alloc, keys.len())?;
+    for key in keys {
+        let name = own_name(alloc, key.as_str(), has_bounds)?;
+        push(&mut names, StringValue::from(name))?;
+    }
+    Ok(names)
+}
+
+/// Appends a label of this name behind a comma.
+fn push_named(alloc: Global, out: &mut Vec<u8>, name: &str, value: &Value) -> Result<(), AllocError>
+    ensures { OnOk result (out.new.items ≡ out.old.items ++ 44 ∷ label_text (name.now, value_text value.now)) }
+{
+    out.extend_from_slice(b",")?;
+    match value {
+        Value::String(text) => push_label(out, name, text.as_str().as_bytes()),
+        _ => {
+            let text = value_text(alloc, value)?;
+            push_label(out, name, text.as_slice())
+        }
+    }
+}
+
+/// Appends labels of these names with the values of attributes, each behind a comma.
+fn push_each(
+    alloc: Global,
+    out: &mut Vec<u8>,
+    names: &[StringValue],
+    attributes: &[KeyValue],
+) -> Result<(), AllocError>
+    ensures { OnOk result (out.new.items ≡ out.old.items ++ comma_texts (named names.now attributes.now)) }
+{
+    let mut left = attributes;
+    for name in names {
+        let Some((attribute, rest)) = left.split_first() else {
+            return Ok(());
+        };
+        left = rest;
+        push_named(alloc, out, name.as_str(), &attribute.value)?;
+    }
+    Ok(())
+}
+
+/// Appends labels, each behind a comma.
+fn push_behind_commas(out: &mut Vec<u8>, labels: &[Label]) -> Result<(), AllocError>
+    ensures { OnOk result (out.new.items ≡ out.old.items ++ comma_texts labels.now) }
+{
+    for label in labels {
+        out.extend_from_slice(b",")?;
+        push_label(out, label.name(), label.value())?;
+    }
+    Ok(())
+}
+
+/// Puts the labels in braces, each of which stands behind a comma.
+fn close(out: &mut Vec<u8>) -> Result<(), AllocError>
+    ensures { (labels : List Pair) → out.old.items ≡ comma_texts labels → OnOk result (out.new.items ≡ labels_text labels) }
+{
+    if out.is_empty() {
+        return Ok(());
+    }
+    out[0] = b'{';
+    out.extend_from_slice(b"}")?;
+    Ok(())
+}
+
+/// Appends labels of these names with the values of attributes, and this text behind as many of them, all in braces.
+fn push_around(
+    alloc: Global,
+    out: &mut Vec<u8>,
+    names: &[StringValue],
+    attributes: &[KeyValue],
+    count: usize,
+    scope_text: &[u8],
+) -> Result<(), AllocError>
+    requires within { count ≤ length names.now }
+    requires same { length names.now ≡ length attributes.now }
+    ensures { OnOk result (out.new.items ≡ out.old.items ++ (comma_texts (named (take count names.now) (take count attributes.now)) ++ (scope_text.now ++ comma_texts (named (drop count names.now) (drop count attributes.now))))) }
+{
+    let (low_names, high_names) = names.split_at(count);
+    let (low, high) = attributes.split_at(count);
+    push_each(alloc, out, low_names, low)?;
+    out.extend_from_slice(scope_text)?;
+    push_each(alloc, out, high_names, high)?;
+    Ok(())
+}
+
+/// The names of the labels of attributes with these keys, and how many of them come before those of a scope's labels.
+#[derive(Drop)]
+struct Names {
+    keys: Vec<StringValue>,
+    has_bounds: bool,
+    names: Vec<StringValue>,
+    before_scope: Option<usize>,
+    ghost are_names: { names.items ≡ map (λ key. own_name has_bounds (name_of is_label_byte key)) keys.items },
+    ghost stands_before: { before_scope ≡ place_of_scope names.items },
+}
+
+impl Names {
+    /// Makes the names of attributes.
+    fn of(alloc: Global, attributes: &[KeyValue], has_bounds: bool) -> Result<Names, AllocError>
+        ensures keys { IfOk result (λ names. names.keys.items ≡ map (λ a. a.key) attributes.now) }
+        ensures bounds { IfOk result (λ names. names.has_bounds ≡ has_bounds) }
+    {
+        let keys = keys_of(alloc, attributes)?;
+        let names = names_of(alloc, keys.as_slice(), has_bounds)?;
+        let before_scope = place_of_scope(names.as_slice());
+        Ok(Names {
+            keys,
+            has_bounds,
+            names,
+            before_scope,
+        })
+    }
+
+    /// Whether these are the names of attributes.
+    fn fit(&self, attributes: &[KeyValue], has_bounds: bool) -> bool
+        ensures keys { IsTrue result → self.now.keys.items ≡ map (λ a. a.key) attributes.now }
+        ensures bounds { IsTrue result → self.now.has_bounds ≡ has_bounds }
+    {
+        if self.has_bounds != has_bounds {
+            return false;
+        }
+        let mut left = self.keys.as_slice();
+        for attribute in attributes {
+            let Some((key, rest)) = left.split_first() else {
+                return false;
+            };
+            if key.as_str() != attribute.key.as_str() {
+                return false;
+            }
+            left = rest;
+        }
+        left.is_empty()
+    }
+
+    /// Makes these the names of attributes, if they aren't.
+    fn adapt(
+        &mut self,
+        alloc: Global,
+        attributes: &[KeyValue],
+        has_bounds: bool,
+    ) -> Result<(), AllocError>
+        ensures keys { OnOk result (self.new.keys.items ≡ map (λ a. a.key) attributes.now) }
+        ensures bounds { OnOk result (self.new.has_bounds ≡ has_bounds) }
+    {
+        if self.fit(attributes, has_bounds) {
+            return Ok(());
+        }
+        *self = Names::of(alloc, attributes, has_bounds)?;
+        Ok(())
+    }
+
+    /// Appends the labels of a point with these names in braces, or nothing if there are none.
+    fn push_labels(
+        &self,
+        alloc: Global,
+        out: &mut Vec<u8>,
+        settings: Settings,
+        scope: &InstrumentationScope,
+        scope_text: &[u8],
+        attributes: &[KeyValue],
+    ) -> Result<(), AllocError>
+        requires empty { out.old.items ≡ [] }
+        requires of_scope { scope_text.now ≡ comma_texts (scope_labels settings scope.now) }
+        requires keys { self.now.keys.items ≡ map (λ a. a.key) attributes.now }
+        ensures { OnOk result (out.new.items ≡ labels_text (point_labels settings self.now.has_bounds scope.now attributes.now)) }
+    {
+        let Some(count) = self.before_scope else {
+            let labels = point_labels(alloc, settings, scope, attributes, self.has_bounds)?;
+            return push_labels(out, labels.as_slice());
+        };
+        let names = self.names.as_slice();
+        push_around(alloc, out, names, attributes, count, scope_text)?;
+        close(out)
+    }
+}
+
+/// What is kept from point to point: the labels of the scope, each behind a comma, and the names of the attributes of
+/// the point before.
+#[derive(Drop)]
+pub(crate) struct Spelling {
+    pub(crate) scope_text: Vec<u8>,
+    names: Names,
+}
+
+impl Spelling {
+    /// Makes what the points of a scope have in common.
+    pub(crate) fn of_scope(
+        alloc: Global,
+        settings: Settings,
+        scope: &InstrumentationScope,
+    ) -> Result<Spelling, AllocError>
+        ensures { IfOk result (λ spelling. spelling.scope_text.items ≡ comma_texts (scope_labels settings scope.now)) }
+    {
+        let mut labels = Vec::new(alloc);
+        push_scope(alloc, &mut labels, settings, scope)?;
+        let mut scope_text = Vec::new(alloc);
+        push_behind_commas(&mut scope_text, labels.as_slice())?;
+        let names = Names::of(alloc, &[], false)?;
+        Ok(Spelling { scope_text, names })
+    }
+
+    /// Appends the labels of a point in braces, or nothing if there are none. A histogram has bounds.
+    pub(crate) fn push_labels(
+        &mut self,
+        alloc: Global,
+        out: &mut Vec<u8>,
+        settings: Settings,
+        scope: &InstrumentationScope,
+        attributes: &[KeyValue],
+        has_bounds: bool,
+    ) -> Result<(), AllocError>
+        requires empty { out.old.items ≡ [] }
+        requires of_scope { self.old.scope_text.items ≡ comma_texts (scope_labels settings scope.now) }
+        ensures labels { OnOk result (out.new.items ≡ labels_text (point_labels settings has_bounds scope.now attributes.now)) }
+        ensures of_scope { self.new.scope_text.items ≡ self.old.scope_text.items }
+    {
+        self.names.adapt(alloc, attributes, has_bounds)?;
+        let scope_text = self.scope_text.as_slice();
+        let names = &self.names;
+        names.push_labels(alloc, out, settings, scope, scope_text, attributes)
+    }
+}
