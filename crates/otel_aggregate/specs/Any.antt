@@ -8,7 +8,7 @@ use Rattle.otel_data.specs.declared.aggregated.MetricData.{MetricData}
 use Rattle.otel_data.specs.declared.aggregated.MetricData.TheVariants as metric
 use Rattle.otel_data.specs.declared.numbers.NumberValue.{NumberValue}
 use Rattle.otel_data.specs.declared.numbers.NumberValue.TheVariants as number
-use Rattle.otel_model_stream.specs.Sets.{AttributeSet, AllowList, none_set}
+use Rattle.otel_model_stream.specs.Sets.{AttributeSet, none_set}
 use Rattle.otel_model_stream.specs.Folds.{Aggregate, Sum, LastValue, Histogram, Amount}
 use Rattle.otel_model_stream.specs.Entries.{Table, Point}
 use Rattle.otel_model_stream.specs.Events.{Handles, held_by}
@@ -18,8 +18,8 @@ use Rattle.otel_value_map.specs.Numbers.{without_handles}
 use Rattle.otel_aggregate.specs.declared.settings.AnySettings.{AnySettings}
 use Rattle.otel_aggregate.specs.declared.settings.AnySettings.TheVariants as settings
 use Rattle.otel_aggregate.specs.Data.{sum_data, gauge_data, histogram_data}
-use Rattle.otel_aggregate.specs.Streams.{StreamState, HeldStream, new_stream, recorded_set, points_now, stream_after_collection, stream_after_commit, stream_after_bind, stream_after_update, stream_after_unbind}
-use Rattle.otel_aggregate.specs.Observed.{ObservedState, HeldObserved, drained_at, observed_data}
+use Rattle.otel_aggregate.specs.Streams.{StreamState, HeldStream, recorded_set, points_now, stream_after_collection, stream_after_commit, stream_after_bind, stream_after_update, stream_after_unbind}
+use Rattle.otel_aggregate.specs.Observed.{ObservedState, drained_at, observed_data}
 
 -- whether its numbers are signed; the stream; its live handles; the set of the prepared record or bind, if any; whether
 -- room is made for a handle; whether each collection empties it, as it does observed sums; and what a stream of these
@@ -65,26 +65,6 @@ amount_of (number.U64 n) = record { bits = n; wide = pos n }
 amount_of (number.I64 z) = record { bits = cast_unsigned w64 z; wide = z }
 
 -- ======== streams ========
--- a stream without records, with these settings and this limit, made at this moment
-abbrev pub new_any : AnySettings → Bool → AllowList → Bool → ℕ → ℕ → HeldAny
-new_any s is_signed allow resets limit start = record {
-  is_signed = is_signed;
-  state = new_stream (aggregate_of s) (is_monotonic_of s) allow resets limit start;
-  live = [];
-  pending = None;
-  room = false;
-  drains = drains_of s;
-  reported = [];
-}
-
--- a stream with one number type, which collections do not empty
-abbrev pub of_type : Bool → HeldStream → HeldAny
-of_type is_signed s = record { is_signed = is_signed; state = s.state; live = s.live; pending = s.pending; room = s.room; drains = false; reported = [] }
-
--- a stream of observed sums with one number type
-abbrev pub of_observed : Bool → HeldObserved → HeldAny
-of_observed is_signed s = record { is_signed = is_signed; state = s.state.stream; live = []; pending = s.pending; room = false; drains = true; reported = s.state.reported }
-
 -- the stream alone
 abbrev pub stream_in : HeldAny → HeldStream
 stream_in a = record { state = a.state; live = a.live; pending = a.pending; room = a.room }

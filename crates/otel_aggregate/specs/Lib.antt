@@ -1,6 +1,6 @@
 pub mod Data
 pub mod Streams
 pub mod Any
-pub mod Inner
-pub mod SavedInner
+pub mod Kept
+pub mod AnyKept
 pub mod Observed

@@ -1,22 +1,24 @@
 //! A stream of any aggregate and either number type.
 
 ghost use Rattle.std.specs.Bool.{beq};
-ghost use Rattle.std.specs.Prelude.{◌≡◌, [], ◌&&◌, true, false, is_some, None, Some, IsTrue, OnOk, OnErr, IfOk, IsOk, IsOkUnless};
+ghost use Rattle.std.specs.Prelude.{◌≡◌, [], true, false, cond, is_some, None, Some, IsTrue, OnOk, OnErr, IfOk, IsOk, IsOkUnless};
 ghost use Rattle.otel_common.specs.Temporalities.{resets};
 ghost use Rattle.otel_model_stream.specs.Sets.{set_of};
-ghost use Rattle.otel_model_stream.specs.Folds.{wrap};
+ghost use Rattle.otel_model_stream.specs.Folds.{Last, wrap};
+ghost use Rattle.otel_model_stream.specs.Maps.{new_map};
 ghost use Rattle.otel_model_stream.specs.Totals.{points_total};
 ghost use Rattle.otel_value_map.specs.Numbers.{without_handles};
-ghost use Rattle.otel_aggregate.specs.Any.{aggregate_of, is_monotonic_of, drains_of, any_after_commit, any_after_none, is_taken, is_signed_value, any_with_room, any_after_bind, any_after_update, is_updated, any_after_unbind, metrics_now, any_points, any_after_collection, saved_of, IsLike, with_saved};
+ghost use Rattle.otel_aggregate.specs.Any.{aggregate_of, is_monotonic_of, drains_of, amount_of, any_after_commit, any_after_none, is_taken, is_signed_value, any_with_room, any_after_bind, any_after_update, is_updated, any_after_unbind, metrics_now, any_points, any_after_collection, saved_of, IsLike, with_saved};
+ghost use Rattle.otel_aggregate.specs.Kept.{IsWithin, any_data};
 ghost use Rattle.otel_aggregate.specs.Streams.{new_stream, is_known};
 
-use crate::histogram::Histogram;
-use crate::last_value::LastValue;
-use crate::making::{new_histogram, new_last_value, new_precomputed_sum, new_sum, told_form};
-use crate::precomputed_sum::PrecomputedSum;
-use crate::saved::{SavedAggregate, SavedInner};
+use crate::any_aggregator::{AnyAggregator, AnyConfig};
+use crate::saved::SavedAggregate;
 use crate::settings::AnySettings;
-use crate::sum::Sum;
+use crate::shown::{Shown, shown_observed, shown_stream};
+use crate::stream::Stream;
+use crate::values::{is_signed, told_within};
+use otel_bound_map::bound_map::BoundMap;
 use otel_common::attributes::KeyValue;
 use otel_common::faults::Fault;
 use otel_common::keys::Key;
@@ -28,37 +30,62 @@ use otel_value_map::hashing::SetHashBuilder;
 use std::alloc::Global;
 use std::marker::Model;
 
-/// A stream, by its aggregate and number type.
-#[derive(Drop)]
-pub enum Inner {
-    SumU64(Sum<u64>),
-    SumI64(Sum<i64>),
-    PrecomputedSumU64(PrecomputedSum<u64>),
-    PrecomputedSumI64(PrecomputedSum<i64>),
-    LastValueU64(LastValue<u64>),
-    LastValueI64(LastValue<i64>),
-    HistogramU64(Histogram<u64>),
-    HistogramI64(Histogram<i64>),
+/// A map for what was reported, if each collection empties a stream with these settings.
+fn reported_map(
+    alloc: Global,
+    hasher: SetHashBuilder,
+    settings: &AnySettings,
+    limit: usize,
+) -> Result<Option<BoundMap<AnyAggregator>>, Fault>
+    ensures made { IfOk result (λ made. made ≡ cond (drains_of settings.now) (Some (record { state = new_map limit (Last 0); live = []; pending = None; room = false })) None) }
+    ensures only_memory { IsOkUnless result Fault.OutOfMemory }
+{
+    if settings.drains() {
+        Ok(Some(BoundMap::new(alloc, hasher, AnyConfig::LastValue, limit)?))
+    } else {
+        Ok(None)
+    }
 }
 
 /// A stream of any aggregate and either number type (Metrics SDK, "Aggregation").
+///
+/// Observed sums have two maps, one for what is observed and one for what was reported. With `Delta` a collection
+/// swaps them, so that no value is copied to be kept.
 pub struct AnyAggregate {
-    inner: Inner,
+    stream: Stream<AnyAggregator>,
+    /// What the last collection of observed sums reported; always empty in a stream that doesn't reset.
+    reported: Option<BoundMap<AnyAggregator>>,
+    is_signed: bool,
 }
 
 impl Model for AnyAggregate {
     ghost use Rattle.otel_aggregate.specs.Any.{HeldAny};
-    ghost use Rattle.otel_aggregate.specs.Inner.{any_of};
+    ghost use Rattle.otel_aggregate.specs.Kept.{IsKeptStream, IsReportedOf, reported_in};
+    ghost use Rattle.std.specs.Prelude.{is_some};
 
     ghost Value = { HeldAny };
 
-    ghost view = { λ any. any_of any.inner };
+    ghost view = { λ a. record {
+      is_signed = a.is_signed;
+      state = a.stream.state;
+      live = a.stream.live;
+      pending = a.stream.pending;
+      room = a.stream.room;
+      drains = is_some a.reported;
+      reported = reported_in a.reported;
+    } };
+
+    ghost invariant = { λ a. IsKeptStream a.is_signed a.stream × IsReportedOf a.stream a.reported };
 }
 
 impl Drop for AnyAggregate {
     /// A function of its own, so that no proof about who lets one go looks into it.
     fn drop(self) {
-        let AnyAggregate { inner: _inner } = self;
+        let AnyAggregate {
+            stream: _stream,
+            reported: _reported,
+            is_signed: _,
+        } = self;
     }
 }
 
@@ -87,48 +114,13 @@ impl AnyAggregate {
         ensures reported { IfOk result (λ made. made.reported ≡ []) }
         ensures only_memory { IsOkUnless result Fault.OutOfMemory }
     {
-        let inner = match settings {
-            AnySettings::Sum {
-                is_monotonic: rises,
-            } => new_sum(
-                alloc,
-                hasher,
-                is_signed,
-                temporality,
-                allow,
-                limit,
-                now,
-                rises,
-            )?,
-            AnySettings::PrecomputedSum {
-                is_monotonic: rises,
-            } => new_precomputed_sum(
-                alloc,
-                hasher,
-                is_signed,
-                temporality,
-                allow,
-                limit,
-                now,
-                rises,
-            )?,
-            AnySettings::LastValue => {
-                new_last_value(alloc, hasher, is_signed, temporality, allow, limit, now)?
-            }
-            AnySettings::Histogram(settings) => {
-                new_histogram(
-                    alloc,
-                    hasher,
-                    is_signed,
-                    temporality,
-                    allow,
-                    limit,
-                    now,
-                    settings,
-                )?
-            }
-        };
-        Ok(AnyAggregate { inner })
+        let reported = reported_map(alloc, hasher, &settings, limit)?;
+        let stream = Stream::new(alloc, hasher, settings, temporality, allow, limit, now)?;
+        Ok(AnyAggregate {
+            stream,
+            reported,
+            is_signed,
+        })
     }
 
     /// Prepares a record with these attributes, in place of one that was prepared before. What the stream shows stays
@@ -150,32 +142,24 @@ impl AnyAggregate {
         ensures known { IsTrue (is_known self.old.state.allow attributes.now self.old.state.map_state) → IsOk result }
         ensures only_memory { IsOkUnless result Fault.OutOfMemory }
     {
-        match &mut self.inner {
-            Inner::SumU64(stream) => stream.prepare(attributes),
-            Inner::SumI64(stream) => stream.prepare(attributes),
-            Inner::PrecomputedSumU64(stream) => stream.prepare(attributes),
-            Inner::PrecomputedSumI64(stream) => stream.prepare(attributes),
-            Inner::LastValueU64(stream) => stream.prepare(attributes),
-            Inner::LastValueI64(stream) => stream.prepare(attributes),
-            Inner::HistogramU64(stream) => stream.prepare(attributes),
-            Inner::HistogramI64(stream) => stream.prepare(attributes),
-        }
+        self.stream.prepare(attributes)
     }
 
     /// Whether a record is prepared.
     pub fn is_prepared(&self) -> bool
         ensures { result ≡ is_some self.now.pending }
     {
-        match &self.inner {
-            Inner::SumU64(stream) => stream.is_prepared(),
-            Inner::SumI64(stream) => stream.is_prepared(),
-            Inner::PrecomputedSumU64(stream) => stream.is_prepared(),
-            Inner::PrecomputedSumI64(stream) => stream.is_prepared(),
-            Inner::LastValueU64(stream) => stream.is_prepared(),
-            Inner::LastValueI64(stream) => stream.is_prepared(),
-            Inner::HistogramU64(stream) => stream.is_prepared(),
-            Inner::HistogramI64(stream) => stream.is_prepared(),
-        }
+        self.stream.is_prepared()
+    }
+
+    /// Whether a value has the stream's number type.
+    #[inline(always)]
+    fn takes(&self, value: NumberValue) -> bool
+        ensures told { result ≡ beq (is_signed_value value) self.now.is_signed }
+        ensures within { result ≡ true → IsWithin self.now.is_signed (amount_of value).wide }
+    {
+        told_within(value);
+        is_signed(value) == self.is_signed
     }
 
     /// Takes in the prepared record, if there is one and the value has the stream's number type, and returns whether
@@ -185,22 +169,10 @@ impl AnyAggregate {
         ensures taken { self.new ≡ any_after_commit value self.old }
         ensures told { result ≡ is_taken value self.old }
     {
-        match value {
-            NumberValue::U64(value) => match &mut self.inner {
-                Inner::SumU64(stream) => stream.commit(value),
-                Inner::PrecomputedSumU64(stream) => stream.commit(value),
-                Inner::LastValueU64(stream) => stream.commit(value),
-                Inner::HistogramU64(stream) => stream.commit(value),
-                _ => false,
-            },
-            NumberValue::I64(value) => match &mut self.inner {
-                Inner::SumI64(stream) => stream.commit(value),
-                Inner::PrecomputedSumI64(stream) => stream.commit(value),
-                Inner::LastValueI64(stream) => stream.commit(value),
-                Inner::HistogramI64(stream) => stream.commit(value),
-                _ => false,
-            },
+        if !self.takes(value) {
+            return false;
         }
+        self.stream.commit(value)
     }
 
     /// Takes in a record without attributes, if the value has the stream's number type, and returns whether it does;
@@ -210,22 +182,10 @@ impl AnyAggregate {
         ensures taken { self.new ≡ any_after_none value self.old }
         ensures told { result ≡ beq (is_signed_value value) self.old.is_signed }
     {
-        match value {
-            NumberValue::U64(value) => match &mut self.inner {
-                Inner::SumU64(stream) => stream.measure_none(value),
-                Inner::PrecomputedSumU64(stream) => stream.measure_none(value),
-                Inner::LastValueU64(stream) => stream.measure_none(value),
-                Inner::HistogramU64(stream) => stream.measure_none(value),
-                _ => return false,
-            },
-            NumberValue::I64(value) => match &mut self.inner {
-                Inner::SumI64(stream) => stream.measure_none(value),
-                Inner::PrecomputedSumI64(stream) => stream.measure_none(value),
-                Inner::LastValueI64(stream) => stream.measure_none(value),
-                Inner::HistogramI64(stream) => stream.measure_none(value),
-                _ => return false,
-            },
+        if !self.takes(value) {
+            return false;
         }
+        self.stream.measure_none(value);
         true
     }
 
@@ -235,15 +195,9 @@ impl AnyAggregate {
         ensures refused { OnErr result (self.new ≡ self.old) }
         ensures only_memory { IsOkUnless result Fault.OutOfMemory }
     {
-        match &mut self.inner {
-            Inner::SumU64(stream) => stream.make_room(),
-            Inner::SumI64(stream) => stream.make_room(),
-            Inner::PrecomputedSumU64(_) => Ok(()),
-            Inner::PrecomputedSumI64(_) => Ok(()),
-            Inner::LastValueU64(stream) => stream.make_room(),
-            Inner::LastValueI64(stream) => stream.make_room(),
-            Inner::HistogramU64(stream) => stream.make_room(),
-            Inner::HistogramI64(stream) => stream.make_room(),
+        match &self.reported {
+            None => self.stream.make_room(),
+            Some(_) => Ok(()),
         }
     }
 
@@ -252,15 +206,9 @@ impl AnyAggregate {
     pub fn commit_bind(&mut self, handle: u64)
         ensures bound { self.new ≡ any_after_bind handle self.old }
     {
-        match &mut self.inner {
-            Inner::SumU64(stream) => stream.commit_bind(handle),
-            Inner::SumI64(stream) => stream.commit_bind(handle),
-            Inner::PrecomputedSumU64(_) => {}
-            Inner::PrecomputedSumI64(_) => {}
-            Inner::LastValueU64(stream) => stream.commit_bind(handle),
-            Inner::LastValueI64(stream) => stream.commit_bind(handle),
-            Inner::HistogramU64(stream) => stream.commit_bind(handle),
-            Inner::HistogramI64(stream) => stream.commit_bind(handle),
+        match &self.reported {
+            None => self.stream.commit_bind(handle),
+            Some(_) => {}
         }
     }
 
@@ -272,19 +220,12 @@ impl AnyAggregate {
         ensures updated { self.new ≡ any_after_update handle value self.old }
         ensures told { result ≡ is_updated handle value self.old }
     {
-        match value {
-            NumberValue::U64(value) => match &mut self.inner {
-                Inner::SumU64(stream) => stream.update_bound(handle, value),
-                Inner::LastValueU64(stream) => stream.update_bound(handle, value),
-                Inner::HistogramU64(stream) => stream.update_bound(handle, value),
-                _ => false,
-            },
-            NumberValue::I64(value) => match &mut self.inner {
-                Inner::SumI64(stream) => stream.update_bound(handle, value),
-                Inner::LastValueI64(stream) => stream.update_bound(handle, value),
-                Inner::HistogramI64(stream) => stream.update_bound(handle, value),
-                _ => false,
-            },
+        if !self.takes(value) {
+            return false;
+        }
+        match &self.reported {
+            None => self.stream.update_bound(handle, value),
+            Some(_) => false,
         }
     }
 
@@ -293,15 +234,21 @@ impl AnyAggregate {
     pub fn unbind(&mut self, handle: u64)
         ensures unbound { self.new ≡ any_after_unbind handle self.old }
     {
-        match &mut self.inner {
-            Inner::SumU64(stream) => stream.unbind(handle),
-            Inner::SumI64(stream) => stream.unbind(handle),
-            Inner::PrecomputedSumU64(_) => {}
-            Inner::PrecomputedSumI64(_) => {}
-            Inner::LastValueU64(stream) => stream.unbind(handle),
-            Inner::LastValueI64(stream) => stream.unbind(handle),
-            Inner::HistogramU64(stream) => stream.unbind(handle),
-            Inner::HistogramI64(stream) => stream.unbind(handle),
+        match &self.reported {
+            None => self.stream.unbind(handle),
+            Some(_) => {}
+        }
+    }
+
+    /// What `points` gives, in this number type, which is the stream's.
+    fn data<T: Shown>(&self, alloc: Global, now: u64) -> Result<MetricData<T>, Fault>
+        requires { T.is_signed ≡ self.now.is_signed }
+        ensures data { IfOk result (λ given. given ≡ any_data T.of_bits T.of_wide now self.now) }
+        ensures only_memory { IsOkUnless result Fault.OutOfMemory }
+    {
+        match &self.reported {
+            None => shown_stream(alloc, &self.stream, now),
+            Some(reported) => shown_observed(alloc, &self.stream, reported, now),
         }
     }
 
@@ -311,39 +258,10 @@ impl AnyAggregate {
         ensures points { IfOk result (λ given. given ≡ metrics_now now self.now) }
         ensures only_memory { IsOkUnless result Fault.OutOfMemory }
     {
-        match &self.inner {
-            Inner::SumU64(stream) => {
-                let given = stream.points(alloc, now)?;
-                Ok(AggregatedMetrics::U64(MetricData::Sum(given)))
-            }
-            Inner::SumI64(stream) => {
-                let given = stream.points(alloc, now)?;
-                Ok(AggregatedMetrics::I64(MetricData::Sum(given)))
-            }
-            Inner::PrecomputedSumU64(stream) => {
-                let given = stream.points(alloc, now)?;
-                Ok(AggregatedMetrics::U64(MetricData::Sum(given)))
-            }
-            Inner::PrecomputedSumI64(stream) => {
-                let given = stream.points(alloc, now)?;
-                Ok(AggregatedMetrics::I64(MetricData::Sum(given)))
-            }
-            Inner::LastValueU64(stream) => {
-                let given = stream.points(alloc, now)?;
-                Ok(AggregatedMetrics::U64(MetricData::Gauge(given)))
-            }
-            Inner::LastValueI64(stream) => {
-                let given = stream.points(alloc, now)?;
-                Ok(AggregatedMetrics::I64(MetricData::Gauge(given)))
-            }
-            Inner::HistogramU64(stream) => {
-                let given = stream.points(alloc, now)?;
-                Ok(AggregatedMetrics::U64(MetricData::Histogram(given)))
-            }
-            Inner::HistogramI64(stream) => {
-                let given = stream.points(alloc, now)?;
-                Ok(AggregatedMetrics::I64(MetricData::Histogram(given)))
-            }
+        if self.is_signed {
+            Ok(AggregatedMetrics::I64(self.data(alloc, now)?))
+        } else {
+            Ok(AggregatedMetrics::U64(self.data(alloc, now)?))
         }
     }
 
@@ -352,15 +270,9 @@ impl AnyAggregate {
     pub fn total(&self) -> u64
         ensures { result ≡ wrap (points_total (any_points self.now)) }
     {
-        match &self.inner {
-            Inner::SumU64(stream) => stream.total(),
-            Inner::SumI64(stream) => stream.total(),
-            Inner::PrecomputedSumU64(stream) => stream.total(),
-            Inner::PrecomputedSumI64(stream) => stream.total(),
-            Inner::LastValueU64(stream) => stream.total(),
-            Inner::LastValueI64(stream) => stream.total(),
-            Inner::HistogramU64(stream) => stream.total(),
-            Inner::HistogramI64(stream) => stream.total(),
+        match &self.reported {
+            None => self.stream.total(),
+            Some(_) => self.stream.total_of_every(),
         }
     }
 
@@ -368,16 +280,7 @@ impl AnyAggregate {
     pub fn resets(&self) -> bool
         ensures { result ≡ self.now.state.resets }
     {
-        match &self.inner {
-            Inner::SumU64(stream) => stream.resets(),
-            Inner::SumI64(stream) => stream.resets(),
-            Inner::PrecomputedSumU64(stream) => stream.resets(),
-            Inner::PrecomputedSumI64(stream) => stream.resets(),
-            Inner::LastValueU64(stream) => stream.resets(),
-            Inner::LastValueI64(stream) => stream.resets(),
-            Inner::HistogramU64(stream) => stream.resets(),
-            Inner::HistogramI64(stream) => stream.resets(),
-        }
+        self.stream.resets()
     }
 
     /// Ends a collection, whose points were taken, at the moment `now`, in nanoseconds since 1970. If the stream
@@ -386,15 +289,15 @@ impl AnyAggregate {
     pub fn finish(&mut self, now: u64)
         ensures ended { self.new ≡ any_after_collection now self.old }
     {
-        match &mut self.inner {
-            Inner::SumU64(stream) => stream.finish(now),
-            Inner::SumI64(stream) => stream.finish(now),
-            Inner::PrecomputedSumU64(stream) => stream.finish(now),
-            Inner::PrecomputedSumI64(stream) => stream.finish(now),
-            Inner::LastValueU64(stream) => stream.finish(now),
-            Inner::LastValueI64(stream) => stream.finish(now),
-            Inner::HistogramU64(stream) => stream.finish(now),
-            Inner::HistogramI64(stream) => stream.finish(now),
+        match &mut self.reported {
+            None => self.stream.finish(now),
+            Some(reported) => {
+                if self.stream.resets() {
+                    self.stream.drain_into(reported, now);
+                } else {
+                    self.stream.drain();
+                }
+            }
         }
     }
 
@@ -403,19 +306,10 @@ impl AnyAggregate {
         ensures saved { IfOk result (λ saved. saved ≡ saved_of self.now) }
         ensures only_memory { IsOkUnless result Fault.OutOfMemory }
     {
-        // Tells the prover what is kept of each set.
-        told_form(&self.inner);
-        let inner = match &self.inner {
-            Inner::SumU64(stream) => SavedInner::SumU64(stream.save(alloc)?),
-            Inner::SumI64(stream) => SavedInner::SumI64(stream.save(alloc)?),
-            Inner::PrecomputedSumU64(stream) => SavedInner::LastValueU64(stream.save(alloc)?),
-            Inner::PrecomputedSumI64(stream) => SavedInner::LastValueI64(stream.save(alloc)?),
-            Inner::LastValueU64(stream) => SavedInner::LastValueU64(stream.save(alloc)?),
-            Inner::LastValueI64(stream) => SavedInner::LastValueI64(stream.save(alloc)?),
-            Inner::HistogramU64(stream) => SavedInner::HistogramU64(stream.save(alloc)?),
-            Inner::HistogramI64(stream) => SavedInner::HistogramI64(stream.save(alloc)?),
-        };
-        Ok(SavedAggregate::of(inner))
+        Ok(SavedAggregate {
+            is_signed: self.is_signed,
+            entries: self.stream.save(alloc)?,
+        })
     }
 
     /// Puts saved entries in place of the stream's own, and gives up a prepared record. No handle may be live. What
@@ -424,19 +318,13 @@ impl AnyAggregate {
         requires { IsLike saved self.old }
         ensures { self.new ≡ with_saved saved self.old }
     {
-        // Tells the prover what is kept of each set, so that the saved entries can't be of another form.
-        told_form(&self.inner);
-        let saved = saved.into_inner();
-        match &mut self.inner {
-            Inner::SumU64(stream) => stream.restore(saved.into_sum_u64()),
-            Inner::SumI64(stream) => stream.restore(saved.into_sum_i64()),
-            Inner::PrecomputedSumU64(stream) => stream.restore(saved.into_last_value_u64()),
-            Inner::PrecomputedSumI64(stream) => stream.restore(saved.into_last_value_i64()),
-            Inner::LastValueU64(stream) => stream.restore(saved.into_last_value_u64()),
-            Inner::LastValueI64(stream) => stream.restore(saved.into_last_value_i64()),
-            Inner::HistogramU64(stream) => stream.restore(saved.into_histogram_u64()),
-            Inner::HistogramI64(stream) => stream.restore(saved.into_histogram_i64()),
-        }
+        // Tells the prover that no entry is held.
+        self.stream.told_unheld();
+        let SavedAggregate {
+            is_signed: _,
+            entries,
+        } = saved;
+        self.stream.restore(entries);
     }
 
     /// The law that no entry is held if no handle is live, and that observed sums have no handles.
@@ -444,15 +332,6 @@ impl AnyAggregate {
         ensures unheld { self.now.live ≡ [] → without_handles self.now.state.map_state.table ≡ self.now.state.map_state.table }
         ensures observed { self.now.drains ≡ true → self.now.live ≡ [] }
     {
-        match &self.inner {
-            Inner::SumU64(stream) => stream.told_unheld(),
-            Inner::SumI64(stream) => stream.told_unheld(),
-            Inner::PrecomputedSumU64(stream) => stream.told_unheld(),
-            Inner::PrecomputedSumI64(stream) => stream.told_unheld(),
-            Inner::LastValueU64(stream) => stream.told_unheld(),
-            Inner::LastValueI64(stream) => stream.told_unheld(),
-            Inner::HistogramU64(stream) => stream.told_unheld(),
-            Inner::HistogramI64(stream) => stream.told_unheld(),
-        }
+        self.stream.told_unheld();
     }
 }

@@ -41,6 +41,8 @@ impl<T: Number + Drop> Measures for Buckets<T> {
 
     type Settings = HistogramSettings;
 
+    ghost amount = { λ value. record { bits = T.bits value; wide = T.wide value } };
+
     ghost aggregate = { λ settings. HistogramAggregate settings.bounds settings.has_min_max settings.has_sum };
 
     ghost is_monotonic = { λ _. false };

@@ -25,6 +25,8 @@ impl<T: Number + Drop> Measures for Assign<T> {
 
     type Settings = ();
 
+    ghost amount = { λ value. record { bits = T.bits value; wide = T.wide value } };
+
     ghost aggregate = { λ _. LastValueAggregate };
 
     ghost is_monotonic = { λ _. false };

@@ -3,14 +3,16 @@
 #![tactic(auto)]
 
 pub mod any;
+pub mod any_aggregator;
 pub mod histogram;
 pub mod internal;
 pub mod last_value;
-mod making;
 pub mod measures;
 pub mod precomputed_sum;
 pub mod saved;
 pub mod settings;
+mod shown;
 pub mod shows;
 pub mod stream;
 pub mod sum;
+pub mod values;

@@ -1,18 +1,20 @@
 //! How aggregators take in the values of a stream.
 
 ghost use Rattle.std.specs.Prelude.{◌≡◌, Bool};
-ghost use Rattle.otel_model_stream.specs.Folds.{Aggregate, empty_of, sample_of};
+ghost use Rattle.otel_model_stream.specs.Folds.{Aggregate, Amount, empty_of, sample_of};
 
 use otel_aggregators::aggregator::Aggregator;
-use otel_aggregators::number::Number;
 
 /// An aggregator of the values that a stream records.
 pub trait Measures: Aggregator {
     /// The type of recorded values.
-    type Value: Number + Drop;
+    type Value: Copy;
 
     /// What all sets of a stream share.
     type Settings: Drop;
+
+    /// A value as the model sees it.
+    ghost amount: { Self.Value → Amount };
 
     /// The aggregate as the model sees it.
     ghost aggregate: { Self.Settings → Aggregate };
@@ -26,5 +28,5 @@ pub trait Measures: Aggregator {
 
     /// The record that a value makes.
     fn record(settings: &Self::Settings, value: Self::Value) -> Self::PreComputedValue
-        ensures { Self.sample result ≡ sample_of (aggregate settings.now) (record { bits = Self.Value.bits value; wide = Self.Value.wide value }) };
+        ensures { Self.sample result ≡ sample_of (aggregate settings.now) (amount value) };
 }

@@ -31,7 +31,7 @@ use std::alloc::Global;
 use std::marker::Model;
 
 /// One number minus another, modulo 2^64.
-fn difference_of<T: Number>(value: T, before: T) -> T
+pub(crate) fn difference_of<T: Number>(value: T, before: T) -> T
     ensures { T.bits result ≡ less (T.bits value) (T.bits before) }
 {
     // Tells the prover that the bits are below 2^64.

@@ -1,5 +1,8 @@
 //! What a stream makes of its records.
 
+ghost use Rattle.std.specs.Prelude.{◌≡◌};
+ghost use Rattle.otel_aggregate.specs.Any.{is_monotonic_of, drains_of};
+
 use otel_aggregators::bounds::Bounds;
 
 /// The bounds of a histogram's buckets, and what it keeps besides their counts.
@@ -40,4 +43,27 @@ pub enum AnySettings {
     LastValue,
     /// Counts them by bucket.
     Histogram(HistogramSettings),
+}
+
+impl AnySettings {
+    /// Whether it is a sum to which only values of at least 0 are added.
+    pub(crate) fn is_monotonic(&self) -> bool
+        ensures { result ≡ is_monotonic_of self.now }
+    {
+        match self {
+            AnySettings::Sum { is_monotonic } => *is_monotonic,
+            AnySettings::PrecomputedSum { is_monotonic } => *is_monotonic,
+            _ => false,
+        }
+    }
+
+    /// Whether each collection empties the stream.
+    pub(crate) fn drains(&self) -> bool
+        ensures { result ≡ drains_of self.now }
+    {
+        match self {
+            AnySettings::PrecomputedSum { is_monotonic: _ } => true,
+            _ => false,
+        }
+    }
 }

@@ -169,7 +169,7 @@ impl<A: Measures> Stream<A> {
     /// Takes in the prepared record. This is the second phase.
     pub(crate) fn take_in(&mut self, value: A::Value)
         requires { IsSome self.old.pending }
-        ensures measured { (s : AttributeSet) → self.old.pending ≡ Some s → self.new.state ≡ recorded_set s (record { bits = A.Value.bits value; wide = A.Value.wide value }) self.old.state }
+        ensures measured { (s : AttributeSet) → self.old.pending ≡ Some s → self.new.state ≡ recorded_set s (A.amount value) self.old.state }
         ensures live { self.new.live ≡ self.old.live }
         ensures room { self.new.room ≡ self.old.room }
         ensures spent { self.new.pending ≡ None }
@@ -180,7 +180,7 @@ impl<A: Measures> Stream<A> {
 
     /// Takes in the prepared record, if there is one, and returns whether there was.
     pub fn commit(&mut self, value: A::Value) -> bool
-        ensures taken { self.new ≡ stream_after_commit (record { bits = A.Value.bits value; wide = A.Value.wide value }) self.old }
+        ensures taken { self.new ≡ stream_after_commit (A.amount value) self.old }
         ensures told { result ≡ is_some self.old.pending }
     {
         if !self.map.is_prepared() {
@@ -192,7 +192,7 @@ impl<A: Measures> Stream<A> {
 
     /// Takes in a record with these attributes. Takes no memory where `prepare` takes none.
     pub fn measure(&mut self, value: A::Value, attributes: &[KeyValue]) -> Result<(), Fault>
-        ensures ok { OnOk result (self.new.state ≡ recorded_attributes attributes.now (record { bits = A.Value.bits value; wide = A.Value.wide value }) self.old.state) }
+        ensures ok { OnOk result (self.new.state ≡ recorded_attributes attributes.now (A.amount value) self.old.state) }
         ensures err { OnErr result (self.new.state ≡ self.old.state) }
         ensures live { self.new.live ≡ self.old.live }
         ensures room { self.new.room ≡ self.old.room }
@@ -207,7 +207,7 @@ impl<A: Measures> Stream<A> {
 
     /// Takes in a record without attributes. Looks nothing up, takes no memory, and gives up what was prepared.
     pub fn measure_none(&mut self, value: A::Value)
-        ensures { self.new ≡ record self.old { state = recorded_set none_set (record { bits = A.Value.bits value; wide = A.Value.wide value }) self.old.state; pending = None } }
+        ensures { self.new ≡ record self.old { state = recorded_set none_set (A.amount value) self.old.state; pending = None } }
     {
         let record = A::record(&self.settings, value);
         self.map.measure_none(record);
@@ -248,7 +248,7 @@ impl<A: Measures> Stream<A> {
     /// Takes in a record through a handle, if it is live, and returns whether it is. Looks up nothing but the handle,
     /// takes no memory, and gives up what was prepared.
     pub fn update_bound(&mut self, handle: u64, value: A::Value) -> bool
-        ensures updated { self.new ≡ stream_after_update handle (record { bits = A.Value.bits value; wide = A.Value.wide value }) self.old }
+        ensures updated { self.new ≡ stream_after_update handle (A.amount value) self.old }
         ensures told { result ≡ is_some (held_by handle self.old.live) }
     {
         let record = A::record(&self.settings, value);
@@ -260,6 +260,14 @@ impl<A: Measures> Stream<A> {
         ensures unbound { self.new ≡ stream_after_unbind handle self.old }
     {
         self.map.unbind(handle);
+    }
+
+    /// The sets that a collection shows, with copies of their aggregators. Shares the sets.
+    pub(crate) fn shown_sets(&self, alloc: Global) -> Result<Vec<(SharedItems<KeyValue>, A)>, Fault>
+        ensures points { IfOk result (λ given. copies A.meaning given.items ≡ points_now self.now.state) }
+        ensures only_memory { IsOkUnless result Fault.OutOfMemory }
+    {
+        self.map.points(alloc, !self.resets)
     }
 
     /// Every set that has an entry, and the empty set if it was updated, with copies of their aggregators. Shares the
@@ -289,7 +297,8 @@ impl<A: Measures> Stream<A> {
 
     /// The settings that all its sets share.
     pub(crate) fn settings(&self) -> &A::Settings
-        ensures { self.now.state.aggregate ≡ A.aggregate result.now }
+        ensures aggregate { self.now.state.aggregate ≡ A.aggregate result.now }
+        ensures monotonic { self.now.state.is_monotonic ≡ A.is_monotonic result.now }
     {
         &self.settings
     }
@@ -373,6 +382,8 @@ impl<A: Measures> Stream<A> {
         ensures state { self.new.state ≡ record self.old.state { map_state = drained_map kept.old.state; start = now } }
         ensures live { self.new.live ≡ [] }
         ensures kept_live { kept.new.live ≡ [] }
+        ensures room { self.new.room ≡ kept.old.room }
+        ensures kept_room { kept.new.room ≡ self.old.room }
         ensures unprepared { self.new.pending ≡ None }
     {
         kept.drain();

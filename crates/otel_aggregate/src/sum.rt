@@ -26,6 +26,8 @@ impl<T: Number + Drop> Measures for Increment<T> {
 
     type Settings = bool;
 
+    ghost amount = { λ value. record { bits = T.bits value; wide = T.wide value } };
+
     ghost aggregate = { λ _. SumAggregate };
 
     ghost is_monotonic = { λ is_monotonic. is_monotonic };

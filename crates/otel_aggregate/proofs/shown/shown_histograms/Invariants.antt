@@ -1,0 +1,14 @@
+use Rattle.std.proofs.Common.{◌≡◌, ◌++◌, map}
+use Rattle.otel_model_stream.specs.Data.{histogram_point}
+use Rattle.otel_value_map.specs.Slots.{copies}
+use Rattle.otel_aggregate.specs.Any.{Spreads}
+use Rattle.otel_aggregate.specs.AnyKept.{fold_in}
+use Rattle.otel_aggregate.specs.Kept.{AreShowable}
+use Rattle.otel_aggregate.proofs.shown.shown_histograms.Given as goal
+
+-- the points so far and those of the sets that are left, which can be shown, are all
+abbrev pub invariant-loop-attributes : goal.invariant-loop-attributes
+invariant-loop-attributes g l =
+    (l.points.items ++ map (histogram_point g.T.Number.of_bits g.T.Number.of_wide l.bounds) (copies fold_in l.attributes-iterator.rest.items)
+    ≡ map (histogram_point g.T.Number.of_bits g.T.Number.of_wide l.bounds) (copies fold_in l.fn.given.items))
+    × AreShowable g.T.Shown.is_signed Spreads (copies fold_in l.attributes-iterator.rest.items)

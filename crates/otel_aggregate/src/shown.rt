@@ -1,0 +1,277 @@
+//! The points of a stream of any aggregate.
+
+ghost use Rattle.std.specs.Prelude.{◌≡◌, Bool, true, false, cond, map, Some, None, IfOk, IsOkUnless};
+ghost use Rattle.std.specs.Option.{option_map};
+ghost use Rattle.otel_data.specs.declared.aggregated.MetricData.TheVariants as metric;
+ghost use Rattle.otel_model_stream.specs.Maps.{draining_points};
+ghost use Rattle.otel_model_stream.specs.Observed.{value_before};
+ghost use Rattle.otel_model_stream.specs.Totals.{value_of};
+ghost use Rattle.otel_model_stream.specs.Data.{sum_point, gauge_point, histogram_point};
+ghost use Rattle.otel_value_map.specs.Slots.{copies};
+ghost use Rattle.otel_aggregate.specs.Any.{Spreads as SpreadForm, data_of};
+ghost use Rattle.otel_aggregate.specs.AnyKept.{fold_in};
+ghost use Rattle.otel_aggregate.specs.Kept.{IsWithin, IsWithinIfSome, IsKept, IsKeptStream, AreShowable};
+ghost use Rattle.otel_aggregate.specs.Observed.{since_reported, observed_data};
+
+use crate::any_aggregator::{AnyAggregator, AnyBuckets};
+use crate::precomputed_sum::difference_of;
+use crate::settings::AnySettings;
+use crate::stream::{Stream, shown_temporality};
+use otel_aggregators::bounds::Bounds;
+use otel_aggregators::buckets::Buckets;
+use otel_aggregators::number::Number;
+use otel_bound_map::bound_map::BoundMap;
+use otel_common::attributes::KeyValue;
+use otel_common::faults::Fault;
+use otel_common::lists::{Items, SharedItems};
+use otel_data::aggregated::MetricData;
+use otel_data::gauges::Gauge;
+use otel_data::histograms::Histogram as HistogramData;
+use otel_data::points::{GaugeDataPoint, HistogramDataPoint, SumDataPoint};
+use otel_data::sums::Sum as SumData;
+use std::alloc::Global;
+
+/// A set with what is kept of its records.
+type Kept = (SharedItems<KeyValue>, AnyAggregator);
+
+/// A number type of points.
+pub(crate) trait Shown: Number + Drop {
+    /// Whether it is `i64`.
+    ghost is_signed: { Bool };
+
+    /// The number with these 64 bits.
+    fn from_bits(bits: u64) -> Self
+        ensures { result ≡ Self.of_bits bits };
+
+    /// The number with this value.
+    fn from_wide(value: i128) -> Self
+        requires { IsWithin is_signed value }
+        ensures { result ≡ Self.of_wide value };
+}
+
+impl Shown for u64 {
+    ghost is_signed = { false };
+
+    fn from_bits(bits: u64) -> u64 {
+        bits
+    }
+
+    fn from_wide(value: i128) -> u64 {
+        value as u64
+    }
+}
+
+impl Shown for i64 {
+    ghost is_signed = { true };
+
+    fn from_bits(bits: u64) -> i64 {
+        bits.cast_signed()
+    }
+
+    fn from_wide(value: i128) -> i64 {
+        value as i64
+    }
+}
+
+/// The number with this value, if there is one.
+fn from_wide_if_some<T: Shown>(value: Option<i128>) -> Option<T>
+    requires { IsWithinIfSome T.is_signed value }
+    ensures { result ≡ option_map T.of_wide value }
+{
+    match value {
+        None => None,
+        Some(value) => Some(T::from_wide(value)),
+    }
+}
+
+/// The 64 bits of the value that was reported for a set, or 0 if it had no point.
+fn bits_in(reported: &BoundMap<AnyAggregator>, attributes: &[KeyValue]) -> u64
+    ensures { result ≡ value_before (draining_points reported.now.state) attributes.now }
+{
+    match reported.get(attributes) {
+        None => 0,
+        Some(last) => last.bits(),
+    }
+}
+
+/// The 64 bits of a set's value, less the set's value in `reported` if that is given.
+fn shown_bits(
+    reported: Option<&BoundMap<AnyAggregator>>,
+    attributes: &[KeyValue],
+    kept: &AnyAggregator,
+) -> u64
+    ensures set { (since_reported (option_map (λ before. draining_points before.now.state) reported.entry) (attributes.now, fold_in kept.now)).0 ≡ attributes.now }
+    ensures value { value_of (since_reported (option_map (λ before. draining_points before.now.state) reported.entry) (attributes.now, fold_in kept.now)).1 ≡ result }
+{
+    match reported {
+        None => kept.bits(),
+        Some(reported) => difference_of(kept.bits(), bits_in(reported, attributes)),
+    }
+}
+
+/// The point of a sum, less the set's value in `reported` if that is given.
+fn shown_sum<T: Shown>(
+    alloc: Global,
+    reported: Option<&BoundMap<AnyAggregator>>,
+    attributes: SharedItems<KeyValue>,
+    kept: &AnyAggregator,
+) -> SumDataPoint<T>
+    ensures { result ≡ sum_point T.of_bits T.of_wide (since_reported (option_map (λ before. draining_points before.now.state) reported.entry) (attributes, fold_in kept.now)) }
+{
+    let bits = shown_bits(reported, attributes.as_slice(), kept);
+    SumDataPoint::new(attributes, Items::from(Vec::new(alloc)), T::from_bits(bits))
+}
+
+/// The points of sums, each less its set's value in `reported` if that is given.
+fn shown_sums<T: Shown>(
+    alloc: Global,
+    reported: Option<&BoundMap<AnyAggregator>>,
+    given: Vec<Kept>,
+) -> Result<Items<SumDataPoint<T>>, Fault>
+    ensures points { IfOk result (λ made. made ≡ map (λ p. sum_point T.of_bits T.of_wide (since_reported (option_map (λ before. draining_points before.now.state) reported.entry) p)) (copies fold_in given.items)) }
+    ensures only_memory { IsOkUnless result Fault.OutOfMemory }
+{
+    let mut points = Vec::with_capacity(alloc, given.len())?;
+    for (attributes, kept) in given {
+        points.push(shown_sum(alloc, reported, attributes, &kept))?;
+    }
+    Ok(Items::from(points))
+}
+
+/// The points of last values.
+fn shown_values<T: Shown>(
+    alloc: Global,
+    given: Vec<Kept>,
+) -> Result<Items<GaugeDataPoint<T>>, Fault>
+    ensures points { IfOk result (λ made. made ≡ map (gauge_point T.of_bits T.of_wide) (copies fold_in given.items)) }
+    ensures only_memory { IsOkUnless result Fault.OutOfMemory }
+{
+    let mut points = Vec::with_capacity(alloc, given.len())?;
+    for (attributes, kept) in given {
+        let value = T::from_bits(kept.bits());
+        points.push(GaugeDataPoint::new(attributes, Items::from(Vec::new(alloc)), value))?;
+    }
+    Ok(Items::from(points))
+}
+
+/// The point of a histogram.
+fn shown_buckets<T: Shown>(
+    alloc: Global,
+    bounds: &Bounds,
+    attributes: SharedItems<KeyValue>,
+    kept: AnyAggregator,
+) -> Result<HistogramDataPoint<T>, Fault>
+    requires { IsKept T.is_signed SpreadForm (fold_in kept) }
+    ensures point { IfOk result (λ made. made ≡ histogram_point T.of_bits T.of_wide bounds.now (attributes, fold_in kept)) }
+    ensures only_memory { IsOkUnless result Fault.OutOfMemory }
+{
+    let bounds = bounds.share()?;
+    let AnyBuckets {
+        has_min_max: _,
+        least,
+        greatest,
+        buckets,
+    } = match kept {
+        AnyAggregator::Histogram(buckets) => Box::into_inner(buckets),
+        _ => unreachable!(),
+    };
+    let Buckets {
+        has_min_max: _,
+        has_sum: _,
+        count,
+        sum,
+        least: _,
+        greatest: _,
+        counts,
+    } = buckets;
+    Ok(HistogramDataPoint::new(
+        attributes,
+        Items::from(Vec::new(alloc)),
+        bounds,
+        Items::from(counts),
+        count,
+        from_wide_if_some(least),
+        from_wide_if_some(greatest),
+        T::from_bits(sum),
+    ))
+}
+
+/// The points of histograms.
+fn shown_histograms<T: Shown>(
+    alloc: Global,
+    bounds: &Bounds,
+    given: Vec<Kept>,
+) -> Result<Items<HistogramDataPoint<T>>, Fault>
+    requires { AreShowable T.is_signed SpreadForm (copies fold_in given.items) }
+    ensures points { IfOk result (λ made. made ≡ map (histogram_point T.of_bits T.of_wide bounds.now) (copies fold_in given.items)) }
+    ensures only_memory { IsOkUnless result Fault.OutOfMemory }
+{
+    let mut points = Vec::with_capacity(alloc, given.len())?;
+    for (attributes, kept) in given {
+        points.push(shown_buckets(alloc, bounds, attributes, kept)?)?;
+    }
+    Ok(Items::from(points))
+}
+
+/// What a collection at the moment `now` gives of a stream, by its aggregate.
+pub(crate) fn shown_stream<T: Shown>(
+    alloc: Global,
+    stream: &Stream<AnyAggregator>,
+    now: u64,
+) -> Result<MetricData<T>, Fault>
+    requires { IsKeptStream T.is_signed stream.now }
+    ensures data { IfOk result (λ given. given ≡ data_of T.of_bits T.of_wide stream.now.state.aggregate now stream.now.state) }
+    ensures only_memory { IsOkUnless result Fault.OutOfMemory }
+{
+    let given = stream.shown_sets(alloc)?;
+    let start = stream.start();
+    let temporality = shown_temporality(stream.resets());
+    match stream.settings() {
+        AnySettings::Sum { is_monotonic } => {
+            let points = shown_sums(alloc, None, given)?;
+            let sum = SumData::new(points, start, now, temporality, *is_monotonic);
+            Ok(MetricData::Sum(sum))
+        }
+        AnySettings::Histogram(settings) => {
+            let points = shown_histograms(alloc, &settings.bounds, given)?;
+            Ok(MetricData::Histogram(HistogramData::new(points, start, now, temporality)))
+        }
+        _ => {
+            let points = shown_values(alloc, given)?;
+            Ok(MetricData::Gauge(Gauge::new(points, start, now)))
+        }
+    }
+}
+
+/// The map that points show differences from, in a stream that resets.
+fn compared_with<'a>(
+    stream: &Stream<AnyAggregator>,
+    reported: &'a BoundMap<AnyAggregator>,
+) -> Option<&'a BoundMap<AnyAggregator>>
+    ensures { option_map (λ before. draining_points before.now.state) result ≡ cond stream.now.state.resets (Some (draining_points reported.now.state)) None }
+{
+    if stream.resets() {
+        Some(reported)
+    } else {
+        None
+    }
+}
+
+/// What a collection at the moment `now` gives of observed sums.
+pub(crate) fn shown_observed<T: Shown>(
+    alloc: Global,
+    stream: &Stream<AnyAggregator>,
+    reported: &BoundMap<AnyAggregator>,
+    now: u64,
+) -> Result<MetricData<T>, Fault>
+    ensures data { IfOk result (λ given. given ≡ metric.Sum (observed_data T.of_bits T.of_wide now (record { stream = stream.now.state; reported = draining_points reported.now.state }))) }
+    ensures only_memory { IsOkUnless result Fault.OutOfMemory }
+{
+    let given = stream.every_set(alloc)?;
+    let points = shown_sums(alloc, compared_with(stream, reported), given)?;
+    let temporality = shown_temporality(stream.resets());
+    let start = stream.start();
+    let settings = stream.settings();
+    let is_monotonic = settings.is_monotonic();
+    Ok(MetricData::Sum(SumData::new(points, start, now, temporality, is_monotonic)))
+}
