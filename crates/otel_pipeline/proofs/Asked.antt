@@ -6,18 +6,18 @@ use Rattle.otel_model_stream.specs.Entries.{Table, at_entry, place, recorded_at,
 use Rattle.otel_model_stream.specs.Events.{Handles, held_by, without}
 use Rattle.otel_model_stream.specs.Machine.{Machine, let_go}
 use Rattle.otel_model_stream.specs.Folds.{Amount, sample_of, wrap}
-use Rattle.otel_model_stream.specs.Sets.{AttributeSet, none_set}
+use Rattle.otel_model_stream.specs.Sets.{AttributeSet}
 use Rattle.otel_model_stream.specs.Totals.{size}
 use Rattle.otel_model.specs.Demands.{Demand}
 use Rattle.otel_model.specs.Machine.{if_held}
 use Rattle.otel_model.specs.Streams.{aggregate_of}
-use Rattle.otel_aggregate.specs.Any.{HeldAny, is_signed_value, amount_of, stream_in, any_after_commit, any_after_none, any_after_update, any_after_unbind, is_taken, is_updated, takes_bound, with_stream}
+use Rattle.otel_aggregate.specs.Any.{HeldAny, is_signed_value, amount_of, stream_in, any_after_update, any_after_unbind, is_updated, takes_bound, with_stream}
 use Rattle.otel_aggregate.specs.Streams.{StreamState, recorded_set, stream_after_unbind, taken_from, unbind_at, update_at}
-use Rattle.otel_pipeline.specs.Streams.{Held, IsAsked, asked_aggregate, held_of, with_record, with_update, held_after_commit, held_after_none, held_after_update, held_after_unbind, committed_by, without_handle}
+use Rattle.otel_pipeline.specs.Streams.{Held, IsAsked, asked_aggregate, held_of, with_record, with_update, held_after_update, held_after_unbind, committed_by, without_handle}
 
 -- ======== the aggregate that was asked for ========
 -- a record leaves the aggregate the one that was asked for
-pub asked-recorded : (d : Demand) (old : HeldAny) (s : AttributeSet) (v : Amount) → IsAsked d old → IsAsked d (with_stream old (taken_from (Some s) v (stream_in old)))
+asked-recorded : (d : Demand) (old : HeldAny) (s : AttributeSet) (v : Amount) → IsAsked d old → IsAsked d (with_stream old (taken_from (Some s) v (stream_in old)))
 asked-recorded d old s v is =
     let to : recorded_set s v old.state ≡ recorded_set s v (asked_aggregate d old.state.resets old.state.map_state.table old.state.start) = ap (recorded_set s v) is.state in
     record {
@@ -27,35 +27,25 @@ asked-recorded d old s v is =
       unheld = is.unheld;
     }
 
--- ======== the record that is prepared ========
+-- ======== a record of a set ========
 asked-if : (d : Demand) (a : HeldAny) (b : Bool) (o : Option AttributeSet) (v : Amount) → IsAsked d a → IsAsked d (cond b (with_stream a (taken_from o v (stream_in a))) a)
 asked-if d a true None v is = is
 asked-if d a true (Some s) v is = asked-recorded d a s v is
 asked-if d a false o v is = is
 
-pub asked-taken : (d : Demand) (a new : HeldAny) (value : NumberValue) → IsAsked d a → new ≡ any_after_commit value a → IsAsked d new
-asked-taken d a new value is e = subst (IsAsked d) (sym e) (asked-if d a (beq (is_signed_value value) a.is_signed) a.pending (amount_of value) is)
+pub asked-taken : (d : Demand) (a new : HeldAny) (value : NumberValue) (o : Option AttributeSet) → IsAsked d a → new ≡ cond (beq (is_signed_value value) a.is_signed) (with_stream a (taken_from o (amount_of value) (stream_in a))) a → IsAsked d new
+asked-taken d a new value o is e = subst (IsAsked d) (sym e) (asked-if d a (beq (is_signed_value value) a.is_signed) o (amount_of value) is)
 
--- the same of one without attributes
-pub asked-none : (d : Demand) (a new : HeldAny) (value : NumberValue) → IsAsked d a → new ≡ any_after_none value a → IsAsked d new
-asked-none d a new value is e = subst (IsAsked d) (sym e) (asked-if d a (beq (is_signed_value value) a.is_signed) (Some none_set) (amount_of value) is)
-
-module _ (d : Demand) (a : HeldAny) (value : NumberValue) (recorded exported : ℕ) (is : IsAsked d a) where
+-- of the set that is prepared, or of the empty one
+module _ (d : Demand) (a : HeldAny) (value : NumberValue) (recorded exported : ℕ) (is : IsAsked d a) (o : Option AttributeSet) where
   abbrev v : Amount
   v = amount_of value
 
   abbrev held : Held
   held = held_of d a recorded exported
 
-  -- the same test, and the same set
-  committed-as : (b : Bool) (o : Option AttributeSet) → beq (is_signed_value value) a.is_signed ≡ b → a.pending ≡ o → held_after_commit value held ≡ cond b (committed_by o v held) held
-  committed-as b o f e =
-      ap (λ signed. cond (beq (is_signed_value value) signed) (committed_by a.pending v held) held) (sym is.signed)
-      ∙ (ap (λ c. cond c (committed_by a.pending v held) held) f ∙ ap (λ p. cond b (committed_by p v held) held) e)
-
-  taken-as : (b : Bool) (o : Option AttributeSet) → beq (is_signed_value value) a.is_signed ≡ b → a.pending ≡ o → any_after_commit value a ≡ cond b (with_stream a (taken_from o v (stream_in a))) a
-  taken-as b o f e =
-      ap (λ c. cond c (with_stream a (taken_from a.pending v (stream_in a))) a) f ∙ ap (λ p. cond b (with_stream a (taken_from p v (stream_in a))) a) e
+  abbrev taken : Bool → HeldAny
+  taken b = cond b (with_stream a (taken_from o v (stream_in a))) a
 
   -- with these entries and this total
   abbrev with_table : Table → ℕ → Held
@@ -69,35 +59,26 @@ module _ (d : Demand) (a : HeldAny) (value : NumberValue) (recorded exported : �
   record-as : (s : AttributeSet) → held_of d (with_stream a (taken_from (Some s) v (stream_in a))) (wrap (recorded + size (aggregate_of d) v)) exported ≡ with_record s v held
   record-as s = ap (λ (st : StreamState). with_table (recorded_at s (sample_of st.aggregate v) (place st.map_state.limit st.map_state.empty s a.state.map_state.table)) (wrap (recorded + size (aggregate_of d) v))) is.state
 
-  then_by : (b : Bool) (o : Option AttributeSet) → beq (is_signed_value value) a.is_signed ≡ b → a.pending ≡ o → (b && is_some o) ≡ true
-      → held_of d (any_after_commit value a) (wrap (recorded + size (aggregate_of d) v)) exported ≡ held_after_commit value held
-  then_by true (Some s) f e t =
-      ap (λ x. held_of d x (wrap (recorded + size (aggregate_of d) v)) exported) (taken-as true (Some s) f e) ∙ (record-as s ∙ sym (committed-as true (Some s) f e))
-  then_by true None f e t = absurd (true≢false (sym t))
-  then_by false o f e t = absurd (true≢false (sym t))
+  then-by : (b : Bool) (p : Option AttributeSet) → (b && is_some p) ≡ true → held_of d (cond b (with_stream a (taken_from p v (stream_in a))) a) (wrap (recorded + size (aggregate_of d) v)) exported ≡ cond b (committed_by p v held) held
+  then-by true (Some s) t = record-as s
+  then-by true None t = absurd (true≢false (sym t))
+  then-by false p t = absurd (true≢false (sym t))
 
-  else_by : (b : Bool) (o : Option AttributeSet) → beq (is_signed_value value) a.is_signed ≡ b → a.pending ≡ o → (b && is_some o) ≡ false
-      → held_of d (any_after_commit value a) recorded exported ≡ held_after_commit value held
-  else_by true (Some s) f e t = absurd (true≢false t)
-  else_by true None f e t = ap (λ x. held_of d x recorded exported) (taken-as true None f e) ∙ sym (committed-as true None f e)
-  else_by false o f e t = ap (λ x. held_of d x recorded exported) (taken-as false o f e) ∙ sym (committed-as false o f e)
+  else-by : (b : Bool) (p : Option AttributeSet) → (b && is_some p) ≡ false → held_of d (cond b (with_stream a (taken_from p v (stream_in a))) a) recorded exported ≡ cond b (committed_by p v held) held
+  else-by true (Some s) t = absurd (true≢false t)
+  else-by true None t = refl
+  else-by false p t = refl
 
-  pub commit-then : (new : HeldAny) → new ≡ any_after_commit value a → is_taken value a ≡ true → held_of d new (wrap (recorded + size (aggregate_of d) v)) exported ≡ held_after_commit value held
-  commit-then new e t = ap (λ x. held_of d x (wrap (recorded + size (aggregate_of d) v)) exported) e ∙ then_by (beq (is_signed_value value) a.is_signed) a.pending refl refl t
+  same-number : cond (beq (is_signed_value value) a.is_signed) (committed_by o v held) held ≡ cond (beq (is_signed_value value) d.identity.signed) (committed_by o v held) held
+  same-number = λ i. cond (beq (is_signed_value value) (is.signed i)) (committed_by o v held) held
 
-  pub commit-else : (new : HeldAny) → new ≡ any_after_commit value a → is_taken value a ≡ false → held_of d new recorded exported ≡ held_after_commit value held
-  commit-else new e t = ap (λ x. held_of d x recorded exported) e ∙ else_by (beq (is_signed_value value) a.is_signed) a.pending refl refl t
+  pub taken-then : (new : HeldAny) → new ≡ taken (beq (is_signed_value value) a.is_signed) → (beq (is_signed_value value) a.is_signed && is_some o) ≡ true
+      → held_of d new (wrap (recorded + size (aggregate_of d) v)) exported ≡ cond (beq (is_signed_value value) d.identity.signed) (committed_by o v held) held
+  taken-then new e t = ap (λ x. held_of d x (wrap (recorded + size (aggregate_of d) v)) exported) e ∙ (then-by (beq (is_signed_value value) a.is_signed) o t ∙ same-number)
 
-  -- ======== a record without attributes ========
-  pub none-then : (new : HeldAny) → new ≡ any_after_none value a → beq (is_signed_value value) a.is_signed ≡ true → held_of d new (wrap (recorded + size (aggregate_of d) v)) exported ≡ held_after_none value held
-  none-then new e t =
-      ap (λ x. held_of d x (wrap (recorded + size (aggregate_of d) v)) exported) (e ∙ ap (λ c. cond c (with_stream a (taken_from (Some none_set) v (stream_in a))) a) t)
-      ∙ (record-as none_set ∙ ap (λ c. cond c (with_record none_set v held) held) (sym t ∙ ap (beq (is_signed_value value)) is.signed))
-
-  pub none-else : (new : HeldAny) → new ≡ any_after_none value a → beq (is_signed_value value) a.is_signed ≡ false → held_of d new recorded exported ≡ held_after_none value held
-  none-else new e t =
-      ap (λ x. held_of d x recorded exported) (e ∙ ap (λ c. cond c (with_stream a (taken_from (Some none_set) v (stream_in a))) a) t)
-      ∙ ap (λ c. cond c (with_record none_set v held) held) (sym t ∙ ap (beq (is_signed_value value)) is.signed)
+  pub taken-else : (new : HeldAny) → new ≡ taken (beq (is_signed_value value) a.is_signed) → (beq (is_signed_value value) a.is_signed && is_some o) ≡ false
+      → held_of d new recorded exported ≡ cond (beq (is_signed_value value) d.identity.signed) (committed_by o v held) held
+  taken-else new e t = ap (λ x. held_of d x recorded exported) e ∙ (else-by (beq (is_signed_value value) a.is_signed) o t ∙ same-number)
 
 -- ======== a record through a handle ========
 -- the stream in which a handle of this set's entry was used, if there is a set

@@ -1,5 +1,5 @@
 -- Lists in which one element after another is written.
-use Rattle.std.proofs.Common.{◌≡◌, ℕ, ◌+◌, ◌<◌, List, [], ◌∷◌, length, get_or, set, map, drop, refl, arith, sym, ◌∙◌, ap, suc, zero, add-one, Option, Some, slice_get, length-set, drop-cons}
+use Rattle.std.proofs.Common.{◌≡◌, ℕ, ◌+◌, ◌<◌, List, [], ◌∷◌, length, get_or, set, map, drop, refl, arith, sym, ◌∙◌, ap, suc, zero, add-one, Option, Some, slice_get, length-set, drop-cons, below_more}
 use Rattle.std.proofs.lemmas.List.{length-map}
 use Rattle.std.specs.Prelude.{All}
 use Rattle.otel_model.specs.Machine.{changed_at}
@@ -52,14 +52,29 @@ length-seen v xs ys e = sym (length-map xs v) ∙ (ap length e ∙ length-map ys
 -- ======== what holds of elements ========
 -- what holds of an element where there is one, once it is written
 module _ {X : Type 0} (P : Option X → Type 0) where
-  pub there-set_same : (xs : List X) (n : ℕ) (x : X) → n < length xs → P (Some x) → P (slice_get (set xs n x) n)
+  there-set_same : (xs : List X) (n : ℕ) (x : X) → n < length xs → P (Some x) → P (slice_get (set xs n x) n)
   there-set_same [] n x h r = absurd (omega arith)
   there-set_same (t ∷ xs) zero x h r = r
   there-set_same (t ∷ xs) (suc n) x h r = there-set_same xs n x (omega arith) r
 
-  pub there-set : (xs : List X) (i n : ℕ) (x : X) → P (Some x) → P (slice_get xs n) → P (slice_get (set xs i x) n)
+  there-set : (xs : List X) (i n : ℕ) (x : X) → P (Some x) → P (slice_get xs n) → P (slice_get (set xs i x) n)
   there-set [] i n x r h = h
   there-set (t ∷ xs) zero zero x r h = r
   there-set (t ∷ xs) zero (suc n) x r h = h
   there-set (t ∷ xs) (suc i) zero x r h = h
   there-set (t ∷ xs) (suc i) (suc n) x r h = there-set xs i n x r h
+
+-- ======== elements that are made ready ========
+-- `v` is what is seen of an element, `P` what holds of one that is ready
+module _ {X Y : Type 0} (v : X → Y) (P : Option X → Type 0) (ns : List ℕ) where
+  -- nothing is seen to change, and the elements of the first numbers are ready
+  pub record IsReadyUpto (old new : List X) (i : ℕ) : Type 0 where
+    pub same : map v new ≡ map v old
+    pub ready : (j : ℕ) → j < i → P (slice_get new (get_or ns j 0))
+
+  -- one is made ready
+  pub ready-more : (old new : List X) (i : ℕ) (x y : X) → get_or ns i 0 < length new → x ≡ get_or new (get_or ns i 0) x → v y ≡ v x → P (Some y) → IsReadyUpto old new i → IsReadyUpto old (set new (get_or ns i 0) y) (i + 1)
+  ready-more old new i x y inside at e is so_far = record {
+    same = seen_same v new (get_or ns i 0) x x y at e ∙ so_far.same;
+    ready = below_more _ _ (λ j h. there-set P new (get_or ns i 0) (get_or ns j 0) y is (so_far.ready j h)) (there-set_same P new (get_or ns i 0) y inside is);
+  }

@@ -1,9 +1,9 @@
-use Rattle.std.proofs.Common.{◌<◌, ◌∙◌, ap, arith, get_or, length, below_more, slice_get, Some}
+use Rattle.std.proofs.Common.{◌∙◌, ap, arith, get_or, length, slice_get}
 use Rattle.std.proofs.lemmas.List.{length-map}
 use Rattle.std.proofs.lemmas.List.Elements.{All-from_get_or}
 use Rattle.otel_pipeline.specs.Handles.{IsReadyIfThere}
 use Rattle.otel_pipeline.specs.Streams.{Held, without_pending}
-use Rattle.otel_pipeline.proofs.Writes.{seen_same, there-set, there-set_same}
+use Rattle.otel_pipeline.proofs.Writes.{ready-more, seen_same}
 use Rattle.otel_pipeline.proofs.each_stream.prepare_bind_each.Goals as goal
 
 pub index_mut-requires : goal.index_mut-requires
@@ -15,16 +15,9 @@ returns-in_err-prepare_bind-clause-same c =
     ∙ c.loop-k.invariant.same
 
 pub loop-k-preserved : goal.loop-k-preserved
-loop-k-preserved c =
-    let k = get_or c.args.feeds.now c.loop-k.k-index 0 in
-    let inside : k < length c.loop-k.streams.items = omega (arith, c.requires c.loop-k.k-index 0 c.loop-k-test.true, ap length c.loop-k.invariant.same, length-map {A = Held} {B = Held}) in
-    let ready : IsReadyIfThere c.args.attributes.now (Some c.prepare_bind.new.self) = c.in_ok-prepare_bind.ensures.ready in
-    record {
-      same = seen_same without_pending c.loop-k.streams.items k c.index_mut.result.now c.index_mut.result.now c.prepare_bind.new.self c.index_mut.ensures.value c.prepare_bind.ensures.same ∙ c.loop-k.invariant.same;
-      ready = below_more _ _
-          (λ j h. there-set (IsReadyIfThere c.args.attributes.now) c.loop-k.streams.items k (get_or c.args.feeds.now j 0) c.prepare_bind.new.self ready (c.loop-k.invariant.ready j h))
-          (there-set_same (IsReadyIfThere c.args.attributes.now) c.loop-k.streams.items k c.prepare_bind.new.self inside ready);
-    }
+loop-k-preserved c = ready-more without_pending (IsReadyIfThere c.args.attributes.now) c.args.feeds.now c.args.streams.now.items c.loop-k.streams.items c.loop-k.k-index c.index_mut.result.now c.prepare_bind.new.self
+    (omega (arith, c.requires c.loop-k.k-index 0 c.loop-k-test.true, ap length c.loop-k.invariant.same, length-map {A = Held} {B = Held}))
+    c.index_mut.ensures.value c.prepare_bind.ensures.same c.in_ok-prepare_bind.ensures.ready c.loop-k.invariant
 
 pub returns-clause-ready : goal.returns-clause-ready
 returns-clause-ready c = All-from_get_or (λ n. IsReadyIfThere c.args.attributes.now (slice_get c.loop-k.streams.items n)) c.args.feeds.now 0 (λ i h. c.loop-k.invariant.ready i (omega arith))

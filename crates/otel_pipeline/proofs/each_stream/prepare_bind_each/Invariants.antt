@@ -1,11 +1,7 @@
-use Rattle.std.proofs.Common.{◌≡◌, ℕ, ◌<◌, get_or, slice_get}
 use Rattle.otel_pipeline.specs.Handles.{IsReadyIfThere}
-use Rattle.otel_pipeline.specs.Pipelines.{all_without_pending}
+use Rattle.otel_pipeline.specs.Streams.{without_pending}
+use Rattle.otel_pipeline.proofs.Writes.{IsReadyUpto}
 use Rattle.otel_pipeline.proofs.each_stream.prepare_bind_each.Given as goal
 
--- nothing is seen to change, and the streams so far are ready
 abbrev pub invariant-loop-k : goal.invariant-loop-k
-invariant-loop-k l = record {
-  same : all_without_pending l.streams.items ≡ all_without_pending l.initial.streams.items;
-  ready : (j : ℕ) → j < l.k-index → IsReadyIfThere l.attributes (slice_get l.streams.items (get_or l.feeds j 0));
-}
+invariant-loop-k l = IsReadyUpto without_pending (IsReadyIfThere l.attributes) l.feeds l.initial.streams.items l.streams.items l.k-index

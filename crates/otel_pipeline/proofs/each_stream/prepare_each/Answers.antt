@@ -1,4 +1,4 @@
-use Rattle.std.proofs.Common.{rules, ◌≡◌, ◌<◌, ◌∙◌, ap, refl, sym, subst, List, arith, get_or, length, below_more, slice_get, Some, option_map}
+use Rattle.std.proofs.Common.{rules, ◌≡◌, ◌<◌, ◌∙◌, ap, refl, sym, subst, List, arith, get_or, length, slice_get, Some, option_map}
 use Rattle.std.specs.Prelude.{IsOk}
 use Rattle.std.proofs.lemmas.List.{length-map}
 use Rattle.std.proofs.lemmas.Option.{slice_get-map, slice_get_read}
@@ -7,7 +7,7 @@ use Rattle.otel_model.specs.Sent.{set_for}
 use Rattle.otel_pipeline.specs.Known.{IsKnownIfThere}
 use Rattle.otel_pipeline.specs.Pipelines.{IsPrepared, all_without_pending}
 use Rattle.otel_pipeline.specs.Streams.{Held, without_pending}
-use Rattle.otel_pipeline.proofs.Writes.{seen_same, there-set, there-set_same}
+use Rattle.otel_pipeline.proofs.Writes.{ready-more, seen_same}
 use Rattle.otel_pipeline.proofs.each_stream.prepare_each.Goals as goal
 
 pub index_mut-requires : goal.index_mut-requires
@@ -31,17 +31,9 @@ returns-in_err-prepare-clause-known c = λ known.
     search rules)
 
 pub loop-k-preserved : goal.loop-k-preserved
-loop-k-preserved c =
-    let k = get_or c.args.feeds.now c.loop-k.k-index 0 in
-    let inside : k < length c.loop-k.streams.items = omega (arith, c.requires c.loop-k.k-index 0 c.loop-k-test.true, ap length c.loop-k.invariant.same, length-map {A = Held} {B = Held}) in
-    let ready : IsPrepared c.args.attributes.now (Some c.prepare.new.self) =
-    c.in_ok-prepare.ensures.ready ∙ ap (λ (h : Held). Some (set_for h.stream.demand c.args.attributes.now)) (sym c.prepare.ensures.same) in
-    record {
-      same = seen_same without_pending c.loop-k.streams.items k c.index_mut.result.now c.index_mut.result.now c.prepare.new.self c.index_mut.ensures.value c.prepare.ensures.same ∙ c.loop-k.invariant.same;
-      prepared = below_more _ _
-          (λ j h. there-set (IsPrepared c.args.attributes.now) c.loop-k.streams.items k (get_or c.args.feeds.now j 0) c.prepare.new.self ready (c.loop-k.invariant.prepared j h))
-          (there-set_same (IsPrepared c.args.attributes.now) c.loop-k.streams.items k c.prepare.new.self inside ready);
-    }
+loop-k-preserved c = ready-more without_pending (IsPrepared c.args.attributes.now) c.args.feeds.now c.args.streams.now.items c.loop-k.streams.items c.loop-k.k-index c.index_mut.result.now c.prepare.new.self
+    (omega (arith, c.requires c.loop-k.k-index 0 c.loop-k-test.true, ap length c.loop-k.invariant.same, length-map {A = Held} {B = Held}))
+    c.index_mut.ensures.value c.prepare.ensures.same (c.in_ok-prepare.ensures.ready ∙ ap (λ (h : Held). Some (set_for h.stream.demand c.args.attributes.now)) (sym c.prepare.ensures.same)) c.loop-k.invariant
 
 pub returns-clause-prepared : goal.returns-clause-prepared
-returns-clause-prepared c = All-from_get_or (λ n. IsPrepared c.args.attributes.now (slice_get c.loop-k.streams.items n)) c.args.feeds.now 0 (λ i h. c.loop-k.invariant.prepared i (omega arith))
+returns-clause-prepared c = All-from_get_or (λ n. IsPrepared c.args.attributes.now (slice_get c.loop-k.streams.items n)) c.args.feeds.now 0 (λ i h. c.loop-k.invariant.ready i (omega arith))
