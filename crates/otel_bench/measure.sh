@@ -110,6 +110,16 @@ after_burst() {
     echo "collect 0 300"
 }
 
+# Records of this many sets whose hashes are equal, each set in turn. A provider that was given no seed takes its hasher
+# to one state by this key and the first 8 bytes of these texts, whatever the last 8 are.
+colliding() {
+    instrument u64_counter "$one"
+    lines 0 "$1" "record 0 u:1 00068487=s:bQ4w5mBe%08d"
+    next
+    last
+    lines 0 "$1" "record 0 u:1 00068487=s:bQ4w5mBe%08d"
+}
+
 # Collections of all sets up to the limit, all of which are recorded again before each collection.
 collections() {
     instrument "$@"
@@ -176,6 +186,7 @@ case_named() {
         end*) ends "${1#end}" ;;
         allow*) allowed "${1#allow}" ;;
         burst*) after_burst "${1#burst}" ;;
+        colliding*) colliding "${1#colliding}" ;;
         collect_cumulative) collections $counter "$one" ;;
         collect_delta) collections $counter "reader delta" ;;
         collect_histogram) collections u64_histogram "$one" ;;
@@ -277,6 +288,9 @@ for name in allow8 allow2000 allow4000 allow8000; do
 done
 for name in burst5000 burst10000 burst20000; do
     row $name 1 3 1
+done
+for number in 500 1000 2000; do
+    row "colliding$number" 0 "$number" 1
 done
 for name in collect_cumulative collect_delta collect_histogram; do
     row $name 1 3 2000
