@@ -1,4 +1,5 @@
 pub mod KeptLemmas
+pub mod LastPlaces
 pub mod RisingKeys
 pub mod Referenced
 pub mod Cursors
