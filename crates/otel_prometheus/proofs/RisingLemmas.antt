@@ -1,5 +1,5 @@
 -- Where the names of attributes rise, their labels stand as they do, around those of the scope.
-use Rattle.std.proofs.Common.{◌≡◌, ℕ, suc, ◌+◌, ◌<◌, ◌≤◌, ◌&&◌, Bool, true, false, cond, List, [], ◌∷◌, ◌++◌, Option, Some, None, map, fold, take, drop, length, slice_set, slice_index_or, codes, refl, sym, ap, subst, ◌∙◌, append_assoc, append-nil, add_assoc, add-one, one-add, drop-cons, length-append, arith}
+use Rattle.std.proofs.Common.{◌≡◌, ℕ, suc, ◌+◌, ◌<◌, ◌≤◌, ◌&&◌, Bool, true, false, cond, List, [], ◌∷◌, ◌++◌, Option, Some, None, map, take, drop, length, slice_set, slice_index_or, codes, refl, sym, ap, subst, ◌∙◌, append_assoc, append-nil, add_assoc, add-one, one-add, drop-cons, length-append, arith}
 use Rattle.std.specs.Cmp.Lexicographic.{slice_cmp}
 use Rattle.std.specs.Ordering.{nat_cmp, is_lt, ordering_reverse}
 use Rattle.std.specs.declared.cmp.Ordering.{Ordering}
@@ -13,7 +13,7 @@ use Rattle.otel_common.specs.declared.scopes.InstrumentationScope.{Instrumentati
 use Rattle.otel_exposition.specs.Names.{name_of}
 use Rattle.otel_exposition.specs.Samples.{Pair, is_label_byte, label_text, more_labels_text, labels_text, line_text}
 use Rattle.otel_prometheus.specs.Labels.{own_name, placed, with_label, label_of, with_attributes, text_label, version_label, scope_labels, point_labels}
-use Rattle.otel_prometheus.specs.Rising.{name_in, rises, count_below, place_at, place_of_scope, comma_texts, named, front_texts, behind_comma}
+use Rattle.otel_prometheus.specs.Rising.{name_in, rises, count_below, place_of_scope, comma_texts, named, front_texts, behind_comma}
 use Rattle.otel_prometheus.specs.Values.{value_text}
 use Rattle.otel_prometheus.specs.declared.settings.Settings.{Settings}
 

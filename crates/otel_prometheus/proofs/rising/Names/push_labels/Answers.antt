@@ -1,6 +1,6 @@
-use Rattle.std.proofs.Common.{◌≡◌, ◌++◌, Some, map, take, drop, ap, sym, ◌∙◌}
+use Rattle.std.proofs.Common.{◌≡◌, ◌++◌, map, take, drop, ap, sym, ◌∙◌}
 use Rattle.otel_prometheus.specs.Labels.{point_labels}
-use Rattle.otel_prometheus.specs.Rising.{name_in, place_of_scope, behind_comma, front_texts}
+use Rattle.otel_prometheus.specs.Rising.{name_in, behind_comma, front_texts}
 use Rattle.otel_prometheus.proofs.RisingLemmas.{fronts_within, made_of_keys, spelled_fronts}
 use Rattle.otel_prometheus.proofs.rising.Names.push_labels.Goals as goal
 
