@@ -1,9 +1,8 @@
 -- A request nests 16 levels deep at most, so a reader of 128 levels reads it.
-use Rattle.std.proofs.Common.{◌≡◌, ℕ, suc, ◌^◌, ◌≤◌, ◌++◌, ◌∙◌, ap, sym, append-nil, option_and_then, ℤ, pos, negsuc, Bool, true, false, List, [], ◌∷◌, map, Option, Some, None, nat_lt, cond, codes, arith, refl}
+use Rattle.std.proofs.Common.{◌≡◌, ℕ, suc, ◌^◌, ◌≤◌, ◌∙◌, ap, sym, append-nil, option_and_then, ℤ, pos, negsuc, Bool, true, false, List, [], ◌∷◌, map, Option, Some, None, nat_lt, cond, codes, arith}
 use Rattle.std.specs.Option.{option_map}
 use Rattle.json.specs.Json.{Json, string, Members, no_members, member, value, if_last, max_depth, document}
 use Rattle.json.specs.Lex.{tokens}
-use Rattle.json.specs.Print.{print}
 use Rattle.json.specs.Tree.{json_tokens, depth, items_depth, members_depth}
 use Rattle.json.proofs.Printed.Trees.{value-json_tokens}
 use Rattle.otel_common.specs.declared.attributes.Array.{Array}
@@ -21,15 +20,12 @@ use Rattle.otel_data.specs.declared.aggregated.MetricData.TheVariants as kinds
 use Rattle.otel_data.specs.declared.collections.Metric.{Metric}
 use Rattle.otel_data.specs.declared.collections.ResourceMetrics.{ResourceMetrics}
 use Rattle.otel_data.specs.declared.collections.ScopeMetrics.{ScopeMetrics}
-use Rattle.otel_data.specs.declared.gauges.Gauge.{Gauge}
-use Rattle.otel_data.specs.declared.histograms.Histogram.{Histogram}
 use Rattle.otel_data.specs.declared.points.HistogramDataPoint.{HistogramDataPoint}
-use Rattle.otel_data.specs.declared.sums.Sum.{Sum}
 use Rattle.otel_otlp.specs.Arrays.{items_from, array_of, optional}
 use Rattle.otel_otlp.specs.Attributes.{bool_json, integer_json, string_json, items_json, value_json, attribute_json, attributes_json}
 use Rattle.otel_otlp.specs.Numbers.{quoted, whole, value_member}
-use Rattle.otel_otlp.specs.Points.{temporality_json, number_point_json, gauge_point_json, sum_point_json, histogram_point_json, gauge_json, sum_json, histogram_json, data_members}
-use Rattle.otel_otlp.specs.Requests.{points_members, metric_json, scope_json, scope_metrics_json, resource_json, resource_metrics_json, request_of}
+use Rattle.otel_otlp.specs.Points.{temporality_json, number_point_json, gauge_point_json, sum_point_json, histogram_point_json, data_members}
+use Rattle.otel_otlp.specs.Requests.{points_members, metric_json, scope_json, scope_metrics_json, resource_metrics_json, request_of}
 
 items_within : {A : Type 0} (f : A → Json) (k : ℕ) → ((x : A) → depth (f x) ≤ k) → (xs : List A) → items_depth (items_from (map f xs)) ≤ k
 items_within f k h [] = omega arith

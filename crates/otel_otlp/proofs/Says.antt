@@ -1,5 +1,5 @@
 -- A request says the whole collection.
-use Rattle.std.proofs.Common.{◌≡◌, ℕ, ◌^◌, ℤ, pos, negsuc, Bool, true, false, cond, List, [], ◌∷◌, map, nat_lt, refl, ap, arith, codes, decimal, Option, Some, None, option_map, option_and_then}
+use Rattle.std.proofs.Common.{◌≡◌, ℕ, ◌^◌, ℤ, pos, negsuc, Bool, true, false, cond, List, [], ◌∷◌, map, nat_lt, refl, ap, arith, codes, Option, Some, None, option_map, option_and_then}
 use Rattle.json.specs.Json.{Json, string, Members, no_members, member}
 use Rattle.otel_common.specs.declared.attributes.Array.{Array}
 use Rattle.otel_common.specs.declared.attributes.Array.TheVariants as arrays
@@ -24,7 +24,7 @@ use Rattle.otel_otlp.specs.Fits.{FitsNatural, FitsInteger, EachFits, FitsArray, 
 use Rattle.otel_otlp.specs.Numbers.{quoted, whole, value_member}
 use Rattle.otel_otlp.specs.Points.{temporality_json, gauge_point_json, sum_point_json, histogram_point_json, data_members, extremes}
 use Rattle.otel_otlp.specs.Requests.{points_members, metric_json, scope_metrics_json, resource_metrics_json, request_of}
-use Rattle.otel_otlp.specs.Reading.{string_in, listed, member_at, natural_in, quoted_in, double_in, applied, each, all_in, or_absent, optional_field, field, scalar_in, content_in, attribute_in, attributes_in, temporality_of, amount_of, number_in, spread_in, points_in, metric_in, scope_in, resource_metrics_in, only, collection_of}
+use Rattle.otel_otlp.specs.Reading.{string_in, listed, member_at, natural_in, double_in, applied, each, all_in, or_absent, optional_field, scalar_in, content_in, attribute_in, attributes_in, temporality_of, amount_of, number_in, spread_in, points_in, metric_in, scope_in, resource_metrics_in, only, collection_of}
 use Rattle.otel_otlp.specs.Shown.{Scalar, truth, integer, text, Content, scalar, list, Attribute, NumberPoint, SpreadPoint, Points, gauge, sum, histogram, MetricSaid, ScopeSaid, Collection, scalars_of, attribute_of, attributes_of, gauge_point, sum_point, spread_point, data_points, points_of, metric_of, scope_of, shown}
 use Rattle.otel_otlp.specs.Shown as said
 use Rattle.otel_otlp.proofs.Digits.{natural_reads, integer_reads}

@@ -1,7 +1,7 @@
 -- The points of a metric as OTLP in JSON.
-use Rattle.std.specs.Prelude.{ℕ, ℤ, pos, Bool, List, Option, codes}
+use Rattle.std.specs.Prelude.{ℕ, ℤ, pos, List, Option, codes}
 use Rattle.std.specs.Option.{option_map}
-use Rattle.json.specs.Json.{Json, boolean, number, object, Members, no_members, member}
+use Rattle.json.specs.Json.{Json, boolean, object, Members, no_members, member}
 use Rattle.otel_common.specs.declared.attributes.KeyValue.{KeyValue}
 use Rattle.otel_common.specs.declared.metrics.Temporality.{Temporality}
 use Rattle.otel_common.specs.declared.metrics.Temporality.TheVariants.{Cumulative, Delta, LowMemory}

@@ -1,5 +1,5 @@
 -- Where the names of attributes rise, their labels stand as they do, around those of the scope.
-use Rattle.std.proofs.Common.{◌≡◌, ℕ, suc, ◌+◌, ◌<◌, ◌≤◌, ◌&&◌, Bool, true, false, cond, List, [], ◌∷◌, ◌++◌, Option, Some, None, map, fold, take, drop, length, slice_set, slice_index_or, codes, refl, sym, ap, subst, ◌∙◌, append_assoc, append-nil, add_assoc, add-one, one-add, drop-cons, length-append, arith}
+use Rattle.std.proofs.Common.{◌≡◌, ℕ, suc, ◌+◌, ◌<◌, ◌≤◌, ◌&&◌, Bool, true, false, cond, List, [], ◌∷◌, ◌++◌, Option, Some, None, map, take, drop, length, slice_set, slice_index_or, codes, refl, sym, ap, subst, ◌∙◌, append_assoc, append-nil, add_assoc, add-one, one-add, drop-cons, length-append, arith}
 use Rattle.std.specs.Cmp.Lexicographic.{slice_cmp}
 use Rattle.std.specs.Ordering.{nat_cmp, is_lt, ordering_reverse}
 use Rattle.std.specs.declared.cmp.Ordering.{Ordering}
@@ -7,13 +7,14 @@ use Rattle.std.specs.declared.cmp.Ordering.TheVariants.{Less, Equal, Greater}
 use Rattle.std.proofs.lemmas.Bool.{true≢false}
 use Rattle.std.proofs.lemmas.Cmp.{nat_list_cmp_total}
 use Rattle.std.proofs.lemmas.Grind.{fold-append, flat_map-append}
-use Rattle.std.proofs.lemmas.List.{take-append-drop, take-map, drop-map}
+use Rattle.std.proofs.lemmas.List.{take-append-drop, take-map, drop-map, length-map}
 use Rattle.otel_common.specs.declared.attributes.KeyValue.{KeyValue}
 use Rattle.otel_common.specs.declared.scopes.InstrumentationScope.{InstrumentationScope}
 use Rattle.otel_exposition.specs.Names.{name_of}
 use Rattle.otel_exposition.specs.Samples.{Pair, is_label_byte, label_text, more_labels_text, labels_text, line_text}
 use Rattle.otel_prometheus.specs.Labels.{own_name, placed, with_label, label_of, with_attributes, text_label, version_label, scope_labels, point_labels}
-use Rattle.otel_prometheus.specs.Rising.{name_in, rises, count_below, place_at, place_of_scope, comma_texts, named}
+use Rattle.otel_prometheus.specs.Rising.{name_in, rises, count_below, place_of_scope, comma_texts, named, front_texts, behind_comma}
+use Rattle.otel_prometheus.specs.Values.{value_text}
 use Rattle.otel_prometheus.specs.declared.settings.Settings.{Settings}
 
 abbrev Below : List ℕ → List ℕ → Type 0
@@ -107,7 +108,7 @@ stands_around names count e =
     let r : (rises [] (take n names) ≡ true) × (rises (codes "otel_scope_version") (drop n names) ≡ true) = both (rises [] (take n names)) (rises (codes "otel_scope_version") (drop n names)) h.0 in
     subst (AroundScope names) h.1 (record { below = are_below names; first = do_rise [] (take n names) r.0; last = do_rise (codes "otel_scope_version") (drop n names) r.1 })
 
-pub place_within : (names : List (List ℕ)) (count : ℕ) → place_of_scope names ≡ Some count → count ≤ length names
+place_within : (names : List (List ℕ)) (count : ℕ) → place_of_scope names ≡ Some count → count ≤ length names
 place_within names count e =
     let n = count_below names in
     let h : ((rises [] (take n names) && rises (codes "otel_scope_version") (drop n names)) ≡ true) × (n ≡ count) = is_count (rises [] (take n names) && rises (codes "otel_scope_version") (drop n names)) n count e in
@@ -237,13 +238,32 @@ around_scope s has_bounds scope ps count h =
     ∙ ap (λ t. comma_texts (point_labels s has_bounds scope t)) (take-append-drop count ps)))
 
 -- names that were made of the keys of attributes
-pub spelled_around : (s : Settings) (has_bounds : Bool) (scope : InstrumentationScope) (ps : List KeyValue) (names : List (List ℕ)) (count : ℕ) (text : List ℕ)
+spelled_around : (s : Settings) (has_bounds : Bool) (scope : InstrumentationScope) (ps : List KeyValue) (names : List (List ℕ)) (count : ℕ) (text : List ℕ)
     → names ≡ map (name_in has_bounds) ps → place_of_scope names ≡ Some count → text ≡ comma_texts (scope_labels s scope)
     → comma_texts (named (take count names) (take count ps)) ++ (text ++ comma_texts (named (drop count names) (drop count ps))) ≡ comma_texts (point_labels s has_bounds scope ps)
 spelled_around s has_bounds scope ps names count text e h k =
     ap (λ t. comma_texts (named (take count names) (take count ps)) ++ (t ++ comma_texts (named (drop count names) (drop count ps)))) k
     ∙ ((λ i. comma_texts (named (take count (e i)) (take count ps)) ++ (comma_texts (scope_labels s scope) ++ comma_texts (named (drop count (e i)) (drop count ps))))
     ∙ around_scope s has_bounds scope ps count (subst (λ t. AroundScope t count) e (stands_around names count h)))
+
+-- a comma in front of a name is one in front of its label
+commas_in_front : (names : List (List ℕ)) (ps : List KeyValue) → front_texts (map behind_comma names) ps ≡ comma_texts (named names ps)
+commas_in_front [] ps = refl
+commas_in_front (n ∷ names) [] = refl
+commas_in_front (n ∷ names) (a ∷ ps) = ap (λ t. 44 ∷ (label_text (n, value_text a.value) ++ t)) (commas_in_front names ps)
+
+pub spelled_fronts : (s : Settings) (has_bounds : Bool) (scope : InstrumentationScope) (ps : List KeyValue) (fronts names : List (List ℕ)) (count : ℕ) (text : List ℕ)
+    → fronts ≡ map behind_comma names → names ≡ map (name_in has_bounds) ps → place_of_scope names ≡ Some count → text ≡ comma_texts (scope_labels s scope)
+    → front_texts (take count fronts) (take count ps) ++ (text ++ front_texts (drop count fronts) (drop count ps)) ≡ comma_texts (point_labels s has_bounds scope ps)
+spelled_fronts s has_bounds scope ps fronts names count text f e h k =
+    let low : front_texts (take count fronts) (take count ps) ≡ comma_texts (named (take count names) (take count ps)) =
+    ap (λ t. front_texts (take count t) (take count ps)) f ∙ (ap (λ t. front_texts t (take count ps)) (take-map behind_comma count names) ∙ commas_in_front (take count names) (take count ps)) in
+    let high : front_texts (drop count fronts) (drop count ps) ≡ comma_texts (named (drop count names) (drop count ps)) =
+    ap (λ t. front_texts (drop count t) (drop count ps)) f ∙ (ap (λ t. front_texts t (drop count ps)) (drop-map behind_comma count names) ∙ commas_in_front (drop count names) (drop count ps)) in
+    (λ i. low i ++ (text ++ high i)) ∙ spelled_around s has_bounds scope ps names count text e h k
+
+pub fronts_within : (names fronts : List (List ℕ)) (count : ℕ) → fronts ≡ map behind_comma names → place_of_scope names ≡ Some count → count ≤ length fronts
+fronts_within names fronts count f e = subst (λ k. count ≤ k) (sym (ap length f ∙ length-map names behind_comma)) (place_within names count e)
 
 names_of_keys : (has_bounds : Bool) (ps : List KeyValue) → map (λ key. own_name has_bounds (name_of is_label_byte key)) (map (λ a. a.key) ps) ≡ map (name_in has_bounds) ps
 names_of_keys has_bounds [] = refl

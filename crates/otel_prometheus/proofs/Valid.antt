@@ -1,5 +1,5 @@
 -- The lines of a collection may be spelled, whatever its texts are.
-use Rattle.std.proofs.Common.{◌≡◌, ℕ, suc, ◌+◌, ◌%◌, ◌^◌, ℤ, Bool, true, false, cond, ◌&&◌, ◌||◌, ◌==◌, List, [], ◌∷◌, ◌++◌, flat_map, map, fold, Option, Some, None, take, drop, position, refl, sym, ap, ◌∙◌, codes}
+use Rattle.std.proofs.Common.{◌≡◌, ℕ, suc, ◌+◌, ◌%◌, ◌^◌, ℤ, Bool, true, false, cond, ◌&&◌, ◌||◌, ◌==◌, List, [], ◌∷◌, ◌++◌, flat_map, map, fold, Option, Some, None, take, drop, position, refl, sym, codes}
 use Rattle.std.proofs.lemmas.Bool.{true≢false}
 use Rattle.std.specs.Char.{is_ascii_digit}
 use Rattle.std.specs.Cmp.Lexicographic.{slice_cmp}
@@ -19,22 +19,21 @@ use Rattle.otel_data.specs.declared.collections.Metric.{Metric}
 use Rattle.otel_data.specs.declared.collections.ResourceMetrics.{ResourceMetrics}
 use Rattle.otel_data.specs.declared.collections.ScopeMetrics.{ScopeMetrics}
 use Rattle.otel_data.specs.declared.points.HistogramDataPoint.{HistogramDataPoint}
-use Rattle.otel_exposition.specs.Lines.{Line, help, kind, sample, finish, IsLine, AreLines}
+use Rattle.otel_exposition.specs.Lines.{Line, kind, sample, IsLine, AreLines}
 use Rattle.otel_exposition.specs.Names.{name_of}
 use Rattle.otel_exposition.specs.Numbers.{unsigned, signed}
-use Rattle.otel_exposition.specs.Samples.{Pair, Sample, IsSample, IsNumber, AreLabels, IsLabelName, IsMetricName, AreAll, is_letter, is_label_byte, is_metric_letter, is_metric_byte, joined, labels_text}
+use Rattle.otel_exposition.specs.Samples.{Pair, Sample, IsSample, IsNumber, AreLabels, IsLabelName, IsMetricName, AreAll, is_letter, is_label_byte, is_metric_byte, labels_text}
 use Rattle.otel_exposition.specs.declared.formats.Format.{Format}
 use Rattle.otel_exposition.specs.declared.formats.Format.TheVariants.{Prometheus, OpenMetrics}
 use Rattle.otel_exposition.proofs.NameLemmas.{label_name, metric_name}
 use Rattle.otel_exposition.proofs.NumberLemmas.{unsigned_fits, signed_fits}
 use Rattle.otel_prometheus.specs.Collections.{belongs, metric_series, scope_series, family_series, kind_word, kind_end, help_lines, front_lines, family_samples, family_lines, target_kind, target_lines, end_lines, lines_of}
 use Rattle.otel_prometheus.specs.Families.{families, is_refused, with_heading, with_metric, with_scope}
-use Rattle.otel_prometheus.specs.Headings.{own_text, with_end, heading_with, base_name, heading_of, same_heading, kind_eq, is_last_value, content_kind}
+use Rattle.otel_prometheus.specs.Headings.{own_text, heading_with, base_name, heading_of, is_last_value, content_kind}
 use Rattle.otel_prometheus.specs.Labels.{placed, with_label, own_name, label_of, with_attributes, text_label, version_label, scope_labels, point_labels}
 use Rattle.otel_prometheus.specs.Points.{are_natural, value_end, bound_text, bucket, buckets, sum_samples, count_sample, count_samples, histogram_samples, number_series, gauge_series, sum_series, histogram_series, data_series, content_series}
 use Rattle.otel_prometheus.specs.Series.{Series, is_seen, kept}
 use Rattle.otel_prometheus.specs.Units.{word_at, times, decimal_sizes, binary_sizes, measures, rates, or_other, unit_word, or_name, is_count, worded, ratio, unit_parts, unit_suffix}
-use Rattle.otel_prometheus.specs.Values.{value_text}
 use Rattle.otel_prometheus.specs.declared.families.Family.{Family}
 use Rattle.otel_prometheus.specs.declared.headings.Heading.{Heading}
 use Rattle.otel_prometheus.specs.declared.headings.Kind.{Kind}

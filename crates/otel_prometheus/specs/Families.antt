@@ -1,5 +1,5 @@
 -- The families of a collection, and what of it they leave out.
-use Rattle.std.specs.Prelude.{ℕ, ◌%◌, ◌^◌, ◌||◌, List, [], ◌∷◌, ◌++◌, Bool, true, false, cond, not, length, Option, Some, None, fold}
+use Rattle.std.specs.Prelude.{ℕ, ◌||◌, List, [], ◌∷◌, ◌++◌, Bool, cond, length, Option, Some, None, fold}
 use Rattle.std.specs.List.{list_any}
 use Rattle.otel_data.specs.declared.aggregated.AggregatedMetrics.{AggregatedMetrics}
 use Rattle.otel_data.specs.declared.aggregated.AggregatedMetrics.TheVariants as number_types

@@ -1,6 +1,6 @@
 -- The names and types of families.
-use Rattle.std.specs.Prelude.{ℕ, ◌-◌, ◌==◌, ◌||◌, ◌&&◌, List, [], ◌∷◌, ◌++◌, Bool, true, false, cond, not, length, take, drop, Option, Some, None, codes}
-use Rattle.std.specs.List.{list_any, starts_with, ends_with}
+use Rattle.std.specs.Prelude.{ℕ, ◌-◌, ◌==◌, ◌||◌, ◌&&◌, List, ◌++◌, Bool, true, false, cond, length, take, drop, Option, Some, None, codes}
+use Rattle.std.specs.List.{starts_with, ends_with}
 use Rattle.std.specs.Option.{option_map}
 use Rattle.otel_common.specs.Equality.{bytes_eq}
 use Rattle.otel_common.specs.declared.metrics.Temporality.{Temporality}

@@ -1,5 +1,5 @@
 -- What holds of the lines of every collection, in the subject's words.
-use Rattle.std.specs.Prelude.{◌≡◌, ℕ, ◌≤◌, ℤ, pos, List, [], ◌∷◌, ◌++◌, false, length}
+use Rattle.std.specs.Prelude.{◌≡◌, ℕ, ◌≤◌, pos, List, [], ◌∷◌, ◌++◌, false, length}
 use Rattle.otel_data.specs.declared.collections.ResourceMetrics.{ResourceMetrics}
 use Rattle.otel_exposition.specs.Samples.{Sample, labels_text}
 use Rattle.otel_prometheus.specs.Collections.{family_series}

@@ -39,3 +39,11 @@ abbrev pub named : List (List ℕ) → List KeyValue → List Pair
 named [] ps = []
 named (n ∷ ns) [] = []
 named (n ∷ ns) (a ∷ ps) = (n, value_text a.value) ∷ named ns ps
+
+-- labels whose names are behind commas, with the values of attributes
+abbrev pub front_texts : List (List ℕ) → List KeyValue → List ℕ
+front_texts fronts ps = flat_map label_text (named fronts ps)
+
+-- a name behind a comma
+abbrev pub behind_comma : List ℕ → List ℕ
+behind_comma name = 44 ∷ name

@@ -1,5 +1,5 @@
 -- Units in names of metrics (Prometheus and OpenMetrics Compatibility, "Metric Metadata").
-use Rattle.std.specs.Prelude.{ℕ, suc, ◌==◌, ◌||◌, List, [], ◌∷◌, ◌++◌, Bool, true, false, cond, Option, Some, None, codes, take, drop, position}
+use Rattle.std.specs.Prelude.{ℕ, suc, ◌==◌, ◌||◌, List, [], ◌∷◌, ◌++◌, Bool, true, cond, Option, Some, None, codes, take, drop, position}
 use Rattle.std.specs.List.{list_any}
 use Rattle.otel_common.specs.Equality.{bytes_eq}
 use Rattle.otel_exposition.specs.Names.{name_of}

@@ -1,5 +1,5 @@
 -- Values of attributes as texts: a string as it is, a number in decimal, an array as JSON.
-use Rattle.std.specs.Prelude.{ℕ, ℤ, List, [], ◌∷◌, Bool, cond, codes, map}
+use Rattle.std.specs.Prelude.{ℕ, ℤ, List, [], ◌∷◌, cond, codes, map}
 use Rattle.std.specs.Fmt.{signed_decimal}
 use Rattle.json.specs.Json.{Json, boolean, number, string, array, Items, no_items, item}
 use Rattle.json.specs.Print.{print}

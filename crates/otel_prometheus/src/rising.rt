@@ -4,7 +4,7 @@ ghost use Rattle.std.specs.Prelude.{◌≡◌, ◌++◌, [], ◌∷◌, ◌≤�
 ghost use Rattle.otel_exposition.specs.Names.{name_of};
 ghost use Rattle.otel_exposition.specs.Samples.{Pair, is_label_byte, label_text, labels_text};
 ghost use Rattle.otel_prometheus.specs.Labels.{own_name, point_labels, scope_labels};
-ghost use Rattle.otel_prometheus.specs.Rising.{rises, count_below, place_of_scope, comma_texts, named};
+ghost use Rattle.otel_prometheus.specs.Rising.{rises, count_below, place_of_scope, comma_texts, behind_comma, front_texts};
 ghost use Rattle.otel_prometheus.specs.Values.{value_text};
 
 use crate::labels::{own_name, point_labels, push_scope};
@@ -96,11 +96,23 @@ fn names_of(
     Ok(names)
 }
 
-/// Appends a label of this name behind a comma.
-fn push_named(alloc: Global, out: &mut Vec<u8>, name: &str, value: &Value) -> Result<(), AllocError>
-    ensures { OnOk result (out.new.items ≡ out.old.items ++ 44 ∷ label_text (name.now, value_text value.now)) }
+/// Returns names, each behind a comma.
+fn fronts_of(alloc: Global, names: &[StringValue]) -> Result<Vec<StringValue>, AllocError>
+    ensures { IfOk result (λ fronts. fronts.items ≡ map behind_comma names.now) }
 {
-    out.extend_from_slice(b",")?;
+    let mut fronts = Vec::with_capacity(alloc, names.len())?;
+    for name in names {
+        let mut front = String::from_str(alloc, ",")?;
+        front.push_str(name.as_str())?;
+        push(&mut fronts, StringValue::from(front))?;
+    }
+    Ok(fronts)
+}
+
+/// Appends a label of this name.
+fn push_named(alloc: Global, out: &mut Vec<u8>, name: &str, value: &Value) -> Result<(), AllocError>
+    ensures { OnOk result (out.new.items ≡ out.old.items ++ label_text (name.now, value_text value.now)) }
+{
     match value {
         Value::String(text) => push_label(out, name, text.as_str().as_bytes()),
         _ => {
@@ -110,22 +122,22 @@ fn push_named(alloc: Global, out: &mut Vec<u8>, name: &str, value: &Value) -> Re
     }
 }
 
-/// Appends labels of these names with the values of attributes, each behind a comma.
+/// Appends labels whose names are behind commas, with the values of attributes.
 fn push_each(
     alloc: Global,
     out: &mut Vec<u8>,
-    names: &[StringValue],
+    fronts: &[StringValue],
     attributes: &[KeyValue],
 ) -> Result<(), AllocError>
-    ensures { OnOk result (out.new.items ≡ out.old.items ++ comma_texts (named names.now attributes.now)) }
+    ensures { OnOk result (out.new.items ≡ out.old.items ++ front_texts fronts.now attributes.now) }
 {
     let mut left = attributes;
-    for name in names {
+    for front in fronts {
         let Some((attribute, rest)) = left.split_first() else {
             return Ok(());
         };
         left = rest;
-        push_named(alloc, out, name.as_str(), &attribute.value)?;
+        push_named(alloc, out, front.as_str(), &attribute.value)?;
     }
     Ok(())
 }
@@ -153,24 +165,24 @@ fn close(out: &mut Vec<u8>) -> Result<(), AllocError>
     Ok(())
 }
 
-/// Appends labels of these names with the values of attributes, and this text behind as many of them, all in braces.
+/// Appends labels whose names are behind commas, with the values of attributes, and this text behind as many of them.
 fn push_around(
     alloc: Global,
     out: &mut Vec<u8>,
-    names: &[StringValue],
+    fronts: &[StringValue],
     attributes: &[KeyValue],
     count: usize,
     scope_text: &[u8],
 ) -> Result<(), AllocError>
-    requires within { count ≤ length names.now }
-    requires same { length names.now ≡ length attributes.now }
-    ensures { OnOk result (out.new.items ≡ out.old.items ++ (comma_texts (named (take count names.now) (take count attributes.now)) ++ (scope_text.now ++ comma_texts (named (drop count names.now) (drop count attributes.now))))) }
+    requires within { count ≤ length fronts.now }
+    requires same { length fronts.now ≡ length attributes.now }
+    ensures { OnOk result (out.new.items ≡ out.old.items ++ (front_texts (take count fronts.now) (take count attributes.now) ++ (scope_text.now ++ front_texts (drop count fronts.now) (drop count attributes.now)))) }
 {
-    let (low_names, high_names) = names.split_at(count);
+    let (low_fronts, high_fronts) = fronts.split_at(count);
     let (low, high) = attributes.split_at(count);
-    push_each(alloc, out, low_names, low)?;
+    push_each(alloc, out, low_fronts, low)?;
     out.extend_from_slice(scope_text)?;
-    push_each(alloc, out, high_names, high)?;
+    push_each(alloc, out, high_fronts, high)?;
     Ok(())
 }
 
@@ -180,8 +192,10 @@ struct Names {
     keys: Vec<StringValue>,
     has_bounds: bool,
     names: Vec<StringValue>,
+    fronts: Vec<StringValue>,
     before_scope: Option<usize>,
     ghost are_names: { names.items ≡ map (λ key. own_name has_bounds (name_of is_label_byte key)) keys.items },
+    ghost are_behind_commas: { fronts.items ≡ map behind_comma names.items },
     ghost stands_before: { before_scope ≡ place_of_scope names.items },
 }
 
@@ -193,11 +207,13 @@ impl Names {
     {
         let keys = keys_of(alloc, attributes)?;
         let names = names_of(alloc, keys.as_slice(), has_bounds)?;
+        let fronts = fronts_of(alloc, names.as_slice())?;
         let before_scope = place_of_scope(names.as_slice());
         Ok(Names {
             keys,
             has_bounds,
             names,
+            fronts,
             before_scope,
         })
     }
@@ -259,8 +275,8 @@ impl Names {
             let labels = point_labels(alloc, settings, scope, attributes, self.has_bounds)?;
             return push_labels(out, labels.as_slice());
         };
-        let names = self.names.as_slice();
-        push_around(alloc, out, names, attributes, count, scope_text)?;
+        let fronts = self.fronts.as_slice();
+        push_around(alloc, out, fronts, attributes, count, scope_text)?;
         close(out)
     }
 }

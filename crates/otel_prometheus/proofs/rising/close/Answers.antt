@@ -1,4 +1,4 @@
-use Rattle.std.proofs.Common.{◌<◌, ◌++◌, [], ◌∷◌, length, ap, ◌∙◌, rules, arith}
+use Rattle.std.proofs.Common.{◌<◌, ◌++◌, [], ◌∷◌, length, ap, ◌∙◌, rules}
 use Rattle.otel_prometheus.proofs.RisingLemmas.{in_braces}
 use Rattle.otel_prometheus.proofs.rising.close.Goals as goal
 

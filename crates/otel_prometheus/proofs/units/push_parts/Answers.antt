@@ -1,4 +1,4 @@
-use Rattle.std.proofs.Common.{◌≡◌, ℕ, List, OnOk, ◌-◌, ◌+◌, ◌++◌, ◌==◌, length, take, drop, position, sym, ap, ◌∙◌, subst, add-one}
+use Rattle.std.proofs.Common.{◌≡◌, ℕ, List, OnOk, ◌+◌, ◌++◌, take, drop, sym, ap, ◌∙◌, subst, add-one}
 use Rattle.std.proofs.lemmas.List.{take_rest}
 use Rattle.std.specs.String.{string_bytes}
 use Rattle.otel_prometheus.specs.Units.{ratio, unit_parts}

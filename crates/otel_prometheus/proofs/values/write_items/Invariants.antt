@@ -1,4 +1,3 @@
-use Rattle.std.proofs.Common.{◌≡◌, drop}
 use Rattle.otel_prometheus.proofs.Arrays.{Writing}
 use Rattle.otel_prometheus.proofs.values.write_items.Given as goal
 
