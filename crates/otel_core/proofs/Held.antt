@@ -5,23 +5,21 @@ use Rattle.std.specs.List.{AllByRecursion as EachOf}
 use Rattle.std.specs.Map.{lookup, remove_entry}
 use Rattle.std.specs.Prelude.{All}
 use Rattle.otel_common.specs.declared.attributes.KeyValue.{KeyValue}
-use Rattle.otel_common.specs.declared.scopes.InstrumentationScope.{InstrumentationScope}
 use Rattle.otel_model.specs.Calls as model
 use Rattle.otel_model.specs.Calls.{is_observable}
 use Rattle.otel_model.specs.Demands.{Views}
 use Rattle.otel_model.specs.Machine as machine
 use Rattle.otel_model.specs.Machine.{part_after_call, accepted_by, without_handle}
 use Rattle.otel_model.specs.Refusals.{bind_refusal, instrument_held, held_refusal, handle_refusal, unbind_refusal}
-use Rattle.otel_model.specs.Resources.{Resource}
 use Rattle.otel_model.specs.State.{InstrumentState, LiveHandle, Shared, ReaderPart, State}
-use Rattle.otel_model.specs.Steps.{reply_by, after_by}
+use Rattle.otel_model.specs.Steps.{Step, reply_by, after_by}
 use Rattle.otel_model_laws.specs.Lawful.{HandlesAreSound, PartIsLawful, TakesRecords}
 use Rattle.otel_model_laws.proofs.Handles.{unfed-unheld, new-unheld}
 use Rattle.otel_pipeline.specs.Handles.{FeedsSynchronous, IsNewAt, IsHeldByFed, IsReadyToBindAt, part_after_bind}
 use Rattle.otel_pipeline.specs.Pipelines.{Piped, part_of}
 use Rattle.otel_pipeline.proofs.Handles.{bound-sent}
 use Rattle.otel_pipeline.proofs.PipelinesLemmas.{IsDoneUpto}
-use Rattle.otel_core.specs.States.{IsMade, AreTyped, state_of, shared_of}
+use Rattle.otel_core.specs.States.{AreTyped}
 
 -- ======== all readers ========
 pub all_bound : (h n : ℕ) (l : List KeyValue) (ps : List Piped) → All (IsReadyToBindAt n l) ps → EachOf (FeedsSynchronous n) (map part_of ps) → EachOf (IsNewAt h) (map part_of ps)
@@ -91,44 +89,34 @@ next-absent next (p ∷ ps) all =
     let away : nat_eq next p.0 ≡ false = sym (test-is next p.0) ∙ ne_eqb p.0 next (λ e. omega (arith, all.0)) in
     ap (λ b. cond b (Some p.1) (lookup (nat_eq next) ps)) away ∙ next-absent next ps all.1
 
--- what is sent keeps number types and kinds
-pub typed-kept : (is : List InstrumentState) (next : ℕ) (c : model.Call) (ps : List ReaderPart) → AreTyped is ps → AreTyped is (map (part_after_call next c) ps)
-typed-kept is next c [] all = tt
-typed-kept is next c (p ∷ ps) all = (record { as_many = all.0.as_many; types = all.0.types; kinds = all.0.kinds }, typed-kept is next c ps all.1)
-
 -- ======== whole calls ========
-module _ (shut : Bool) (resource : Resource) (identity : ℕ) (meters : List InstrumentationScope) (instruments : List InstrumentState) (live : List LiveHandle) (next : ℕ) (ps : List Piped) where
-  abbrev old : State
-  old = state_of shut resource identity meters instruments live next ps
+module _ (old : State) where
+  pub bind-made : (n : ℕ) (l : List KeyValue) (more : List LiveHandle) (after : ℕ) (readers : List ReaderPart) → bind_refusal old.shared.next (slice_get old.shared.instruments n) ≡ None
+      → more ≡ old.shared.live ++ (old.shared.next, n) ∷ [] → after ≡ old.shared.next + 1 → readers ≡ map (part_after_call old.shared.next (model.Call.Bind n l)) old.readers
+      → (views : Views) → Step views old (model.Call.Bind n l) (model.Reply.Handle old.shared.next) (record { shared = record old.shared { live = more; next = after }; readers = readers })
+  bind-made n l more after readers fits added grown sent views = (
+    sym (ap (λ o. reply_by o (model.Reply.Handle old.shared.next)) fits),
+    (λ i. record { shared = record old.shared { live = added i; next = grown i }; readers = sent i })
+        ∙ sym (ap (λ o. after_by o old (machine.accepted_after views old (model.Call.Bind n l))) fits),
+  )
 
-  pub bind-made : (n : ℕ) (l : List KeyValue) (more : List LiveHandle) (after : ℕ) (readers : List ReaderPart) → bind_refusal next (slice_get instruments n) ≡ None
-      → more ≡ live ++ (next, n) ∷ [] → after ≡ next + 1 → readers ≡ map (part_after_call next (model.Call.Bind n l)) (map part_of ps)
-      → (views : Views) → IsMade views old (model.Call.Bind n l) (model.Reply.Handle next) (record { shared = shared_of shut resource identity meters instruments more after; readers = readers })
-  bind-made n l more after readers fits added grown sent views = record {
-    answer = sym (ap (λ o. reply_by o (model.Reply.Handle next)) fits);
-    state = (λ i. record { shared = shared_of shut resource identity meters instruments (added i) (grown i); readers = sent i })
-        ∙ sym (ap (λ o. after_by o old (machine.accepted_after views old (model.Call.Bind n l))) fits);
-  }
-
-  pub update-made : (h n : ℕ) (v : model.Number) (more : List InstrumentState) (readers : List ReaderPart) → instrument_held h live ≡ Some n → held_refusal (slice_get instruments n) v.signed ≡ None
-      → more ≡ machine.changed_at n (machine.instrument_after_record v.amount) instruments → readers ≡ map (part_after_call 0 (model.Call.RecordBound h v)) (map part_of ps)
-      → (views : Views) → IsMade views old (model.Call.RecordBound h v) model.Reply.Done (record { shared = shared_of shut resource identity meters more live next; readers = readers })
+  pub update-made : (h n : ℕ) (v : model.Number) (more : List InstrumentState) (readers : List ReaderPart) → instrument_held h old.shared.live ≡ Some n → held_refusal (slice_get old.shared.instruments n) v.signed ≡ None
+      → more ≡ machine.changed_at n (machine.instrument_after_record v.amount) old.shared.instruments → readers ≡ map (part_after_call 0 (model.Call.RecordBound h v)) old.readers
+      → (views : Views) → Step views old (model.Call.RecordBound h v) model.Reply.Done (record { shared = record old.shared { instruments = more }; readers = readers })
   update-made h n v more readers held fits accepted sent views =
-      let none : handle_refusal (instrument_held h live) instruments v.signed ≡ None = ap (λ o. handle_refusal o instruments v.signed) held ∙ fits in
-      let counted : more ≡ accepted_by (instrument_held h live) v.amount instruments = accepted ∙ ap (λ o. accepted_by o v.amount instruments) (sym held) in
-      record {
-        answer = sym (ap (λ o. reply_by o model.Reply.Done) none);
-        state = (λ i. record { shared = shared_of shut resource identity meters (counted i) live next; readers = sent i })
-            ∙ sym (ap (λ o. after_by o old (machine.accepted_after views old (model.Call.RecordBound h v))) none);
-      }
+      let none : handle_refusal (instrument_held h old.shared.live) old.shared.instruments v.signed ≡ None = ap (λ o. handle_refusal o old.shared.instruments v.signed) held ∙ fits in
+      let counted : more ≡ accepted_by (instrument_held h old.shared.live) v.amount old.shared.instruments = accepted ∙ ap (λ o. accepted_by o v.amount old.shared.instruments) (sym held) in (
+        sym (ap (λ o. reply_by o model.Reply.Done) none),
+        (λ i. record { shared = record old.shared { instruments = counted i }; readers = sent i })
+            ∙ sym (ap (λ o. after_by o old (machine.accepted_after views old (model.Call.RecordBound h v))) none),
+      )
 
-  pub unbind-made : (h n : ℕ) (less : List LiveHandle) (readers : List ReaderPart) → instrument_held h live ≡ Some n
-      → less ≡ without_handle h live → readers ≡ map (part_after_call 0 (model.Call.Unbind h)) (map part_of ps)
-      → (views : Views) → IsMade views old (model.Call.Unbind h) model.Reply.Done (record { shared = shared_of shut resource identity meters instruments less next; readers = readers })
+  pub unbind-made : (h n : ℕ) (less : List LiveHandle) (readers : List ReaderPart) → instrument_held h old.shared.live ≡ Some n
+      → less ≡ without_handle h old.shared.live → readers ≡ map (part_after_call 0 (model.Call.Unbind h)) old.readers
+      → (views : Views) → Step views old (model.Call.Unbind h) model.Reply.Done (record { shared = record old.shared { live = less }; readers = readers })
   unbind-made h n less readers held ended sent views =
-      let none : unbind_refusal (instrument_held h live) ≡ None = ap unbind_refusal held in
-      record {
-        answer = sym (ap (λ o. reply_by o model.Reply.Done) none);
-        state = (λ i. record { shared = shared_of shut resource identity meters instruments (ended i) next; readers = sent i })
-            ∙ sym (ap (λ o. after_by o old (machine.accepted_after views old (model.Call.Unbind h))) none);
-      }
+      let none : unbind_refusal (instrument_held h old.shared.live) ≡ None = ap unbind_refusal held in (
+        sym (ap (λ o. reply_by o model.Reply.Done) none),
+        (λ i. record { shared = record old.shared { live = ended i }; readers = sent i })
+            ∙ sym (ap (λ o. after_by o old (machine.accepted_after views old (model.Call.Unbind h))) none),
+      )

@@ -1,9 +1,12 @@
 pub mod Asked
 pub mod Collects
+pub mod Fresh
 pub mod Held
 pub mod Mapped
 pub mod Outcomes
 pub mod Reached
 pub mod Runs
+pub mod Sound
 pub mod StepLemmas
+pub mod Stepped
 pub mod Typed

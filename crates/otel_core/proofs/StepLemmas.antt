@@ -1,11 +1,12 @@
 -- Calls that the provider carries out are the model's.
 use Rattle.std.proofs.Common.{◌≡◌, ◌⊎◌, inl, inr, ℕ, zero, suc, ◌+◌, ◌<◌, Bool, true, false, cond, not, ◌||◌, List, [], ◌∷◌, ◌++◌, map, length, take, Option, Some, None, option_map, slice_get, refl, sym, ◌∙◌, ap, subst, arith, true≢false}
-use Rattle.std.specs.Prelude.{All, is_none, is_some, position}
+use Rattle.std.specs.Prelude.{All, Result, Ok, Err, OnOk, OnErr, IfOk, IsOkUnless, is_none, is_some, position}
 use Rattle.std.specs.List.{list_any, position_or_len}
 use Rattle.std.proofs.lemmas.Bool.{and_parts}
 use Rattle.otel_common.specs.Scopes.{scope_eq, scope_eq-Decides}
 use Rattle.otel_common.specs.declared.attributes.KeyValue.{KeyValue}
 use Rattle.otel_common.specs.declared.faults.Fault.{Fault}
+use Rattle.otel_common.specs.declared.faults.Fault.TheVariants as fault
 use Rattle.otel_common.specs.declared.scopes.InstrumentationScope.{InstrumentationScope}
 use Rattle.otel_data.specs.declared.numbers.NumberValue.{NumberValue}
 use Rattle.otel_model.specs.Calls as model
@@ -13,17 +14,17 @@ use Rattle.otel_model.specs.Checks.{is_good_name, optional_unit_fault}
 use Rattle.otel_model.specs.Demands.{StreamSpec, Views, is_good, are_good_bounds}
 use Rattle.otel_model.specs.Machine as machine
 use Rattle.otel_model.specs.Refusals.{meter_refusal, record_refusal}
-use Rattle.otel_model.specs.Resources.{Resource}
 use Rattle.otel_model.specs.Sent.{has_scope}
-use Rattle.otel_model.specs.State.{ReaderPart, InstrumentState, LiveHandle}
-use Rattle.otel_model.specs.Steps.{number_from, reply_by, after_by}
+use Rattle.otel_model.specs.State.{ReaderPart, InstrumentState, Shared, State}
+use Rattle.otel_model.specs.Steps.{Step, number_from, reply_by, after_by}
 use Rattle.otel_pipeline.specs.Pipelines.{Piped, part_of, part_after_record, IsBuildableIn, IsPreparedFor}
 use Rattle.otel_pipeline.proofs.Builds.{any-position, position-cons}
 use Rattle.otel_pipeline.specs.Views.{views_answering}
 use Rattle.otel_pipeline.proofs.Records.{recorded-sent}
 use Rattle.otel_core.proofs.Asked.{built-answered}
-use Rattle.otel_core.specs.Correspondence.{number_of}
-use Rattle.otel_core.specs.States.{IsMade, IsFault, IsScopeOf, IsNoMeter, IsGoodIn, AreAsked, FeedType, state_of, shared_of}
+use Rattle.otel_core.proofs.Stepped.{memory-step}
+use Rattle.otel_core.specs.Correspondence.{number_of, reply_from}
+use Rattle.otel_core.specs.States.{IsFault, IsScopeOf, IsNoMeter, IsGoodIn, AreAsked, FeedType}
 
 -- ======== meters ========
 scope_eq-flip : (a b : InstrumentationScope) → scope_eq a b ≡ scope_eq b a
@@ -125,6 +126,10 @@ lent_back zero (y ∷ ys) zs e = absurd (omega arith)
 lent_back (suc n) [] zs e = absurd (omega arith)
 lent_back (suc n) (y ∷ ys) zs e = ap (λ xs. y ∷ xs) (lent_back n ys zs (omega arith))
 
+-- so the readers' parts are what was made of them
+pub lent-parts : (n : ℕ) (ys zs : List Piped) (ps : List ReaderPart) → n ≡ length ys → map part_of ys ≡ ps → map part_of (take n (ys ++ zs)) ≡ ps
+lent-parts n ys zs ps e is = ap (map part_of) (lent_back n ys zs e) ∙ is
+
 pub get-inside : {X : Type 0} (xs : List X) (n : ℕ) (x : X) → slice_get xs n ≡ Some x → n < length xs
 get-inside [] n x e = absurd (cc)
 get-inside (y ∷ xs) zero x e = omega arith
@@ -132,40 +137,10 @@ get-inside (y ∷ xs) (suc n) x e = let q = get-inside xs n x e in omega arith
 
 -- ======== whole calls ========
 -- a build of a meter that isn't there
-pub no_meter-fault : (shut : Bool) (resource : Resource) (identity : ℕ) (meters : List InstrumentationScope) (instruments : List InstrumentState) (live : List LiveHandle) (next : ℕ) (meter : Option ℕ) (f : Fault) → IsNoMeter meters meter f → IsFault (meter_refusal (shared_of shut resource identity meters instruments live next) meter) f
-no_meter-fault shut resource identity meters instruments live next meter f none =
-    let P : Fault → Type 0 = λ g. IsFault (meter_refusal (shared_of shut resource identity meters instruments live next) meter) g in
-    subst P (sym none.is) (none.unknown shut resource identity instruments live next)
-
--- a record that is accepted
-pub record-made : (shut : Bool) (resource : Resource) (identity : ℕ) (meters : List InstrumentationScope) (instruments more : List InstrumentState) (live : List LiveHandle) (next : ℕ) (ps : List Piped) (readers : List ReaderPart) (n : ℕ) (v : model.Number) (l : List KeyValue)
-    → record_refusal (slice_get instruments n) v.signed ≡ None
-    → more ≡ machine.changed_at n (machine.instrument_after_record v.amount) instruments
-    → readers ≡ map (machine.part_after_call 0 (model.Call.Record n v l)) (map part_of ps)
-    → (views : Views) → IsMade views (state_of shut resource identity meters instruments live next ps) (model.Call.Record n v l) model.Reply.Done (record { shared = shared_of shut resource identity meters more live next; readers = readers })
-record-made shut resource identity meters instruments more live next ps readers n v l fits accepted sent views = record {
-  answer = sym (ap (λ o. reply_by o model.Reply.Done) fits);
-  state =
-      (λ i. record { shared = shared_of shut resource identity meters (accepted i) live next; readers = sent i })
-      ∙ sym (ap (λ o. after_by o (state_of shut resource identity meters instruments live next ps) (machine.accepted_after views (state_of shut resource identity meters instruments live next ps) (model.Call.Record n v l))) fits);
-}
-
--- a build, of an instrument that may be bad
-pub build-made : (views : Views) (answered : List (Option StreamSpec)) (shut : Bool) (resource : Resource) (identity : ℕ) (meters : List InstrumentationScope) (instruments more : List InstrumentState) (live : List LiveHandle) (next : ℕ) (ps : List Piped) (readers : List ReaderPart) (meter : Option ℕ) (scope named : Option InstrumentationScope) (about : model.About) (now n : ℕ)
-    → IsScopeOf meters meter scope → named ≡ cond (is_good about) scope None → n ≡ length instruments → more ≡ instruments ++ machine.new_instrument about ∷ []
-    → AreAsked views named about answered → readers ≡ map (machine.part_after_build (views_answering answered) named about now) (map part_of ps)
-    → IsMade views (state_of shut resource identity meters instruments live next ps) (model.Call.Build meter about now) (model.Reply.Instrument n) (record { shared = shared_of shut resource identity meters more live next; readers = readers })
-build-made views answered shut resource identity meters instruments more live next ps readers meter scope named about now n at named_is number made asked built =
-    let known : meter_refusal (shared_of shut resource identity meters instruments live next) meter ≡ None = at.known shut resource identity instruments live next in
-    record {
-      answer = ap model.Reply.Instrument number ∙ sym (ap (λ o. reply_by o (model.Reply.Instrument (length instruments))) known);
-      state =
-          (λ i. record {
-            shared = shared_of shut resource identity meters (made i) live next;
-            readers = (built ∙ (all-asked views named about now answered asked (map part_of ps) ∙ (ap (λ s. map (machine.part_after_build views s about now) (map part_of ps)) named_is ∙ (all-alike views scope about now (is_good about) refl (map part_of ps) ∙ ap (λ s. map (machine.part_after_build views s about now) (map part_of ps)) at.is)))) i;
-          })
-          ∙ sym (ap (λ o. after_by o (state_of shut resource identity meters instruments live next ps) (machine.accepted_after views (state_of shut resource identity meters instruments live next ps) (model.Call.Build meter about now))) known);
-    }
+pub no_meter-fault : (s : Shared) (meter : Option ℕ) (f : Fault) → IsNoMeter s.meters meter f → IsFault (meter_refusal s meter) f
+no_meter-fault s meter f none =
+    let P : Fault → Type 0 = λ g. IsFault (meter_refusal s meter) g in
+    subst P (sym none.is) (none.unknown s refl)
 
 position-first : {X : Type 0} (p : X → Bool) (xs : List X) (n : ℕ) → position p xs ≡ Some n → n ≡ position_or_len p xs
 position-first p [] n e = absurd (cc)
@@ -176,29 +151,65 @@ position-first p (x ∷ xs) n e = next (p x) (position p xs) (λ m q. position-f
     next false None rest q = absurd (cc)
     next false (Some m) rest q = let z : suc m ≡ n = cc in let y = rest m refl in omega arith
 
--- the meter of a scope, where the provider was not shut down
-pub meter-made : (shut : Bool) (resource : Resource) (identity : ℕ) (meters more : List InstrumentationScope) (instruments : List InstrumentState) (live : List LiveHandle) (next : ℕ) (ps : List Piped) (scope : InstrumentationScope) (n : ℕ) → shut ≡ false → n ≡ position_or_len (scope_eq scope) meters → more ≡ machine.with_meter scope meters
-    → (views : Views) → IsMade views (state_of shut resource identity meters instruments live next ps) (model.Call.Meter scope) (model.Reply.Meter (Some n)) (state_of shut resource identity more instruments live next ps)
-meter-made shut resource identity meters more instruments live next ps scope n opened first made views = record {
-  answer = ap model.Reply.Meter (meter_number scope meters n first ∙ sym (ap (λ b. cond b None (number_from 0 scope (machine.with_meter scope meters))) opened));
-  state = ap (λ ms. state_of shut resource identity ms instruments live next ps) (made ∙ sym (ap (λ b. cond b meters (machine.with_meter scope meters)) opened));
-}
+module _ (old : State) where
+  -- a record that is accepted
+  pub record-made : (n : ℕ) (v : model.Number) (l : List KeyValue) (more : List InstrumentState) (readers : List ReaderPart) → record_refusal (slice_get old.shared.instruments n) v.signed ≡ None
+      → more ≡ machine.changed_at n (machine.instrument_after_record v.amount) old.shared.instruments → readers ≡ map (machine.part_after_call 0 (model.Call.Record n v l)) old.readers
+      → (views : Views) → Step views old (model.Call.Record n v l) model.Reply.Done (record { shared = record old.shared { instruments = more }; readers = readers })
+  record-made n v l more readers fits accepted sent views = (
+    sym (ap (λ o. reply_by o model.Reply.Done) fits),
+    (λ i. record { shared = record old.shared { instruments = accepted i }; readers = sent i })
+        ∙ sym (ap (λ o. after_by o old (machine.accepted_after views old (model.Call.Record n v l))) fits),
+  )
 
--- there is none once it was shut down
-pub meter-none : (shut : Bool) (resource : Resource) (identity : ℕ) (meters : List InstrumentationScope) (instruments : List InstrumentState) (live : List LiveHandle) (next : ℕ) (ps : List Piped) (scope : InstrumentationScope) → shut ≡ true
-    → (views : Views) → IsMade views (state_of shut resource identity meters instruments live next ps) (model.Call.Meter scope) (model.Reply.Meter None) (state_of shut resource identity meters instruments live next ps)
-meter-none shut resource identity meters instruments live next ps scope closed views = record {
-  answer = ap model.Reply.Meter (sym (ap (λ b. cond b None (number_from 0 scope (machine.with_meter scope meters))) closed));
-  state = ap (λ ms. state_of shut resource identity ms instruments live next ps) (sym (ap (λ b. cond b meters (machine.with_meter scope meters)) closed));
-}
+  -- a build, of an instrument that may be bad
+  pub build-made : (views : Views) (answered : List (Option StreamSpec)) (more : List InstrumentState) (readers : List ReaderPart) (meter : Option ℕ) (scope named : Option InstrumentationScope) (about : model.About) (now n : ℕ)
+      → IsScopeOf old.shared.meters meter scope → named ≡ cond (is_good about) scope None → n ≡ length old.shared.instruments → more ≡ old.shared.instruments ++ machine.new_instrument about ∷ []
+      → AreAsked views named about answered → readers ≡ map (machine.part_after_build (views_answering answered) named about now) old.readers
+      → Step views old (model.Call.Build meter about now) (model.Reply.Instrument n) (record { shared = record old.shared { instruments = more }; readers = readers })
+  build-made views answered more readers meter scope named about now n at named_is number made asked built =
+      let known : meter_refusal old.shared meter ≡ None = at.known old.shared refl in (
+        ap model.Reply.Instrument number ∙ sym (ap (λ o. reply_by o (model.Reply.Instrument (length old.shared.instruments))) known),
+        (λ i. record {
+          shared = record old.shared { instruments = made i };
+          readers = (built ∙ (all-asked views named about now answered asked old.readers ∙ (ap (λ s. map (machine.part_after_build views s about now) old.readers) named_is ∙ (all-alike views scope about now (is_good about) refl old.readers ∙ ap (λ s. map (machine.part_after_build views s about now) old.readers) at.is)))) i;
+        })
+            ∙ sym (ap (λ o. after_by o old (machine.accepted_after views old (model.Call.Build meter about now))) known),
+      )
 
--- a meter that is known stays as it is, where the provider was not shut down
-pub meter-known : (shut : Bool) (resource : Resource) (identity : ℕ) (meters : List InstrumentationScope) (instruments : List InstrumentState) (live : List LiveHandle) (next : ℕ) (ps : List Piped) (scope : InstrumentationScope) (n : ℕ) → shut ≡ false → position (scope_eq scope) meters ≡ Some n
-    → (views : Views) → IsMade views (state_of shut resource identity meters instruments live next ps) (model.Call.Meter scope) (model.Reply.Meter (Some n)) (state_of shut resource identity meters instruments live next ps)
-meter-known shut resource identity meters instruments live next ps scope n opened at views =
-    let there : list_any (scope_eq scope) meters ≡ true = sym (any-position (scope_eq scope) meters) ∙ ap is_some at in
-    let first : n ≡ position_or_len (scope_eq scope) meters = position-first (scope_eq scope) meters n at in
-    meter-made shut resource identity meters meters instruments live next ps scope n opened first (sym (ap (λ b. cond b meters (meters ++ scope ∷ [])) (has_scope-flip scope meters ∙ there))) views
+  -- whether it was made or not
+  pub build-step : (views : Views) (answered : List (Option StreamSpec)) (more : List InstrumentState) (readers : List ReaderPart) (meter : Option ℕ) (scope named : Option InstrumentationScope) (about : model.About) (now : ℕ) (r : Result ℕ Fault)
+      → IsScopeOf old.shared.meters meter scope → named ≡ cond (is_good about) scope None → AreAsked views named about answered
+      → IfOk r (λ n. n ≡ length old.shared.instruments) → OnOk r (more ≡ old.shared.instruments ++ machine.new_instrument about ∷ []) → OnOk r (readers ≡ map (machine.part_after_build (views_answering answered) named about now) old.readers)
+      → OnErr r (more ≡ old.shared.instruments) → OnErr r (readers ≡ old.readers) → IsOkUnless r fault.OutOfMemory
+      → Step views old (model.Call.Build meter about now) (reply_from model.Reply.Instrument r) (record { shared = record old.shared { instruments = more }; readers = readers })
+  build-step views answered more readers meter scope named about now (Ok n) at named_is asked number made built same same_readers only = build-made views answered more readers meter scope named about now n at named_is number made asked built
+  build-step views answered more readers meter scope named about now (Err f) at named_is asked number made built same same_readers only =
+      memory-step views old (record { shared = record old.shared { instruments = more }; readers = readers }) (model.Call.Build meter about now) f refl only (at.known old.shared refl)
+      (λ i. record { shared = record old.shared { instruments = same i }; readers = same_readers i })
+
+  -- the meter of a scope, where the provider was not shut down
+  pub meter-made : (more : List InstrumentationScope) (scope : InstrumentationScope) (n : ℕ) → old.shared.shut ≡ false → n ≡ position_or_len (scope_eq scope) old.shared.meters → more ≡ machine.with_meter scope old.shared.meters
+      → (views : Views) → Step views old (model.Call.Meter scope) (model.Reply.Meter (Some n)) (record old { shared = record old.shared { meters = more } })
+  meter-made more scope n opened first made views = (
+    ap model.Reply.Meter (meter_number scope old.shared.meters n first ∙ sym (ap (λ b. cond b None (number_from 0 scope (machine.with_meter scope old.shared.meters))) opened)),
+    ap (λ ms. record old { shared = record old.shared { meters = ms } }) (made ∙ sym (ap (λ b. cond b old.shared.meters (machine.with_meter scope old.shared.meters)) opened)),
+  )
+
+  -- there is none once it was shut down
+  pub meter-none : (scope : InstrumentationScope) → old.shared.shut ≡ true → (views : Views) → Step views old (model.Call.Meter scope) (model.Reply.Meter None) old
+  meter-none scope closed views = (
+    ap model.Reply.Meter (sym (ap (λ b. cond b None (number_from 0 scope (machine.with_meter scope old.shared.meters))) closed)),
+    ap (λ ms. record old { shared = record old.shared { meters = ms } }) (sym (ap (λ b. cond b old.shared.meters (machine.with_meter scope old.shared.meters)) closed)),
+  )
+
+  -- a meter that is known stays as it is, where the provider was not shut down
+  pub meter-known : (scope : InstrumentationScope) (n : ℕ) → old.shared.shut ≡ false → position (scope_eq scope) old.shared.meters ≡ Some n → (views : Views) → Step views old (model.Call.Meter scope) (model.Reply.Meter (Some n)) old
+  meter-known scope n opened at views =
+      let ms : List InstrumentationScope = old.shared.meters in
+      let there : list_any (scope_eq scope) ms ≡ true = sym (any-position (scope_eq scope) ms) ∙ ap is_some at in
+      let first : n ≡ position_or_len (scope_eq scope) ms = position-first (scope_eq scope) ms n at in
+      meter-made ms scope n opened first (sym (ap (λ b. cond b ms (ms ++ scope ∷ [])) (has_scope-flip scope ms ∙ there))) views
 
 pub meter-unknown : (meters : List InstrumentationScope) (scope : InstrumentationScope) → position (scope_eq scope) meters ≡ None → has_scope scope meters ≡ false
 meter-unknown meters scope at = has_scope-flip scope meters ∙ (sym (any-position (scope_eq scope) meters) ∙ ap is_some at)

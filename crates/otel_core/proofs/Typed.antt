@@ -132,35 +132,15 @@ typed-sent v m next c is (p ∷ ps) all = (
   typed-sent v m next c is ps all.1,
 )
 
+-- what is sent keeps number types and kinds
+pub typed-kept : (is : List InstrumentState) (next : ℕ) (c : Call) (ps : List ReaderPart) → AreTyped is ps → AreTyped is (map (part_after_call next c) ps)
+typed-kept is next c [] all = tt
+typed-kept is next c (p ∷ ps) all = (record { as_many = all.0.as_many; types = all.0.types; kinds = all.0.kinds }, typed-kept is next c ps all.1)
+
 -- what an instrument feeds, by its own number type
 pub typed-feeds : (n : ℕ) (v : Number) (is : List InstrumentState) (i : InstrumentState) (ps : List ReaderPart) → slice_get is n ≡ Some i → v.signed ≡ i.signed → AreTyped is ps → FeedType n v ps
 typed-feeds n v is i [] at same all = tt
 typed-feeds n v is i (p ∷ ps) at same all = (λ x f. all.0.types n x i f at ∙ sym same, typed-feeds n v is i ps at same all.1)
-
--- ======== readers ========
--- one more, before there are instruments
-pub typed-push : (ps : List ReaderPart) (p : ReaderPart) → AreTyped [] ps → p.feeds ≡ [] → AreTyped [] (ps ++ p ∷ [])
-typed-push [] p all e = (record { as_many = ap length e; types = λ n x i f g. absurd (cc); kinds = λ n x i f g. absurd (cc) }, tt)
-typed-push (q ∷ ps) p all e = (all.0, typed-push ps p all.1 e)
-
--- one of them changes, but for what feeds it
-pub typed-set : (is : List InstrumentState) (ps : List Piped) (r : ℕ) (p new : Piped) → slice_get ps r ≡ Some p → (part_of new).feeds ≡ (part_of p).feeds → AreTyped is (map part_of ps) → AreTyped is (map part_of (set ps r new))
-typed-set is [] r p new at e all = tt
-typed-set is (q ∷ ps) zero p new at e all =
-    let same : (part_of q).feeds ≡ (part_of new).feeds = ap (λ (x : Piped). (part_of x).feeds) (some_is q p at) ∙ sym e in
-    (record { as_many = ap length (sym same) ∙ all.0.as_many; types = λ n x i f g. all.0.types n x i (ap (λ fs. is_fed fs n x) same ∙ f) g; kinds = λ n x i f g. all.0.kinds n x i (ap (λ fs. is_fed fs n x) same ∙ f) g }, all.1)
-typed-set is (q ∷ ps) (suc r) p new at e all = (all.0, typed-set is ps r p new at e all.1)
-
--- whether an instrument was made or not
-pub typed-made : {T E : Type 0} (views : Views) (r : Result T E) (is more : List InstrumentState) (scope : Option InstrumentationScope) (about : About) (now : ℕ) (ps readers : List ReaderPart)
-    → OnOk r (more ≡ is ++ new_instrument about ∷ []) → OnOk r (readers ≡ map (part_after_build views scope about now) ps) → OnErr r (more ≡ is) → OnErr r (readers ≡ ps) → AreTyped is ps → AreTyped more readers
-typed-made views (Ok t) is more scope about now ps readers m e same same_readers all = rw (m, e) (typed-built views is scope about now ps all)
-typed-made views (Err t) is more scope about now ps readers m e same same_readers all = rw (same, same_readers) all
-
--- what a collection or a failed call leaves of what feeds
-pub same_feeds-by : {T E : Type 0} (r : Result T E) (next now : ℕ) (os : List Observed) (new p : Piped) → OnOk r ((q : ℕ) → part_of new ≡ part_after_call next (Collect q now os) (part_of p)) → OnErr r (part_of new ≡ part_of p) → (part_of new).feeds ≡ (part_of p).feeds
-same_feeds-by (Ok t) next now os new p ok err = ap (λ (x : ReaderPart). x.feeds) (ok 0)
-same_feeds-by (Err t) next now os new p ok err = ap (λ (x : ReaderPart). x.feeds) err
 
 -- ======== observations ========
 typed-at : (is : List InstrumentState) (ps : List Piped) (r : ℕ) (p : Piped) → slice_get ps r ≡ Some p → AreTyped is (map part_of ps) → IsTyped is (part_of p)

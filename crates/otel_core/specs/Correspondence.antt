@@ -85,6 +85,11 @@ reply_of reply.Done = model.Reply.Done
 reply_of (reply.Collected collection) = model.Reply.Collected collection
 reply_of (reply.Refused f) = model.Reply.Refused (fault_of f)
 
+-- the reply that says what a call gave, or with which fault it was refused
+abbrev pub reply_from : {X : Type 0} → (X → model.Reply) → Result X Fault → model.Reply
+reply_from f (Ok x) = f x
+reply_from f (Err e) = model.Reply.Refused (fault_of e)
+
 -- the reply to a flush or a shutdown with this outcome
 abbrev pub reply_to : Outcome → model.Reply
 reply_to (Ok _) = model.Reply.Done

@@ -1,6 +1,6 @@
 pub mod Checks
+pub mod Cores
 pub mod Correspondence
-pub mod Fresh
 pub mod Instruments
 pub mod Known
 pub mod Readers

@@ -8,24 +8,12 @@ use Rattle.otel_common.specs.declared.faults.InternalFault.TheVariants as inner
 use Rattle.otel_common.specs.declared.scopes.InstrumentationScope.{InstrumentationScope}
 use Rattle.otel_model.specs.Calls as model
 use Rattle.otel_model.specs.Demands.{Identity, StreamSpec, View, Views, instrument_of, is_good}
-use Rattle.otel_model.specs.Resources.{Resource}
-use Rattle.otel_model.specs.State.{InstrumentState, LiveHandle, Shared, ReaderPart, State}
-use Rattle.otel_model.specs.Refusals.{refusal, meter_refusal}
+use Rattle.otel_model.specs.State.{InstrumentState, Shared, ReaderPart, State}
+use Rattle.otel_model.specs.Refusals.{meter_refusal}
 use Rattle.otel_model.specs.Sent.{is_fed, scope_of}
-use Rattle.otel_model.specs.Steps.{reply_of, after}
-use Rattle.otel_pipeline.specs.Pipelines.{Piped, part_of, FeedsType}
+use Rattle.otel_model_laws.specs.Lawful.{IsLawful}
+use Rattle.otel_pipeline.specs.Pipelines.{FeedsType}
 use Rattle.otel_core.specs.Correspondence.{observed_of}
-
-abbrev pub shared_of : Bool → Resource → ℕ → List InstrumentationScope → List InstrumentState → List LiveHandle → ℕ → Shared
-shared_of shut resource identity meters instruments live next = record { resource = resource; identity = identity; meters = meters; instruments = instruments; live = live; next = next; shut = shut }
-
-abbrev pub state_of : Bool → Resource → ℕ → List InstrumentationScope → List InstrumentState → List LiveHandle → ℕ → List Piped → State
-state_of shut resource identity meters instruments live next pipelines = record { shared = shared_of shut resource identity meters instruments live next; readers = map part_of pipelines }
-
--- the call is answered and carried out as by the model's machine with these views
-pub record IsMade (views : Views) (old : State) (call : model.Call) (reply : model.Reply) (new : State) : Type 0 where
-  pub answer : reply ≡ reply_of old call
-  pub state : new ≡ after views old call
 
 -- the call may be refused with this fault before readers are asked: with the one that the model gives, or with out of
 -- memory if it gives none
@@ -44,9 +32,6 @@ IsFault o fault.UseWorker = ⊥
 IsFault o fault.WorkersMissing = ⊥
 IsFault o (fault.InternalFailure inner.ReaderShutDown) = o ≡ Some model.Fault.ReaderShutDown
 IsFault o (fault.InternalFailure (inner.Readers failed first)) = ⊥
-
-abbrev pub IsFaultOf : State → model.Call → Fault → Type 0
-IsFaultOf st call f = IsFault (refusal st.shared (length st.readers) call) f
 
 -- a fault other than out of memory
 abbrev pub IsNamed : Fault → Type 0
@@ -68,12 +53,12 @@ IsNamed (fault.InternalFailure f) = Unit {0}
 -- a build's meter is known, and this is its scope, if it has one
 pub record IsScopeOf (meters : List InstrumentationScope) (meter : Option ℕ) (scope : Option InstrumentationScope) : Type 0 where
   pub is : scope ≡ scope_of meters meter
-  pub known : (shut : Bool) (resource : Resource) (identity : ℕ) (instruments : List InstrumentState) (live : List LiveHandle) (next : ℕ) → meter_refusal (shared_of shut resource identity meters instruments live next) meter ≡ None
+  pub known : (s : Shared) → s.meters ≡ meters → meter_refusal s meter ≡ None
 
 -- there is no such meter, and the fault says so
 pub record IsNoMeter (meters : List InstrumentationScope) (meter : Option ℕ) (f : Fault) : Type 0 where
   pub is : f ≡ fault.UnknownMeter
-  pub unknown : (shut : Bool) (resource : Resource) (identity : ℕ) (instruments : List InstrumentState) (live : List LiveHandle) (next : ℕ) → meter_refusal (shared_of shut resource identity meters instruments live next) meter ≡ Some model.Fault.UnknownMeter
+  pub unknown : (s : Shared) → s.meters ≡ meters → meter_refusal s meter ≡ Some model.Fault.UnknownMeter
 
 -- with a scope, the instrument's name, unit and bounds are valid; without one it ignores its records, and anything goes
 abbrev pub IsGoodIn : Option InstrumentationScope → model.About → Type 0
@@ -95,6 +80,11 @@ pub record IsTyped (is : List InstrumentState) (p : ReaderPart) : Type 0 where
 -- the same at each reader
 abbrev pub AreTyped : List InstrumentState → List ReaderPart → Type 0
 AreTyped is ps = EachOf (IsTyped is) ps
+
+-- so it is at each reader of a provider, and its state is lawful
+pub record IsSound (st : State) : Type 0 where
+  pub typed : AreTyped st.shared.instruments st.readers
+  pub lawful : IsLawful st
 
 -- at each reader, the instrument with this number feeds only streams with the value's number type
 abbrev pub FeedType : ℕ → model.Number → List ReaderPart → Type 0

@@ -17,6 +17,7 @@ use otel_common::faults::Fault;
 use otel_common::scopes::InstrumentationScope;
 use otel_data::numbers::NumberValue;
 use otel_pipeline::about::About;
+use otel_pipeline::numbers::is_signed;
 use otel_stream::instrument::InstrumentKind;
 use otel_stream::observation::Observed;
 
@@ -82,10 +83,16 @@ pub(crate) fn check_value(
     ensures fault { IfErr result (IsFault (record_refusal (slice_get instruments.now instrument) (number_of value).signed)) }
     ensures named { IfErr result IsNamed }
 {
-    match instruments.get(instrument) {
-        Some(found) => found.check(value),
-        None => Err(Fault::UnknownInstrument),
+    let Some(found) = instruments.get(instrument) else {
+        return Err(Fault::UnknownInstrument);
+    };
+    if found.is_observable() {
+        return Err(Fault::WrongKind);
     }
+    if found.is_signed() != is_signed(value) {
+        return Err(Fault::WrongNumber);
+    }
+    Ok(())
 }
 
 /// Checks that an observation is of an existing observable instrument and has its number type.
@@ -95,10 +102,16 @@ fn check_observation(instruments: &[Instrument], observed: &Observed) -> Result<
     ensures fault { IfErr result (IsFault (observation_refusal (slice_get instruments.now observed.now.instrument) (is_signed_value observed.now.value))) }
     ensures named { IfErr result IsNamed }
 {
-    match instruments.get(observed.instrument) {
-        Some(found) => found.check_observed(observed.value),
-        None => Err(Fault::UnknownInstrument),
+    let Some(found) = instruments.get(observed.instrument) else {
+        return Err(Fault::UnknownInstrument);
+    };
+    if !found.is_observable() {
+        return Err(Fault::WrongKind);
     }
+    if found.is_signed() != is_signed(observed.value) {
+        return Err(Fault::WrongNumber);
+    }
+    Ok(())
 }
 
 /// Checks that a handle can be bound at the instrument of this number, and that a number is left after `next` handles.
@@ -112,12 +125,11 @@ pub(crate) fn check_bind(
     ensures more { OnOk result (next < 2 ^ 64 - 1) }
     ensures fault { IfErr result (IsFault (bind_refusal next (slice_get instruments.now instrument))) }
 {
-    let found = match instruments.get(instrument) {
-        Some(found) => found,
-        None => return Err(Fault::UnknownInstrument),
+    let Some(found) = instruments.get(instrument) else {
+        return Err(Fault::UnknownInstrument);
     };
-    if let Err(fault) = found.check_kind() {
-        return Err(fault);
+    if found.is_observable() {
+        return Err(Fault::WrongKind);
     }
     if next == u64::MAX {
         return Err(Fault::Exhausted);
@@ -136,10 +148,13 @@ pub(crate) fn check_held(
     ensures fault { IfErr result (IsFault (held_refusal (slice_get instruments.now instrument) (number_of value).signed)) }
     ensures named { IfErr result IsNamed }
 {
-    match instruments.get(instrument) {
-        Some(found) => found.check_number(value),
-        None => Err(Fault::UnknownHandle),
+    let Some(found) = instruments.get(instrument) else {
+        return Err(Fault::UnknownHandle);
+    };
+    if found.is_signed() != is_signed(value) {
+        return Err(Fault::WrongNumber);
     }
+    Ok(())
 }
 
 /// Checks that all observations are good, or returns the fault of the first bad one. Takes no memory.

@@ -2,11 +2,16 @@
 #![tactic(auto)]
 
 mod asking;
+mod builds;
 pub mod calls;
+mod collections;
 mod core_checks;
 mod each_pipeline;
-pub mod fresh;
+mod handles;
 mod instrument;
 pub mod instrument_checks;
+pub mod new_readers;
 pub mod provider_core;
+mod records;
 pub mod sorts;
+mod steps;

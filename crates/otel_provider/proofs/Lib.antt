@@ -1,3 +1,4 @@
 pub mod Headlines
-pub mod Lawful
-pub mod Stepped
+pub mod Identities
+pub mod KeptRuns
+pub mod Scopes

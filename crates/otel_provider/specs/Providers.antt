@@ -14,15 +14,15 @@ use Rattle.otel_provider.specs.declared.provider.ProviderBuilder.{ProviderBuilde
 
 -- the resource of a builder
 abbrev pub resource_of : {P V R U I : Type 0} → ProviderBuilder P V R U I → Resource
-resource_of b = b.core.resource
+resource_of b = b.resource
 
 -- the identity of its provider
 abbrev pub identity_of_builder : {P V R U I : Type 0} → ProviderBuilder P V R U I → ℕ
-identity_of_builder b = b.core.identity
+identity_of_builder b = b.identity
 
 -- what each of a builder's readers answered for each kind of instrument
 abbrev pub answers_of_readers : {P V R U I : Type 0} → ProviderBuilder P V R U I → List ReaderAnswers
-answers_of_readers b = b.core.readers
+answers_of_readers b = b.answers
 
 -- a provider's state: all of it but the views, the readers and the callbacks
 abbrev pub state_of : {P V R U I : Type 0} → Provider P V R U I → State

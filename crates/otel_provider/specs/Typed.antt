@@ -7,7 +7,7 @@ use Rattle.otel_common.specs.declared.faults.Fault.{Fault}
 use Rattle.otel_common.specs.declared.scopes.InstrumentationScope.{InstrumentationScope}
 use Rattle.otel_data.specs.declared.collections.ResourceMetrics.{ResourceMetrics}
 use Rattle.otel_model.specs.Calls as model
-use Rattle.otel_core.specs.Correspondence.{about, fault_of}
+use Rattle.otel_core.specs.Correspondence.{about, fault_of, reply_from}
 use Rattle.otel_provider.specs.Providers.{identity_of}
 use Rattle.otel_provider.specs.declared.async_builders.AsyncInstrumentBuilder.{AsyncInstrumentBuilder}
 use Rattle.otel_provider.specs.declared.asynchronous.Asynchronous.{Asynchronous}
@@ -82,11 +82,6 @@ abbrev pub IsBoundOf : {T P V R U I : Type 0} → Bound T → Provider P V R U I
 IsBoundOf b p = b.identity ≡ identity_of p
 
 -- ======== replies ========
--- the reply that says what a call gave, or with which fault it was refused
-abbrev pub reply_from : {X : Type 0} → (X → model.Reply) → Result X Fault → model.Reply
-reply_from f (Ok x) = f x
-reply_from f (Err e) = model.Reply.Refused (fault_of e)
-
 -- the replies to a call for a meter, to builds and to a record
 abbrev pub meter_reply : Result Meter Fault → model.Reply
 meter_reply r = reply_from (λ m. model.Reply.Meter m.number) r

@@ -122,7 +122,8 @@ impl<K, T, P: Parts> AsyncInstrumentBuilder<K, T, P> {
         ensures views { provider_views provider.new ≡ provider_views provider.old }
     {
         let AsyncInstrumentBuilder { builder, callbacks } = self;
-        provider.core.check_meter(builder.meter())?;
+        let Meter { identity, number } = builder.meter();
+        provider.core.check_meter(identity, number)?;
         provider.callbacks.reserve(callbacks.len())?;
         let number = builder.make(&mut provider.core, &provider.views, now)?;
         if provider.core.has_stream(number) {

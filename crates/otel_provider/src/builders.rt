@@ -6,11 +6,10 @@ ghost use Rattle.otel_model.specs.Calls as model;
 ghost use Rattle.otel_model.specs.Laws.{KeepsReaders};
 ghost use Rattle.otel_model.specs.Steps.{Step};
 ghost use Rattle.otel_model_laws.specs.Lawful.{Balances};
-ghost use Rattle.otel_core.specs.Correspondence.{about};
+ghost use Rattle.otel_core.specs.Correspondence.{about, reply_from};
 ghost use Rattle.otel_provider.specs.Providers.{state_of, views_of, provider_readers, provider_views, callbacks_of};
-ghost use Rattle.otel_provider.specs.Typed.{IsMeterOf, IsInstrumentOf, meter_number, meter_of, about_of, build_reply, reply_from};
+ghost use Rattle.otel_provider.specs.Typed.{IsMeterOf, IsInstrumentOf, meter_number, meter_of, about_of, build_reply};
 
-use crate::balanced::BalancedCore;
 use crate::meters::Meter;
 use crate::parts::Parts;
 use crate::provider::Provider;
@@ -18,6 +17,7 @@ use crate::synchronous::{HistogramKind, Synchronous};
 use otel_common::faults::Fault;
 use otel_common::lists::Items;
 use otel_common::strings::StringValue;
+use otel_core::provider_core::Core;
 use otel_core::sorts::InstrumentSort;
 use otel_pipeline::about::About;
 use otel_stream::view::View;
@@ -131,7 +131,7 @@ impl<K, T> InstrumentBuilder<K, T> {
     /// Makes the instrument and returns its number.
     pub(crate) fn make<V: View>(
         &self,
-        core: &mut BalancedCore,
+        core: &mut Core,
         views: &[V],
         now: u64,
     ) -> Result<usize, Fault>
@@ -149,7 +149,8 @@ impl<K, T> InstrumentBuilder<K, T> {
             unit: &self.unit,
             bounds: &self.boundaries,
         };
-        core.build(views, self.meter, self.sort, &about, now)
+        let Meter { identity, number } = self.meter;
+        core.build(views, identity, number, self.sort, &about, now)
     }
 }
 

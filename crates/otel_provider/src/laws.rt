@@ -65,7 +65,7 @@ pub fn copied_observables<K, T>()
 {}
 
 /// No call changes a provider's identity, so its meters and instruments stay its own.
-#[tactic(auto, using(crate::proofs::Stepped::step_identity, crate::proofs::Stepped::run_identity))]
+#[tactic(auto, using(crate::proofs::Identities::step_identity, crate::proofs::Identities::run_identity))]
 pub fn keeps_identity()
     ensures step { (views : Views) (old : State) (call : model.Call) (reply : model.Reply) (new : State) → Step views old call reply new → new.shared.identity ≡ old.shared.identity }
     ensures run { (views : Views) (old : State) (calls : List model.Call) (replies : List model.Reply) (new : State) → Run views old calls replies new → new.shared.identity ≡ old.shared.identity }

@@ -3,7 +3,6 @@
 
 pub mod async_builders;
 pub mod asynchronous;
-pub mod balanced;
 pub mod bound;
 pub mod builders;
 pub mod laws;

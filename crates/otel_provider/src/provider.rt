@@ -23,12 +23,12 @@ ghost use Rattle.otel_core.specs.Readers.{AreReached, ShutsDown, StepReaches, Ru
 ghost use Rattle.otel_provider.specs.Typed.{collect_reply, collected_reply};
 ghost use Rattle.otel_stream.specs.Answers.{answers_wanting};
 
-use crate::balanced::BalancedCore;
 use crate::parts::{Boxed, Parts};
 use otel_common::faults::{Fault, OTelSdkResult};
 use otel_common::resource::Resource;
 use otel_core::calls::{Call, Reply};
-use otel_core::fresh::FreshCore;
+use otel_core::new_readers::NewReaders;
+use otel_core::provider_core::Core;
 use otel_data::collections::ResourceMetrics;
 use otel_stream::reader::MetricReader;
 use otel_stream::registered::{Registered, run_callbacks};
@@ -37,7 +37,11 @@ use std::time::Duration;
 
 /// Makes a provider, from a resource, readers and views (Metrics SDK, "MeterProvider Creation").
 pub struct ProviderBuilder<P: Parts> {
-    core: FreshCore,
+    resource: Resource,
+    identity: u64,
+    hash_seed: Option<u64>,
+    /// What each of the readers answered.
+    answers: NewReaders,
     views: Vec<P::View>,
     readers: Vec<P::Reader>,
 }
@@ -46,7 +50,10 @@ impl<P: Parts> Drop for ProviderBuilder<P> {
     /// A function of its own, so that no proof about who lets one go looks into it.
     fn drop(self) {
         let ProviderBuilder {
-            core: _core,
+            resource: _resource,
+            identity: _,
+            hash_seed: _,
+            answers: _answers,
             views: _views,
             readers: _readers,
         } = self;
@@ -56,7 +63,7 @@ impl<P: Parts> Drop for ProviderBuilder<P> {
 /// A provider of meters, which makes instruments, takes in their records and hands out collections (Metrics SDK,
 /// "MeterProvider").
 pub struct Provider<P: Parts> {
-    pub(crate) core: BalancedCore,
+    pub(crate) core: Core,
     pub(crate) views: Vec<P::View>,
     readers: Vec<P::Reader>,
     pub(crate) callbacks: Vec<Registered<P::ObserveU64, P::ObserveI64>>,
@@ -106,13 +113,18 @@ impl<P: Parts> ProviderBuilder<P> {
         ensures only_memory { IsOkUnless result Fault.OutOfMemory }
     {
         let ProviderBuilder {
-            core,
+            resource: old,
+            identity,
+            hash_seed,
+            answers,
             views,
             readers,
         } = self;
-        let core = core.with_resource(resource)?;
         Ok(ProviderBuilder {
-            core,
+            resource: old.merged_with(resource)?,
+            identity,
+            hash_seed,
+            answers,
             views,
             readers,
         })
@@ -131,18 +143,10 @@ impl<P: Parts> ProviderBuilder<P> {
         ensures views { IfOk result (λ b. builder_views b ≡ builder_views self) }
         ensures only_memory { IsOkUnless result Fault.OutOfMemory }
     {
-        let ProviderBuilder {
-            core,
-            views,
-            mut readers,
-        } = self;
-        let core = core.with_reader(&reader)?;
-        readers.push(reader)?;
-        Ok(ProviderBuilder {
-            core,
-            views,
-            readers,
-        })
+        let mut builder = self;
+        builder.answers.add(&reader)?;
+        builder.readers.push(reader)?;
+        Ok(builder)
     }
 
     /// Adds a view. Views are asked in the order in which they were added. Refused only for want of memory; then the
@@ -155,17 +159,9 @@ impl<P: Parts> ProviderBuilder<P> {
         ensures views { IfOk result (λ b. builder_views b ≡ builder_views self ++ view ∷ []) }
         ensures only_memory { IsOkUnless result Fault.OutOfMemory }
     {
-        let ProviderBuilder {
-            core,
-            mut views,
-            readers,
-        } = self;
-        views.push(view)?;
-        Ok(ProviderBuilder {
-            core,
-            views,
-            readers,
-        })
+        let mut builder = self;
+        builder.views.push(view)?;
+        Ok(builder)
     }
 
     /// Sets the identity of the provider, by which it knows the meters, instruments and handles that it gave as values;
@@ -177,16 +173,9 @@ impl<P: Parts> ProviderBuilder<P> {
         ensures kept { builder_readers result ≡ builder_readers self }
         ensures views { builder_views result ≡ builder_views self }
     {
-        let ProviderBuilder {
-            core,
-            views,
-            readers,
-        } = self;
-        ProviderBuilder {
-            core: core.with_identity(identity),
-            views,
-            readers,
-        }
+        let mut builder = self;
+        builder.identity = identity;
+        builder
     }
 
     /// Sets the seed of the hashes by which the provider finds sets of attributes; without one it is fixed.
@@ -200,16 +189,9 @@ impl<P: Parts> ProviderBuilder<P> {
         ensures kept { builder_readers result ≡ builder_readers self }
         ensures views { builder_views result ≡ builder_views self }
     {
-        let ProviderBuilder {
-            core,
-            views,
-            readers,
-        } = self;
-        ProviderBuilder {
-            core: core.with_hash_seed(seed),
-            views,
-            readers,
-        }
+        let mut builder = self;
+        builder.hash_seed = Some(seed);
+        builder
     }
 
     /// Makes the provider, with the resource, the identity and the readers of the builder, and without meters and
@@ -221,17 +203,19 @@ impl<P: Parts> ProviderBuilder<P> {
         ensures callbacks { IfOk result (λ p. callbacks_of p ≡ []) }
     {
         let ProviderBuilder {
-            core,
+            resource,
+            identity,
+            hash_seed,
+            answers,
             views,
             readers,
         } = self;
-        let core = BalancedCore::new(core);
-        let callbacks = Vec::new(core.allocator());
+        let alloc = *readers.allocator();
         Ok(Provider {
-            core,
+            core: Core::new(alloc, hash_seed, resource, identity, answers),
             views,
             readers,
-            callbacks,
+            callbacks: Vec::new(alloc),
         })
     }
 }
@@ -246,7 +230,10 @@ impl<P: Parts> Provider<P> {
         ensures views { builder_views result ≡ [] }
     {
         ProviderBuilder {
-            core: FreshCore::new(alloc),
+            resource: Resource::builder_empty(alloc).build(),
+            identity: 0,
+            hash_seed: None,
+            answers: NewReaders::new(alloc),
             views: Vec::new(alloc),
             readers: Vec::new(alloc),
         }
@@ -260,7 +247,13 @@ impl<P: Parts> Provider<P> {
         ensures callbacks { callbacks_of result ≡ [] }
     {
         Provider {
-            core: BalancedCore::new(FreshCore::new(alloc)),
+            core: Core::new(
+                alloc,
+                None,
+                Resource::builder_empty(alloc).build(),
+                0,
+                NewReaders::new(alloc),
+            ),
             views: Vec::new(alloc),
             readers: Vec::new(alloc),
             callbacks: Vec::new(alloc),
@@ -271,7 +264,7 @@ impl<P: Parts> Provider<P> {
     pub fn into_parts(
         self,
     ) -> (
-        BalancedCore,
+        Core,
         Vec<P::View>,
         Vec<P::Reader>,
         Vec<Registered<P::ObserveU64, P::ObserveI64>>,
@@ -292,7 +285,7 @@ impl<P: Parts> Provider<P> {
 
     /// Makes a provider of what `into_parts` gave. Takes no memory.
     pub fn from_parts(
-        core: BalancedCore,
+        core: Core,
         views: Vec<P::View>,
         readers: Vec<P::Reader>,
         callbacks: Vec<Registered<P::ObserveU64, P::ObserveI64>>,
@@ -316,7 +309,7 @@ impl<P: Parts> Provider<P> {
         ensures balances { Balances (state_of self.now) }
         ensures lawful { IsLawful (state_of self.now) }
     {
-        self.core.balances();
+        let _ = self.core.allocator();
     }
 
     /// Makes one call and returns its reply.
@@ -514,6 +507,9 @@ impl<P: Parts> Provider<P> {
         ensures all_shown { IfOk result (λ replies. OfAnswers (OfEachMetric ShowsAll) (views_of P.View.answer self.old) (state_of self.old) calls.now replies.items) }
         ensures few { IfOk result (λ replies. OfAnswers (OfEachMetric HasFewPoints) (views_of P.View.answer self.old) (state_of self.old) calls.now replies.items) }
     {
-        self.core.run(&self.views, &mut self.readers, alloc, calls)
+        let replies = self.core.run(&self.views, &mut self.readers, alloc, calls);
+        // Tells the prover that the streams balance.
+        let _ = self.core.allocator();
+        replies
     }
 }

@@ -14,8 +14,7 @@ use Rattle.otel_model.proofs.Single.{step_cases}
 use Rattle.otel_model_laws.specs.Books.{count_in, sum_in, one_each, bits_of, added_by, if_done}
 use Rattle.otel_model_laws.proofs.Accepting.{call_law}
 use Rattle.otel_model_laws.proofs.Plus.{plus_zero}
-use Rattle.otel_core.specs.Correspondence.{fault_of, number_of}
-use Rattle.otel_provider.specs.Typed.{reply_from}
+use Rattle.otel_core.specs.Correspondence.{fault_of, number_of, reply_from}
 use Rattle.otel_shared.specs.Pending.{is_record, call_in, bits_in, IsDone, IsRefused}
 use Rattle.otel_shared.specs.declared.pending.PendingRecord.{PendingRecord}
 use Rattle.otel_shared.specs.declared.pending.PendingRecord.TheVariants as pending

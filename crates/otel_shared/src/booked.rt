@@ -2,7 +2,7 @@
 
 ghost use Rattle.std.specs.Prelude.{◌≡◌, ◌≤◌, ◌+◌, ◌-◌, ◌%◌, ◌^◌, ◌==◌, true, false, if◌then◌else◌, [], map, sum_by, vec_len, is_ok, None, Some, IfOk, IfErr, OnOk};
 ghost use Rattle.otel_core.specs.Checks.{collect_refusal};
-ghost use Rattle.otel_core.specs.Correspondence.{call_of, fault_of, observed_of, reply_of};
+ghost use Rattle.otel_core.specs.Correspondence.{call_of, fault_of, observed_of, reply_of, reply_from};
 ghost use Rattle.otel_core.specs.Known.{IsKnown};
 ghost use Rattle.otel_core.specs.Readers.{StepReaches};
 ghost use Rattle.otel_core.specs.States.{IsNamed};
@@ -12,7 +12,6 @@ ghost use Rattle.otel_model.specs.Laws.{KeepsReaders};
 ghost use Rattle.otel_model.specs.Steps.{Step};
 ghost use Rattle.otel_model_laws.specs.Books.{count_in, sum_in};
 ghost use Rattle.otel_model_laws.specs.Lawful.{Balances};
-ghost use Rattle.otel_provider.specs.Typed.{reply_from};
 ghost use Rattle.otel_shared.specs.Pending.{call_in, bits_in, is_record, IsDone, IsRefused, IsKnownFirst, Makes, StopsBy, Submits};
 ghost use Rattle.otel_shared.specs.Workers.{pending_of, records_of, values_of, worker_identity};
 ghost use Rattle.otel_stream.specs.Requests.{wanted_by};
@@ -22,8 +21,8 @@ use crate::pending::PendingRecord;
 use crate::worker::Worker;
 use otel_common::faults::Fault;
 use otel_core::calls::{Call, Reply};
+use otel_core::provider_core::Core;
 use otel_data::collections::ResourceMetrics;
-use otel_provider::balanced::BalancedCore;
 use otel_stream::observation::Observed;
 use otel_stream::reader::MetricReader;
 use otel_stream::view::View;
@@ -43,7 +42,7 @@ pub struct Receipt {
 /// What all instruments have accepted is what they had accepted before the provider was shared plus what the book has,
 /// modulo 2^64, by count and by value.
 pub struct Booked<C: Account, S: Account> {
-    core: BalancedCore,
+    core: Core,
     /// How many records the book has.
     accepted: u64,
     /// How many workers were opened.
@@ -77,7 +76,7 @@ impl<C: Account, S: Account> Drop for Booked<C, S> {
 }
 
 /// Makes a record, and answers what the core does.
-fn answer_to(core: &mut BalancedCore, pending: &PendingRecord) -> Result<(), Fault>
+fn answer_to(core: &mut Core, pending: &PendingRecord) -> Result<(), Fault>
     ensures step { (views : Views) → Step views core.old (call_in pending.now) (reply_from (λ _. model.Reply.Done) result) core.new }
     ensures known { IsKnown core.old (call_in pending.now) → IfErr result IsNamed }
 {
@@ -93,7 +92,7 @@ fn answer_to(core: &mut BalancedCore, pending: &PendingRecord) -> Result<(), Fau
 }
 
 /// Makes a record. What all instruments accepted grows by it, unless it is refused.
-fn make(core: &mut BalancedCore, pending: &PendingRecord) -> Result<(), Fault>
+fn make(core: &mut Core, pending: &PendingRecord) -> Result<(), Fault>
     ensures done { OnOk result (IsDone core.old (call_in pending.now) core.new) }
     ensures count { OnOk result (count_in core.new % 2 ^ 64 ≡ (count_in core.old + 1) % 2 ^ 64) }
     ensures sum { OnOk result (sum_in core.new % 2 ^ 64 ≡ (sum_in core.old + bits_in pending.now) % 2 ^ 64) }
@@ -105,7 +104,7 @@ fn make(core: &mut BalancedCore, pending: &PendingRecord) -> Result<(), Fault>
 
 /// Makes a call that is no record. What all instruments accepted stays.
 fn make_other<V: View, R: MetricReader>(
-    core: &mut BalancedCore,
+    core: &mut Core,
     views: &[V],
     readers: &mut [R],
     call: &Call,
@@ -123,7 +122,7 @@ fn make_other<V: View, R: MetricReader>(
 
 /// Makes a collection. What all instruments accepted stays.
 fn make_collection(
-    core: &mut BalancedCore,
+    core: &mut Core,
     reader: usize,
     now: u64,
     observations: &[Observed],
@@ -155,7 +154,7 @@ fn makes_record(call: &Call) -> bool
 
 impl<C: Account, S: Account> Booked<C, S> {
     /// An empty book beside a core, and no workers.
-    pub(crate) fn new(core: BalancedCore, records: Blank, values: Blank) -> Booked<C, S>
+    pub(crate) fn new(core: Core, records: Blank, values: Blank) -> Booked<C, S>
         requires records { (records.name ≡ C.name) × (records.parts ≡ C.parts) × (records.parts ≡ 4294967295) × (C.before ≡ count_in core % 2 ^ 64) }
         requires values { (values.name ≡ S.name) × (values.parts ≡ S.parts) × (values.parts ≡ 4294967295) × (S.before ≡ sum_in core % 2 ^ 64) }
         ensures core { result.core ≡ core }
@@ -306,7 +305,7 @@ impl<C: Account, S: Account> Booked<C, S> {
     pub(crate) fn settle(
         self,
         workers: Vec<Worker<C, S>>,
-    ) -> Result<BalancedCore, (Fault, Booked<C, S>, Vec<Worker<C, S>>)>
+    ) -> Result<Core, (Fault, Booked<C, S>, Vec<Worker<C, S>>)>
         requires { (C.parts ≡ 4294967295) × (S.parts ≡ 4294967295) }
         ensures variant { is_ok result ≡ (vec_len workers == self.opened) }
         ensures core { IfOk result (λ core. core ≡ self.core) }

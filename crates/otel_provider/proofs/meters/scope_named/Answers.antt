@@ -1,5 +1,5 @@
 use Rattle.std.specs.String.{string_bytes}
-use Rattle.otel_provider.proofs.Stepped.{scope_of_name}
+use Rattle.otel_provider.proofs.Scopes.{scope_of_name}
 use Rattle.otel_provider.proofs.meters.scope_named.Goals as goal
 
 pub returns-clause-scope : goal.returns-clause-scope

@@ -1,7 +1,6 @@
 use Rattle.std.proofs.Common.{[], map, refl}
-use Rattle.otel_core.specs.Correspondence.{observed_of}
+use Rattle.otel_core.specs.Correspondence.{observed_of, reply_from}
 use Rattle.otel_model.specs.Calls as model
-use Rattle.otel_provider.specs.Typed.{reply_from}
 use Rattle.otel_shared.proofs.Steps.{other-count, other-sum}
 use Rattle.otel_shared.proofs.booked.make_collection.Goals as goal
 

@@ -1,13 +1,7 @@
-use Rattle.std.proofs.Common.{◌∙◌, arith, map, take}
-use Rattle.otel_model_laws.proofs.Booked.{run_lawful}
-use Rattle.otel_core.specs.Correspondence.{call_of, reply_of}
+use Rattle.std.proofs.Common.{◌∙◌, arith, map}
 use Rattle.otel_core.proofs.Reached.{reaches-more}
 use Rattle.otel_core.proofs.Runs.{run-more}
 use Rattle.otel_core.proofs.provider_core.Core.run.Goals as goal
-
--- the calls so far kept the state lawful
-pub step-reply-requires : goal.step-reply-requires
-step-reply-requires g c = (c.type_bounds.send-V, (c.type_bounds.send-R, run_lawful (map g.V.View.answer c.args.views.now) c.args.self.now c.loop-call.self (map call_of (take c.loop-call.call-index c.args.calls.now)) (map reply_of c.loop-call.replies.items) c.loop-call.invariant.so_far c.requires))
 
 pub loop-call-preserved : goal.loop-call-preserved
 loop-call-preserved g c = record {

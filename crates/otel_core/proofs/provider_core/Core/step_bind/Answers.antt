@@ -1,5 +1,5 @@
 use Rattle.otel_core.proofs.provider_core.Core.step_bind.Goals as goal
 
--- with any views
-pub returns-in-Ok : goal.returns-in-Ok
-returns-in-Ok c = λ views. (let made = c.in-Ok.ensures.ok views in (made.answer, made.state))
+-- the identity is the core's own
+pub returns-in-Ok-clause-step : goal.returns-in-Ok-clause-step
+returns-in-Ok-clause-step c = c.in-Ok.ensures.step c.identity-identity.ensures

@@ -1,5 +1,5 @@
 use Rattle.otel_core.proofs.provider_core.Core.step_record.Goals as goal
 
--- with any views
+-- the identity is the core's own
 pub returns-in-Ok-clause-step : goal.returns-in-Ok-clause-step
-returns-in-Ok-clause-step c = λ views. (let made = c.in-Ok.ensures.ok views in (made.answer, made.state))
+returns-in-Ok-clause-step c = c.in-Ok.ensures.step c.identity-identity.ensures
