@@ -202,21 +202,23 @@ impl AnyAggregate {
     }
 
     /// Carries out the prepared bind for a handle with this number, if a bind is prepared, room was made for the
-    /// handle and no live handle has the number. This is the second phase; it takes no memory.
-    pub fn commit_bind(&mut self, handle: u64)
+    /// handle and no live handle has the number, and returns the handle's place, for `update_bound`. This is the second
+    /// phase; it takes no memory.
+    pub fn commit_bind(&mut self, handle: u64) -> usize
         ensures bound { self.new ≡ any_after_bind handle self.old }
     {
         match &self.reported {
             None => self.stream.commit_bind(handle),
-            Some(_) => {}
+            Some(_) => 0,
         }
     }
 
     /// Takes in a record through a handle, if it is live and the value has the stream's number type, and returns
-    /// whether it did. Looks up nothing but the handle, takes no memory, and gives up what was prepared. Observed sums
-    /// have no handles; they, and streams of the other number type, stay unchanged.
+    /// whether it did. Looks for the handle at this place first, and looks it up only if it is not there. Takes no
+    /// memory, and gives up what was prepared. Observed sums have no handles; they, and streams of the other number type,
+    /// stay unchanged.
     #[inline(always)]
-    pub fn update_bound(&mut self, handle: u64, value: NumberValue) -> bool
+    pub fn update_bound(&mut self, handle: u64, place: usize, value: NumberValue) -> bool
         ensures updated { self.new ≡ any_after_update handle value self.old }
         ensures told { result ≡ is_updated handle value self.old }
     {
@@ -224,7 +226,7 @@ impl AnyAggregate {
             return false;
         }
         match &self.reported {
-            None => self.stream.update_bound(handle, value),
+            None => self.stream.update_bound(handle, place, value),
             Some(_) => false,
         }
     }

@@ -223,11 +223,12 @@ impl<A: Measures> Stream<A> {
     }
 
     /// Carries out the prepared bind for a handle with this number, if a bind is prepared, room was made for the
-    /// handle and no live handle has the number. This is the second phase; it takes no memory.
-    pub fn commit_bind(&mut self, handle: u64)
+    /// handle and no live handle has the number, and returns the handle's place, for `update_bound`. This is the second
+    /// phase; it takes no memory.
+    pub fn commit_bind(&mut self, handle: u64) -> usize
         ensures bound { self.new ≡ stream_after_bind handle self.old }
     {
-        self.map.commit_bind(handle);
+        self.map.commit_bind(handle)
     }
 
     /// Binds a handle with this number to these attributes, unless a live handle has the number (Metrics API,
@@ -245,14 +246,14 @@ impl<A: Measures> Stream<A> {
         Ok(())
     }
 
-    /// Takes in a record through a handle, if it is live, and returns whether it is. Looks up nothing but the handle,
-    /// takes no memory, and gives up what was prepared.
-    pub fn update_bound(&mut self, handle: u64, value: A::Value) -> bool
+    /// Takes in a record through a handle, if it is live, and returns whether it is. Looks for the handle at this place
+    /// first, and looks it up only if it is not there. Takes no memory, and gives up what was prepared.
+    pub fn update_bound(&mut self, handle: u64, place: usize, value: A::Value) -> bool
         ensures updated { self.new ≡ stream_after_update handle (A.amount value) self.old }
         ensures told { result ≡ is_some (held_by handle self.old.live) }
     {
         let record = A::record(&self.settings, value);
-        self.map.update_bound(handle, record)
+        self.map.update_bound(handle, place, record)
     }
 
     /// Ends a handle, if it is live. Takes no memory, and constant time, amortized. Gives up what was prepared.

@@ -14,7 +14,7 @@ ghost use Rattle.otel_value_map.specs.Numbers.{is_placed, without_handles};
 ghost use Rattle.otel_value_map.specs.Slots.{HasForm, copies};
 ghost use Rattle.otel_bound_map.specs.Handles.{after_bind, after_update, after_unbind};
 
-use crate::links::{Links, add, make_room, number_in, take_out};
+use crate::links::{Links, add, make_room, number_in, number_near, take_out};
 use otel_aggregators::aggregator::Aggregator;
 use otel_common::attributes::KeyValue;
 use otel_common::faults::Fault;
@@ -155,28 +155,30 @@ impl<A: Aggregator> BoundMap<A> {
     }
 
     /// Carries out the prepared bind for a handle with this number, if a bind is prepared, room was made for the
-    /// handle and no live handle has the number. Otherwise nothing changes. Takes no memory.
-    pub fn commit_bind(&mut self, handle: u64)
+    /// handle and no live handle has the number, and returns the handle's place, for `update_bound`. Otherwise nothing
+    /// changes. Takes no memory.
+    pub fn commit_bind(&mut self, handle: u64) -> usize
         ensures bound { self.new ≡ after_bind handle self.old }
     {
         if !self.room || !self.map.is_prepared() || number_in(&self.live, handle).is_some() {
-            return;
+            return 0;
         }
         // Tells the prover that there are fewer than 2^63 handles.
         let _ = self.live.len();
         let number = self.map.commit_bind();
         self.map.told_numbers();
-        add(&mut self.live, handle, number);
+        let place = add(&mut self.live, handle, number);
         self.room = false;
+        place
     }
 
-    /// Takes in a record through a handle, if it is live, and returns whether it is. Looks up nothing but the handle,
-    /// takes no memory, and gives up what was prepared.
-    pub fn update_bound(&mut self, handle: u64, value: A::PreComputedValue) -> bool
+    /// Takes in a record through a handle, if it is live, and returns whether it is. Looks for the handle at this place
+    /// first, and looks it up only if it is not there. Takes no memory, and gives up what was prepared.
+    pub fn update_bound(&mut self, handle: u64, place: usize, value: A::PreComputedValue) -> bool
         ensures updated { self.new ≡ after_update handle (A.sample value) self.old }
         ensures told { result ≡ is_some (held_by handle self.old.live) }
     {
-        match number_in(&self.live, handle) {
+        match number_near(&self.live, handle, place) {
             Some(number) => {
                 self.map.update_bound(number, value);
                 true

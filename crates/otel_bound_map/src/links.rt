@@ -69,6 +69,20 @@ pub fn number_in(links: &Links, handle: u64) -> Option<usize>
     links.places.get(&handle).copied().flatten()
 }
 
+/// The number of a handle's entry, or `None` if the handle isn't live. Looks at this place first, and by the handle's hash
+/// only if the place is another's.
+#[inline(always)]
+pub fn number_near(links: &Links, handle: u64, place: usize) -> Option<usize>
+    ensures { result ≡ lookup (nat_eq handle) links.now.entries }
+{
+    if let Some((found, number)) = links.places.get_index(place) {
+        if *found == handle {
+            return *number;
+        }
+    }
+    number_in(links, handle)
+}
+
 /// Makes room for one more handle.
 pub fn make_room(links: &mut Links) -> Result<(), AllocError>
     ensures links { links.new.entries ≡ links.old.entries }
@@ -78,16 +92,20 @@ pub fn make_room(links: &mut Links) -> Result<(), AllocError>
     links.places.reserve(1)
 }
 
-/// Adds a handle that isn't live, for which there is room. Goes over the handles made later if one of this number has
-/// ended and left its place empty.
-pub fn add(links: &mut Links, handle: u64, number: usize)
+/// Adds a handle that isn't live, for which there is room, and returns its place. Goes over the handles made later if one
+/// of this number has ended and left its place empty.
+///
+/// The handle keeps its place until so many others have ended that empty places are cleared away.
+pub fn add(links: &mut Links, handle: u64, number: usize) -> usize
     requires absent { lookup (nat_eq handle) links.old.entries ≡ None }
     requires room { 0 < spare links.old }
     ensures links { links.new.entries ≡ links.old.entries ++ (handle, number) ∷ [] }
 {
     let had_place = links.places.shift_remove(&handle).is_some();
     links.ended -= had_place as usize;
+    let place = links.places.len();
     links.places.insert(handle, Some(number)).unwrap();
+    place
 }
 
 /// Takes a handle out and keeps the others in order. Takes constant time, amortized.

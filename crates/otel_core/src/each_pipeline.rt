@@ -107,13 +107,16 @@ fn prepare_bind_all(
     Ok(())
 }
 
-/// Makes the prepared bind in the streams that an instrument feeds, at all readers.
-fn commit_bind_all(pipelines: &mut [Pipeline], instrument: usize, handle: u64)
+/// Makes the prepared bind in the streams that an instrument feeds, at all readers, and returns the handle's place in one
+/// of them. It mostly has the same place in all.
+fn commit_bind_all(pipelines: &mut [Pipeline], instrument: usize, handle: u64) -> usize
     ensures { map part_of pipelines.new ≡ map (part_after_bind instrument handle) pipelines.old }
 {
+    let mut place = 0;
     for i in 0..pipelines.len() {
-        pipelines[i].commit_bind(instrument, handle);
+        place = place.max(pipelines[i].commit_bind(instrument, handle));
     }
+    place
 }
 
 /// Makes new streams of all readers hash sets with this builder from now on.
@@ -176,13 +179,14 @@ pub(crate) fn record_or_none(
     Ok(())
 }
 
-/// Binds a new handle in the streams that an instrument feeds, at all readers or at none.
+/// Binds a new handle in the streams that an instrument feeds, at all readers or at none, and returns its place in one of
+/// them.
 pub(crate) fn bind_or_none(
     pipelines: &mut [Pipeline],
     instrument: usize,
     handle: u64,
     attributes: &[KeyValue],
-) -> Result<(), Fault>
+) -> Result<usize, Fault>
     requires synchronous { EachOf (FeedsSynchronous instrument) (map part_of pipelines.old) }
     requires new { EachOf (IsNewAt handle) (map part_of pipelines.old) }
     ensures ok { OnOk result (map part_of pipelines.new ≡ map (part_after_call handle (model.Call.Bind instrument attributes.now)) (map part_of pipelines.old)) }
@@ -190,16 +194,17 @@ pub(crate) fn bind_or_none(
     ensures only_memory { IsOkUnless result Fault.OutOfMemory }
 {
     prepare_bind_all(pipelines, instrument, attributes)?;
-    commit_bind_all(pipelines, instrument, handle);
-    Ok(())
+    Ok(commit_bind_all(pipelines, instrument, handle))
 }
 
-/// Makes a record through a handle in the streams that its instrument feeds, at all readers.
+/// Makes a record through a handle in the streams that its instrument feeds, at all readers. Looks for the handle at this
+/// place of theirs first.
 #[inline(always)]
 pub(crate) fn record_held(
     pipelines: &mut [Pipeline],
     instrument: usize,
     handle: u64,
+    place: usize,
     value: NumberValue,
 )
     requires typed { FeedType instrument (number_of value) (map part_of pipelines.old) }
@@ -208,7 +213,7 @@ pub(crate) fn record_held(
     ensures { map part_of pipelines.new ≡ map (part_after_call 0 (model.Call.RecordBound handle (number_of value))) (map part_of pipelines.old) }
 {
     for i in 0..pipelines.len() {
-        pipelines[i].record_held(instrument, handle, value);
+        pipelines[i].record_held(instrument, handle, place, value);
     }
 }
 

@@ -7,7 +7,7 @@ pub mod calls;
 mod collections;
 mod core_checks;
 mod each_pipeline;
-mod handles;
+pub mod handles;
 mod instrument;
 pub mod instrument_checks;
 pub mod new_readers;

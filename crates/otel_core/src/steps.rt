@@ -11,6 +11,7 @@ ghost use Rattle.otel_core.specs.Readers.{AreReachedBy, ShutsDown, StepReaches, 
 ghost use Rattle.otel_stream.specs.Requests.{wanted_by};
 
 use crate::calls::{Call, Reply};
+use crate::handles::BoundHandle;
 use crate::provider_core::Core;
 use crate::sorts::InstrumentSort;
 use otel_common::attributes::KeyValue;
@@ -91,7 +92,7 @@ impl Core {
     {
         let identity = self.identity();
         match self.bind(identity, instrument, attributes) {
-            Ok(handle) => Reply::Handle(handle),
+            Ok(handle) => Reply::Handle(handle.number),
             Err(fault) => Reply::Refused(fault),
         }
     }
@@ -102,7 +103,7 @@ impl Core {
         ensures balances { Balances self.new }
     {
         let identity = self.identity();
-        match self.record_bound(identity, handle, value) {
+        match self.record_bound(identity, BoundHandle::numbered(handle), value) {
             Ok(()) => Reply::Done,
             Err(fault) => Reply::Refused(fault),
         }

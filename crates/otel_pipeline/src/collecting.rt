@@ -7,7 +7,7 @@ ghost use Rattle.otel_model.specs.Collections.{has_metrics};
 ghost use Rattle.otel_pipeline.specs.Collections.{append_each, shown_one, shown_in, scopes_shown};
 
 use crate::aggregations::is_drop;
-use crate::stream::Stream;
+use crate::metric_stream::MetricStream;
 use indexmap::IndexSet;
 use otel_common::faults::Fault;
 use otel_common::laws::copied_scope;
@@ -36,7 +36,7 @@ fn push_metric(
     alloc: Global,
     lists: &mut Vec<Vec<Metric>>,
     meters: &IndexSet<InstrumentationScope>,
-    stream: &Stream,
+    stream: &MetricStream,
     now: u64,
 ) -> Result<(), Fault>
     requires long { length lists.old.items ≡ length meters.now.keys }
@@ -63,7 +63,7 @@ fn push_metric(
 /// Goes once over the streams.
 fn metrics_by_meter(
     alloc: Global,
-    streams: &[Stream],
+    streams: &[MetricStream],
     meters: &IndexSet<InstrumentationScope>,
     now: u64,
 ) -> Result<Vec<Vec<Metric>>, Fault>
@@ -99,7 +99,7 @@ fn push_scope(
 /// Goes once over the streams and their points, and once over the meters; looks each stream's scope up once.
 pub(crate) fn scopes_of(
     alloc: Global,
-    streams: &[Stream],
+    streams: &[MetricStream],
     meters: &IndexSet<InstrumentationScope>,
     now: u64,
 ) -> Result<Items<ScopeMetrics>, Fault>

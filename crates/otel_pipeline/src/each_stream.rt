@@ -7,7 +7,7 @@ ghost use Rattle.otel_pipeline.specs.Known.{IsKnownIfThere};
 ghost use Rattle.otel_pipeline.specs.Pipelines.{AreNumbers, ArePrepared, all_without_pending, changed_each, all_after_collection};
 ghost use Rattle.otel_pipeline.specs.Streams.{held_after_bind, held_after_commit, held_after_none, held_after_unbind, held_after_update};
 
-use crate::stream::Stream;
+use crate::metric_stream::MetricStream;
 use otel_common::attributes::KeyValue;
 use otel_common::faults::Fault;
 use otel_common::lists::Items;
@@ -27,7 +27,7 @@ pub(crate) fn streams_fed(feeds: &[Items<usize>], instrument: usize) -> &[usize]
 /// Prepares a record in each of these streams.
 #[inline(always)]
 pub(crate) fn prepare_each(
-    streams: &mut Vec<Stream>,
+    streams: &mut Vec<MetricStream>,
     feeds: &[usize],
     attributes: &[KeyValue],
 ) -> Result<(), Fault>
@@ -46,7 +46,7 @@ pub(crate) fn prepare_each(
 
 /// Prepares a bind in each of these streams.
 pub(crate) fn prepare_bind_each(
-    streams: &mut Vec<Stream>,
+    streams: &mut Vec<MetricStream>,
     feeds: &[usize],
     attributes: &[KeyValue],
 ) -> Result<(), Fault>
@@ -61,34 +61,42 @@ pub(crate) fn prepare_bind_each(
     Ok(())
 }
 
-/// Carries out the prepared bind in each of these streams, for this handle.
-pub(crate) fn commit_bind_each(streams: &mut Vec<Stream>, feeds: &[usize], handle: u64)
+/// Carries out the prepared bind in each of these streams, for this handle, and returns its place in one of them. It
+/// mostly has the same place in all.
+pub(crate) fn commit_bind_each(
+    streams: &mut Vec<MetricStream>,
+    feeds: &[usize],
+    handle: u64,
+) -> usize
     requires { AreNumbers streams.old.items feeds.now }
     ensures { streams.new.items ≡ changed_each (held_after_bind handle) feeds.now streams.old.items }
 {
+    let mut place = 0;
     for k in feeds {
-        streams[*k].commit_bind(handle);
+        place = streams[*k].commit_bind(handle);
     }
+    place
 }
 
-/// Takes in a record through this handle in each of these streams.
+/// Takes in a record through this handle in each of these streams. Looks for the handle at this place first.
 #[inline(always)]
 pub(crate) fn record_held_each(
-    streams: &mut Vec<Stream>,
+    streams: &mut Vec<MetricStream>,
     feeds: &[usize],
     handle: u64,
+    place: usize,
     value: NumberValue,
 )
     requires { AreNumbers streams.old.items feeds.now }
     ensures { streams.new.items ≡ changed_each (held_after_update handle value) feeds.now streams.old.items }
 {
     for k in feeds {
-        streams[*k].record_held(handle, value);
+        streams[*k].record_held(handle, place, value);
     }
 }
 
 /// Ends this handle in each of these streams.
-pub(crate) fn unbind_each(streams: &mut Vec<Stream>, feeds: &[usize], handle: u64)
+pub(crate) fn unbind_each(streams: &mut Vec<MetricStream>, feeds: &[usize], handle: u64)
     requires { AreNumbers streams.old.items feeds.now }
     ensures { streams.new.items ≡ changed_each (held_after_unbind handle) feeds.now streams.old.items }
 {
@@ -98,7 +106,7 @@ pub(crate) fn unbind_each(streams: &mut Vec<Stream>, feeds: &[usize], handle: u6
 }
 
 /// Ends a collection, which gave the points of all streams, at the moment `now`, in nanoseconds since 1970.
-pub(crate) fn finish_each(streams: &mut Vec<Stream>, now: u64)
+pub(crate) fn finish_each(streams: &mut Vec<MetricStream>, now: u64)
     ensures { all_without_pending streams.new.items ≡ all_without_pending (all_after_collection now streams.old.items) }
 {
     for i in 0..streams.len() {
@@ -108,7 +116,7 @@ pub(crate) fn finish_each(streams: &mut Vec<Stream>, now: u64)
 
 /// Takes in the prepared record in each of these streams.
 #[inline(always)]
-pub(crate) fn commit_each(streams: &mut Vec<Stream>, feeds: &[usize], value: NumberValue)
+pub(crate) fn commit_each(streams: &mut Vec<MetricStream>, feeds: &[usize], value: NumberValue)
     requires { AreNumbers streams.old.items feeds.now }
     ensures { streams.new.items ≡ changed_each (held_after_commit value) feeds.now streams.old.items }
 {
@@ -119,7 +127,7 @@ pub(crate) fn commit_each(streams: &mut Vec<Stream>, feeds: &[usize], value: Num
 
 /// Takes in a record without attributes in each of these streams.
 #[inline(always)]
-pub(crate) fn record_none_each(streams: &mut Vec<Stream>, feeds: &[usize], value: NumberValue)
+pub(crate) fn record_none_each(streams: &mut Vec<MetricStream>, feeds: &[usize], value: NumberValue)
     requires { AreNumbers streams.old.items feeds.now }
     ensures { streams.new.items ≡ changed_each (held_after_none value) feeds.now streams.old.items }
 {

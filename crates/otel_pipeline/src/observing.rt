@@ -9,8 +9,8 @@ ghost use Rattle.otel_pipeline.specs.Pipelines.{AreFedOnce, AreNumbers, all_with
 
 use crate::collecting::scopes_of;
 use crate::each_stream::{commit_each, finish_each, prepare_each, streams_fed};
+use crate::metric_stream::MetricStream;
 use crate::saved::SavedStream;
-use crate::stream::Stream;
 use indexmap::IndexSet;
 use otel_common::faults::Fault;
 use otel_common::laws::resource_laws;
@@ -34,7 +34,11 @@ fn nothing_saved(alloc: Global, many: usize) -> Result<Vec<Option<SavedStream>>,
 }
 
 /// Saves a stream, if it isn't saved yet.
-fn save_once(alloc: Global, saved: &mut Option<SavedStream>, stream: &Stream) -> Result<(), Fault>
+fn save_once(
+    alloc: Global,
+    saved: &mut Option<SavedStream>,
+    stream: &MetricStream,
+) -> Result<(), Fault>
     requires { is_observable stream.now.stream.demand.identity.kind ≡ true }
     ensures kept { OnOk result (saved.new ≡ kept_or saved.old (saved_by stream.now)) }
     ensures only_memory { IsOkUnless result Fault.OutOfMemory }
@@ -49,7 +53,7 @@ fn save_once(alloc: Global, saved: &mut Option<SavedStream>, stream: &Stream) ->
 fn save_each(
     alloc: Global,
     saved: &mut Vec<Option<SavedStream>>,
-    streams: &[Stream],
+    streams: &[MetricStream],
     numbers: &[usize],
 ) -> Result<(), Fault>
     requires long { length saved.old.items ≡ length streams.now }
@@ -73,7 +77,7 @@ fn save_each(
 /// Saves all streams that are going to take in any of these observations, each once.
 fn save_observing(
     alloc: Global,
-    streams: &[Stream],
+    streams: &[MetricStream],
     feeds: &[Items<usize>],
     observations: &[Observed],
 ) -> Result<Vec<Option<SavedStream>>, Fault>
@@ -95,7 +99,7 @@ fn save_observing(
 
 /// Takes an observation in at the streams with these numbers.
 fn observe_in(
-    streams: &mut Vec<Stream>,
+    streams: &mut Vec<MetricStream>,
     numbers: &[usize],
     observation: &Observed,
 ) -> Result<(), Fault>
@@ -113,7 +117,7 @@ fn observe_in(
 
 /// Takes observations in, one after another.
 fn observe_each(
-    streams: &mut Vec<Stream>,
+    streams: &mut Vec<MetricStream>,
     feeds: &[Items<usize>],
     observations: &[Observed],
 ) -> Result<(), Fault>
@@ -132,7 +136,7 @@ fn observe_each(
 }
 
 /// Restores the streams that were saved.
-fn restore_each(streams: &mut Vec<Stream>, saved: Vec<Option<SavedStream>>)
+fn restore_each(streams: &mut Vec<MetricStream>, saved: Vec<Option<SavedStream>>)
     requires many { length saved.items ≤ length streams.old.items }
     requires kept { AreSavedOf saved.items streams.old.items }
     ensures { all_without_pending streams.new.items ≡ restored_all saved.items streams.old.items }
@@ -149,7 +153,7 @@ fn restore_each(streams: &mut Vec<Stream>, saved: Vec<Option<SavedStream>>)
 /// Takes observations in and makes a collection.
 fn observe_and_collect(
     alloc: Global,
-    streams: &mut Vec<Stream>,
+    streams: &mut Vec<MetricStream>,
     feeds: &[Items<usize>],
     resource: &Resource,
     meters: &IndexSet<InstrumentationScope>,
@@ -176,7 +180,7 @@ fn observe_and_collect(
 /// Takes observations in and makes a collection. If that fails, the streams are as they were before.
 pub(crate) fn collect_observed(
     alloc: Global,
-    streams: &mut Vec<Stream>,
+    streams: &mut Vec<MetricStream>,
     feeds: &[Items<usize>],
     resource: &Resource,
     meters: &IndexSet<InstrumentationScope>,

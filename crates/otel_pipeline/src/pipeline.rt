@@ -17,9 +17,9 @@ use crate::each_stream::{
     commit_bind_each, commit_each, prepare_bind_each, prepare_each, record_held_each,
     record_none_each, streams_fed, unbind_each,
 };
+use crate::metric_stream::MetricStream;
 use crate::observing::collect_observed;
 use crate::plan::Plan;
-use crate::stream::Stream;
 use indexmap::IndexSet;
 use otel_common::attributes::KeyValue;
 use otel_common::faults::Fault;
@@ -32,7 +32,7 @@ use otel_stream::answers::Answers;
 use otel_stream::demand::Identity;
 use otel_stream::laws::kind_laws;
 use otel_stream::observation::Observed;
-use otel_stream::stream as settings;
+use otel_stream::stream::Stream;
 use otel_value_map::hashing::SetHashBuilder;
 use std::alloc::Global;
 use std::marker::Model;
@@ -45,7 +45,7 @@ pub struct Pipeline {
     pub(crate) identities: IndexSet<Identity>,
     /// A demand that drops has a place here too, so that its identity is known; nothing feeds it, and no collection
     /// shows it.
-    pub(crate) streams: Vec<Stream>,
+    pub(crate) streams: Vec<MetricStream>,
     feeds: Vec<Items<usize>>,
     plan: Option<Plan>,
 }
@@ -118,7 +118,7 @@ impl Pipeline {
         &mut self,
         scope: Option<&InstrumentationScope>,
         about: &About<'_>,
-        answered: &[Option<settings::Stream>],
+        answered: &[Option<Stream>],
         now: u64,
     ) -> Result<(), Fault>
         requires { IsBuildableIn (option_map (λ s. s.now) scope) about.now }
@@ -234,21 +234,22 @@ impl Pipeline {
         )
     }
 
-    /// Carries out the prepared bind in the streams that the instrument feeds, for this handle. Takes no memory.
-    pub fn commit_bind(&mut self, instrument: usize, handle: u64)
+    /// Carries out the prepared bind in the streams that the instrument feeds, for this handle, and returns its place in
+    /// one of them, for `record_held`; 0 if there is none. Takes no memory.
+    pub fn commit_bind(&mut self, instrument: usize, handle: u64) -> usize
         ensures { part_of self.new ≡ part_after_bind instrument handle self.old }
     {
         commit_bind_each(
             &mut self.streams,
             streams_fed(&self.feeds, instrument),
             handle,
-        );
+        )
     }
 
-    /// Makes a record through a handle in the streams that its instrument feeds. Looks up nothing but the handle, once
-    /// in each of these streams, and takes no memory.
+    /// Makes a record through a handle in the streams that its instrument feeds. Looks for the handle at this place
+    /// first, and looks it up in a stream only if it is not there. Takes no memory.
     #[inline(always)]
-    pub fn record_held(&mut self, instrument: usize, handle: u64, value: NumberValue)
+    pub fn record_held(&mut self, instrument: usize, handle: u64, place: usize, value: NumberValue)
         requires typed { FeedsType instrument (is_signed_value value) (part_of self.old) }
         requires synchronous { FeedsSynchronous instrument (part_of self.old) }
         requires held { IsHeldByFed instrument handle (part_of self.old) }
@@ -261,6 +262,7 @@ impl Pipeline {
             &mut self.streams,
             streams_fed(&self.feeds, instrument),
             handle,
+            place,
             value,
         );
     }

@@ -11,7 +11,7 @@ ghost use Rattle.otel_pipeline.specs.Pipelines.{IsPlanOf, stream_identities, cou
 ghost use Rattle.otel_pipeline.specs.Streams.{IsMakeable, new_held};
 
 use crate::aggregations::{is_drop, temporality_of};
-use crate::stream::Stream;
+use crate::metric_stream::MetricStream;
 use indexmap::IndexSet;
 use otel_common::faults::Fault;
 use otel_stream::answers::Answers;
@@ -27,7 +27,7 @@ pub(crate) struct Plan {
     pub(crate) hasher: SetHashBuilder,
     pub(crate) feeds: Vec<usize>,
     pub(crate) identities: IndexSet<Identity>,
-    pub(crate) added: Vec<Stream>,
+    pub(crate) added: Vec<MetricStream>,
 }
 
 impl Model for Plan {
@@ -57,7 +57,7 @@ fn new_stream(
     answers: &Answers,
     demand: Demand,
     now: u64,
-) -> Result<(Identity, Stream), Fault>
+) -> Result<(Identity, MetricStream), Fault>
     requires { IsMakeable demand }
     ensures stream { IfOk result (λ made. made ≡ (demand.identity, new_held (is_delta answers.now demand) demand now)) }
     ensures only_memory { IsOkUnless result Fault.OutOfMemory }
@@ -66,7 +66,7 @@ fn new_stream(
     let identity = demand.identity.clone()?;
     Ok((
         identity,
-        Stream::new(alloc, hasher, temporality, demand, now)?,
+        MetricStream::new(alloc, hasher, temporality, demand, now)?,
     ))
 }
 
@@ -105,7 +105,7 @@ impl Plan {
     fn find(
         &self,
         identities: &IndexSet<Identity>,
-        made: &[Stream],
+        made: &[MetricStream],
         identity: &Identity,
     ) -> Option<(usize, bool)>
         requires { identities.now.keys ≡ stream_identities made.now }
@@ -160,7 +160,7 @@ impl Plan {
         alloc: Global,
         answers: &Answers,
         identities: &IndexSet<Identity>,
-        made: &[Stream],
+        made: &[MetricStream],
         demand: Demand,
         now: u64,
     ) -> Result<(), Fault>

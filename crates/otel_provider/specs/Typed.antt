@@ -71,7 +71,7 @@ IsObservableOf i p = i.identity ≡ identity_of p
 
 -- ======== handles ========
 abbrev pub handle_number : {T : Type 0} → Bound T → ℕ
-handle_number b = b.handle
+handle_number b = b.handle.number
 
 -- the identity of the provider that it belongs to
 abbrev pub handle_identity : {T : Type 0} → Bound T → ℕ
@@ -97,7 +97,7 @@ record_reply r = reply_from (λ _. model.Reply.Done) r
 
 -- the reply to a bind
 abbrev pub bind_reply : {T : Type 0} → Result (Bound T) Fault → model.Reply
-bind_reply r = reply_from (λ b. model.Reply.Handle b.handle) r
+bind_reply r = reply_from (λ b. model.Reply.Handle b.handle.number) r
 
 -- the reply to the end of a handle, which is handed back if it is refused
 abbrev pub unbind_reply : {T : Type 0} → Result (Unit {0}) (Bound T × Fault) → model.Reply

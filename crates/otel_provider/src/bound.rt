@@ -14,17 +14,18 @@ use crate::provider::Provider;
 use crate::synchronous::Synchronous;
 use otel_common::attributes::KeyValue;
 use otel_common::faults::Fault;
+use otel_core::handles::BoundHandle;
 use otel_data::numbers::NumberType;
 use std::marker::PhantomData;
 
 /// A live handle of an instrument with values of type `T` (Metrics API, "Synchronous Instrument API").
 ///
-/// It is the number of a handle and the identity of its provider. As long as it is live it holds a place in each stream
+/// It is the number of a handle, with its places in the tables that have it, and the identity of its provider. As long as it is live it holds a place in each stream
 /// that the instrument feeds, so it must be spent: by `unbind`, which ends it, or by `into_number`, which leaves that
 /// to `Call::Unbind`. The toolchain rejects a program that lets one go.
 pub struct Bound<T> {
     pub(crate) identity: u64,
-    pub(crate) handle: u64,
+    pub(crate) handle: BoundHandle,
     of: PhantomData<T>,
 }
 
@@ -70,7 +71,8 @@ impl<T: NumberType> Bound<T> {
     /// Adds a value, in the instrument's unit, with the attributes of the handle, as `step` does with
     /// `Call::RecordBound`.
     ///
-    /// Takes no memory, and looks up only the handle, once in the provider and once in each stream.
+    /// Takes no memory. The handle is found at its places in the provider and in each stream; it is looked up only where
+    /// it is no longer there, since many older handles have ended.
     ///
     /// Refused with `UnknownHandle` if the handle belongs to a provider of another identity, before anything else is
     /// checked, or if `Call::Unbind` has ended it by its number. If two providers of one identity mix up their handles,
@@ -109,7 +111,7 @@ impl<T> Bound<T> {
     pub fn number(&self) -> u64
         ensures { result ≡ handle_number self.now }
     {
-        self.handle
+        self.handle.number
     }
 
     /// The identity of the provider that it belongs to.
@@ -128,7 +130,7 @@ impl<T> Bound<T> {
             handle,
             of: _,
         } = self;
-        handle
+        handle.number
     }
 
     /// Ends the handle, as `step` does with `Call::Unbind`. Takes no memory.
@@ -145,7 +147,7 @@ impl<T> Bound<T> {
         ensures views { provider_views provider.new ≡ provider_views provider.old }
         ensures callbacks { callbacks_of provider.new ≡ callbacks_of provider.old }
     {
-        match provider.core.unbind(self.identity, self.handle) {
+        match provider.core.unbind(self.identity, self.handle.number) {
             Ok(()) => {
                 let _ = self.into_number();
                 Ok(())

@@ -21,6 +21,7 @@ use crate::pending::PendingRecord;
 use crate::worker::Worker;
 use otel_common::faults::Fault;
 use otel_core::calls::{Call, Reply};
+use otel_core::handles::BoundHandle;
 use otel_core::provider_core::Core;
 use otel_data::collections::ResourceMetrics;
 use otel_stream::observation::Observed;
@@ -87,7 +88,9 @@ fn answer_to(core: &mut Core, pending: &PendingRecord) -> Result<(), Fault>
             value,
             attributes,
         } => core.record(identity, *instrument, *value, attributes.as_slice()),
-        PendingRecord::Bound { handle, value } => core.record_bound(identity, *handle, *value),
+        PendingRecord::Bound { handle, value } => {
+                core.record_bound(identity, BoundHandle::numbered(*handle), *value)
+            }
     }
 }
 

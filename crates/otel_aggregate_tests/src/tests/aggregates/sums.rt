@@ -278,7 +278,7 @@ fn a_refused_handle_changes_nothing(rt: HostRuntime) {
     persist(&rt, alloc, &mut sum, "measure x=1: 1");
     assert_bound(&rt, alloc, &mut sum);
     for handle in 0u64..8 {
-        assert!(rt; sum.update_bound(handle, 1), "{handle}");
+        assert!(rt; sum.update_bound(handle, 0, 1), "{handle}");
     }
     assert_eq!(rt; sum.total(), 9);
 }

@@ -35,7 +35,7 @@ invariant_of-self g c =
     let now = c.commit_bind-number in
     let some : IsSome map.pending = sym c.is_prepared.ensures ∙ c.if-not-is_prepared.false in
     let made = bound-prepared map.numbers now.new.self.numbers map.state now.new.self.state c.self.inside.live.entries c.args.handle now.result c.self.invariant.0 c.self.invariant.1 now.ensures.numbers c.told_numbers.ensures.named c.told_numbers.ensures.placed
-    map.pending c.add.new.links.entries some now.ensures.bound now.ensures.number c.add.ensures.links in
+    map.pending c.add-place.new.links.entries some now.ensures.bound now.ensures.number c.add-place.ensures.links in
     (made.linked, made.held, λ room. absurd (true≢false (sym room)))
 
 pub returns : goal.returns
@@ -47,5 +47,5 @@ returns g c =
     let some : IsSome map.pending = sym c.is_prepared.ensures ∙ c.if-not-is_prepared.false in
     let away = held-none map.numbers c.args.handle links c.number_in.result c.number_in.ensures (sym c.is_some.ensures ∙ c.if-is_some.false) in
     let made = bound-prepared map.numbers now.new.self.numbers map.state now.new.self.state links c.args.handle now.result c.self.invariant.0 c.self.invariant.1 now.ensures.numbers c.told_numbers.ensures.named c.told_numbers.ensures.placed
-    map.pending c.add.new.links.entries some now.ensures.bound now.ensures.number c.add.ensures.links in
-    record { bound = rw (← c.self.view_is) (bind-made m c.args.handle now.new.self.state now.new.self.numbers c.add.new.links.entries now.new.self.pending c.if-not-self.false away now.ensures.spent made) }
+    map.pending c.add-place.new.links.entries some now.ensures.bound now.ensures.number c.add-place.ensures.links in
+    record { bound = rw (← c.self.view_is) (bind-made m c.args.handle now.new.self.state now.new.self.numbers c.add-place.new.links.entries now.new.self.pending c.if-not-self.false away now.ensures.spent made) }

@@ -27,7 +27,7 @@ use std::alloc::Global;
 use std::marker::Model;
 
 /// A stream: what was demanded, and the records so far.
-pub(crate) struct Stream {
+pub(crate) struct MetricStream {
     demand: Demand,
     aggregate: AnyAggregate,
     /// The total of all records, modulo 2^64.
@@ -36,7 +36,7 @@ pub(crate) struct Stream {
     exported: u64,
 }
 
-impl Model for Stream {
+impl Model for MetricStream {
     ghost use Rattle.otel_pipeline.specs.Streams.{Held, IsAsked, held_of};
 
     ghost Value = { Held };
@@ -46,10 +46,10 @@ impl Model for Stream {
     ghost invariant = { λ s. IsAsked s.demand s.aggregate };
 }
 
-impl Drop for Stream {
+impl Drop for MetricStream {
     /// A function of its own, so that no proof about who lets one go looks into it.
     fn drop(self) {
-        let Stream {
+        let MetricStream {
             demand: _demand,
             aggregate: _aggregate,
             recorded: _,
@@ -88,7 +88,7 @@ fn has_points(metrics: &AggregatedMetrics) -> bool
     many > 0
 }
 
-impl Stream {
+impl MetricStream {
     /// Makes a stream without records at the moment `now`, in nanoseconds since 1970, for a reader that answered this
     /// temporality.
     pub(crate) fn new(
@@ -97,7 +97,7 @@ impl Stream {
         temporality: Temporality,
         demand: Demand,
         now: u64,
-    ) -> Result<Stream, Fault>
+    ) -> Result<MetricStream, Fault>
         requires { IsMakeable demand }
         ensures made { IfOk result (λ s. s ≡ new_held (resets temporality) demand now) }
         ensures only_memory { IsOkUnless result Fault.OutOfMemory }
@@ -115,7 +115,7 @@ impl Stream {
             demand.limit,
             now,
         )?;
-        Ok(Stream {
+        Ok(MetricStream {
             demand,
             aggregate,
             recorded: 0,
@@ -173,22 +173,23 @@ impl Stream {
     }
 
     /// Carries out the prepared bind, if there is one, for a handle with this number, unless the handle is live
-    /// already.
-    pub(crate) fn commit_bind(&mut self, handle: u64)
+    /// already, and returns the handle's place, for `record_held`.
+    pub(crate) fn commit_bind(&mut self, handle: u64) -> usize
         ensures { self.new ≡ held_after_bind handle self.old }
     {
-        if !is_observable(self.demand.identity.kind) {
-            self.aggregate.commit_bind(handle);
+        if is_observable(self.demand.identity.kind) {
+            return 0;
         }
+        self.aggregate.commit_bind(handle)
     }
 
     /// Takes in a record through a handle, if the stream has the handle and the value has the stream's number type.
-    /// Takes no memory.
+    /// Looks for the handle at this place first. Takes no memory.
     #[inline(always)]
-    pub(crate) fn record_held(&mut self, handle: u64, value: NumberValue)
+    pub(crate) fn record_held(&mut self, handle: u64, place: usize, value: NumberValue)
         ensures { self.new ≡ held_after_update handle value self.old }
     {
-        if self.aggregate.update_bound(handle, value) {
+        if self.aggregate.update_bound(handle, place, value) {
             self.recorded = self.recorded.wrapping_add(size_of(&self.demand, value));
         }
     }

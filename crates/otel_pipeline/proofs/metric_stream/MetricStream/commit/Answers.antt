@@ -1,6 +1,6 @@
 use Rattle.std.proofs.Common.{◌∙◌, sym}
 use Rattle.otel_pipeline.proofs.Asked.{asked-taken, taken-then, taken-else}
-use Rattle.otel_pipeline.proofs.stream.Stream.commit.Goals as goal
+use Rattle.otel_pipeline.proofs.metric_stream.MetricStream.commit.Goals as goal
 
 -- a record leaves the aggregate the one that was asked for
 pub invariant_of-self : goal.invariant_of-self

@@ -1,7 +1,7 @@
 use Rattle.std.proofs.Common.{◌≡◌, true, sym, subst}
 use Rattle.otel_aggregate.specs.Streams.{StreamState, is_known}
 use Rattle.otel_pipeline.proofs.NoAttributes.{none-known}
-use Rattle.otel_pipeline.proofs.stream.Stream.prepare.Goals as goal
+use Rattle.otel_pipeline.proofs.metric_stream.MetricStream.prepare.Goals as goal
 
 -- no attributes are known
 pub returns-clause-free : goal.returns-clause-free

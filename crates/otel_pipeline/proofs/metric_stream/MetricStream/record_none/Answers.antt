@@ -1,7 +1,7 @@
 use Rattle.std.proofs.Common.{◌∙◌, ◌&&◌, true, Some, ap, sym}
 use Rattle.otel_model_stream.specs.Sets.{none_set}
 use Rattle.otel_pipeline.proofs.Asked.{asked-taken, taken-then, taken-else}
-use Rattle.otel_pipeline.proofs.stream.Stream.record_none.Goals as goal
+use Rattle.otel_pipeline.proofs.metric_stream.MetricStream.record_none.Goals as goal
 
 -- a record leaves the aggregate the one that was asked for
 pub invariant_of-self : goal.invariant_of-self

@@ -1,6 +1,6 @@
 use Rattle.std.proofs.Common.{◌∙◌, sym}
 use Rattle.otel_pipeline.proofs.Asked.{asked-updated, update-then, update-else}
-use Rattle.otel_pipeline.proofs.stream.Stream.record_held.Goals as goal
+use Rattle.otel_pipeline.proofs.metric_stream.MetricStream.record_held.Goals as goal
 
 -- a record leaves the aggregate the one that was asked for
 pub invariant_of-self : goal.invariant_of-self
