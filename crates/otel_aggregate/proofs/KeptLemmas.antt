@@ -1,18 +1,19 @@
 -- What a stream of any aggregate keeps stays of its form and number type.
-use Rattle.std.proofs.Common.{◌≡◌, ◌∙◌, ap, sym, subst, ℕ, Bool, true, false, cond, List, [], ◌∷◌, ◌++◌, map, filter, Option, Some, None, is_none, Result, Ok, Err}
+use Rattle.std.proofs.Common.{◌≡◌, ◌∙◌, refl, ap, sym, subst, ℕ, Bool, true, false, cond, List, [], ◌∷◌, ◌++◌, map, filter, Option, Some, None, is_none, Result, Ok, Err}
 use Rattle.std.specs.Prelude.{ℤ, ◌&&◌, ◌||◌, nat_lt, OnOk, OnErr}
 use Rattle.std.specs.List.{AllByRecursion}
 use Rattle.otel_common.specs.Equality.{set_eq}
-use Rattle.otel_bound_map.specs.Handles.{HeldMap}
-use Rattle.otel_model_stream.specs.Sets.{AttributeSet, none_set, over_set}
-use Rattle.otel_model_stream.specs.Folds.{Amount, Sample, Fold, Total, Last, Spreads, record_fold, clear_fold, sample_of, lesser, greater}
+use Rattle.otel_model_stream.specs.Sets.{AttributeSet, AllowList, none_set, over_set}
+use Rattle.otel_model_stream.specs.Folds.{Amount, Sample, Fold, Total, Last, Spreads, record_fold, clear_fold, empty_of, sample_of, lesser, greater}
 use Rattle.otel_model_stream.specs.Entries.{Entry, Table, new_entry, is_of, has, number_counted, entries_with_place, entry_for, on, write, take_handle, drop_handle, reset, stays, points, point_of_entry}
 use Rattle.otel_model_stream.specs.Events.{held_by}
-use Rattle.otel_model_stream.specs.Maps.{MapState, measured_map, bound_map, updated_bound, unbound_map, evicted_map, drained_map}
+use Rattle.otel_model_stream.specs.Maps.{MapState, new_map, measured_map, bound_map, updated_bound, unbound_map, evicted_map, drained_map}
 use Rattle.otel_value_map.specs.Numbers.{entry_without_handles, without_handles}
-use Rattle.otel_aggregate.specs.Any.{Form, form_of}
+use Rattle.otel_aggregate.specs.declared.settings.AnySettings.{AnySettings}
+use Rattle.otel_aggregate.specs.declared.settings.AnySettings.TheVariants as kinds
+use Rattle.otel_aggregate.specs.Any.{Form, form_of, aggregate_of, is_monotonic_of, drains_of}
 use Rattle.otel_aggregate.specs.Kept.{form_of_fold, IsWithin, IsWithinIfSome, IsKept, AreKept, IsKeptMap, IsKeptStream, IsReportedOf, AreShowable}
-use Rattle.otel_aggregate.specs.Streams.{StreamState, HeldStream, recorded_set, taken_from, stream_after_commit, bind_of, stream_after_bind, update_at, stream_after_update, unbind_at, stream_after_unbind, stream_after_collection}
+use Rattle.otel_aggregate.specs.Streams.{StreamState, HeldStream, new_stream, recorded_set, taken_from, stream_after_commit, bind_of, stream_after_bind, update_at, stream_after_update, unbind_at, stream_after_unbind, stream_after_collection}
 use Rattle.otel_aggregate.proofs.ObservedLemmas.{drained-measured, drained-drained}
 
 -- ======== folds ========
@@ -155,21 +156,41 @@ pub kept-room : {T E : Type 0} (s : Bool) (old new : HeldStream) (r : Result T E
 kept-room s old new (Ok v) ok err kept = subst (λ (h : HeldStream). IsKeptStream s h) (sym ok) kept
 kept-room s old new (Err e) ok err kept = subst (λ (h : HeldStream). IsKeptStream s h) (sym err) kept
 
+-- ======== a new stream ========
+kept-new : (s : Bool) (settings : AnySettings) (limit : ℕ) → IsKeptMap s (form_of (aggregate_of settings)) (new_map limit (empty_of (aggregate_of settings)))
+kept-new s (kinds.Sum is_monotonic) limit = ((refl, (tt, tt)), ((refl, (tt, tt)), tt))
+kept-new s (kinds.PrecomputedSum is_monotonic) limit = ((refl, (tt, tt)), ((refl, (tt, tt)), tt))
+kept-new s kinds.LastValue limit = ((refl, (tt, tt)), ((refl, (tt, tt)), tt))
+kept-new s (kinds.Histogram h) limit = ((refl, (tt, tt)), ((refl, (tt, tt)), tt))
+
+pub stream-new : (s : Bool) (settings : AnySettings) (h : HeldStream) (allow : AllowList) (resets : Bool) (limit now : ℕ) → h.state ≡ new_stream (aggregate_of settings) (is_monotonic_of settings) allow resets limit now → IsKeptStream s h
+stream-new s settings h allow resets limit now new = subst (λ (a : StreamState). IsKeptMap s (form_of a.aggregate) a.map_state) (sym new) (kept-new s settings limit)
+
+pub reported-new : (settings : AnySettings) (h : HeldStream) (allow : AllowList) (resets : Bool) (limit now : ℕ) (o : Option MapState) → o ≡ cond (drains_of settings) (Some (new_map limit (Last 0))) None
+    → h.state ≡ new_stream (aggregate_of settings) (is_monotonic_of settings) allow resets limit now → h.live ≡ [] → h.room ≡ false → IsReportedOf h o
+reported-new settings h allow resets limit now o is new live room = subst (λ (p : Option MapState). IsReportedOf h p) (sym is) (by settings new)
+  where
+    by : (x : AnySettings) → h.state ≡ new_stream (aggregate_of x) (is_monotonic_of x) allow resets limit now → IsReportedOf h (cond (drains_of x) (Some (new_map limit (Last 0))) None)
+    by (kinds.Sum is_monotonic) new = tt
+    by (kinds.PrecomputedSum is_monotonic) new = (sym (ap (λ (a : StreamState). drained_map a.map_state) new), live, room, ap (λ (a : StreamState). form_of a.aggregate) new)
+    by kinds.LastValue new = tt
+    by (kinds.Histogram s) new = tt
+
 -- ======== what was reported ========
-pub reported-none : (h : HeldStream) (o : Option HeldMap) → o ≡ None → IsReportedOf h o
+pub reported-none : (h : HeldStream) (o : Option MapState) → o ≡ None → IsReportedOf h o
 reported-none h None e = tt
 reported-none h (Some m) e = absurd (cc)
 
-pub reported-same : (old new : HeldStream) (o : Option HeldMap) → new.state ≡ old.state → new.live ≡ old.live → new.room ≡ old.room → IsReportedOf old o → IsReportedOf new o
+pub reported-same : (old new : HeldStream) (o : Option MapState) → new.state ≡ old.state → new.live ≡ old.live → new.room ≡ old.room → IsReportedOf old o → IsReportedOf new o
 reported-same old new None state live room is = tt
 reported-same old new (Some m) state live room is =
-    (is.0 ∙ sym (ap (λ (a : StreamState). drained_map a.map_state) state), is.1, is.2, live ∙ is.3, room ∙ is.4, ap (λ (a : StreamState). form_of a.aggregate) state ∙ is.5)
+    (is.0 ∙ sym (ap (λ (a : StreamState). drained_map a.map_state) state), live ∙ is.1, room ∙ is.2, ap (λ (a : StreamState). form_of a.aggregate) state ∙ is.3)
 
-pub reported-set : (set : AttributeSet) (v : Sample) (h : HeldStream) (p : Option AttributeSet) (o : Option HeldMap) → IsReportedOf h o → IsReportedOf (record h { state = record h.state { map_state = measured_map set v h.state.map_state }; pending = p }) o
+pub reported-set : (set : AttributeSet) (v : Sample) (h : HeldStream) (p : Option AttributeSet) (o : Option MapState) → IsReportedOf h o → IsReportedOf (record h { state = record h.state { map_state = measured_map set v h.state.map_state }; pending = p }) o
 reported-set set v h p None is = tt
-reported-set set v h p (Some m) is = (is.0 ∙ sym (drained-measured set v h.state.map_state), is.1, is.2, is.3, is.4, is.5)
+reported-set set v h p (Some m) is = (is.0 ∙ sym (drained-measured set v h.state.map_state), is.1, is.2, is.3)
 
-pub reported-taken : (v : Amount) (h : HeldStream) (o : Option HeldMap) → IsReportedOf h o → IsReportedOf (stream_after_commit v h) o
+pub reported-taken : (v : Amount) (h : HeldStream) (o : Option MapState) → IsReportedOf h o → IsReportedOf (stream_after_commit v h) o
 reported-taken v h o is = by h.pending
   where
     by : (p : Option AttributeSet) → IsReportedOf (taken_from p v h) o
@@ -177,20 +198,18 @@ reported-taken v h o is = by h.pending
     by (Some set) = reported-set set (sample_of h.state.aggregate v) h None o is
 
 -- once the two maps are swapped, and what was reported before is forgotten
-pub kept-swapped : (s : Bool) (old new : HeldStream) (m : HeldMap) (now : ℕ) → IsReportedOf old (Some m) → new.state ≡ record old.state { map_state = drained_map m.state; start = now } → IsKeptStream s old → IsKeptStream s new
+pub kept-swapped : (s : Bool) (old new : HeldStream) (m : MapState) (now : ℕ) → IsReportedOf old (Some m) → new.state ≡ record old.state { map_state = drained_map m; start = now } → IsKeptStream s old → IsKeptStream s new
 kept-swapped s old new m now is state kept =
     subst (λ (a : StreamState). IsKeptMap s (form_of a.aggregate) a.map_state) (sym state)
     (subst (λ (d : MapState). IsKeptMap s (form_of old.state.aggregate) d) (sym is.0) (kept-drained s (form_of old.state.aggregate) old.state.map_state kept))
 
-pub reported-swapped : (old new : HeldStream) (m n : HeldMap) (now : ℕ) → IsReportedOf old (Some m) → n.state ≡ old.state.map_state → new.state ≡ record old.state { map_state = drained_map m.state; start = now }
-    → new.live ≡ [] → n.live ≡ [] → new.room ≡ m.room → n.room ≡ old.room → IsReportedOf new (Some n)
-reported-swapped old new m n now is reported state live none room space = (
-  ap drained_map reported ∙ sym is.0 ∙ sym (drained-drained m.state) ∙ sym (ap (λ (a : StreamState). drained_map a.map_state) state),
-  none,
-  space ∙ is.4,
+pub reported-swapped : (old new : HeldStream) (m n : MapState) (now : ℕ) → IsReportedOf old (Some m) → n ≡ old.state.map_state → new.state ≡ record old.state { map_state = drained_map m; start = now }
+    → new.live ≡ [] → new.room ≡ old.room → IsReportedOf new (Some n)
+reported-swapped old new m n now is reported state live room = (
+  ap drained_map reported ∙ sym is.0 ∙ sym (drained-drained m) ∙ sym (ap (λ (a : StreamState). drained_map a.map_state) state),
   live,
   room ∙ is.2,
-  ap (λ (a : StreamState). form_of a.aggregate) state ∙ is.5,
+  ap (λ (a : StreamState). form_of a.aggregate) state ∙ is.3,
 )
 
 -- ======== saved entries ========

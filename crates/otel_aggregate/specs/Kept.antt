@@ -7,7 +7,7 @@ use Rattle.otel_model_stream.specs.Folds.{Fold, Total, Last, Spreads}
 use Rattle.otel_model_stream.specs.Entries.{Table, Point}
 use Rattle.otel_model_stream.specs.Maps.{MapState, draining_points, drained_map}
 use Rattle.otel_model_stream.specs.Data.{spread_of}
-use Rattle.otel_bound_map.specs.Handles.{HeldMap}
+use Rattle.otel_value_map.specs.Held.{Held}
 use Rattle.otel_aggregate.specs.Streams.{HeldStream}
 use Rattle.otel_aggregate.specs.Any.{Form, Sums, LastValues, Spreads as SpreadForm, HeldAny, form_of, observed_in, data_of}
 use Rattle.otel_aggregate.specs.Observed.{observed_data}
@@ -54,16 +54,21 @@ AreShowable is_signed form ps = AllByRecursion (λ (p : Point). IsKept is_signed
 abbrev pub IsKeptStream : Bool → HeldStream → Type 0
 IsKeptStream is_signed s = IsKeptMap is_signed (form_of s.state.aggregate) s.state.map_state
 
--- the values in a map of what was reported, if there is one
-abbrev pub reported_in : Option HeldMap → List Point
-reported_in None = []
-reported_in (Some m) = draining_points m.state
+-- the state of a map of what was reported, if there is one
+abbrev pub state_of : Option Held → Option MapState
+state_of None = None
+state_of (Some m) = Some m.state
 
--- a stream that has a map of what was reported keeps last values, and neither has handles or room for one; drained they
+-- the values in it
+abbrev pub reported_in : Option MapState → List Point
+reported_in None = []
+reported_in (Some m) = draining_points m
+
+-- a stream that has a map of what was reported keeps last values, and has no handles and no room for one; drained they
 -- are the same
-abbrev pub IsReportedOf : HeldStream → Option HeldMap → Type 0
+abbrev pub IsReportedOf : HeldStream → Option MapState → Type 0
 IsReportedOf s None = Unit
-IsReportedOf s (Some m) = (drained_map m.state ≡ drained_map s.state.map_state) × (m.live ≡ []) × (m.room ≡ false) × (s.live ≡ []) × (s.room ≡ false) × (form_of s.state.aggregate ≡ LastValues)
+IsReportedOf s (Some m) = (drained_map m ≡ drained_map s.state.map_state) × (s.live ≡ []) × (s.room ≡ false) × (form_of s.state.aggregate ≡ LastValues)
 
 -- ======== collections ========
 -- what a collection at a moment gives of a stream, in a number type

@@ -1,3 +1,4 @@
+pub mod Links
 pub mod Data
 pub mod Streams
 pub mod Any

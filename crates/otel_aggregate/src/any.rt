@@ -9,7 +9,7 @@ ghost use Rattle.otel_model_stream.specs.Maps.{new_map};
 ghost use Rattle.otel_model_stream.specs.Totals.{points_total};
 ghost use Rattle.otel_value_map.specs.Numbers.{without_handles};
 ghost use Rattle.otel_aggregate.specs.Any.{aggregate_of, is_monotonic_of, drains_of, amount_of, any_after_commit, any_after_none, is_taken, is_signed_value, any_with_room, any_after_bind, any_after_update, is_updated, any_after_unbind, metrics_now, any_points, any_after_collection, saved_of, IsLike, with_saved};
-ghost use Rattle.otel_aggregate.specs.Kept.{IsWithin, any_data};
+ghost use Rattle.otel_aggregate.specs.Kept.{IsWithin, any_data, state_of};
 ghost use Rattle.otel_aggregate.specs.Streams.{new_stream, is_known};
 
 use crate::any_aggregator::{AnyAggregator, AnyConfig};
@@ -18,7 +18,6 @@ use crate::settings::AnySettings;
 use crate::shown::{Shown, shown_observed, shown_stream};
 use crate::stream::Stream;
 use crate::values::{is_signed, told_within};
-use otel_bound_map::bound_map::BoundMap;
 use otel_common::attributes::KeyValue;
 use otel_common::faults::Fault;
 use otel_common::keys::Key;
@@ -27,6 +26,7 @@ use otel_common::metrics::Temporality;
 use otel_data::aggregated::{AggregatedMetrics, MetricData};
 use otel_data::numbers::NumberValue;
 use otel_value_map::hashing::SetHashBuilder;
+use otel_value_map::value_map::ValueMap;
 use std::alloc::Global;
 use std::marker::Model;
 
@@ -36,12 +36,12 @@ fn reported_map(
     hasher: SetHashBuilder,
     settings: &AnySettings,
     limit: usize,
-) -> Result<Option<BoundMap<AnyAggregator>>, Fault>
-    ensures made { IfOk result (λ made. made ≡ cond (drains_of settings.now) (Some (record { state = new_map limit (Last 0); live = []; pending = None; room = false })) None) }
+) -> Result<Option<ValueMap<AnyAggregator>>, Fault>
+    ensures made { IfOk result (λ made. state_of made ≡ cond (drains_of settings.now) (Some (new_map limit (Last 0))) None) }
     ensures only_memory { IsOkUnless result Fault.OutOfMemory }
 {
     if settings.drains() {
-        Ok(Some(BoundMap::new(alloc, hasher, AnyConfig::LastValue, limit)?))
+        Ok(Some(ValueMap::new(alloc, hasher, AnyConfig::LastValue, limit)?))
     } else {
         Ok(None)
     }
@@ -54,13 +54,13 @@ fn reported_map(
 pub struct AnyAggregate {
     stream: Stream<AnyAggregator>,
     /// What the last collection of observed sums reported; always empty in a stream that doesn't reset.
-    reported: Option<BoundMap<AnyAggregator>>,
+    reported: Option<ValueMap<AnyAggregator>>,
     is_signed: bool,
 }
 
 impl Model for AnyAggregate {
     ghost use Rattle.otel_aggregate.specs.Any.{HeldAny};
-    ghost use Rattle.otel_aggregate.specs.Kept.{IsKeptStream, IsReportedOf, reported_in};
+    ghost use Rattle.otel_aggregate.specs.Kept.{IsKeptStream, IsReportedOf, reported_in, state_of};
     ghost use Rattle.std.specs.Prelude.{is_some};
 
     ghost Value = { HeldAny };
@@ -72,10 +72,10 @@ impl Model for AnyAggregate {
       pending = a.stream.pending;
       room = a.stream.room;
       drains = is_some a.reported;
-      reported = reported_in a.reported;
+      reported = reported_in (state_of a.reported);
     } };
 
-    ghost invariant = { λ a. IsKeptStream a.is_signed a.stream × IsReportedOf a.stream a.reported };
+    ghost invariant = { λ a. IsKeptStream a.is_signed a.stream × IsReportedOf a.stream (state_of a.reported) };
 }
 
 impl Drop for AnyAggregate {

@@ -7,6 +7,7 @@ pub mod any_aggregator;
 pub mod histogram;
 pub mod internal;
 pub mod last_value;
+pub mod links;
 pub mod measures;
 pub mod precomputed_sum;
 pub mod saved;

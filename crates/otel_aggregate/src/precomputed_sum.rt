@@ -17,7 +17,6 @@ ghost use Rattle.otel_aggregate.specs.Observed.{new_observed, observed_set, obse
 use crate::stream::{Stream, shown_temporality};
 use otel_aggregators::assign::Assign;
 use otel_aggregators::number::Number;
-use otel_bound_map::bound_map::BoundMap;
 use otel_common::attributes::KeyValue;
 use otel_common::faults::Fault;
 use otel_common::keys::Key;
@@ -27,6 +26,7 @@ use otel_data::points::SumDataPoint;
 use otel_data::sums::Sum as SumData;
 use otel_value_map::hashing::SetHashBuilder;
 use otel_value_map::saved::Saved;
+use otel_value_map::value_map::ValueMap;
 use std::alloc::Global;
 use std::marker::Model;
 
@@ -40,7 +40,7 @@ pub(crate) fn difference_of<T: Number>(value: T, before: T) -> T
 }
 
 /// The value that was reported for a set, or 0 if it had no point.
-fn value_in<T: Number + Drop>(reported: &BoundMap<Assign<T>>, attributes: &[KeyValue]) -> T
+fn value_in<T: Number + Drop>(reported: &ValueMap<Assign<T>>, attributes: &[KeyValue]) -> T
     ensures { T.bits result ≡ value_before (draining_points reported.now.state) attributes.now }
 {
     match reported.get(attributes) {
@@ -51,7 +51,7 @@ fn value_in<T: Number + Drop>(reported: &BoundMap<Assign<T>>, attributes: &[KeyV
 
 /// A value observed for a set, less the set's value in `reported` if that is given.
 fn shown_value<T: Number + Drop>(
-    reported: Option<&BoundMap<Assign<T>>>,
+    reported: Option<&ValueMap<Assign<T>>>,
     attributes: &[KeyValue],
     value: T,
 ) -> T
@@ -66,7 +66,7 @@ fn shown_value<T: Number + Drop>(
 /// The point of a set.
 fn shown_point<T: Number + Drop>(
     alloc: Global,
-    reported: Option<&BoundMap<Assign<T>>>,
+    reported: Option<&ValueMap<Assign<T>>>,
     attributes: SharedItems<KeyValue>,
     value: T,
 ) -> SumDataPoint<T>
@@ -80,7 +80,7 @@ fn shown_point<T: Number + Drop>(
 /// The points of observed values.
 fn shown_points<T: Number + Drop>(
     alloc: Global,
-    reported: Option<&BoundMap<Assign<T>>>,
+    reported: Option<&ValueMap<Assign<T>>>,
     given: Vec<(SharedItems<KeyValue>, Assign<T>)>,
 ) -> Result<Items<SumDataPoint<T>>, Fault>
     ensures points { IfOk result (λ made. made ≡ map (λ p. sum_point T.of_bits T.of_wide (since_reported (option_map (λ before. draining_points before.now.state) reported.entry) p)) (copies (λ last. Last (T.bits last.value)) given.items)) }
@@ -105,7 +105,7 @@ fn shown_points<T: Number + Drop>(
 pub struct PrecomputedSum<T: Number + Drop> {
     stream: Stream<Assign<T>>,
     /// What the last collection reported; always empty in a stream that doesn't reset.
-    reported: BoundMap<Assign<T>>,
+    reported: ValueMap<Assign<T>>,
     is_monotonic: bool,
 }
 
@@ -124,7 +124,7 @@ impl<T: Number + Drop> Model for PrecomputedSum<T> {
       pending = s.stream.pending;
     } };
 
-    ghost invariant = { λ s. (drained_map s.reported.state ≡ drained_map s.stream.state.map_state) × (s.stream.live ≡ []) × (s.reported.live ≡ []) };
+    ghost invariant = { λ s. (drained_map s.reported.state ≡ drained_map s.stream.state.map_state) × (s.stream.live ≡ []) };
 }
 
 impl<T: Number + Drop> Drop for PrecomputedSum<T> {
@@ -157,7 +157,7 @@ impl<T: Number + Drop> PrecomputedSum<T> {
         ensures unprepared { IfOk result (λ made. made.pending ≡ None) }
         ensures only_memory { IsOkUnless result Fault.OutOfMemory }
     {
-        let reported = BoundMap::new(alloc, hasher, (), limit)?;
+        let reported = ValueMap::new(alloc, hasher, (), limit)?;
         let stream = Stream::new(alloc, hasher, (), temporality, allow, limit, now)?;
         Ok(PrecomputedSum {
             stream,
@@ -228,7 +228,7 @@ impl<T: Number + Drop> PrecomputedSum<T> {
     }
 
     /// What the last collection reported, if points show differences from it.
-    fn reported(&self) -> Option<&BoundMap<Assign<T>>>
+    fn reported(&self) -> Option<&ValueMap<Assign<T>>>
         ensures { option_map (λ before. draining_points before.now.state) result ≡ cond self.now.state.stream.resets (Some self.now.state.reported) None }
     {
         if self.stream.resets() {

@@ -20,7 +20,6 @@ use crate::stream::{Stream, shown_temporality};
 use otel_aggregators::bounds::Bounds;
 use otel_aggregators::buckets::Buckets;
 use otel_aggregators::number::Number;
-use otel_bound_map::bound_map::BoundMap;
 use otel_common::attributes::KeyValue;
 use otel_common::faults::Fault;
 use otel_common::lists::{Items, SharedItems};
@@ -29,6 +28,7 @@ use otel_data::gauges::Gauge;
 use otel_data::histograms::Histogram as HistogramData;
 use otel_data::points::{GaugeDataPoint, HistogramDataPoint, SumDataPoint};
 use otel_data::sums::Sum as SumData;
+use otel_value_map::value_map::ValueMap;
 use std::alloc::Global;
 
 /// A set with what is kept of its records.
@@ -85,7 +85,7 @@ fn from_wide_if_some<T: Shown>(value: Option<i128>) -> Option<T>
 }
 
 /// The 64 bits of the value that was reported for a set, or 0 if it had no point.
-fn bits_in(reported: &BoundMap<AnyAggregator>, attributes: &[KeyValue]) -> u64
+fn bits_in(reported: &ValueMap<AnyAggregator>, attributes: &[KeyValue]) -> u64
     ensures { result ≡ value_before (draining_points reported.now.state) attributes.now }
 {
     match reported.get(attributes) {
@@ -96,7 +96,7 @@ fn bits_in(reported: &BoundMap<AnyAggregator>, attributes: &[KeyValue]) -> u64
 
 /// The 64 bits of a set's value, less the set's value in `reported` if that is given.
 fn shown_bits(
-    reported: Option<&BoundMap<AnyAggregator>>,
+    reported: Option<&ValueMap<AnyAggregator>>,
     attributes: &[KeyValue],
     kept: &AnyAggregator,
 ) -> u64
@@ -112,7 +112,7 @@ fn shown_bits(
 /// The point of a sum, less the set's value in `reported` if that is given.
 fn shown_sum<T: Shown>(
     alloc: Global,
-    reported: Option<&BoundMap<AnyAggregator>>,
+    reported: Option<&ValueMap<AnyAggregator>>,
     attributes: SharedItems<KeyValue>,
     kept: &AnyAggregator,
 ) -> SumDataPoint<T>
@@ -125,7 +125,7 @@ fn shown_sum<T: Shown>(
 /// The points of sums, each less its set's value in `reported` if that is given.
 fn shown_sums<T: Shown>(
     alloc: Global,
-    reported: Option<&BoundMap<AnyAggregator>>,
+    reported: Option<&ValueMap<AnyAggregator>>,
     given: Vec<Kept>,
 ) -> Result<Items<SumDataPoint<T>>, Fault>
     ensures points { IfOk result (λ made. made ≡ map (λ p. sum_point T.of_bits T.of_wide (since_reported (option_map (λ before. draining_points before.now.state) reported.entry) p)) (copies fold_in given.items)) }
@@ -246,8 +246,8 @@ pub(crate) fn shown_stream<T: Shown>(
 /// The map that points show differences from, in a stream that resets.
 fn compared_with<'a>(
     stream: &Stream<AnyAggregator>,
-    reported: &'a BoundMap<AnyAggregator>,
-) -> Option<&'a BoundMap<AnyAggregator>>
+    reported: &'a ValueMap<AnyAggregator>,
+) -> Option<&'a ValueMap<AnyAggregator>>
     ensures { option_map (λ before. draining_points before.now.state) result ≡ cond stream.now.state.resets (Some (draining_points reported.now.state)) None }
 {
     if stream.resets() {
@@ -261,7 +261,7 @@ fn compared_with<'a>(
 pub(crate) fn shown_observed<T: Shown>(
     alloc: Global,
     stream: &Stream<AnyAggregator>,
-    reported: &BoundMap<AnyAggregator>,
+    reported: &ValueMap<AnyAggregator>,
     now: u64,
 ) -> Result<MetricData<T>, Fault>
     ensures data { IfOk result (λ given. given ≡ metric.Sum (observed_data T.of_bits T.of_wide now (record { stream = stream.now.state; reported = draining_points reported.now.state }))) }

@@ -13,9 +13,9 @@ ghost use Rattle.otel_value_map.specs.Slots.{HasForm, copies};
 ghost use Rattle.otel_aggregate.specs.Data.{temporality_of};
 ghost use Rattle.otel_aggregate.specs.Streams.{new_stream, is_known, recorded_set, recorded_attributes, ready_to_bind, stream_after_bind, stream_after_update, stream_after_unbind, stream_after_commit, stream_after_collection, points_now};
 
+use crate::links::{Links, add, make_room, number_in, number_near, take_out};
 use crate::measures::Measures;
 use crate::shows::{Shows, into_points};
-use otel_bound_map::bound_map::BoundMap;
 use otel_common::attributes::KeyValue;
 use otel_common::faults::Fault;
 use otel_common::keys::Key;
@@ -24,6 +24,7 @@ use otel_common::metrics::Temporality;
 use otel_sets::allowed_keys::AllowedKeys;
 use otel_value_map::hashing::SetHashBuilder;
 use otel_value_map::saved::Saved;
+use otel_value_map::value_map::ValueMap;
 use std::alloc::Global;
 use std::marker::Model;
 use std::mem::swap;
@@ -61,10 +62,17 @@ fn allow_list(alloc: Global, keys: Option<Items<Key>>) -> Result<Option<AllowedK
     }
 }
 
-/// The records of a stream, by set (Metrics SDK, "MetricReader").
+/// The records of a stream, by set (Metrics SDK, "MetricReader"), and the handles, numbered by the caller, that hold
+/// entries.
+///
+/// An entry that a live handle holds stays at a resetting collection. A handle stays with its entry for good, even
+/// with the overflow entry once its set could have an entry of its own.
 pub struct Stream<A: Measures> {
     settings: A::Settings,
-    map: BoundMap<A>,
+    map: ValueMap<A>,
+    live: Links,
+    /// Whether room is made for one more handle.
+    room: bool,
     allow: Option<AllowedKeys>,
     /// Whether the stream starts again at each collection.
     resets: bool,
@@ -72,6 +80,9 @@ pub struct Stream<A: Measures> {
 }
 
 impl<A: Measures> Model for Stream<A> {
+    ghost use Rattle.std.specs.Prelude.{◌<◌, IsTrue};
+    ghost use Rattle.std.specs.List.{AllByRecursion};
+    ghost use Rattle.otel_aggregate.specs.Links.{spare, handles_of, IsLinked, AreHeld};
     ghost use Rattle.otel_aggregate.specs.Streams.{HeldStream};
 
     ghost Value = { HeldStream };
@@ -85,10 +96,14 @@ impl<A: Measures> Model for Stream<A> {
         resets = s.resets;
         start = s.start;
       };
-      live = s.map.live;
+      live = handles_of s.map.numbers s.live.entries;
       pending = s.map.pending;
-      room = s.map.room;
+      room = s.room;
     } };
+
+    ghost invariant = { λ s. AllByRecursion (IsLinked s.map.numbers) s.live.entries
+        × AreHeld s.map.state.table (handles_of s.map.numbers s.live.entries)
+        × (IsTrue s.room → 0 < spare s.live) };
 }
 
 impl<A: Measures> Drop for Stream<A> {
@@ -97,6 +112,8 @@ impl<A: Measures> Drop for Stream<A> {
         let Stream {
             settings: _settings,
             map: _map,
+            live: _live,
+            room: _,
             allow: _allow,
             resets: _,
             start: _,
@@ -127,10 +144,12 @@ impl<A: Measures> Stream<A> {
         ensures only_memory { IsOkUnless result Fault.OutOfMemory }
     {
         let allow = allow_list(alloc, allow)?;
-        let map = BoundMap::new(alloc, hasher, A::config(&settings), limit)?;
+        let map = ValueMap::new(alloc, hasher, A::config(&settings), limit)?;
         Ok(Stream {
             settings,
             map,
+            live: Links::new(alloc, hasher),
+            room: false,
             allow,
             resets: is_delta(temporality),
             start,
@@ -176,6 +195,8 @@ impl<A: Measures> Stream<A> {
     {
         let record = A::record(&self.settings, value);
         self.map.commit(record);
+        // Tells the prover that the entries that kept their numbers are still named by them.
+        self.map.told_numbers();
     }
 
     /// Takes in the prepared record, if there is one, and returns whether there was.
@@ -219,7 +240,9 @@ impl<A: Measures> Stream<A> {
         ensures refused { OnErr result (self.new ≡ self.old) }
         ensures only_memory { IsOkUnless result Fault.OutOfMemory }
     {
-        self.map.make_room()
+        make_room(&mut self.live)?;
+        self.room = true;
+        Ok(())
     }
 
     /// Carries out the prepared bind for a handle with this number, if a bind is prepared, room was made for the
@@ -228,7 +251,16 @@ impl<A: Measures> Stream<A> {
     pub fn commit_bind(&mut self, handle: u64) -> usize
         ensures bound { self.new ≡ stream_after_bind handle self.old }
     {
-        self.map.commit_bind(handle)
+        if !self.room || !self.map.is_prepared() || number_in(&self.live, handle).is_some() {
+            return 0;
+        }
+        // Tells the prover that there are fewer than 2^63 handles.
+        let _ = self.live.len();
+        let number = self.map.commit_bind();
+        self.map.told_numbers();
+        let place = add(&mut self.live, handle, number);
+        self.room = false;
+        place
     }
 
     /// Binds a handle with this number to these attributes, unless a live handle has the number (Metrics API,
@@ -252,15 +284,30 @@ impl<A: Measures> Stream<A> {
         ensures updated { self.new ≡ stream_after_update handle (A.amount value) self.old }
         ensures told { result ≡ is_some (held_by handle self.old.live) }
     {
-        let record = A::record(&self.settings, value);
-        self.map.update_bound(handle, place, record)
+        match number_near(&self.live, handle, place) {
+            Some(number) => {
+                let record = A::record(&self.settings, value);
+                self.map.update_bound(number, record);
+                true
+            }
+            None => {
+                self.map.give_up();
+                false
+            }
+        }
     }
 
     /// Ends a handle, if it is live. Takes no memory, and constant time, amortized. Gives up what was prepared.
     pub fn unbind(&mut self, handle: u64)
         ensures unbound { self.new ≡ stream_after_unbind handle self.old }
     {
-        self.map.unbind(handle);
+        match number_in(&self.live, handle) {
+            Some(number) => {
+                self.map.unbind(number);
+                take_out(&mut self.live, handle);
+            }
+            None => self.map.give_up(),
+        }
     }
 
     /// The sets that a collection shows, with copies of their aggregators. Shares the sets.
@@ -321,6 +368,7 @@ impl<A: Measures> Stream<A> {
     {
         if self.resets {
             self.map.reset_and_evict();
+            self.map.told_numbers();
             self.start = now;
         }
     }
@@ -371,20 +419,19 @@ impl<A: Measures> Stream<A> {
     pub fn told_unheld(&self)
         ensures { self.now.live ≡ [] → without_handles self.now.state.map_state.table ≡ self.now.state.map_state.table }
     {
-        self.map.told_unheld();
+        let _room = self.room;
     }
 
     /// Moves its records into a map, whose own are forgotten, and starts again without any at the moment `now`, in
-    /// nanoseconds since 1970. No handle may be live in either. The two maps are swapped; nothing is copied.
-    pub(crate) fn drain_into(&mut self, kept: &mut BoundMap<A>, now: u64)
+    /// nanoseconds since 1970. No handle may be live. The two maps, which drained are the same, are swapped; nothing is
+    /// copied.
+    pub(crate) fn drain_into(&mut self, kept: &mut ValueMap<A>, now: u64)
         requires unheld { self.old.live ≡ [] }
-        requires kept_unheld { kept.old.live ≡ [] }
+        requires alike { drained_map kept.old.state ≡ drained_map self.old.state.map_state }
         ensures kept { kept.new.state ≡ self.old.state.map_state }
         ensures state { self.new.state ≡ record self.old.state { map_state = drained_map kept.old.state; start = now } }
         ensures live { self.new.live ≡ [] }
-        ensures kept_live { kept.new.live ≡ [] }
-        ensures room { self.new.room ≡ kept.old.room }
-        ensures kept_room { kept.new.room ≡ self.old.room }
+        ensures room { self.new.room ≡ self.old.room }
         ensures unprepared { self.new.pending ≡ None }
     {
         kept.drain();

@@ -11,7 +11,7 @@ ghost use Rattle.otel_core.specs.Correspondence.{number_of, reply_from};
 use crate::core_checks::{check_bind, check_held};
 use crate::each_pipeline::{bind_or_none, record_held, unbind_held};
 use crate::provider_core::Core;
-use otel_bound_map::links::{add, make_room, number_in, number_near, take_out};
+use otel_aggregate::links::{add, make_room, number_in, number_near, take_out};
 use otel_common::attributes::KeyValue;
 use otel_common::faults::Fault;
 use otel_data::numbers::NumberValue;

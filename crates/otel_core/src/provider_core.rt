@@ -13,7 +13,7 @@ ghost use Rattle.otel_stream.specs.Requests.{wanted_by};
 use crate::instrument::Instrument;
 use crate::new_readers::NewReaders;
 use indexmap::IndexSet;
-use otel_bound_map::links::Links;
+use otel_aggregate::links::Links;
 use otel_common::faults::{Fault, OTelSdkResult};
 use otel_common::resource::Resource;
 use otel_common::scopes::InstrumentationScope;

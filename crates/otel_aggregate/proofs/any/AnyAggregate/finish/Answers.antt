@@ -1,7 +1,7 @@
-use Rattle.std.proofs.Common.{sym, subst, Some, Option}
-use Rattle.otel_bound_map.specs.Handles.{HeldMap}
+use Rattle.std.proofs.Common.{ap, sym, subst, Some, Option}
+use Rattle.otel_model_stream.specs.Maps.{MapState}
 use Rattle.otel_aggregate.specs.Any.{form_of}
-use Rattle.otel_aggregate.specs.Kept.{IsKeptMap, IsReportedOf}
+use Rattle.otel_aggregate.specs.Kept.{IsKeptMap, IsReportedOf, state_of}
 use Rattle.otel_aggregate.specs.Streams.{StreamState}
 use Rattle.otel_aggregate.proofs.KeptLemmas.{kept-collected, kept-swapped, reported-none, reported-swapped}
 use Rattle.otel_aggregate.proofs.any.AnyAggregate.finish.Goals as goal
@@ -9,12 +9,12 @@ use Rattle.otel_aggregate.proofs.any.AnyAggregate.finish.Goals as goal
 pub invariant_of-self : goal.invariant_of-self
 invariant_of-self c = (
   subst (λ (a : StreamState). IsKeptMap c.self.inside.is_signed (form_of a.aggregate) a.map_state) (sym c.finish.ensures.state) (kept-collected c.self.inside.is_signed c.args.now c.self.inside.stream.state c.self.invariant.0),
-  reported-none c.finish.new.self c.self.inside.reported c.in-None.is,
+  reported-none c.finish.new.self (state_of c.self.inside.reported) (ap state_of c.in-None.is),
 )
 
 pub invariant_of-self-then-resets : goal.invariant_of-self-then-resets
 invariant_of-self-then-resets c =
-    let is : IsReportedOf c.self.inside.stream (Some c.in-Some.reported) = subst (λ (o : Option HeldMap). IsReportedOf c.self.inside.stream o) c.in-Some.is c.self.invariant.1 in (
-      kept-swapped c.self.inside.is_signed c.self.inside.stream c.drain_into.new.self c.in-Some.reported c.args.now is c.drain_into.ensures.state c.self.invariant.0,
-      reported-swapped c.self.inside.stream c.drain_into.new.self c.in-Some.reported c.drain_into.new.kept c.args.now is c.drain_into.ensures.kept c.drain_into.ensures.state c.drain_into.ensures.live c.drain_into.ensures.kept_live c.drain_into.ensures.room c.drain_into.ensures.kept_room,
+    let is : IsReportedOf c.self.inside.stream (Some c.in-Some.reported.state) = subst (λ (o : Option MapState). IsReportedOf c.self.inside.stream o) (ap state_of c.in-Some.is) c.self.invariant.1 in (
+      kept-swapped c.self.inside.is_signed c.self.inside.stream c.drain_into.new.self c.in-Some.reported.state c.args.now is c.drain_into.ensures.state c.self.invariant.0,
+      reported-swapped c.self.inside.stream c.drain_into.new.self c.in-Some.reported.state c.drain_into.new.kept.state c.args.now is c.drain_into.ensures.kept c.drain_into.ensures.state c.drain_into.ensures.live c.drain_into.ensures.room,
     )

@@ -10,5 +10,4 @@ invariant_of-self g c =
     let v : Amount = record { bits = g.T.Number.bits c.args.value; wide = g.T.Number.wide c.args.value } in (
       c.self.invariant.0 ∙ sym (ap (λ (h : HeldStream). drained_map h.state.map_state) c.commit.ensures.taken ∙ drained-taken v c.self.inside.stream),
       ap (λ (h : HeldStream). h.live) c.commit.ensures.taken ∙ live-taken v c.self.inside.stream ∙ c.self.invariant.1,
-      c.self.invariant.2,
     )

@@ -12,5 +12,4 @@ invariant_of-self g c =
     let old : HeldStream = c.self.inside.stream in (
       c.self.invariant.0 ∙ sym (ap (λ (h : HeldStream). drained_map h.state.map_state) c.measure_none.ensures ∙ drained-measured none_set (sample_of old.state.aggregate v) old.state.map_state),
       ap (λ (h : HeldStream). h.live) c.measure_none.ensures ∙ c.self.invariant.1,
-      c.self.invariant.2,
     )

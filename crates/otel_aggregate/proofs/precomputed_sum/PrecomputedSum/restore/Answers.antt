@@ -13,5 +13,4 @@ invariant_of-self g c =
     let same = ap (λ (st : StreamState). drained_map st.map_state) c.restore.ensures.state in (
       c.self.invariant.0 ∙ sym (same ∙ drained-restored (λ last. Last (g.T.Number.bits last.value)) (λ a. refl) c.self.inside.stream.state.map_state c.args.saved c.restore.ensures.was c.restore.ensures.is (new ∙ sym old)),
       c.restore.ensures.live,
-      c.self.invariant.2,
     )

@@ -10,5 +10,4 @@ invariant_of-self g c =
     let some : IsSome c.self.inside.stream.pending = rw (← c.self.view_is) at c.requires in (
       c.self.invariant.0 ∙ sym (drained-set c.self.inside.stream c.take_in.new.self v c.self.inside.stream.pending refl some c.take_in.ensures.measured),
       c.take_in.ensures.live ∙ c.self.invariant.1,
-      c.self.invariant.2,
     )

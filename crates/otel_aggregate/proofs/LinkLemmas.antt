@@ -1,0 +1,79 @@
+-- Where handles lead, and that they lead there still.
+use Rattle.std.proofs.Common.{◌≡◌, ℕ, Bool, true, false, cond, List, [], ◌∷◌, ◌++◌, Some, refl, sym, ap, subst, ◌∙◌, nat_eq, arith}
+use Rattle.std.specs.Prelude.{◌==◌}
+use Rattle.std.specs.List.{AllByRecursion}
+use Rattle.std.specs.Map.{lookup, remove_entry}
+use Rattle.std.specs.Option.{option_map}
+use Rattle.std.proofs.lemmas.Bool.Decides.{nat_tests}
+use Rattle.otel_model_stream.specs.Sets.{AttributeSet}
+use Rattle.otel_model_stream.specs.Entries.{Entry}
+use Rattle.otel_model_stream.specs.Events.{Handles, held_by, without}
+use Rattle.otel_value_map.specs.Numbers.{Numbers, number_of, set_named, is_placed, KeepNumbers, KeepLeft, AreNamed}
+use Rattle.otel_aggregate.specs.Links.{Link, handle_of, handles_of, IsLinked}
+
+-- ======== at other numbers ========
+-- the entry has the number still
+abbrev pub IsLinkedStill : Numbers → Numbers → Link → Type 0
+IsLinkedStill old new p = number_of (set_named p.1 old) new ≡ Some p.1
+
+pub still-kept : (old new : Numbers) → KeepNumbers old new → (ps : List Link) → AllByRecursion (IsLinked old) ps → AllByRecursion (IsLinkedStill old new) ps
+still-kept old new keep [] h = tt
+still-kept old new keep (p ∷ ps) h = (keep (set_named p.1 old) p.1 h.0, still-kept old new keep ps h.1)
+
+pub still-left : (left : List Entry) (old new : Numbers) → KeepLeft left old new → (ps : List Link) → AllByRecursion (IsLinked old) ps
+    → AllByRecursion (λ (q : ℕ × AttributeSet). is_placed q.1 left ≡ true) (handles_of old ps) → AllByRecursion (IsLinkedStill old new) ps
+still-left left old new keep [] h placed = tt
+still-left left old new keep (p ∷ ps) h placed = (keep (set_named p.1 old) p.1 h.0 placed.0, still-left left old new keep ps h.1 placed.1)
+
+pub handles-still : (old new : Numbers) → AreNamed new → (ps : List Link) → AllByRecursion (IsLinkedStill old new) ps → handles_of new ps ≡ handles_of old ps
+handles-still old new named [] h = refl
+handles-still old new named (p ∷ ps) h = λ i. (p.0, named (set_named p.1 old) p.1 h.0 i) ∷ handles-still old new named ps h.1 i
+
+pub linked-still : (old new : Numbers) → AreNamed new → (ps : List Link) → AllByRecursion (IsLinkedStill old new) ps → AllByRecursion (IsLinked new) ps
+linked-still old new named [] h = tt
+linked-still old new named (p ∷ ps) h = (ap (λ (s : AttributeSet). number_of s new) (named (set_named p.1 old) p.1 h.0) ∙ h.0, linked-still old new named ps h.1)
+
+-- ======== one handle ========
+test-flip : (a b : ℕ) → (a == b) ≡ nat_eq b a
+test-flip a b = grind (arith, nat_tests)
+
+-- the set of a handle is that of its number
+pub held-linked : (ns : Numbers) (h : ℕ) (ps : List Link) → held_by h (handles_of ns ps) ≡ option_map (λ n. set_named n ns) (lookup (nat_eq h) ps)
+held-linked ns h [] = refl
+held-linked ns h (p ∷ ps) = ap (λ b. cond b (Some (set_named p.1 ns)) (held_by h (handles_of ns ps))) (test-flip p.0 h) ∙ by (nat_eq h p.0) (held-linked ns h ps)
+  where
+    by : (b : Bool) → held_by h (handles_of ns ps) ≡ option_map (λ n. set_named n ns) (lookup (nat_eq h) ps)
+        → cond b (Some (set_named p.1 ns)) (held_by h (handles_of ns ps)) ≡ option_map (λ n. set_named n ns) (cond b (Some p.1) (lookup (nat_eq h) ps))
+    by true ih = refl
+    by false ih = ih
+
+-- a handle that is found leads to an entry
+pub found-linked : (ns : Numbers) (h n : ℕ) (ps : List Link) → AllByRecursion (IsLinked ns) ps → lookup (nat_eq h) ps ≡ Some n → number_of (set_named n ns) ns ≡ Some n
+found-linked ns h n [] l e = absurd (cc)
+found-linked ns h n (p ∷ ps) l e = by (nat_eq h p.0) e (found-linked ns h n ps l.1)
+  where
+    by : (b : Bool) → cond b (Some p.1) (lookup (nat_eq h) ps) ≡ Some n → (lookup (nat_eq h) ps ≡ Some n → number_of (set_named n ns) ns ≡ Some n) → number_of (set_named n ns) ns ≡ Some n
+    by true r ih = let k : p.1 ≡ n = cc in subst (λ m. number_of (set_named m ns) ns ≡ Some m) k l.0
+    by false r ih = ih r
+
+-- ======== a handle more, and one less ========
+pub linked-push : (ns : Numbers) (ps : List Link) (p : Link) → AllByRecursion (IsLinked ns) ps → IsLinked ns p → AllByRecursion (IsLinked ns) (ps ++ p ∷ [])
+linked-push ns [] p h l = (l, tt)
+linked-push ns (q ∷ ps) p h l = (h.0, linked-push ns ps p h.1 l)
+
+pub linked-without : (ns : Numbers) (h : ℕ) (ps : List Link) → AllByRecursion (IsLinked ns) ps → AllByRecursion (IsLinked ns) (remove_entry (nat_eq h) ps)
+linked-without ns h [] l = tt
+linked-without ns h (p ∷ ps) l = by (nat_eq h p.0) (linked-without ns h ps l.1)
+  where
+    by : (b : Bool) → AllByRecursion (IsLinked ns) (remove_entry (nat_eq h) ps) → AllByRecursion (IsLinked ns) (cond b ps (p ∷ remove_entry (nat_eq h) ps))
+    by true r = l.1
+    by false r = (l.0, r)
+
+pub handles-without : (ns : Numbers) (h : ℕ) (ps : List Link) → handles_of ns (remove_entry (nat_eq h) ps) ≡ without h (handles_of ns ps)
+handles-without ns h [] = refl
+handles-without ns h (p ∷ ps) = by (nat_eq h p.0) (handles-without ns h ps) ∙ ap (λ b. cond b (handles_of ns ps) (handle_of ns p ∷ without h (handles_of ns ps))) (sym (test-flip p.0 h))
+  where
+    by : (b : Bool) → handles_of ns (remove_entry (nat_eq h) ps) ≡ without h (handles_of ns ps)
+        → handles_of ns (cond b ps (p ∷ remove_entry (nat_eq h) ps)) ≡ cond b (handles_of ns ps) (handle_of ns p ∷ without h (handles_of ns ps))
+    by true ih = refl
+    by false ih = ap (λ (hs : Handles). handle_of ns p ∷ hs) ih

@@ -1,0 +1,164 @@
+-- What a map's steps leave of what is known of its handles.
+use Rattle.std.proofs.Common.{◌≡◌, ℕ, Bool, true, false, cond, ◌&&◌, ◌||◌, List, [], ◌∷◌, ◌++◌, Option, Some, None, is_some, refl, sym, ap, subst, ◌∙◌, nat_eq, true≢false}
+use Rattle.std.specs.Prelude.{IsSome, is_none, ◌==◌}
+use Rattle.std.specs.List.{AllByRecursion}
+use Rattle.std.specs.Map.{lookup}
+use Rattle.std.specs.Option.{option_map}
+use Rattle.std.proofs.lemmas.List.{map-append}
+use Rattle.otel_common.specs.Equality.{set_eq}
+use Rattle.otel_model_stream.specs.Sets.{AttributeSet, none_set}
+use Rattle.otel_model_stream.specs.Folds.{Amount, Sample, sample_of}
+use Rattle.otel_model_stream.specs.Events.{Handles, held_by, without}
+use Rattle.otel_model_stream.specs.Entries.{Table, entry_for, place, take_handle}
+use Rattle.otel_model_stream.specs.Maps.{MapState, measured_map, bound_map, bound_to, updated_bound, unbound_map}
+use Rattle.otel_value_map.specs.Numbers.{Numbers, number_of, set_named, is_placed, KeepNumbers, AreNamed, AreNumbered}
+use Rattle.otel_aggregate.specs.Links.{Link, handle_of, handles_of, IsLinked, AreHeld}
+use Rattle.otel_aggregate.specs.Streams.{HeldStream, recorded_set, bind_of, stream_after_bind, update_at, stream_after_update, unbind_at, stream_after_unbind}
+use Rattle.otel_aggregate.proofs.LinkLemmas.{IsLinkedStill, still-kept, handles-still, linked-still, linked-push, held-linked}
+use Rattle.otel_aggregate.proofs.HandleLemmas.{has-on, held-written, held-taken, held-placed}
+
+-- a record of the set that is prepared
+pub held-measured : (old new : MapState) (hs : Handles) (pending : Option AttributeSet) (v : Sample) → IsSome pending → ((s : AttributeSet) → pending ≡ Some s → new ≡ measured_map s v old) → AreHeld old.table hs → AreHeld new.table hs
+held-measured old new hs None v some is held = absurd (true≢false (sym some))
+held-measured old new hs (Some s) v some is held =
+    let placed : Table = place old.limit old.empty s old.table in
+    subst (λ (m : MapState). AreHeld m.table hs) (sym (is s refl)) (held-written placed hs (entry_for s placed.entries) v (held-placed old.limit old.empty s old.table hs held))
+
+-- no handles, no links
+pub no-links : (ns : Numbers) (ps : List Link) → handles_of ns ps ≡ [] → ps ≡ []
+no-links ns [] e = refl
+no-links ns (p ∷ ps) e = absurd (cc)
+
+-- ======== a handle that is looked up ========
+pub held-found : (ns : Numbers) (h : ℕ) (ps : List Link) (o : Option ℕ) → o ≡ lookup (nat_eq h) ps → held_by h (handles_of ns ps) ≡ option_map (λ n. set_named n ns) o
+held-found ns h ps o e = held-linked ns h ps ∙ ap (option_map (λ n. set_named n ns)) (sym e)
+
+-- whether it is live
+pub held-some : (ns : Numbers) (h : ℕ) (ps : List Link) (o : Option ℕ) → o ≡ lookup (nat_eq h) ps → is_some (held_by h (handles_of ns ps)) ≡ is_some o
+held-some ns h ps o e = ap is_some (held-found ns h ps o e) ∙ by o
+  where
+    by : (o : Option ℕ) → is_some (option_map (λ n. set_named n ns) o) ≡ is_some o
+    by None = refl
+    by (Some n) = refl
+
+pub held-none : (ns : Numbers) (h : ℕ) (ps : List Link) (o : Option ℕ) → o ≡ lookup (nat_eq h) ps → is_some o ≡ false → held_by h (handles_of ns ps) ≡ None
+held-none ns h ps None e n = held-found ns h ps None e
+held-none ns h ps (Some m) e n = absurd (true≢false n)
+
+-- ======== a bind ========
+-- what is known once a handle of the set that was prepared is made
+pub record IsBound (before after : MapState) (pending : Option AttributeSet) (live : Handles) (new : Numbers) (links : List Link) (h : ℕ) : Type 0 where
+  pub set : AttributeSet
+  pub prepared : pending ≡ Some set
+  pub state : after ≡ bound_map set before
+  pub linked : AllByRecursion (IsLinked new) links
+  pub held : AreHeld after.table (handles_of new links)
+  pub handles : handles_of new links ≡ live ++ (h, bound_to set before) ∷ []
+
+module _ (old new : Numbers) (before after : MapState) (ps : List Link) (h n : ℕ) (linked : AllByRecursion (IsLinked old) ps) (held : AreHeld before.table (handles_of old ps))
+    (keep : KeepNumbers old new) (named : AreNamed new) (numbered : AreNumbered after.table.entries new) where
+  bound-set : (s : AttributeSet) → after ≡ bound_map s before → number_of (bound_to s before) new ≡ Some n → IsBound before after (Some s) (handles_of old ps) new (ps ++ (h, n) ∷ []) h
+  bound-set s is number = record {
+    set = s;
+    prepared = refl;
+    state = is;
+    linked = linked-push new ps (h, n) (linked-still old new named ps still) (ap (λ (x : AttributeSet). number_of x new) name ∙ number);
+    held = subst (AreHeld after.table) (sym handles)
+        (subst (λ (m : MapState). AreHeld m.table (handles_of old ps ++ (h, bound_to s before) ∷ [])) (sym is)
+        (held-taken placed (handles_of old ps) h (bound_to s before) there (held-placed before.limit before.empty s before.table (handles_of old ps) held)));
+    handles = handles;
+  }
+    where
+      placed : Table
+      placed = place before.limit before.empty s before.table
+
+      still : AllByRecursion (IsLinkedStill old new) ps
+      still = still-kept old new keep ps linked
+
+      name : set_named n new ≡ bound_to s before
+      name = named (bound_to s before) n number
+
+      handles : handles_of new (ps ++ (h, n) ∷ []) ≡ handles_of old ps ++ (h, bound_to s before) ∷ []
+      handles = map-append (handle_of new) ps ((h, n) ∷ []) ∙ (λ i. handles-still old new named ps still i ++ (h, name i) ∷ [])
+
+      there : is_placed (bound_to s before) placed.entries ≡ true
+      there =
+          ap (λ b. set_eq (bound_to s before) none_set || b) (sym (has-on take_handle (λ e. refl) (bound_to s before) (bound_to s before) placed.entries))
+          ∙ (ap (λ (m : MapState). is_placed (bound_to s before) m.table.entries) (sym is) ∙ (sym (numbered (bound_to s before)) ∙ ap is_some number))
+
+  pub bound-prepared : (pending : Option AttributeSet) (qs : List Link) → IsSome pending → ((s : AttributeSet) → pending ≡ Some s → after ≡ bound_map s before)
+      → ((s : AttributeSet) → pending ≡ Some s → number_of (bound_to s before) new ≡ Some n) → qs ≡ ps ++ (h, n) ∷ [] → IsBound before after pending (handles_of old ps) new qs h
+  bound-prepared None qs some is number added = absurd (true≢false (sym some))
+  bound-prepared (Some s) qs some is number added = subst (λ (rs : List Link). IsBound before after (Some s) (handles_of old ps) new rs h) (sym added) (bound-set s (is s refl) (number s refl))
+
+pub bind-made : {s old : HeldStream} → s ≡ old → (h : ℕ) (after : MapState) (new : Numbers) (links : List Link) (pending : Option AttributeSet) → s.room ≡ true → held_by h s.live ≡ None → pending ≡ None
+    → IsBound s.state.map_state after s.pending s.live new links h → record s { state = record s.state { map_state = after }; live = handles_of new links; pending = pending; room = false } ≡ stream_after_bind h old
+bind-made {s} {old} was h after new links pending room away spent made =
+    (λ i. record s { state = record s.state { map_state = made.state i }; live = made.handles i; pending = spent i; room = false })
+    ∙ sym (λ i. cond (room i && is_none (away i)) (bind_of (made.prepared i) h s) s)
+    ∙ ap (stream_after_bind h) was
+
+-- a bind that isn't made
+pub no_bind-room : (s : HeldStream) (h : ℕ) → s.room ≡ false → s ≡ stream_after_bind h s
+no_bind-room s h e = ap (λ b. cond (b && is_none (held_by h s.live)) (bind_of s.pending h s) s) (sym e)
+
+pub no_bind-prepared : (s : HeldStream) (h : ℕ) → is_some s.pending ≡ false → s ≡ stream_after_bind h s
+no_bind-prepared s h e = by (s.room && is_none (held_by h s.live)) s.pending e
+  where
+    by : (b : Bool) (o : Option AttributeSet) → is_some o ≡ false → s ≡ cond b (bind_of o h s) s
+    by true None e = refl
+    by true (Some g) e = absurd (true≢false e)
+    by false o e = refl
+
+pub no_bind-live : (s : HeldStream) (h : ℕ) → is_some (held_by h s.live) ≡ true → s ≡ stream_after_bind h s
+no_bind-live s h e = by s.room (held_by h s.live) e
+  where
+    by : (b : Bool) (o : Option AttributeSet) → is_some o ≡ true → s ≡ cond (b && is_none o) (bind_of s.pending h s) s
+    by true None e = absurd (true≢false (sym e))
+    by true (Some g) e = refl
+    by false o e = refl
+
+-- ======== a record of the empty set ========
+pub none-made : {s old : HeldStream} → s ≡ old → (v : Amount) (w : Sample) (after : MapState) (live : Handles) (pending : Option AttributeSet) → w ≡ sample_of s.state.aggregate v → after ≡ measured_map none_set w s.state.map_state → live ≡ s.live → pending ≡ None
+    → record s { state = record s.state { map_state = after }; live = live; pending = pending } ≡ record old { state = recorded_set none_set v old.state; pending = None }
+none-made {s} {old} was v w after live pending sampled is same spent =
+    (λ i. record s { state = record s.state { map_state = (is ∙ ap (λ x. measured_map none_set x s.state.map_state) sampled) i }; live = same i; pending = spent i })
+    ∙ ap (λ (x : HeldStream). record x { state = recorded_set none_set v x.state; pending = None }) was
+
+-- ======== a record through a handle, and its end ========
+-- a handle that isn't live
+without-none : (h : ℕ) (hs : Handles) → held_by h hs ≡ None → without h hs ≡ hs
+without-none h [] e = refl
+without-none h (p ∷ hs) e = by (p.0 == h) e (without-none h hs)
+  where
+    by : (b : Bool) → cond b (Some p.1) (held_by h hs) ≡ None → (held_by h hs ≡ None → without h hs ≡ hs) → cond b hs (p ∷ without h hs) ≡ p ∷ hs
+    by true e ih = absurd (cc)
+    by false e ih = ap (λ (rs : Handles). p ∷ rs) (ih e)
+
+pub update-made : {s old : HeldStream} → s ≡ old → (h : ℕ) (g : AttributeSet) (v : Amount) (w : Sample) (after : MapState) (live : Handles) (pending : Option AttributeSet) → held_by h s.live ≡ Some g → w ≡ sample_of s.state.aggregate v
+    → after ≡ updated_bound g w s.state.map_state → live ≡ s.live → pending ≡ None → record s { state = record s.state { map_state = after }; live = live; pending = pending } ≡ stream_after_update h v old
+update-made {s} {old} was h g v w after live pending found sampled is same spent =
+    (λ i. record s { state = record s.state { map_state = (is ∙ ap (λ x. updated_bound g x s.state.map_state) sampled) i }; live = same i; pending = spent i })
+    ∙ sym (λ i. record s { state = update_at (found i) v s.state; pending = None })
+    ∙ ap (stream_after_update h v) was
+
+pub update-none : {s old : HeldStream} → s ≡ old → (h : ℕ) (v : Amount) (after : MapState) (live : Handles) (pending : Option AttributeSet) → held_by h s.live ≡ None → after ≡ s.state.map_state → live ≡ s.live → pending ≡ None
+    → record s { state = record s.state { map_state = after }; live = live; pending = pending } ≡ stream_after_update h v old
+update-none {s} {old} was h v after live pending found is same spent =
+    (λ i. record s { state = record s.state { map_state = is i }; live = same i; pending = spent i })
+    ∙ sym (λ i. record s { state = update_at (found i) v s.state; pending = None })
+    ∙ ap (stream_after_update h v) was
+
+pub unbind-made : {s old : HeldStream} → s ≡ old → (h : ℕ) (g : AttributeSet) (after : MapState) (live : Handles) (pending : Option AttributeSet) → held_by h s.live ≡ Some g → after ≡ unbound_map g s.state.map_state → live ≡ without h s.live → pending ≡ None
+    → record s { state = record s.state { map_state = after }; live = live; pending = pending } ≡ stream_after_unbind h old
+unbind-made {s} {old} was h g after live pending found is same spent =
+    (λ i. record s { state = record s.state { map_state = is i }; live = same i; pending = spent i })
+    ∙ sym (λ i. record s { state = unbind_at (found i) s.state; live = without h s.live; pending = None })
+    ∙ ap (stream_after_unbind h) was
+
+pub unbind-none : {s old : HeldStream} → s ≡ old → (h : ℕ) (after : MapState) (live : Handles) (pending : Option AttributeSet) → held_by h s.live ≡ None → after ≡ s.state.map_state → live ≡ s.live → pending ≡ None
+    → record s { state = record s.state { map_state = after }; live = live; pending = pending } ≡ stream_after_unbind h old
+unbind-none {s} {old} was h after live pending found is same spent =
+    (λ i. record s { state = record s.state { map_state = is i }; live = (same ∙ sym (without-none h s.live found)) i; pending = spent i })
+    ∙ sym (λ i. record s { state = unbind_at (found i) s.state; live = without h s.live; pending = None })
+    ∙ ap (stream_after_unbind h) was

@@ -1,4 +1,0 @@
-pub mod HandleLemmas
-pub mod LinkLemmas
-pub mod PlaceLemmas
-pub mod StepLemmas
