@@ -1,7 +1,7 @@
 //! A stream of any aggregate and either number type.
 
 ghost use Rattle.std.specs.Bool.{beq};
-ghost use Rattle.std.specs.Prelude.{◌≡◌, [], true, false, cond, is_some, None, Some, IsTrue, OnOk, OnErr, IfOk, IsOk, IsOkUnless};
+ghost use Rattle.std.specs.Prelude.{◌≡◌, [], true, false, cond, None, Some, IsTrue, OnOk, OnErr, IfOk, IsOk, IsOkUnless};
 ghost use Rattle.otel_common.specs.Temporalities.{resets};
 ghost use Rattle.otel_model_stream.specs.Sets.{set_of};
 ghost use Rattle.otel_model_stream.specs.Folds.{Last, wrap};
@@ -143,13 +143,6 @@ impl AnyAggregate {
         ensures only_memory { IsOkUnless result Fault.OutOfMemory }
     {
         self.stream.prepare(attributes)
-    }
-
-    /// Whether a record is prepared.
-    pub fn is_prepared(&self) -> bool
-        ensures { result ≡ is_some self.now.pending }
-    {
-        self.stream.is_prepared()
     }
 
     /// Whether a value has the stream's number type.
