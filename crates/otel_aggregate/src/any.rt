@@ -36,12 +36,13 @@ fn reported_map(
     hasher: SetHashBuilder,
     settings: &AnySettings,
     limit: usize,
-) -> Result<Option<ValueMap<AnyAggregator>>, Fault>
+) -> Result<Option<Box<ValueMap<AnyAggregator>>>, Fault>
     ensures made { IfOk result (λ made. state_of made ≡ cond (drains_of settings.now) (Some (new_map limit (Last 0))) None) }
     ensures only_memory { IsOkUnless result Fault.OutOfMemory }
 {
     if settings.drains() {
-        Ok(Some(ValueMap::new(alloc, hasher, AnyConfig::LastValue, limit)?))
+        let map = ValueMap::new(alloc, hasher, AnyConfig::LastValue, limit)?;
+        Ok(Some(Box::new(alloc, map)?))
     } else {
         Ok(None)
     }
@@ -53,8 +54,9 @@ fn reported_map(
 /// swaps them, so that no value is copied to be kept.
 pub struct AnyAggregate {
     stream: Stream<AnyAggregator>,
-    /// What the last collection of observed sums reported; always empty in a stream that doesn't reset.
-    reported: Option<ValueMap<AnyAggregator>>,
+    /// What the last collection of observed sums reported; always empty in a stream that doesn't reset. Boxed, so that
+    /// other streams take less room.
+    reported: Option<Box<ValueMap<AnyAggregator>>>,
     is_signed: bool,
 }
 
