@@ -1,6 +1,7 @@
 -- What is kept of a set's records, whatever the aggregate.
-use Rattle.std.specs.Prelude.{ℕ, ℤ, pos, negsuc, ◌≤ℤ◌, ◌≡◌, Bool, true, false, cond, List, [], Option, None, Some}
+use Rattle.std.specs.Prelude.{ℕ, ℤ, pos, negsuc, ◌≤ℤ◌, ◌≡◌, Bool, true, false, cond, List, [], Option, None, Some, Box}
 use Rattle.std.specs.List.{AllByRecursion}
+use Rattle.std.specs.declared.alloc.Global.{Global}
 use Rattle.otel_data.specs.declared.aggregated.MetricData.{MetricData}
 use Rattle.otel_data.specs.declared.aggregated.MetricData.TheVariants as metric
 use Rattle.otel_model_stream.specs.Folds.{Fold, Total, Last, Spreads}
@@ -55,9 +56,9 @@ abbrev pub IsKeptStream : Bool → HeldStream → Type 0
 IsKeptStream is_signed s = IsKeptMap is_signed (form_of s.state.aggregate) s.state.map_state
 
 -- the state of a map of what was reported, if there is one
-abbrev pub state_of : Option Held → Option MapState
+abbrev pub state_of : Option (Box Held Global) → Option MapState
 state_of None = None
-state_of (Some m) = Some m.state
+state_of (Some m) = Some m.value.state
 
 -- the values in it
 abbrev pub reported_in : Option MapState → List Point

@@ -1,7 +1,7 @@
 //! A stream of any aggregate and either number type.
 
 ghost use Rattle.std.specs.Bool.{beq};
-ghost use Rattle.std.specs.Prelude.{◌≡◌, [], true, false, cond, is_some, None, Some, IsTrue, OnOk, OnErr, IfOk, IsOk, IsOkUnless};
+ghost use Rattle.std.specs.Prelude.{◌≡◌, [], true, false, cond, None, Some, IsTrue, OnOk, OnErr, IfOk, IsOk, IsOkUnless};
 ghost use Rattle.otel_common.specs.Temporalities.{resets};
 ghost use Rattle.otel_model_stream.specs.Sets.{set_of};
 ghost use Rattle.otel_model_stream.specs.Folds.{Last, wrap};
@@ -36,12 +36,13 @@ fn reported_map(
     hasher: SetHashBuilder,
     settings: &AnySettings,
     limit: usize,
-) -> Result<Option<ValueMap<AnyAggregator>>, Fault>
+) -> Result<Option<Box<ValueMap<AnyAggregator>>>, Fault>
     ensures made { IfOk result (λ made. state_of made ≡ cond (drains_of settings.now) (Some (new_map limit (Last 0))) None) }
     ensures only_memory { IsOkUnless result Fault.OutOfMemory }
 {
     if settings.drains() {
-        Ok(Some(ValueMap::new(alloc, hasher, AnyConfig::LastValue, limit)?))
+        let map = ValueMap::new(alloc, hasher, AnyConfig::LastValue, limit)?;
+        Ok(Some(Box::new(alloc, map)?))
     } else {
         Ok(None)
     }
@@ -53,8 +54,9 @@ fn reported_map(
 /// swaps them, so that no value is copied to be kept.
 pub struct AnyAggregate {
     stream: Stream<AnyAggregator>,
-    /// What the last collection of observed sums reported; always empty in a stream that doesn't reset.
-    reported: Option<ValueMap<AnyAggregator>>,
+    /// What the last collection of observed sums reported; always empty in a stream that doesn't reset. Boxed, so that
+    /// other streams take less room.
+    reported: Option<Box<ValueMap<AnyAggregator>>>,
     is_signed: bool,
 }
 
@@ -143,13 +145,6 @@ impl AnyAggregate {
         ensures only_memory { IsOkUnless result Fault.OutOfMemory }
     {
         self.stream.prepare(attributes)
-    }
-
-    /// Whether a record is prepared.
-    pub fn is_prepared(&self) -> bool
-        ensures { result ≡ is_some self.now.pending }
-    {
-        self.stream.is_prepared()
     }
 
     /// Whether a value has the stream's number type.
