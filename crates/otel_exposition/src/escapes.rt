@@ -5,11 +5,15 @@ ghost use Rattle.otel_exposition.specs.Samples.{escaped_byte, escaped, is_specia
 
 use std::alloc::AllocError;
 
-/// Whether the byte can't stand for itself in a value.
+/// Whether the byte can't stand for itself in a value. Most bytes are past the quote, and are asked one thing more.
+#[inline(always)]
 fn is_special(byte: u8) -> bool
     ensures { result ≡ is_special byte }
 {
-    byte == b'\\' || byte == b'"' || byte == b'\n'
+    if byte > b'"' {
+        return byte == b'\\';
+    }
+    byte == b'"' || byte == b'\n'
 }
 
 /// Splits a text at its first byte that can't stand for itself in a value; none if each byte can.
@@ -39,6 +43,7 @@ fn push_escaped_byte(out: &mut Vec<u8>, byte: u8) -> Result<(), AllocError>
 }
 
 /// Appends a value. What stands between two escapes is copied whole.
+#[inline(always)]
 pub(crate) fn push_escaped(out: &mut Vec<u8>, text: &[u8]) -> Result<(), AllocError>
     ensures { OnOk result (out.new.items ≡ out.old.items ++ escaped text.now) }
 {

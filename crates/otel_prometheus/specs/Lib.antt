@@ -7,6 +7,7 @@ pub mod Places
 pub mod Rising
 pub mod Points
 pub mod Series
+pub mod Texts
 pub mod Totals
 pub mod Units
 pub mod Values
