@@ -3,17 +3,15 @@
 ghost use Rattle.std.specs.Prelude.{◌≡◌, ◌++◌, MatchOption, OnOk};
 ghost use Rattle.otel_exposition.specs.Samples.{escaped_byte, escaped, is_special, IsSplit};
 
+use crate::plain::is_plain;
 use std::alloc::AllocError;
 
-/// Whether the byte can't stand for itself in a value. Most bytes are past the quote, and are asked one thing more.
+/// Whether the byte can't stand for itself in a value.
 #[inline(always)]
-fn is_special(byte: u8) -> bool
+pub(crate) fn is_special(byte: u8) -> bool
     ensures { result ≡ is_special byte }
 {
-    if byte > b'"' {
-        return byte == b'\\';
-    }
-    byte == b'"' || byte == b'\n'
+    byte == b'\\' || byte == b'"' || byte == b'\n'
 }
 
 /// Splits a text at its first byte that can't stand for itself in a value; none if each byte can.
@@ -43,8 +41,8 @@ fn push_escaped_byte(out: &mut Vec<u8>, byte: u8) -> Result<(), AllocError>
 }
 
 /// Appends a value. What stands between two escapes is copied whole.
-#[inline(always)]
-pub(crate) fn push_escaped(out: &mut Vec<u8>, text: &[u8]) -> Result<(), AllocError>
+#[inline(never)]
+fn push_runs(out: &mut Vec<u8>, text: &[u8]) -> Result<(), AllocError>
     ensures { OnOk result (out.new.items ≡ out.old.items ++ escaped text.now) }
 {
     let mut rest = text;
@@ -54,4 +52,15 @@ pub(crate) fn push_escaped(out: &mut Vec<u8>, text: &[u8]) -> Result<(), AllocEr
         rest = behind;
     }
     out.extend_from_slice(rest)
+}
+
+/// Appends a value. Most values need no escape, and are copied whole.
+#[inline(always)]
+pub(crate) fn push_escaped(out: &mut Vec<u8>, text: &[u8]) -> Result<(), AllocError>
+    ensures { OnOk result (out.new.items ≡ out.old.items ++ escaped text.now) }
+{
+    if is_plain(text) {
+        return out.extend_from_slice(text);
+    }
+    push_runs(out, text)
 }

@@ -12,4 +12,5 @@ pub mod labels;
 pub mod laws;
 pub mod names;
 pub mod numbers;
+mod plain;
 pub mod samples;
