@@ -54,9 +54,10 @@ fn push_runs(out: &mut Vec<u8>, text: &[u8]) -> Result<(), AllocError>
     out.extend_from_slice(rest)
 }
 
-/// Appends a value. Most values need no escape, and are copied whole.
+/// Appends a value, which may be any bytes, or a part of one. Most need no escape, and are copied whole. Refused only
+/// for want of memory.
 #[inline(always)]
-pub(crate) fn push_escaped(out: &mut Vec<u8>, text: &[u8]) -> Result<(), AllocError>
+pub fn push_escaped(out: &mut Vec<u8>, text: &[u8]) -> Result<(), AllocError>
     ensures { OnOk result (out.new.items ≡ out.old.items ++ escaped text.now) }
 {
     if is_plain(text) {

@@ -6,7 +6,7 @@
 #![tactic(auto)]
 
 pub mod comments;
-mod escapes;
+pub mod escapes;
 pub mod formats;
 pub mod labels;
 pub mod laws;

@@ -1,5 +1,6 @@
 pub mod Collections
 pub mod Families
+pub mod Fronts
 pub mod Headings
 pub mod Labels
 pub mod Laws

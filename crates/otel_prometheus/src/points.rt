@@ -144,8 +144,8 @@ impl<T: Number> Point for HistogramDataPoint<T> {
         let lines = texts.lines.len();
         spelling.push_labels(alloc, &mut texts.labels, settings, scope, attributes, true)?;
         push_histogram_point(
-            alloc,
             settings.format,
+            &mut texts.front,
             &mut texts.lines,
             heading.name.as_str(),
             &texts.labels[labels..],

@@ -65,12 +65,14 @@ pub(crate) struct Mark {
     lines: usize,
 }
 
-/// The samples of points: the spelled labels of all of them, the lines of all, and how many bytes those of each take.
+/// The samples of points: the spelled labels of all of them, the lines of all, and how many bytes those of each take;
+/// and memory for the front of the lines of a histogram's buckets.
 #[derive(Drop)]
 pub(crate) struct Texts {
     pub(crate) labels: Vec<u8>,
     pub(crate) lines: Vec<u8>,
     marks: Vec<Mark>,
+    pub(crate) front: Vec<u8>,
 }
 
 impl Model for Texts {
@@ -90,6 +92,7 @@ impl Texts {
             labels: Vec::new(alloc),
             lines: Vec::new(alloc),
             marks: Vec::new(alloc),
+            front: Vec::new(alloc),
         }
     }
 
