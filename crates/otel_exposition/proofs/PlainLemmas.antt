@@ -1,11 +1,11 @@
 -- From the masks of a vector to bytes that need no escape.
-use Rattle.std.proofs.Common.{◌≡◌, ℕ, zero, suc, ◌+◌, ◌-◌, ◌*◌, ◌%◌, ◌^◌, ◌<◌, ◌≤◌, ◌==◌, ◌||◌, ◌&&◌, Bool, true, false, cond, List, [], ◌∷◌, ◌++◌, length, map, replicate, get_or, w8, refl, sym, ap, ◌∙◌, arith}
-use Rattle.std.proofs.lemmas.Bool.{true≢false, eqb-true}
+use Rattle.std.proofs.Common.{◌≡◌, ℕ, suc, ◌+◌, ◌%◌, ◌^◌, ◌<◌, ◌≤◌, ◌==◌, ◌||◌, ◌&&◌, Bool, true, false, cond, List, [], ◌∷◌, ◌++◌, length, map, replicate, get_or, w8, refl, sym, ◌∙◌, arith}
+use Rattle.std.proofs.lemmas.Bool.{eqb-true}
 use Rattle.std.proofs.lemmas.Simd.{length-chunk, bitmask_splat, none_from_empty_mask}
 use Rattle.std.specs.Bool.{OnTrue}
 use lib.Lanes.{chunk, mask_l, zip2, top}
 use Rattle.otel_exposition.specs.Plain.{PlainBetween}
-use Rattle.otel_exposition.specs.Samples.{escaped_byte, escaped, is_special}
+use Rattle.otel_exposition.specs.Samples.{escaped_byte, escaped}
 use Rattle.otel_exposition.proofs.EscapeLemmas.{plain_byte}
 
 -- the mask of the bytes of a vector that are this one

@@ -1,14 +1,14 @@
 -- Series that are kept, and their text.
-use Rattle.std.proofs.Common.{◌≡◌, ℕ, ◌+◌, ◌%◌, ◌^◌, Bool, true, false, cond, List, [], ◌∷◌, ◌++◌, ◌-◌, flat_map, map, fold, take, drop, length, refl, sym, ap, ◌∙◌, append_assoc, append-nil, length-append, arith}
+use Rattle.std.proofs.Common.{◌≡◌, ℕ, ◌+◌, ◌%◌, ◌^◌, Bool, true, false, cond, List, [], ◌∷◌, ◌++◌, flat_map, map, fold, take, drop, length, refl, sym, ap, ◌∙◌, append_assoc, append-nil, arith}
 use Rattle.std.proofs.lemmas.Grind.{flat_map-append}
 use Rattle.otel_exposition.specs.Lines.{Line, sample, spelled, text_of}
-use Rattle.otel_exposition.specs.Samples.{Pair, Sample, labels_text, sample_text}
+use Rattle.otel_exposition.specs.Samples.{Sample, labels_text, sample_text}
 use Rattle.otel_exposition.specs.declared.formats.Format.{Format}
 use Rattle.otel_data.specs.declared.collections.ResourceMetrics.{ResourceMetrics}
 use Rattle.otel_prometheus.specs.Collections.{family_series, family_samples}
 use Rattle.otel_prometheus.specs.declared.headings.Heading.{Heading}
 use Rattle.otel_prometheus.specs.declared.settings.Settings.{Settings}
-use Rattle.otel_prometheus.specs.Texts.{Written, nothing_written, with_mark, with_series, pieces_from, pieces}
+use Rattle.otel_prometheus.specs.Texts.{Written, nothing_written, with_series, pieces_from, pieces}
 use Rattle.otel_prometheus.specs.declared.series.Mark.{Mark}
 use Rattle.otel_prometheus.specs.Series.{Series, is_seen, kept, doubled, samples_text, spelled_series, kept_text, doubled_texts}
 
@@ -83,16 +83,6 @@ each_piece (x ∷ xs) =
 -- the texts of series are those that were written
 pub all_pieces : (w : Written) (xs : List Series) → w ≡ fold with_series nothing_written xs → pieces w ≡ map spelled_series xs
 all_pieces w xs e = ap pieces (e ∙ written nothing_written xs) ∙ each_piece xs
-
-added : (a b : List ℕ) → length (a ++ b) - length a ≡ length b
-added a b = omega (arith, length-append a b)
-
--- a series whose labels and lines were appended
-pub series_ended : (w : Written) (x : Series) (labels lines : List ℕ) → labels ≡ w.labels ++ labels_text x.labels → lines ≡ w.lines ++ samples_text x.samples
-    → with_mark (record { labels = labels; lines = lines; marks = w.marks }) (length labels - length w.labels) (length lines - length w.lines) ≡ with_series w x
-series_ended w x labels lines e f =
-    (λ i. with_mark (record { labels = e i; lines = f i; marks = w.marks }) (length (e i) - length w.labels) (length (f i) - length w.lines))
-    ∙ (λ i. with_mark (record { labels = w.labels ++ labels_text x.labels; lines = w.lines ++ samples_text x.samples; marks = w.marks }) (added w.labels (labels_text x.labels) i) (added w.lines (samples_text x.samples) i))
 
 -- ======== families ========
 pub family_text : (s : Settings) (c : ResourceMetrics) (h : Heading) (found : Written) → found ≡ fold with_series nothing_written (family_series s c h) → kept_text [] (pieces found) ≡ text_of s.format (map sample (family_samples s c h))

@@ -1,4 +1,4 @@
-use Rattle.std.proofs.Common.{◌-◌, ◌≤◌, ◌+◌, length}
+use Rattle.std.proofs.Common.{◌-◌, ◌≤◌, length}
 use Rattle.otel_exposition.specs.Plain.{PlainBetween}
 use Rattle.otel_exposition.proofs.plain.plain_long.Given as goal
 

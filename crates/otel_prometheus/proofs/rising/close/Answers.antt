@@ -1,5 +1,5 @@
-use Rattle.std.proofs.Common.{◌++◌, [], ◌∷◌, slice_set, length, ap, subst, sym, ◌∙◌, rules}
-use Rattle.otel_prometheus.proofs.RisingLemmas.{no_braces, in_braces}
+use Rattle.std.proofs.Common.{◌++◌, [], ◌∷◌, slice_set, ap, sym, ◌∙◌, rules}
+use Rattle.otel_prometheus.proofs.RisingLemmas.{in_braces}
 use Rattle.otel_prometheus.proofs.rising.close.Goals as goal
 
 pub returns : goal.returns

@@ -1,4 +1,4 @@
-use Rattle.std.proofs.Common.{◌≡◌, [], ◌∷◌, ◌++◌, ap, ◌∙◌, codes, rules}
+use Rattle.std.proofs.Common.{[], ◌∷◌, ◌++◌, ap, ◌∙◌, codes, rules}
 use Rattle.otel_exposition.specs.Samples.{escaped, labels_text}
 use Rattle.otel_prometheus.proofs.BucketLemmas.{front_opened}
 use Rattle.otel_prometheus.proofs.samples.make_front.Goals as goal

@@ -1,4 +1,3 @@
-use Rattle.std.proofs.Common.{rules}
 use Rattle.otel_prometheus.proofs.TextLemmas.{text_left, count_left}
 use Rattle.otel_prometheus.proofs.series.push_all.Goals as goal
 
