@@ -1,5 +1,5 @@
 -- Labels with one more.
-use Rattle.std.proofs.Common.{◌≡◌, ℕ, List, [], ◌∷◌, ◌++◌, refl, ap, sym}
+use Rattle.std.proofs.Common.{◌≡◌, List, [], ◌∷◌, ◌++◌, refl, ap, sym}
 use Rattle.otel_exposition.specs.Samples.{Pair, label_text, more_labels_text, labels_text, with_last_text}
 
 more_with_last : (ls : List Pair) (m : Pair) → more_labels_text (ls ++ m ∷ []) ≡ 44 ∷ with_last_text ls m

@@ -1,5 +1,5 @@
 -- Numbers of 64 bits can be spelled.
-use Rattle.std.proofs.Common.{◌≡◌, ℕ, suc, ◌%◌, ◌-◌, ◌<◌, ◌^◌, ℤ, pos, negsuc, Bool, true, false, arith}
+use Rattle.std.proofs.Common.{ℕ, ℤ, pos, negsuc, arith}
 use Rattle.otel_exposition.specs.Samples.{IsNumber}
 use Rattle.otel_exposition.specs.Numbers.{unsigned, signed}
 

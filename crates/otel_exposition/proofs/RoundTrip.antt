@@ -1,5 +1,5 @@
 -- What is spelled is read again.
-use Rattle.std.proofs.Common.{◌≡◌, ℕ, ◌+◌, ◌<◌, ◌^◌, ℤ, pos, negsuc, zero, suc, Bool, true, false, cond, List, [], ◌∷◌, ◌++◌, length, refl, sym, ap, subst, ◌∙◌, append_assoc, append-nil, arith, rules, Option, Some, option_map, ◌||◌, ◌&&◌, ◌==◌, ⊎_elim, decimal, codes}
+use Rattle.std.proofs.Common.{◌≡◌, ℕ, ◌<◌, ◌^◌, ℤ, pos, negsuc, suc, Bool, true, false, cond, List, [], ◌∷◌, ◌++◌, length, refl, sym, ap, subst, ◌∙◌, append_assoc, append-nil, arith, rules, Some, option_map, ◌&&◌, ◌==◌, ⊎_elim, decimal, codes}
 use Rattle.std.specs.Fmt.{signed_decimal}
 use Rattle.std.specs.Char.{is_ascii_digit}
 use Rattle.std.specs.Str.{all_ascii_digits}
@@ -9,8 +9,8 @@ use Rattle.std.proofs.lemmas.Str.Parse.{IsNumeralModel, numerals_by_fold}
 use Rattle.otel_exposition.specs.Samples.{Pair, Sample, IsNumber, AreLabels, IsLabelName, IsMetricName, AreAll, escaped_byte, escaped, label_text, more_labels_text, labels_text, line_text, is_letter, is_label_byte, is_metric_letter, is_metric_byte}
 use Rattle.otel_exposition.specs.declared.formats.Format.{Format}
 use Rattle.otel_exposition.specs.declared.formats.Format.TheVariants.{Prometheus, OpenMetrics}
-use Rattle.otel_exposition.specs.Lines.{Line, help, kind, sample, finish, quote_text, help_byte, help_text, spelled, text_of, AreLines}
-use Rattle.otel_exposition.specs.Reading.{upto_space, unescaped, comment_line, Place, start, comment, name, label, equals, value, escape, closed, gap, number, bad, next, ended, after, read_from, read, is_integer, integer_of, number_after, negated}
+use Rattle.otel_exposition.specs.Lines.{Line, help, kind, sample, finish, help_byte, help_text, spelled, text_of, AreLines}
+use Rattle.otel_exposition.specs.Reading.{upto_space, unescaped, comment_line, start, comment, name, label, value, closed, gap, number, bad, after, read_from, read, is_integer, integer_of, number_after, negated}
 
 -- ======== tests ========
 chosen : {A : Type 0} (t : Bool) (x y : A) → t ≡ true → cond t x y ≡ x

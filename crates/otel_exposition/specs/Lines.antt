@@ -1,5 +1,5 @@
 -- Lines of an exposition, and how they are spelled.
-use Rattle.std.specs.Prelude.{◌≡◌, ℕ, ◌==◌, List, [], ◌∷◌, ◌++◌, cond, flat_map, codes}
+use Rattle.std.specs.Prelude.{ℕ, ◌==◌, List, [], ◌∷◌, ◌++◌, cond, flat_map, codes}
 use Rattle.otel_exposition.specs.declared.formats.Format.{Format}
 use Rattle.otel_exposition.specs.declared.formats.Format.TheVariants as formats
 use Rattle.otel_exposition.specs.Samples.{Sample, IsSample, sample_text, AreAll, IsMetricName, is_letter}

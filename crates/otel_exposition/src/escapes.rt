@@ -3,10 +3,12 @@
 ghost use Rattle.std.specs.Prelude.{◌≡◌, ◌++◌, MatchOption, OnOk};
 ghost use Rattle.otel_exposition.specs.Samples.{escaped_byte, escaped, is_special, IsSplit};
 
+use crate::plain::is_plain;
 use std::alloc::AllocError;
 
 /// Whether the byte can't stand for itself in a value.
-fn is_special(byte: u8) -> bool
+#[inline(always)]
+pub(crate) fn is_special(byte: u8) -> bool
     ensures { result ≡ is_special byte }
 {
     byte == b'\\' || byte == b'"' || byte == b'\n'
@@ -39,7 +41,8 @@ fn push_escaped_byte(out: &mut Vec<u8>, byte: u8) -> Result<(), AllocError>
 }
 
 /// Appends a value. What stands between two escapes is copied whole.
-pub(crate) fn push_escaped(out: &mut Vec<u8>, text: &[u8]) -> Result<(), AllocError>
+#[inline(never)]
+fn push_runs(out: &mut Vec<u8>, text: &[u8]) -> Result<(), AllocError>
     ensures { OnOk result (out.new.items ≡ out.old.items ++ escaped text.now) }
 {
     let mut rest = text;
@@ -49,4 +52,16 @@ pub(crate) fn push_escaped(out: &mut Vec<u8>, text: &[u8]) -> Result<(), AllocEr
         rest = behind;
     }
     out.extend_from_slice(rest)
+}
+
+/// Appends a value, which may be any bytes, or a part of one. Most need no escape, and are copied whole. Refused only
+/// for want of memory.
+#[inline(always)]
+pub fn push_escaped(out: &mut Vec<u8>, text: &[u8]) -> Result<(), AllocError>
+    ensures { OnOk result (out.new.items ≡ out.old.items ++ escaped text.now) }
+{
+    if is_plain(text) {
+        return out.extend_from_slice(text);
+    }
+    push_runs(out, text)
 }

@@ -2,7 +2,7 @@
 
 ghost use Rattle.std.specs.Prelude.{◌≡◌, ◌++◌, [], ◌∷◌, OnOk};
 ghost use Rattle.std.specs.String.{string_bytes};
-ghost use Rattle.otel_exposition.specs.Samples.{joined, label_text, labels_text};
+ghost use Rattle.otel_exposition.specs.Samples.{escaped, joined, label_text, labels_text};
 
 use crate::escapes::push_escaped;
 use std::alloc::AllocError;
@@ -55,14 +55,22 @@ impl Label {
     }
 }
 
+/// Appends a value of a label, which may be any bytes, and the quote behind it. Refused only for want of memory.
+#[inline(always)]
+pub fn push_value(out: &mut Vec<u8>, value: &[u8]) -> Result<(), AllocError>
+    ensures { OnOk result (out.new.items ≡ out.old.items ++ (escaped value.now ++ 34 ∷ [])) }
+{
+    push_escaped(out, value)?;
+    out.extend_from_slice(b"\"")
+}
+
 /// Appends a label of this name and this value, which may be any bytes. Refused only for want of memory.
 pub fn push_label(out: &mut Vec<u8>, name: &str, value: &[u8]) -> Result<(), AllocError>
     ensures { OnOk result (out.new.items ≡ out.old.items ++ label_text (name.now, value.now)) }
 {
     out.extend_from_slice(name.as_bytes())?;
     out.extend_from_slice(b"=\"")?;
-    push_escaped(out, value)?;
-    out.extend_from_slice(b"\"")
+    push_value(out, value)
 }
 
 /// Appends labels in braces, or nothing if there are none. Refused only for want of memory.

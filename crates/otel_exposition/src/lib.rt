@@ -6,10 +6,11 @@
 #![tactic(auto)]
 
 pub mod comments;
-mod escapes;
+pub mod escapes;
 pub mod formats;
 pub mod labels;
 pub mod laws;
 pub mod names;
 pub mod numbers;
+mod plain;
 pub mod samples;

@@ -5,6 +5,7 @@ pub mod LineLemmas
 pub mod PlaceLemmas
 pub mod RisingLemmas
 pub mod SeriesLemmas
+pub mod TextLemmas
 pub mod UnitLemmas
 pub mod Valid
 pub mod Whole

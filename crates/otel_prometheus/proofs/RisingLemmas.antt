@@ -11,9 +11,9 @@ use Rattle.std.proofs.lemmas.List.{take-append-drop, take-map, drop-map, length-
 use Rattle.otel_common.specs.declared.attributes.KeyValue.{KeyValue}
 use Rattle.otel_common.specs.declared.scopes.InstrumentationScope.{InstrumentationScope}
 use Rattle.otel_exposition.specs.Names.{name_of}
-use Rattle.otel_exposition.specs.Samples.{Pair, is_label_byte, label_text, more_labels_text, labels_text, line_text}
+use Rattle.otel_exposition.specs.Samples.{Pair, escaped, is_label_byte, label_text, more_labels_text, labels_text}
 use Rattle.otel_prometheus.specs.Labels.{own_name, placed, with_label, label_of, with_attributes, text_label, version_label, scope_labels, point_labels}
-use Rattle.otel_prometheus.specs.Rising.{name_in, rises, count_below, place_of_scope, comma_texts, named, front_texts, behind_comma}
+use Rattle.otel_prometheus.specs.Rising.{name_in, rises, count_below, place_of_scope, comma_texts, named, front_texts, value_front}
 use Rattle.otel_prometheus.specs.Values.{value_text}
 use Rattle.otel_prometheus.specs.declared.settings.Settings.{Settings}
 
@@ -246,24 +246,30 @@ spelled_around s has_bounds scope ps names count text e h k =
     ∙ ((λ i. comma_texts (named (take count (e i)) (take count ps)) ++ (comma_texts (scope_labels s scope) ++ comma_texts (named (drop count (e i)) (drop count ps))))
     ∙ around_scope s has_bounds scope ps count (subst (λ t. AroundScope t count) e (stands_around names count h)))
 
--- a comma in front of a name is one in front of its label
-commas_in_front : (names : List (List ℕ)) (ps : List KeyValue) → front_texts (map behind_comma names) ps ≡ comma_texts (named names ps)
+-- what stands in front of a value, with the value, is the label behind a comma
+one_front : (n v t : List ℕ) → (44 ∷ (n ++ 61 ∷ 34 ∷ [])) ++ ((v ++ 34 ∷ []) ++ t) ≡ 44 ∷ ((n ++ (61 ∷ 34 ∷ (v ++ 34 ∷ []))) ++ t)
+one_front n v t =
+    ap (λ x. 44 ∷ x) (append_assoc n (61 ∷ 34 ∷ []) ((v ++ 34 ∷ []) ++ t) ∙ sym (append_assoc n (61 ∷ 34 ∷ (v ++ 34 ∷ [])) t))
+
+commas_in_front : (names : List (List ℕ)) (ps : List KeyValue) → front_texts (map value_front names) ps ≡ comma_texts (named names ps)
 commas_in_front [] ps = refl
 commas_in_front (n ∷ names) [] = refl
-commas_in_front (n ∷ names) (a ∷ ps) = ap (λ t. 44 ∷ (label_text (n, value_text a.value) ++ t)) (commas_in_front names ps)
+commas_in_front (n ∷ names) (a ∷ ps) =
+    ap (λ t. value_front n ++ ((escaped (value_text a.value) ++ 34 ∷ []) ++ t)) (commas_in_front names ps)
+    ∙ one_front n (escaped (value_text a.value)) (comma_texts (named names ps))
 
 pub spelled_fronts : (s : Settings) (has_bounds : Bool) (scope : InstrumentationScope) (ps : List KeyValue) (fronts names : List (List ℕ)) (count : ℕ) (text : List ℕ)
-    → fronts ≡ map behind_comma names → names ≡ map (name_in has_bounds) ps → place_of_scope names ≡ Some count → text ≡ comma_texts (scope_labels s scope)
+    → fronts ≡ map value_front names → names ≡ map (name_in has_bounds) ps → place_of_scope names ≡ Some count → text ≡ comma_texts (scope_labels s scope)
     → front_texts (take count fronts) (take count ps) ++ (text ++ front_texts (drop count fronts) (drop count ps)) ≡ comma_texts (point_labels s has_bounds scope ps)
 spelled_fronts s has_bounds scope ps fronts names count text f e h k =
     let low : front_texts (take count fronts) (take count ps) ≡ comma_texts (named (take count names) (take count ps)) =
-    ap (λ t. front_texts (take count t) (take count ps)) f ∙ (ap (λ t. front_texts t (take count ps)) (take-map behind_comma count names) ∙ commas_in_front (take count names) (take count ps)) in
+    ap (λ t. front_texts (take count t) (take count ps)) f ∙ (ap (λ t. front_texts t (take count ps)) (take-map value_front count names) ∙ commas_in_front (take count names) (take count ps)) in
     let high : front_texts (drop count fronts) (drop count ps) ≡ comma_texts (named (drop count names) (drop count ps)) =
-    ap (λ t. front_texts (drop count t) (drop count ps)) f ∙ (ap (λ t. front_texts t (drop count ps)) (drop-map behind_comma count names) ∙ commas_in_front (drop count names) (drop count ps)) in
+    ap (λ t. front_texts (drop count t) (drop count ps)) f ∙ (ap (λ t. front_texts t (drop count ps)) (drop-map value_front count names) ∙ commas_in_front (drop count names) (drop count ps)) in
     (λ i. low i ++ (text ++ high i)) ∙ spelled_around s has_bounds scope ps names count text e h k
 
-pub fronts_within : (names fronts : List (List ℕ)) (count : ℕ) → fronts ≡ map behind_comma names → place_of_scope names ≡ Some count → count ≤ length fronts
-fronts_within names fronts count f e = subst (λ k. count ≤ k) (sym (ap length f ∙ length-map names behind_comma)) (place_within names count e)
+pub fronts_within : (names fronts : List (List ℕ)) (count : ℕ) → fronts ≡ map value_front names → place_of_scope names ≡ Some count → count ≤ length fronts
+fronts_within names fronts count f e = subst (λ k. count ≤ k) (sym (ap length f ∙ length-map names value_front)) (place_within names count e)
 
 names_of_keys : (has_bounds : Bool) (ps : List KeyValue) → map (λ key. own_name has_bounds (name_of is_label_byte key)) (map (λ a. a.key) ps) ≡ map (name_in has_bounds) ps
 names_of_keys has_bounds [] = refl
@@ -277,15 +283,22 @@ closing_brace : (ls : List Pair) → comma_texts ls ++ 125 ∷ [] ≡ more_label
 closing_brace [] = refl
 closing_brace (l ∷ ls) = ap (λ t. 44 ∷ t) (append_assoc (label_text l) (comma_texts ls) (125 ∷ []) ∙ ap (λ t. label_text l ++ t) (closing_brace ls))
 
-pub no_braces : (ls : List Pair) (text : List ℕ) → text ≡ comma_texts ls → length text ≡ 0 → text ≡ labels_text ls
-no_braces [] text e h = e
-no_braces (l ∷ ls) text e h = absurd (omega (arith, h, ap length e))
+pub no_braces : (ls : List Pair) (before text : List ℕ) → text ≡ before ++ comma_texts ls → length text ≤ length before → text ≡ before ++ labels_text ls
+no_braces [] before text e h = e
+no_braces (l ∷ ls) before text e h = absurd (omega (arith, h, ap length e, length-append before (comma_texts (l ∷ ls))))
 
-pub in_braces : (ls : List Pair) (text : List ℕ) → text ≡ comma_texts ls → 0 < length text → slice_set text 0 123 ++ 125 ∷ [] ≡ labels_text ls
-in_braces [] text e h = absurd (omega (arith, h, ap length e))
-in_braces (l ∷ ls) text e h =
-    ap (λ t. slice_set t 0 123 ++ 125 ∷ []) e
-    ∙ ap (λ t. 123 ∷ t) (append_assoc (label_text l) (comma_texts ls) (125 ∷ []) ∙ ap (λ t. label_text l ++ t) (closing_brace ls))
+set_behind : (before rest : List ℕ) (x y : ℕ) → slice_set (before ++ x ∷ rest) (length before) y ≡ before ++ y ∷ rest
+set_behind [] rest x y = refl
+set_behind (b ∷ before) rest x y = ap (λ t. b ∷ t) (set_behind before rest x y)
+
+pub in_braces : (ls : List Pair) (before text : List ℕ) → text ≡ before ++ comma_texts ls → length before < length text → slice_set text (length before) 123 ++ 125 ∷ [] ≡ before ++ labels_text ls
+in_braces [] before text e h = absurd (omega (arith, h, ap length (e ∙ append-nil before)))
+in_braces (l ∷ ls) before text e h =
+    let rest : List ℕ = label_text l ++ comma_texts ls in
+    ap (λ t. slice_set t (length before) 123 ++ 125 ∷ []) e
+    ∙ (ap (λ t. t ++ 125 ∷ []) (set_behind before rest 44 123)
+    ∙ (append_assoc before (123 ∷ rest) (125 ∷ [])
+    ∙ ap (λ t. before ++ 123 ∷ t) (append_assoc (label_text l) (comma_texts ls) (125 ∷ []) ∙ ap (λ t. label_text l ++ t) (closing_brace ls))))
 
 -- ======== one more label ========
 more_with_more : (ls : List Pair) (m : Pair) → more_labels_text (ls ++ m ∷ []) ≡ comma_texts ls ++ 44 ∷ (label_text m ++ 125 ∷ [])
@@ -327,19 +340,3 @@ pushed_open ls m text front b old mid new e f g h =
     ∙ (ap (λ t. t ++ rest) (append_assoc old front (44 ∷ []))
     ∙ (append_assoc old (front ++ 44 ∷ []) rest
     ∙ ap (λ t. old ++ t) (opened ls m text front b e f)))
-
--- the line of a bucket
-bucket_line : (old name end opened label labels digits : List ℕ) → opened ++ (label ++ 125 ∷ []) ≡ ((old ++ name) ++ end) ++ labels
-    → (((opened ++ label) ++ 125 ∷ 32 ∷ []) ++ digits) ++ 10 ∷ [] ≡ old ++ line_text (name ++ end) labels digits
-bucket_line old name end opened label labels digits e =
-    let rest : List ℕ = 32 ∷ (digits ++ 10 ∷ []) in
-    let left : (((opened ++ label) ++ 125 ∷ 32 ∷ []) ++ digits) ++ 10 ∷ [] ≡ (opened ++ (label ++ 125 ∷ [])) ++ rest = simp append_assoc in
-    let right : (((old ++ name) ++ end) ++ labels) ++ rest ≡ old ++ ((name ++ end) ++ (labels ++ rest)) = simp append_assoc in
-    left ∙ (ap (λ t. t ++ rest) e ∙ right)
-
-pub bucket_pushed : (old name label labels digits n e o l b d new : List ℕ) → n ≡ old ++ name → e ≡ n ++ codes "_bucket" → o ++ (label ++ 125 ∷ []) ≡ e ++ labels → l ≡ o ++ label → b ≡ l ++ 125 ∷ 32 ∷ []
-    → d ≡ b ++ digits → new ≡ d ++ 10 ∷ [] → new ≡ old ++ line_text (name ++ codes "_bucket") labels digits
-bucket_pushed old name label labels digits n e o l b d new f g h k p q r =
-    r
-    ∙ (ap (λ t. t ++ 10 ∷ []) (q ∙ ap (λ t. t ++ digits) (p ∙ ap (λ t. t ++ 125 ∷ 32 ∷ []) k))
-    ∙ bucket_line old name (codes "_bucket") o label labels digits (h ∙ ap (λ t. t ++ labels) (g ∙ ap (λ t. t ++ codes "_bucket") f)))

@@ -1,13 +1,15 @@
 -- Series that are kept, and their text.
-use Rattle.std.proofs.Common.{◌≡◌, ℕ, ◌+◌, ◌%◌, ◌^◌, Bool, true, false, cond, List, [], ◌∷◌, ◌++◌, flat_map, map, refl, sym, ap, ◌∙◌, arith}
+use Rattle.std.proofs.Common.{◌≡◌, ℕ, ◌+◌, ◌%◌, ◌^◌, Bool, true, false, cond, List, [], ◌∷◌, ◌++◌, flat_map, map, fold, take, drop, length, refl, sym, ap, ◌∙◌, append_assoc, append-nil, arith}
 use Rattle.std.proofs.lemmas.Grind.{flat_map-append}
 use Rattle.otel_exposition.specs.Lines.{Line, sample, spelled, text_of}
-use Rattle.otel_exposition.specs.Samples.{Pair, Sample, labels_text, sample_text}
+use Rattle.otel_exposition.specs.Samples.{Sample, labels_text, sample_text}
 use Rattle.otel_exposition.specs.declared.formats.Format.{Format}
 use Rattle.otel_data.specs.declared.collections.ResourceMetrics.{ResourceMetrics}
 use Rattle.otel_prometheus.specs.Collections.{family_series, family_samples}
 use Rattle.otel_prometheus.specs.declared.headings.Heading.{Heading}
 use Rattle.otel_prometheus.specs.declared.settings.Settings.{Settings}
+use Rattle.otel_prometheus.specs.Texts.{Written, nothing_written, with_series, pieces_from, pieces}
+use Rattle.otel_prometheus.specs.declared.series.Mark.{Mark}
 use Rattle.otel_prometheus.specs.Series.{Series, is_seen, kept, doubled, samples_text, spelled_series, kept_text, doubled_texts}
 
 one_more : (is_doubled : Bool) (x : Series) (a b : List Series) (u v : List ℕ) → u ≡ samples_text (flat_map (λ x. x.samples) a) → v ≡ samples_text (flat_map (λ x. x.samples) b)
@@ -42,16 +44,53 @@ text_of_append f a b = flat_map-append (spelled f) a b
 pub samples_text_append : (a b : List Sample) → samples_text (a ++ b) ≡ samples_text a ++ samples_text b
 samples_text_append a b = flat_map-append sample_text a b
 
-pub map_spelled_append : (a b : List Series) → map spelled_series (a ++ b) ≡ map spelled_series a ++ map spelled_series b
-map_spelled_append [] b = refl
-map_spelled_append (x ∷ a) b = ap (λ t. spelled_series x ∷ t) (map_spelled_append a b)
+-- ======== texts ========
+take_front : (a b : List ℕ) → take (length a) (a ++ b) ≡ a
+take_front [] b = refl
+take_front (x ∷ a) b = ap (λ t. x ∷ t) (take_front a b)
+
+drop_front : (a b : List ℕ) → drop (length a) (a ++ b) ≡ b
+drop_front [] b = refl
+drop_front (x ∷ a) b = drop_front a b
+
+abbrev mark_of : Series → Mark
+mark_of x = record { labels = length (labels_text x.labels); lines = length (samples_text x.samples) }
+
+abbrev all_labels : List Series → List ℕ
+all_labels xs = flat_map (λ x. labels_text x.labels) xs
+
+abbrev all_lines : List Series → List ℕ
+all_lines xs = flat_map (λ x. samples_text x.samples) xs
+
+written : (w : Written) (xs : List Series) → fold with_series w xs ≡ record { labels = w.labels ++ all_labels xs; lines = w.lines ++ all_lines xs; marks = w.marks ++ map mark_of xs }
+written w [] = λ i. record { labels = sym (append-nil w.labels) i; lines = sym (append-nil w.lines) i; marks = sym (append-nil w.marks) i }
+written w (x ∷ xs) =
+    written (with_series w x) xs
+    ∙ (λ i. record {
+      labels = append_assoc w.labels (labels_text x.labels) (all_labels xs) i;
+      lines = append_assoc w.lines (samples_text x.samples) (all_lines xs) i;
+      marks = append_assoc w.marks (mark_of x ∷ []) (map mark_of xs) i;
+    })
+
+each_piece : (xs : List Series) → pieces_from (all_labels xs) (all_lines xs) (map mark_of xs) ≡ map spelled_series xs
+each_piece [] = refl
+each_piece (x ∷ xs) =
+    let l : List ℕ = labels_text x.labels in
+    let m : List ℕ = samples_text x.samples in
+    (λ i. (take_front l (all_labels xs) i, take_front m (all_lines xs) i) ∷ pieces_from (drop_front l (all_labels xs) i) (drop_front m (all_lines xs) i) (map mark_of xs))
+    ∙ ap (λ t. spelled_series x ∷ t) (each_piece xs)
+
+-- the texts of series are those that were written
+pub all_pieces : (w : Written) (xs : List Series) → w ≡ fold with_series nothing_written xs → pieces w ≡ map spelled_series xs
+all_pieces w xs e = ap pieces (e ∙ written nothing_written xs) ∙ each_piece xs
 
 -- ======== families ========
-pub family_text : (s : Settings) (c : ResourceMetrics) (h : Heading) (found : List Pair) → found ≡ map spelled_series (family_series s c h) → kept_text [] found ≡ text_of s.format (map sample (family_samples s c h))
-family_text s c h found e = ap (λ t. kept_text [] t) e ∙ (kept_spelled [] (family_series s c h) ∙ sym (text_of_samples s.format (family_samples s c h)))
+pub family_text : (s : Settings) (c : ResourceMetrics) (h : Heading) (found : Written) → found ≡ fold with_series nothing_written (family_series s c h) → kept_text [] (pieces found) ≡ text_of s.format (map sample (family_samples s c h))
+family_text s c h found e =
+    ap (λ t. kept_text [] t) (all_pieces found (family_series s c h) e) ∙ (kept_spelled [] (family_series s c h) ∙ sym (text_of_samples s.format (family_samples s c h)))
 
-pub family_doubled : (s : Settings) (c : ResourceMetrics) (h : Heading) (found : List Pair) → found ≡ map spelled_series (family_series s c h) → doubled_texts [] found ≡ doubled [] (family_series s c h)
-family_doubled s c h found e = ap (λ t. doubled_texts [] t) e ∙ doubled_spelled [] (family_series s c h)
+pub family_doubled : (s : Settings) (c : ResourceMetrics) (h : Heading) (found : Written) → found ≡ fold with_series nothing_written (family_series s c h) → doubled_texts [] (pieces found) ≡ doubled [] (family_series s c h)
+family_doubled s c h found e = ap (λ t. doubled_texts [] t) (all_pieces found (family_series s c h) e) ∙ doubled_spelled [] (family_series s c h)
 
 -- ======== counts modulo 2^64 ========
 pub counted : (count n rest whole : ℕ) → (count + (n + rest)) % 2 ^ 64 ≡ whole → ((count + n) % 2 ^ 64 + rest) % 2 ^ 64 ≡ whole

@@ -1,5 +1,6 @@
 pub mod Collections
 pub mod Families
+pub mod Fronts
 pub mod Headings
 pub mod Labels
 pub mod Laws
@@ -7,6 +8,7 @@ pub mod Places
 pub mod Rising
 pub mod Points
 pub mod Series
+pub mod Texts
 pub mod Totals
 pub mod Units
 pub mod Values

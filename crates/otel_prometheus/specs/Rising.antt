@@ -1,10 +1,10 @@
 -- Labels that stand as their attributes do, since the names of both rise.
-use Rattle.std.specs.Prelude.{ℕ, ◌+◌, ◌&&◌, List, [], ◌∷◌, Bool, true, cond, Option, Some, None, take, drop, codes, flat_map}
+use Rattle.std.specs.Prelude.{ℕ, ◌+◌, ◌&&◌, List, [], ◌∷◌, ◌++◌, Bool, true, cond, Option, Some, None, take, drop, codes, flat_map}
 use Rattle.std.specs.Cmp.Lexicographic.{slice_cmp}
 use Rattle.std.specs.Ordering.{nat_cmp, is_lt}
 use Rattle.otel_common.specs.declared.attributes.KeyValue.{KeyValue}
 use Rattle.otel_exposition.specs.Names.{name_of}
-use Rattle.otel_exposition.specs.Samples.{Pair, is_label_byte, label_text}
+use Rattle.otel_exposition.specs.Samples.{Pair, escaped, is_label_byte, label_text}
 use Rattle.otel_prometheus.specs.Labels.{own_name}
 use Rattle.otel_prometheus.specs.Values.{value_text}
 
@@ -40,10 +40,12 @@ named [] ps = []
 named (n ∷ ns) [] = []
 named (n ∷ ns) (a ∷ ps) = (n, value_text a.value) ∷ named ns ps
 
--- labels whose names are behind commas, with the values of attributes
-abbrev pub front_texts : List (List ℕ) → List KeyValue → List ℕ
-front_texts fronts ps = flat_map label_text (named fronts ps)
+-- what stands in front of the value of a label of this name, behind a comma
+abbrev pub value_front : List ℕ → List ℕ
+value_front name = 44 ∷ (name ++ 61 ∷ 34 ∷ [])
 
--- a name behind a comma
-abbrev pub behind_comma : List ℕ → List ℕ
-behind_comma name = 44 ∷ name
+-- labels, of which these are what stands in front of their values, with the values of attributes
+abbrev pub front_texts : List (List ℕ) → List KeyValue → List ℕ
+front_texts [] ps = []
+front_texts (f ∷ fs) [] = []
+front_texts (f ∷ fs) (a ∷ ps) = f ++ ((escaped (value_text a.value) ++ 34 ∷ []) ++ front_texts fs ps)

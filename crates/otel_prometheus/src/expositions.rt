@@ -1,20 +1,21 @@
 //! Expositions: the text of a whole collection.
 
-ghost use Rattle.std.specs.Prelude.{◌≡◌, ◌++◌, ◌%◌, ◌^◌, [], false, Some, OnOk, IfOk, map, flat_map};
+ghost use Rattle.std.specs.Prelude.{◌≡◌, ◌++◌, ◌%◌, ◌^◌, [], false, Some, OnOk, IfOk, map, flat_map, fold};
 ghost use Rattle.otel_exposition.specs.Lines.{sample, spelled, text_of};
 ghost use Rattle.otel_exposition.specs.Reading.{read};
 ghost use Rattle.otel_prometheus.specs.Collections.{metric_series, scope_series, family_series, kind_word, kind_end, help_lines, front_lines, family_samples, family_lines, target_kind, target_lines, end_lines, lines_of, doubled_points, left_out_of};
 ghost use Rattle.otel_prometheus.specs.Totals.{total};
 ghost use Rattle.otel_prometheus.specs.Families.{families};
 ghost use Rattle.otel_prometheus.specs.Labels.{with_attributes};
-ghost use Rattle.otel_prometheus.specs.Series.{spelled_series, doubled};
+ghost use Rattle.otel_prometheus.specs.Series.{doubled};
+ghost use Rattle.otel_prometheus.specs.Texts.{nothing_written, with_series};
 
 use crate::families::{Family, conflicting_points, delta_points, families};
 use crate::headings::{Heading, Kind, heading_of, is_same_heading};
 use crate::labels::add_resource;
 use crate::laws::says_lines;
 use crate::points::add_content;
-use crate::series::{Series, push_all};
+use crate::series::{Texts, push_all};
 use crate::settings::Settings;
 use otel_common::resource::Resource;
 use otel_common::scopes::InstrumentationScope;
@@ -52,9 +53,9 @@ fn add_metric(
     heading: &Heading,
     scope: &InstrumentationScope,
     metric: &Metric,
-    out: &mut Vec<Series>,
+    texts: &mut Texts,
 ) -> Result<(), AllocError>
-    ensures { OnOk result (out.new.items ≡ out.old.items ++ map spelled_series (metric_series settings heading.now scope.now metric.now)) }
+    ensures { OnOk result (texts.new ≡ fold with_series texts.old (metric_series settings heading.now scope.now metric.now)) }
 {
     let Some(own) = heading_of(alloc, metric)? else {
         return Ok(());
@@ -62,38 +63,36 @@ fn add_metric(
     if !is_same_heading(heading, &own) {
         return Ok(());
     }
-    add_content(alloc, settings, scope, heading, metric.data(), out)
+    add_content(alloc, settings, scope, heading, metric.data(), texts)
 }
 
 /// Adds a series for each point of those metrics of a scope that belong to the family.
-#[tactic(auto, using(crate::proofs::SeriesLemmas::map_spelled_append))]
 fn add_scope(
     alloc: Global,
     settings: Settings,
     heading: &Heading,
     scope: &InstrumentationScope,
     metrics: &[Metric],
-    out: &mut Vec<Series>,
+    texts: &mut Texts,
 ) -> Result<(), AllocError>
-    ensures { OnOk result (out.new.items ≡ out.old.items ++ map spelled_series (flat_map (metric_series settings heading.now scope.now) metrics.now)) }
+    ensures { OnOk result (texts.new ≡ fold with_series texts.old (flat_map (metric_series settings heading.now scope.now) metrics.now)) }
 {
     for metric in metrics {
-        add_metric(alloc, settings, heading, scope, metric, out)?;
+        add_metric(alloc, settings, heading, scope, metric, texts)?;
     }
     Ok(())
 }
 
-/// Returns a series for each point of each metric of the family.
-#[tactic(auto, using(crate::proofs::SeriesLemmas::map_spelled_append))]
+/// Returns the texts of a series for each point of each metric of the family.
 fn family_series(
     alloc: Global,
     settings: Settings,
     scopes: &[ScopeMetrics],
     heading: &Heading,
-) -> Result<Vec<Series>, AllocError>
-    ensures { IfOk result (λ found. found.items ≡ map spelled_series (flat_map (scope_series settings heading.now) scopes.now)) }
+) -> Result<Texts, AllocError>
+    ensures { IfOk result (λ found. found ≡ fold with_series nothing_written (flat_map (scope_series settings heading.now) scopes.now)) }
 {
-    let mut found = Vec::new(alloc);
+    let mut found = Texts::new(alloc);
     for one in scopes {
         let metrics = one.metrics().as_slice();
         add_scope(alloc, settings, heading, one.scope(), metrics, &mut found)?;
@@ -169,8 +168,8 @@ fn push_samples(
     ensures doubled { IfOk result (λ count. count ≡ doubled [] (family_series settings collected.now heading.now) % 2 ^ 64) }
 {
     let scopes = collected.scope_metrics().as_slice();
-    let series = family_series(alloc, settings, scopes, heading)?;
-    let count = push_all(alloc, out, series)?;
+    let texts = family_series(alloc, settings, scopes, heading)?;
+    let count = push_all(alloc, out, &texts)?;
     Ok(count)
 }
 

@@ -1,18 +1,19 @@
 //! Points as series of samples.
 
-ghost use Rattle.std.specs.Prelude.{◌≡◌, ◌++◌, Bool, OnOk, IfOk, [], ◌∷◌, map};
+ghost use Rattle.std.specs.Prelude.{◌≡◌, ◌++◌, Bool, OnOk, map, fold};
 ghost use Rattle.otel_common.specs.declared.scopes.InstrumentationScope.{InstrumentationScope};
 ghost use Rattle.otel_prometheus.specs.Points.{number_series, gauge_series, sum_series, histogram_series, data_series, content_series};
 ghost use Rattle.otel_prometheus.specs.Labels.{scope_labels};
 ghost use Rattle.otel_prometheus.specs.Rising.{comma_texts};
-ghost use Rattle.otel_prometheus.specs.Series.{Series, spelled_series};
+ghost use Rattle.otel_prometheus.specs.Series.{Series};
+ghost use Rattle.otel_prometheus.specs.Texts.{with_series};
 ghost use Rattle.otel_prometheus.specs.declared.headings.Heading.{Heading};
 ghost use Rattle.otel_prometheus.specs.declared.settings.Settings.{Settings};
 
 use crate::headings::Heading;
 use crate::rising::Spelling;
 use crate::samples::{push_histogram_point, value_end};
-use crate::series::Series;
+use crate::series::Texts;
 use crate::settings::Settings;
 use otel_common::attributes::KeyValue;
 use otel_common::scopes::InstrumentationScope;
@@ -22,24 +23,8 @@ use otel_exposition::numbers::Number;
 use otel_exposition::samples::push_line;
 use std::alloc::{AllocError, Global};
 
-/// How many bytes the labels of most points take.
-const LABELS: usize = 128;
-
-/// How many bytes the rest of a line takes for most points.
-const BESIDE_LABELS: usize = 64;
-
-/// Adds a series at the end.
-fn push(out: &mut Vec<Series>, series: Series) -> Result<(), AllocError>
-    ensures { OnOk result (out.new.items ≡ out.old.items ++ series ∷ []) }
-{
-    match out.push(series) {
-        Ok(()) => Ok(()),
-        Err(_) => Err(AllocError),
-    }
-}
-
-/// Returns the series of a point that has one value.
-fn number_series<T: Number>(
+/// Adds the series of a point that has one value.
+fn push_number<T: Number>(
     alloc: Global,
     settings: Settings,
     scope: &InstrumentationScope,
@@ -47,22 +32,23 @@ fn number_series<T: Number>(
     spelling: &mut Spelling,
     attributes: &[KeyValue],
     value: T,
-) -> Result<Series, AllocError>
+    texts: &mut Texts,
+) -> Result<(), AllocError>
     requires { spelling.old.scope_text.items ≡ comma_texts (scope_labels settings scope.now) }
-    ensures series { IfOk result (λ series. series ≡ spelled_series (number_series T.integer settings scope.now heading.now attributes.now value)) }
+    ensures series { OnOk result (texts.new ≡ with_series texts.old (number_series T.integer settings scope.now heading.now attributes.now value)) }
     ensures of_scope { spelling.new.scope_text.items ≡ spelling.old.scope_text.items }
 {
-    let mut key = Vec::with_capacity(alloc, LABELS)?;
-    spelling.push_labels(alloc, &mut key, settings, scope, attributes, false)?;
-    let mut lines = Vec::with_capacity(alloc, key.len().saturating_add(BESIDE_LABELS))?;
+    let labels = texts.labels.len();
+    let lines = texts.lines.len();
+    spelling.push_labels(alloc, &mut texts.labels, settings, scope, attributes, false)?;
     push_line(
-        &mut lines,
+        &mut texts.lines,
         heading.name.as_str(),
         value_end(heading.kind),
-        key.as_slice(),
+        &texts.labels[labels..],
         value,
     )?;
-    Ok(Series::new(key, lines))
+    texts.end_series(labels, lines)
 }
 
 /// A point that can be shown.
@@ -70,8 +56,8 @@ trait Point {
     /// The series of the point; of a histogram it has a sum only if the test says so.
     ghost series: { Settings → Bool → InstrumentationScope → Heading → Self → Series };
 
-    /// Returns the series of the point.
-    fn series(
+    /// Adds the series of the point.
+    fn push_to(
         &self,
         alloc: Global,
         settings: Settings,
@@ -79,16 +65,17 @@ trait Point {
         heading: &Heading,
         spelling: &mut Spelling,
         has_sum: bool,
-    ) -> Result<Series, AllocError>
+        texts: &mut Texts,
+    ) -> Result<(), AllocError>
         requires { spelling.old.scope_text.items ≡ comma_texts (scope_labels settings scope.now) }
-        ensures series { IfOk result (λ made. made ≡ spelled_series (series settings has_sum scope.now heading.now self.now)) }
+        ensures series { OnOk result (texts.new ≡ with_series texts.old (series settings has_sum scope.now heading.now self.now)) }
         ensures of_scope { spelling.new.scope_text.items ≡ spelling.old.scope_text.items };
 }
 
 impl<T: Number> Point for GaugeDataPoint<T> {
     ghost series = { λ s has_sum scope h p. gauge_series T.integer s scope h p };
 
-    fn series(
+    fn push_to(
         &self,
         alloc: Global,
         settings: Settings,
@@ -96,9 +83,10 @@ impl<T: Number> Point for GaugeDataPoint<T> {
         heading: &Heading,
         spelling: &mut Spelling,
         _has_sum: bool,
-    ) -> Result<Series, AllocError> {
+        texts: &mut Texts,
+    ) -> Result<(), AllocError> {
         let attributes = self.attributes().as_slice();
-        number_series(
+        push_number(
             alloc,
             settings,
             scope,
@@ -106,6 +94,7 @@ impl<T: Number> Point for GaugeDataPoint<T> {
             spelling,
             attributes,
             self.value(),
+            texts,
         )
     }
 }
@@ -113,7 +102,7 @@ impl<T: Number> Point for GaugeDataPoint<T> {
 impl<T: Number> Point for SumDataPoint<T> {
     ghost series = { λ s has_sum scope h p. sum_series T.integer s scope h p };
 
-    fn series(
+    fn push_to(
         &self,
         alloc: Global,
         settings: Settings,
@@ -121,9 +110,10 @@ impl<T: Number> Point for SumDataPoint<T> {
         heading: &Heading,
         spelling: &mut Spelling,
         _has_sum: bool,
-    ) -> Result<Series, AllocError> {
+        texts: &mut Texts,
+    ) -> Result<(), AllocError> {
         let attributes = self.attributes().as_slice();
-        number_series(
+        push_number(
             alloc,
             settings,
             scope,
@@ -131,6 +121,7 @@ impl<T: Number> Point for SumDataPoint<T> {
             spelling,
             attributes,
             self.value(),
+            texts,
         )
     }
 }
@@ -138,7 +129,7 @@ impl<T: Number> Point for SumDataPoint<T> {
 impl<T: Number> Point for HistogramDataPoint<T> {
     ghost series = { λ s has_sum scope h p. histogram_series T.integer s has_sum scope h p };
 
-    fn series(
+    fn push_to(
         &self,
         alloc: Global,
         settings: Settings,
@@ -146,21 +137,22 @@ impl<T: Number> Point for HistogramDataPoint<T> {
         heading: &Heading,
         spelling: &mut Spelling,
         has_sum: bool,
-    ) -> Result<Series, AllocError> {
+        texts: &mut Texts,
+    ) -> Result<(), AllocError> {
         let attributes = self.attributes().as_slice();
-        let mut key = Vec::with_capacity(alloc, LABELS)?;
-        spelling.push_labels(alloc, &mut key, settings, scope, attributes, true)?;
-        let mut lines = Vec::new(alloc);
+        let labels = texts.labels.len();
+        let lines = texts.lines.len();
+        spelling.push_labels(alloc, &mut texts.labels, settings, scope, attributes, true)?;
         push_histogram_point(
-            alloc,
             settings.format,
-            &mut lines,
+            &mut texts.front,
+            &mut texts.lines,
             heading.name.as_str(),
-            key.as_slice(),
+            &texts.labels[labels..],
             self,
             has_sum,
         )?;
-        Ok(Series::new(key, lines))
+        texts.end_series(labels, lines)
     }
 }
 
@@ -172,14 +164,22 @@ fn add_each<P: Point>(
     heading: &Heading,
     points: &[P],
     has_sum: bool,
-    out: &mut Vec<Series>,
+    texts: &mut Texts,
 ) -> Result<(), AllocError>
-    ensures { OnOk result (out.new.items ≡ out.old.items ++ map spelled_series (map (P.series settings has_sum scope.now heading.now) points.now)) }
+    ensures { OnOk result (texts.new ≡ fold with_series texts.old (map (P.series settings has_sum scope.now heading.now) points.now)) }
 {
     let mut spelling = Spelling::of_scope(alloc, settings, scope)?;
+    texts.reserve(points.len())?;
     for point in points {
-        let series = point.series(alloc, settings, scope, heading, &mut spelling, has_sum)?;
-        push(out, series)?;
+        point.push_to(
+            alloc,
+            settings,
+            scope,
+            heading,
+            &mut spelling,
+            has_sum,
+            texts,
+        )?;
     }
     Ok(())
 }
@@ -192,22 +192,22 @@ fn add_points<T: Number>(
     heading: &Heading,
     points: &MetricData<T>,
     has_sum: bool,
-    out: &mut Vec<Series>,
+    texts: &mut Texts,
 ) -> Result<(), AllocError>
-    ensures { OnOk result (out.new.items ≡ out.old.items ++ map spelled_series (data_series T.integer settings has_sum scope.now heading.now points.now)) }
+    ensures { OnOk result (texts.new ≡ fold with_series texts.old (data_series T.integer settings has_sum scope.now heading.now points.now)) }
 {
     match points {
         MetricData::Gauge(gauge) => {
             let points = gauge.data_points().as_slice();
-            add_each(alloc, settings, scope, heading, points, has_sum, out)
+            add_each(alloc, settings, scope, heading, points, has_sum, texts)
         }
         MetricData::Sum(sum) => {
             let points = sum.data_points().as_slice();
-            add_each(alloc, settings, scope, heading, points, has_sum, out)
+            add_each(alloc, settings, scope, heading, points, has_sum, texts)
         }
         MetricData::Histogram(histogram) => {
             let points = histogram.data_points().as_slice();
-            add_each(alloc, settings, scope, heading, points, has_sum, out)
+            add_each(alloc, settings, scope, heading, points, has_sum, texts)
         }
     }
 }
@@ -219,16 +219,16 @@ pub(crate) fn add_content(
     scope: &InstrumentationScope,
     heading: &Heading,
     content: &AggregatedMetrics,
-    out: &mut Vec<Series>,
+    texts: &mut Texts,
 ) -> Result<(), AllocError>
-    ensures { OnOk result (out.new.items ≡ out.old.items ++ map spelled_series (content_series settings scope.now heading.now content.now)) }
+    ensures { OnOk result (texts.new ≡ fold with_series texts.old (content_series settings scope.now heading.now content.now)) }
 {
     match content {
         AggregatedMetrics::U64(points) => {
-            add_points(alloc, settings, scope, heading, points, true, out)
+            add_points(alloc, settings, scope, heading, points, true, texts)
         }
         AggregatedMetrics::I64(points) => {
-            add_points(alloc, settings, scope, heading, points, false, out)
+            add_points(alloc, settings, scope, heading, points, false, texts)
         }
     }
 }

@@ -1,19 +1,20 @@
 //! Labels that stand as their attributes do, since the names of both rise.
 
-ghost use Rattle.std.specs.Prelude.{◌≡◌, ◌++◌, [], ◌∷◌, ◌≤◌, List, length, take, drop, IsTrue, IfOk, OnOk, map};
+ghost use Rattle.std.specs.Prelude.{◌≡◌, ◌++◌, [], ◌∷◌, ◌≤◌, ℕ, List, length, take, drop, IsTrue, IfOk, OnOk, map};
 ghost use Rattle.otel_exposition.specs.Names.{name_of};
-ghost use Rattle.otel_exposition.specs.Samples.{Pair, is_label_byte, label_text, labels_text};
+ghost use Rattle.otel_exposition.specs.Samples.{Pair, escaped, is_label_byte, label_text, labels_text};
 ghost use Rattle.otel_prometheus.specs.Labels.{own_name, point_labels, scope_labels};
-ghost use Rattle.otel_prometheus.specs.Rising.{rises, count_below, place_of_scope, comma_texts, behind_comma, front_texts};
+ghost use Rattle.otel_prometheus.specs.Rising.{rises, count_below, place_of_scope, comma_texts, value_front, front_texts};
 ghost use Rattle.otel_prometheus.specs.Values.{value_text};
 
 use crate::labels::{own_name, point_labels, push_scope};
 use crate::settings::Settings;
 use crate::values::value_text;
 use otel_common::attributes::{KeyValue, Value};
+use otel_common::keys::Key;
 use otel_common::scopes::InstrumentationScope;
 use otel_common::strings::StringValue;
-use otel_exposition::labels::{Label, push_label, push_labels};
+use otel_exposition::labels::{Label, push_label, push_labels, push_value};
 use std::alloc::{AllocError, Global};
 
 /// Whether each name is greater than the one before it, and the first than these bytes.
@@ -70,22 +71,20 @@ fn push(texts: &mut Vec<StringValue>, text: StringValue) -> Result<(), AllocErro
 }
 
 /// Returns the keys of attributes.
-fn keys_of(alloc: Global, attributes: &[KeyValue]) -> Result<Vec<StringValue>, AllocError>
+fn keys_of(alloc: Global, attributes: &[KeyValue]) -> Result<Vec<Key>, AllocError>
     ensures { IfOk result (λ keys. keys.items ≡ map (λ a. a.key) attributes.now) }
 {
     let mut keys = Vec::with_capacity(alloc, attributes.len())?;
     for attribute in attributes {
-        push(&mut keys, StringValue::new(alloc, attribute.key.as_str())?)?;
+        let Ok(()) = keys.push(attribute.key.clone()?) else {
+            return Err(AllocError);
+        };
     }
     Ok(keys)
 }
 
 /// Returns the names of the labels of attributes with these keys.
-fn names_of(
-    alloc: Global,
-    keys: &[StringValue],
-    has_bounds: bool,
-) -> Result<Vec<StringValue>, AllocError>
+fn names_of(alloc: Global, keys: &[Key], has_bounds: bool) -> Result<Vec<StringValue>, AllocError>
     ensures { IfOk result (λ names. names.items ≡ map (λ key. own_name has_bounds (name_of is_label_byte key)) keys.now) }
 {
     let mut names = Vec::with_capacity(alloc, keys.len())?;
@@ -96,33 +95,35 @@ fn names_of(
     Ok(names)
 }
 
-/// Returns names, each behind a comma.
+/// Returns what stands in front of the values of labels with these names.
 fn fronts_of(alloc: Global, names: &[StringValue]) -> Result<Vec<StringValue>, AllocError>
-    ensures { IfOk result (λ fronts. fronts.items ≡ map behind_comma names.now) }
+    ensures { IfOk result (λ fronts. fronts.items ≡ map value_front names.now) }
 {
     let mut fronts = Vec::with_capacity(alloc, names.len())?;
     for name in names {
         let mut front = String::from_str(alloc, ",")?;
         front.push_str(name.as_str())?;
+        front.push_str("=\"")?;
         push(&mut fronts, StringValue::from(front))?;
     }
     Ok(fronts)
 }
 
-/// Appends a label of this name.
-fn push_named(alloc: Global, out: &mut Vec<u8>, name: &str, value: &Value) -> Result<(), AllocError>
-    ensures { OnOk result (out.new.items ≡ out.old.items ++ label_text (name.now, value_text value.now)) }
+/// Appends the value of an attribute as that of a label, and the quote behind it.
+#[inline(always)]
+fn push_own_value(alloc: Global, out: &mut Vec<u8>, value: &Value) -> Result<(), AllocError>
+    ensures { OnOk result (out.new.items ≡ out.old.items ++ (escaped (value_text value.now) ++ 34 ∷ [])) }
 {
     match value {
-        Value::String(text) => push_label(out, name, text.as_str().as_bytes()),
+        Value::String(text) => push_value(out, text.as_str().as_bytes()),
         _ => {
             let text = value_text(alloc, value)?;
-            push_label(out, name, text.as_slice())
+            push_value(out, text.as_slice())
         }
     }
 }
 
-/// Appends labels whose names are behind commas, with the values of attributes.
+/// Appends labels, of which these are what stands in front of their values, with the values of attributes.
 fn push_each(
     alloc: Global,
     out: &mut Vec<u8>,
@@ -137,7 +138,8 @@ fn push_each(
             return Ok(());
         };
         left = rest;
-        push_named(alloc, out, front.as_str(), &attribute.value)?;
+        out.extend_from_slice(front.as_str().as_bytes())?;
+        push_own_value(alloc, out, &attribute.value)?;
     }
     Ok(())
 }
@@ -153,19 +155,20 @@ fn push_behind_commas(out: &mut Vec<u8>, labels: &[Label]) -> Result<(), AllocEr
     Ok(())
 }
 
-/// Puts the labels in braces, each of which stands behind a comma.
-fn close(out: &mut Vec<u8>) -> Result<(), AllocError>
-    ensures { (labels : List Pair) → out.old.items ≡ comma_texts labels → OnOk result (out.new.items ≡ labels_text labels) }
+/// Puts the labels from this place on in braces, each of which stands behind a comma.
+fn close(out: &mut Vec<u8>, start: usize) -> Result<(), AllocError>
+    ensures { (before : List ℕ) (labels : List Pair) → length before ≡ start → out.old.items ≡ before ++ comma_texts labels → OnOk result (out.new.items ≡ before ++ labels_text labels) }
 {
-    if out.is_empty() {
+    if out.len() <= start {
         return Ok(());
     }
-    out[0] = b'{';
+    out[start] = b'{';
     out.extend_from_slice(b"}")?;
     Ok(())
 }
 
-/// Appends labels whose names are behind commas, with the values of attributes, and this text behind as many of them.
+/// Appends labels, of which these are what stands in front of their values, with the values of attributes, and this text
+/// behind as many of them.
 fn push_around(
     alloc: Global,
     out: &mut Vec<u8>,
@@ -189,13 +192,13 @@ fn push_around(
 /// The names of the labels of attributes with these keys, and how many of them come before those of a scope's labels.
 #[derive(Drop)]
 struct Names {
-    keys: Vec<StringValue>,
+    keys: Vec<Key>,
     has_bounds: bool,
     names: Vec<StringValue>,
     fronts: Vec<StringValue>,
     before_scope: Option<usize>,
     ghost are_names: { names.items ≡ map (λ key. own_name has_bounds (name_of is_label_byte key)) keys.items },
-    ghost are_behind_commas: { fronts.items ≡ map behind_comma names.items },
+    ghost are_in_front: { fronts.items ≡ map value_front names.items },
     ghost stands_before: { before_scope ≡ place_of_scope names.items },
 }
 
@@ -231,7 +234,7 @@ impl Names {
             let Some((key, rest)) = left.split_first() else {
                 return false;
             };
-            if key.as_str() != attribute.key.as_str() {
+            if *key != attribute.key {
                 return false;
             }
             left = rest;
@@ -266,18 +269,18 @@ impl Names {
         scope_text: &[u8],
         attributes: &[KeyValue],
     ) -> Result<(), AllocError>
-        requires empty { out.old.items ≡ [] }
         requires of_scope { scope_text.now ≡ comma_texts (scope_labels settings scope.now) }
         requires keys { self.now.keys.items ≡ map (λ a. a.key) attributes.now }
-        ensures { OnOk result (out.new.items ≡ labels_text (point_labels settings self.now.has_bounds scope.now attributes.now)) }
+        ensures { OnOk result (out.new.items ≡ out.old.items ++ labels_text (point_labels settings self.now.has_bounds scope.now attributes.now)) }
     {
         let Some(count) = self.before_scope else {
             let labels = point_labels(alloc, settings, scope, attributes, self.has_bounds)?;
             return push_labels(out, labels.as_slice());
         };
+        let start = out.len();
         let fronts = self.fronts.as_slice();
         push_around(alloc, out, fronts, attributes, count, scope_text)?;
-        close(out)
+        close(out, start)
     }
 }
 
@@ -316,9 +319,8 @@ impl Spelling {
         attributes: &[KeyValue],
         has_bounds: bool,
     ) -> Result<(), AllocError>
-        requires empty { out.old.items ≡ [] }
         requires of_scope { self.old.scope_text.items ≡ comma_texts (scope_labels settings scope.now) }
-        ensures labels { OnOk result (out.new.items ≡ labels_text (point_labels settings has_bounds scope.now attributes.now)) }
+        ensures labels { OnOk result (out.new.items ≡ out.old.items ++ labels_text (point_labels settings has_bounds scope.now attributes.now)) }
         ensures of_scope { self.new.scope_text.items ≡ self.old.scope_text.items }
     {
         self.names.adapt(alloc, attributes, has_bounds)?;

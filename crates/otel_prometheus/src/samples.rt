@@ -1,18 +1,19 @@
 //! Samples of points.
 
-ghost use Rattle.std.specs.Prelude.{◌≡◌, ◌++◌, [], ◌∷◌, List, OnOk};
-ghost use Rattle.otel_exposition.specs.Samples.{Pair, label_text, labels_text, sample_text};
+ghost use Rattle.std.specs.Prelude.{◌≡◌, ◌++◌, [], ◌∷◌, ℕ, List, codes, OnOk};
+ghost use Rattle.otel_exposition.specs.Samples.{Pair, escaped, label_text, labels_text, sample_text};
+ghost use Rattle.otel_prometheus.specs.Fronts.{IsFront, bucket_end};
 ghost use Rattle.otel_prometheus.specs.Points.{are_natural, bound_text, bucket, buckets, sum_samples, count_samples, histogram_samples, value_end};
 ghost use Rattle.otel_prometheus.specs.Series.{samples_text};
 
 use crate::headings::Kind;
 use itoa::Buffer;
 use otel_data::points::HistogramDataPoint;
+use otel_exposition::escapes::push_escaped;
 use otel_exposition::formats::Format;
-use otel_exposition::labels::push_label;
 use otel_exposition::numbers::Number;
 use otel_exposition::samples::push_line;
-use std::alloc::{AllocError, Global};
+use std::alloc::AllocError;
 
 /// What a family of this type adds to its name in the names of values.
 pub(crate) fn value_end(kind: Kind) -> &'static str
@@ -25,12 +26,12 @@ pub(crate) fn value_end(kind: Kind) -> &'static str
     }
 }
 
-/// Appends a bound of a bucket. In OpenMetrics it is written as a float.
+/// Appends a bound as the value of a label. In OpenMetrics it is written as a float.
 fn push_bound(out: &mut Vec<u8>, format: Format, bound: i64) -> Result<(), AllocError>
-    ensures { OnOk result (out.new.items ≡ out.old.items ++ bound_text format bound) }
+    ensures { OnOk result (out.new.items ≡ out.old.items ++ escaped (bound_text format bound)) }
 {
     let mut buffer = Buffer::new();
-    out.extend_from_slice(buffer.format(bound).as_bytes())?;
+    push_escaped(out, buffer.format(bound).as_bytes())?;
     match format {
         Format::Prometheus => Ok(()),
         Format::OpenMetrics => out.extend_from_slice(b".0"),
@@ -50,50 +51,73 @@ fn push_open(out: &mut Vec<u8>, spelled: &[u8]) -> Result<(), AllocError>
     Ok(())
 }
 
-/// Appends the sample of a bucket.
-fn push_bucket(
-    out: &mut Vec<u8>,
-    name: &str,
-    spelled: &[u8],
-    bound: &[u8],
-    count: u64,
-) -> Result<(), AllocError>
-    ensures { (labels : List Pair) → spelled.now ≡ labels_text labels → OnOk result (out.new.items ≡ out.old.items ++ sample_text (bucket name.now labels bound.now count)) }
+/// Makes the front of the samples of buckets: all up to the bound.
+fn make_front(front: &mut Vec<u8>, name: &str, spelled: &[u8]) -> Result<(), AllocError>
+    ensures { (labels : List Pair) → spelled.now ≡ labels_text labels → OnOk result (IsFront front.new.items name.now labels) }
 {
-    out.extend_from_slice(name.as_bytes())?;
-    out.extend_from_slice(b"_bucket")?;
-    push_open(out, spelled)?;
-    push_label(out, "le", bound)?;
-    out.extend_from_slice(b"} ")?;
+    front.clear();
+    front.extend_from_slice(name.as_bytes())?;
+    front.extend_from_slice(b"_bucket")?;
+    push_open(front, spelled)?;
+    front.extend_from_slice(b"le=\"")?;
+    Ok(())
+}
+
+/// Appends what follows the bound in the sample of a bucket.
+fn push_bucket_end(out: &mut Vec<u8>, count: u64) -> Result<(), AllocError>
+    ensures { OnOk result (out.new.items ≡ out.old.items ++ bucket_end count) }
+{
+    out.extend_from_slice(b"\"} ")?;
     count.push_to(out)?;
     out.extend_from_slice(b"\n")?;
     Ok(())
 }
 
-/// Appends the samples of the buckets that have bounds. Each counts the values of those before it too.
+/// Appends the sample of a bucket with this front.
+fn push_bucket(
+    out: &mut Vec<u8>,
+    format: Format,
+    front: &[u8],
+    bound: i64,
+    count: u64,
+) -> Result<(), AllocError>
+    ensures { (name : List ℕ) (labels : List Pair) → IsFront front.now name labels → OnOk result (out.new.items ≡ out.old.items ++ sample_text (bucket name labels (bound_text format bound) count)) }
+{
+    out.extend_from_slice(front)?;
+    push_bound(out, format, bound)?;
+    push_bucket_end(out, count)?;
+    Ok(())
+}
+
+/// Appends the sample of the bucket that has no bound, with this front.
+fn push_last_bucket(out: &mut Vec<u8>, front: &[u8], count: u64) -> Result<(), AllocError>
+    ensures { (name : List ℕ) (labels : List Pair) → IsFront front.now name labels → OnOk result (out.new.items ≡ out.old.items ++ sample_text (bucket name labels (codes "+Inf") count)) }
+{
+    out.extend_from_slice(front)?;
+    out.extend_from_slice(b"+Inf")?;
+    push_bucket_end(out, count)?;
+    Ok(())
+}
+
+/// Appends the samples of the buckets that have bounds, with this front. Each counts the values of those before it too.
 fn push_buckets(
-    alloc: Global,
     format: Format,
     out: &mut Vec<u8>,
-    name: &str,
-    spelled: &[u8],
+    front: &[u8],
     bounds: &[i64],
     counts: &[u64],
 ) -> Result<(), AllocError>
-    ensures { (labels : List Pair) → spelled.now ≡ labels_text labels → OnOk result (out.new.items ≡ out.old.items ++ samples_text (buckets format name.now labels 0 bounds.now counts.now)) }
+    ensures { (name : List ℕ) (labels : List Pair) → IsFront front.now name labels → OnOk result (out.new.items ≡ out.old.items ++ samples_text (buckets format name labels 0 bounds.now counts.now)) }
 {
     let mut before = 0u64;
     let mut left = counts;
-    let mut text = Vec::new(alloc);
     for bound in bounds {
         let Some((count, rest)) = left.split_first() else {
             return Ok(());
         };
         before = before.wrapping_add(*count);
         left = rest;
-        text.clear();
-        push_bound(&mut text, format, *bound)?;
-        push_bucket(out, name, spelled, text.as_slice(), before)?;
+        push_bucket(out, format, front, *bound, before)?;
     }
     Ok(())
 }
@@ -150,11 +174,12 @@ fn push_count(
     Ok(())
 }
 
-/// Appends the samples of a point of a histogram, whose labels are given as they are spelled.
+/// Appends the samples of a point of a histogram, whose labels are given as they are spelled. The front of its buckets
+/// is made in the first vector.
 #[tactic(auto, using(crate::proofs::SeriesLemmas::samples_text_append))]
 pub(crate) fn push_histogram_point<T: Number>(
-    alloc: Global,
     format: Format,
+    front: &mut Vec<u8>,
     out: &mut Vec<u8>,
     name: &str,
     spelled: &[u8],
@@ -166,8 +191,9 @@ pub(crate) fn push_histogram_point<T: Number>(
     let bounds = point.bounds().as_slice();
     let counts = point.bucket_counts().as_slice();
     let has_sum = has_sum && are_natural(bounds);
-    push_buckets(alloc, format, out, name, spelled, bounds, counts)?;
-    push_bucket(out, name, spelled, b"+Inf", point.count())?;
+    make_front(front, name, spelled)?;
+    push_buckets(format, out, front.as_slice(), bounds, counts)?;
+    push_last_bucket(out, front.as_slice(), point.count())?;
     push_total(out, name, spelled, point.sum(), has_sum)?;
     push_count(format, out, name, spelled, point.count(), has_sum)?;
     Ok(())

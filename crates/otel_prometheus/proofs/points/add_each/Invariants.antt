@@ -1,12 +1,12 @@
-use Rattle.std.proofs.Common.{◌≡◌, ◌++◌, map, drop}
+use Rattle.std.proofs.Common.{◌≡◌, map, drop, fold}
 use Rattle.otel_prometheus.specs.Labels.{scope_labels}
 use Rattle.otel_prometheus.specs.Rising.{comma_texts}
-use Rattle.otel_prometheus.specs.Series.{spelled_series}
+use Rattle.otel_prometheus.specs.Texts.{with_series}
 use Rattle.otel_prometheus.proofs.points.add_each.Given as goal
 
 -- with the points that are left the series are whole
 abbrev pub invariant-loop-point : goal.invariant-loop-point
 invariant-loop-point g l = record {
-  series : l.out.items ++ map spelled_series (map (g.P.Point.series l.settings l.has_sum l.scope l.heading) (drop l.point-index l.points)) ≡ l.fn.out.items ++ map spelled_series (map (g.P.Point.series l.settings l.has_sum l.scope l.heading) l.points);
+  series : fold with_series l.texts (map (g.P.Point.series l.settings l.has_sum l.scope l.heading) (drop l.point-index l.points)) ≡ fold with_series l.fn.texts (map (g.P.Point.series l.settings l.has_sum l.scope l.heading) l.points);
   of_scope : l.spelling.scope_text.items ≡ comma_texts (scope_labels l.settings l.scope);
 }

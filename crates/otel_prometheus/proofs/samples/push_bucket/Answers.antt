@@ -1,14 +1,15 @@
-use Rattle.std.proofs.Common.{[], ◌∷◌, ◌++◌, ap, ◌∙◌, codes}
+use Rattle.std.proofs.Common.{[], ◌∷◌, ◌++◌, codes, rules}
 use Rattle.std.specs.Fmt.{signed_decimal}
 use Rattle.otel_exposition.specs.Numbers.{unsigned}
-use Rattle.otel_exposition.specs.Samples.{label_text, labels_text}
-use Rattle.otel_prometheus.proofs.RisingLemmas.{bucket_pushed}
+use Rattle.otel_exposition.specs.Samples.{escaped, labels_text}
+use Rattle.otel_prometheus.specs.Points.{bound_text}
+use Rattle.otel_prometheus.proofs.BucketLemmas.{bucket_pushed}
 use Rattle.otel_prometheus.proofs.samples.push_bucket.Goals as goal
 
 pub returns : goal.returns
 returns c =
-    λ labels e.
-    bucket_pushed c.args.out.now.items c.args.name.now (label_text (codes "le", c.args.bound.now)) (labels_text (labels ++ (codes "le", c.args.bound.now) ∷ [])) (signed_decimal (unsigned c.args.count))
-    c.extend_from_slice.new.self.items c.extend_from_slice-2.new.self.items c.push_open.new.out.items c.push_label.new.out.items c.extend_from_slice-3.new.self.items c.push_to.new.out.items c.extend_from_slice-4.new.self.items
-    (c.in_ok-extend_from_slice.ensures.items ∙ ap (λ t. c.args.out.now.items ++ t) c.as_bytes.ensures.value) c.in_ok-extend_from_slice-2.ensures.items (c.in_ok-push_open.ensures labels (codes "le", c.args.bound.now) e) c.in_ok-push_label.ensures
-    c.in_ok-extend_from_slice-3.ensures.items c.in_ok-push_to.ensures c.in_ok-extend_from_slice-4.ensures.items
+    λ name labels e.
+    let bound = bound_text c.args.format c.args.bound in
+    bucket_pushed c.args.out.now.items c.args.front.now (escaped bound) (name ++ codes "_bucket") (labels_text (labels ++ (codes "le", bound) ∷ [])) (signed_decimal (unsigned c.args.count))
+    c.extend_from_slice.new.self.items c.push_bound.new.out.items c.push_bucket_end.new.out.items
+    (e bound) c.in_ok-extend_from_slice.ensures.items (search rules) c.in_ok-push_bucket_end.ensures

@@ -1,6 +1,6 @@
 use Rattle.std.proofs.Common.{◌≡◌, ◌++◌, length}
 use Rattle.otel_exposition.specs.Samples.{escaped}
-use Rattle.otel_exposition.proofs.escapes.push_escaped.Given as goal
+use Rattle.otel_exposition.proofs.escapes.push_runs.Given as goal
 
 -- with what is left the value is whole
 abbrev pub invariant-loop-plain : goal.invariant-loop-plain
