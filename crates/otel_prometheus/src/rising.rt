@@ -10,6 +10,7 @@ ghost use Rattle.otel_prometheus.specs.Values.{value_text};
 use crate::labels::{own_name, point_labels, push_scope};
 use crate::settings::Settings;
 use crate::values::value_text;
+use itoa::Buffer;
 use otel_common::attributes::{KeyValue, Value};
 use otel_common::keys::Key;
 use otel_common::scopes::InstrumentationScope;
@@ -109,6 +110,25 @@ fn fronts_of(alloc: Global, names: &[StringValue]) -> Result<Vec<StringValue>, A
     Ok(fronts)
 }
 
+/// Appends a value that is no string as that of a label, and the quote behind it.
+#[inline(never)]
+fn push_other_value(alloc: Global, out: &mut Vec<u8>, value: &Value) -> Result<(), AllocError>
+    ensures { OnOk result (out.new.items ≡ out.old.items ++ (escaped (value_text value.now) ++ 34 ∷ [])) }
+{
+    match value {
+        Value::Bool(true) => push_value(out, b"true"),
+        Value::Bool(false) => push_value(out, b"false"),
+        Value::I64(number) => {
+            let mut buffer = Buffer::new();
+            push_value(out, buffer.format(*number).as_bytes())
+        }
+        _ => {
+            let text = value_text(alloc, value)?;
+            push_value(out, text.as_slice())
+        }
+    }
+}
+
 /// Appends the value of an attribute as that of a label, and the quote behind it.
 #[inline(always)]
 fn push_own_value(alloc: Global, out: &mut Vec<u8>, value: &Value) -> Result<(), AllocError>
@@ -116,10 +136,7 @@ fn push_own_value(alloc: Global, out: &mut Vec<u8>, value: &Value) -> Result<(),
 {
     match value {
         Value::String(text) => push_value(out, text.as_str().as_bytes()),
-        _ => {
-            let text = value_text(alloc, value)?;
-            push_value(out, text.as_slice())
-        }
+        _ => push_other_value(alloc, out, value),
     }
 }
 
