@@ -1,6 +1,5 @@
-use Rattle.std.proofs.Common.{◌≡◌, ◌%◌, ◌^◌, fold, ap, ◌∙◌, rules}
+use Rattle.std.proofs.Common.{◌%◌, ◌^◌, ap, ◌∙◌, rules}
 use Rattle.otel_prometheus.specs.Collections.{family_series}
-use Rattle.otel_prometheus.specs.Texts.{written_behind, with_series}
 use Rattle.otel_prometheus.proofs.SeriesLemmas.{are_whole, starts_within, family_text, family_doubled}
 use Rattle.otel_prometheus.proofs.expositions.push_samples.Goals as goal
 
