@@ -1,14 +1,15 @@
 -- Series that are kept, and their text.
-use Rattle.std.proofs.Common.{◌≡◌, ℕ, ◌+◌, ◌%◌, ◌^◌, Bool, true, false, cond, List, [], ◌∷◌, ◌++◌, flat_map, map, fold, take, drop, length, refl, sym, ap, ◌∙◌, append_assoc, append-nil, arith}
+use Rattle.std.proofs.Common.{◌≡◌, ℕ, ◌+◌, ◌≤◌, ◌%◌, ◌^◌, Bool, true, false, cond, List, [], ◌∷◌, ◌++◌, flat_map, map, fold, take, drop, length, refl, sym, ap, ◌∙◌, append_assoc, append-nil, length-append, arith}
 use Rattle.std.proofs.lemmas.Grind.{flat_map-append}
+use Rattle.std.proofs.lemmas.List.{take-append-drop}
 use Rattle.otel_exposition.specs.Lines.{Line, sample, spelled, text_of}
-use Rattle.otel_exposition.specs.Samples.{Sample, labels_text, sample_text}
+use Rattle.otel_exposition.specs.Samples.{Pair, Sample, labels_text, sample_text}
 use Rattle.otel_exposition.specs.declared.formats.Format.{Format}
 use Rattle.otel_data.specs.declared.collections.ResourceMetrics.{ResourceMetrics}
 use Rattle.otel_prometheus.specs.Collections.{family_series, family_samples}
 use Rattle.otel_prometheus.specs.declared.headings.Heading.{Heading}
 use Rattle.otel_prometheus.specs.declared.settings.Settings.{Settings}
-use Rattle.otel_prometheus.specs.Texts.{Written, nothing_written, with_series, pieces_from, pieces}
+use Rattle.otel_prometheus.specs.Texts.{Written, written_behind, with_series, pieces_from, pieces}
 use Rattle.otel_prometheus.specs.declared.series.Mark.{Mark}
 use Rattle.otel_prometheus.specs.Series.{Series, is_seen, kept, doubled, samples_text, spelled_series, kept_text, doubled_texts}
 
@@ -80,17 +81,59 @@ each_piece (x ∷ xs) =
     (λ i. (take_front l (all_labels xs) i, take_front m (all_lines xs) i) ∷ pieces_from (drop_front l (all_labels xs) i) (drop_front m (all_lines xs) i) (map mark_of xs))
     ∙ ap (λ t. spelled_series x ∷ t) (each_piece xs)
 
--- the texts of series are those that were written
-pub all_pieces : (w : Written) (xs : List Series) → w ≡ fold with_series nothing_written xs → pieces w ≡ map spelled_series xs
-all_pieces w xs e = ap pieces (e ∙ written nothing_written xs) ∙ each_piece xs
+-- the lines of all series
+lines_of_all : (xs : List Series) → flat_map (λ p. p.1) (map spelled_series xs) ≡ all_lines xs
+lines_of_all [] = refl
+lines_of_all (x ∷ xs) = ap (λ t. samples_text x.samples ++ t) (lines_of_all xs)
+
+kept_or_not : (t : Bool) (own k l rest : List ℕ) (m n : ℕ) → cond t (1 + m) n ≡ 0 → (n ≡ 0 → l ≡ rest) → cond t k (own ++ l) ≡ own ++ rest
+kept_or_not true own k l rest m n e f = absurd (omega (arith, e))
+kept_or_not false own k l rest m n e f = ap (λ t. own ++ t) (f e)
+
+-- if none is left out, all lines stand
+pub all_kept : (seen : List (List ℕ)) (ps : List Pair) → doubled_texts seen ps ≡ 0 → kept_text seen ps ≡ flat_map (λ p. p.1) ps
+all_kept seen [] e = refl
+all_kept seen (p ∷ ps) e = kept_or_not (is_seen p.0 seen) p.1 (kept_text seen ps) (kept_text (seen ++ p.0 ∷ []) ps) (flat_map (λ q. q.1) ps) (doubled_texts seen ps) (doubled_texts (seen ++ p.0 ∷ []) ps) e (all_kept (seen ++ p.0 ∷ []) ps)
+
+-- the text is whole as it stands if none is left out
+pub kept_whole : (w : Written) (start : ℕ) (labels lines : List ℕ) (marks : List Mark) → record { labels = labels; lines = lines; marks = marks } ≡ w → ((ls : List ℕ) → doubled_texts [] (pieces_from labels ls marks) ≡ 0)
+    → flat_map (λ p. p.1) (pieces start w) ≡ drop start w.lines → lines ≡ take start w.lines ++ kept_text [] (pieces start w)
+kept_whole w start labels lines marks e h whole =
+    let none : doubled_texts [] (pieces start w) ≡ 0 = ap (λ x. doubled_texts [] (pieces start x)) (sym e) ∙ h (drop start lines) in
+    ap (λ x. x.lines) e
+    ∙ (sym (take-append-drop start w.lines)
+    ∙ ap (λ t. take start w.lines ++ t) (sym (all_kept [] (pieces start w) none ∙ whole)))
+
+-- series that were written behind a text
+module _ (found : Written) (before : List ℕ) (start : ℕ) (xs : List Series) (e : found ≡ fold with_series (written_behind before) xs) (at : start ≡ length before) where
+  found_is : found ≡ record { labels = all_labels xs; lines = before ++ all_lines xs; marks = map mark_of xs }
+  found_is = e ∙ written (written_behind before) xs
+
+  pub lines_before : take start found.lines ≡ before
+  lines_before = (λ i. take (at i) (found_is i).lines) ∙ take_front before (all_lines xs)
+
+  lines_behind : drop start found.lines ≡ all_lines xs
+  lines_behind = (λ i. drop (at i) (found_is i).lines) ∙ drop_front before (all_lines xs)
+
+  pub all_pieces : pieces start found ≡ map spelled_series xs
+  all_pieces = (λ i. pieces_from (found_is i).labels (lines_behind i) (found_is i).marks) ∙ each_piece xs
+
+  pub are_whole : flat_map (λ p. p.1) (pieces start found) ≡ drop start found.lines
+  are_whole = ap (flat_map (λ p. p.1)) all_pieces ∙ (lines_of_all xs ∙ sym lines_behind)
+
+  pub starts_within : start ≤ length found.lines
+  starts_within = omega (arith, at, ap length (λ i. (found_is i).lines), length-append before (all_lines xs))
 
 -- ======== families ========
-pub family_text : (s : Settings) (c : ResourceMetrics) (h : Heading) (found : Written) → found ≡ fold with_series nothing_written (family_series s c h) → kept_text [] (pieces found) ≡ text_of s.format (map sample (family_samples s c h))
-family_text s c h found e =
-    ap (λ t. kept_text [] t) (all_pieces found (family_series s c h) e) ∙ (kept_spelled [] (family_series s c h) ∙ sym (text_of_samples s.format (family_samples s c h)))
+pub family_text : (s : Settings) (c : ResourceMetrics) (h : Heading) (found : Written) (before : List ℕ) (start : ℕ) → found ≡ fold with_series (written_behind before) (family_series s c h) → start ≡ length before
+    → take start found.lines ++ kept_text [] (pieces start found) ≡ before ++ text_of s.format (map sample (family_samples s c h))
+family_text s c h found before start e at =
+    (λ i. lines_before found before start (family_series s c h) e at i ++ kept_text [] (all_pieces found before start (family_series s c h) e at i))
+    ∙ ap (λ t. before ++ t) (kept_spelled [] (family_series s c h) ∙ sym (text_of_samples s.format (family_samples s c h)))
 
-pub family_doubled : (s : Settings) (c : ResourceMetrics) (h : Heading) (found : Written) → found ≡ fold with_series nothing_written (family_series s c h) → doubled_texts [] (pieces found) ≡ doubled [] (family_series s c h)
-family_doubled s c h found e = ap (λ t. doubled_texts [] t) (all_pieces found (family_series s c h) e) ∙ doubled_spelled [] (family_series s c h)
+pub family_doubled : (s : Settings) (c : ResourceMetrics) (h : Heading) (found : Written) (before : List ℕ) (start : ℕ) → found ≡ fold with_series (written_behind before) (family_series s c h) → start ≡ length before
+    → doubled_texts [] (pieces start found) ≡ doubled [] (family_series s c h)
+family_doubled s c h found before start e at = ap (λ t. doubled_texts [] t) (all_pieces found before start (family_series s c h) e at) ∙ doubled_spelled [] (family_series s c h)
 
 -- ======== counts modulo 2^64 ========
 pub counted : (count n rest whole : ℕ) → (count + (n + rest)) % 2 ^ 64 ≡ whole → ((count + n) % 2 ^ 64 + rest) % 2 ^ 64 ≡ whole

@@ -1,5 +1,5 @@
 -- Series that are left among texts.
-use Rattle.std.proofs.Common.{◌≡◌, ℕ, ◌+◌, ◌<◌, ◌%◌, ◌^◌, List, ◌∷◌, ◌++◌, length, take, drop, slice_index_or, sym, ap, ◌∙◌}
+use Rattle.std.proofs.Common.{◌≡◌, ℕ, ◌+◌, ◌<◌, ◌%◌, ◌^◌, Bool, true, false, cond, List, ◌∷◌, ◌++◌, length, take, drop, slice_index_or, sym, ap, ◌∙◌, arith}
 use Rattle.std.proofs.lemmas.List.{drop_more}
 use Rattle.otel_exposition.specs.Samples.{Pair}
 use Rattle.otel_prometheus.specs.Series.{kept_text, doubled_texts}
@@ -7,7 +7,7 @@ use Rattle.otel_prometheus.specs.Texts.{pieces_from}
 use Rattle.otel_prometheus.specs.declared.series.Mark.{Mark}
 use Rattle.otel_prometheus.proofs.SeriesLemmas.{counted}
 
-abbrev mark_at : List Mark → ℕ → Mark
+abbrev pub mark_at : List Mark → ℕ → Mark
 mark_at marks i = slice_index_or marks i (record { labels = 0; lines = 0 })
 
 module _ (marks : List Mark) (i : ℕ) (labels lines key own more_labels more_lines : List ℕ) (seen now_seen : List (List ℕ)) (h : i < length marks)
@@ -28,3 +28,18 @@ module _ (marks : List Mark) (i : ℕ) (labels lines key own more_labels more_li
   count_left count n whole step e =
       counted count n (doubled_texts now_seen (pieces_from more_labels more_lines (drop (i + 1) marks))) whole
       (ap (λ t. (count + t) % 2 ^ 64) (sym (step (pieces_from more_labels more_lines (drop (i + 1) marks))) ∙ ap (doubled_texts seen) next_piece) ∙ e)
+
+  pub none_doubled : (is_new : Bool) → is_new ≡ true → ((rest : List Pair) → doubled_texts seen ((key, own) ∷ rest) ≡ cond is_new (doubled_texts now_seen rest) (1 + doubled_texts now_seen rest))
+      → doubled_texts now_seen (pieces_from more_labels more_lines (drop (i + 1) marks)) ≡ 0 → doubled_texts seen (pieces_from labels lines (drop i marks)) ≡ 0
+  none_doubled is_new is step e =
+      let rest : List Pair = pieces_from more_labels more_lines (drop (i + 1) marks) in
+      ap (doubled_texts seen) (sym next_piece)
+      ∙ (step rest
+      ∙ (ap (λ b. cond b (doubled_texts now_seen rest) (1 + doubled_texts now_seen rest)) is ∙ e))
+
+-- what a series adds to the count
+pub counts_new : (is_new : Bool) (x n : ℕ) → x ≡ cond is_new n (1 + n) → is_new ≡ true → x ≡ 0 + n
+counts_new is_new x n e is = e ∙ (ap (λ b. cond b n (1 + n)) is ∙ omega arith)
+
+pub counts_seen : (is_new : Bool) (x n : ℕ) → x ≡ cond is_new n (1 + n) → is_new ≡ false → x ≡ 1 + n
+counts_seen is_new x n e is = e ∙ ap (λ b. cond b n (1 + n)) is

@@ -10,8 +10,9 @@ pub record Written : Type 0 where
   pub lines : List ℕ
   pub marks : List Mark
 
-abbrev pub nothing_written : Written
-nothing_written = record { labels = []; lines = []; marks = [] }
+-- no series, whose lines will stand behind a text
+abbrev pub written_behind : List ℕ → Written
+written_behind text = record { labels = []; lines = text; marks = [] }
 
 -- one more series, whose texts are there
 abbrev pub with_mark : Written → ℕ → ℕ → Written
@@ -29,5 +30,6 @@ abbrev pub pieces_from : List ℕ → List ℕ → List Mark → List Pair
 pieces_from labels lines [] = []
 pieces_from labels lines (m ∷ ms) = (take m.labels labels, take m.lines lines) ∷ pieces_from (drop m.labels labels) (drop m.lines lines) ms
 
-abbrev pub pieces : Written → List Pair
-pieces w = pieces_from w.labels w.lines w.marks
+-- the lines begin at this place
+abbrev pub pieces : ℕ → Written → List Pair
+pieces start w = pieces_from w.labels (drop start w.lines) w.marks

@@ -8,14 +8,14 @@ ghost use Rattle.otel_prometheus.specs.Totals.{total};
 ghost use Rattle.otel_prometheus.specs.Families.{families};
 ghost use Rattle.otel_prometheus.specs.Labels.{with_attributes};
 ghost use Rattle.otel_prometheus.specs.Series.{doubled};
-ghost use Rattle.otel_prometheus.specs.Texts.{nothing_written, with_series};
+ghost use Rattle.otel_prometheus.specs.Texts.{with_series};
 
 use crate::families::{Family, conflicting_points, delta_points, families};
 use crate::headings::{Heading, Kind, heading_of, is_same_heading};
 use crate::labels::add_resource;
 use crate::laws::says_lines;
 use crate::points::add_content;
-use crate::series::{Texts, push_all};
+use crate::series::{Texts, without_doubled};
 use crate::settings::Settings;
 use otel_common::resource::Resource;
 use otel_common::scopes::InstrumentationScope;
@@ -25,6 +25,7 @@ use otel_exposition::formats::Format;
 use otel_exposition::labels::{Label, push_labels};
 use otel_exposition::samples::push_line;
 use std::alloc::{AllocError, Global};
+use std::mem;
 
 /// How many points a text leaves out, each modulo 2^64.
 #[derive(Clone, Copy, Debug, PartialEq, Eq)]
@@ -83,21 +84,21 @@ fn add_scope(
     Ok(())
 }
 
-/// Returns the texts of a series for each point of each metric of the family.
-fn family_series(
+/// Adds a series for each point of each metric of the family.
+fn add_family(
     alloc: Global,
     settings: Settings,
     scopes: &[ScopeMetrics],
     heading: &Heading,
-) -> Result<Texts, AllocError>
-    ensures { IfOk result (λ found. found ≡ fold with_series nothing_written (flat_map (scope_series settings heading.now) scopes.now)) }
+    texts: &mut Texts,
+) -> Result<(), AllocError>
+    ensures { OnOk result (texts.new ≡ fold with_series texts.old (flat_map (scope_series settings heading.now) scopes.now)) }
 {
-    let mut found = Texts::new(alloc);
     for one in scopes {
         let metrics = one.metrics().as_slice();
-        add_scope(alloc, settings, heading, one.scope(), metrics, &mut found)?;
+        add_scope(alloc, settings, heading, one.scope(), metrics, texts)?;
     }
-    Ok(found)
+    Ok(())
 }
 
 /// The word for a type.
@@ -156,7 +157,6 @@ fn push_front(
 }
 
 /// Appends the samples of a family. Returns how many series it leaves out, modulo 2^64.
-#[tactic(auto, using(crate::proofs::SeriesLemmas::family_text, crate::proofs::SeriesLemmas::family_doubled))]
 fn push_samples(
     alloc: Global,
     settings: Settings,
@@ -167,9 +167,12 @@ fn push_samples(
     ensures text { OnOk result (out.new.items ≡ out.old.items ++ text_of settings.format (map sample (family_samples settings collected.now heading.now))) }
     ensures doubled { IfOk result (λ count. count ≡ doubled [] (family_series settings collected.now heading.now) % 2 ^ 64) }
 {
+    let start = out.len();
     let scopes = collected.scope_metrics().as_slice();
-    let texts = family_series(alloc, settings, scopes, heading)?;
-    let count = push_all(alloc, out, &texts)?;
+    let mut texts = Texts::behind(alloc, mem::replace(out, Vec::new(alloc)));
+    add_family(alloc, settings, scopes, heading, &mut texts)?;
+    let (text, count) = without_doubled(alloc, texts, start)?;
+    *out = text;
     Ok(count)
 }
 

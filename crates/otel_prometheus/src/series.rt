@@ -1,13 +1,13 @@
 //! Series of samples as text, each with the labels of one point.
 
-ghost use Rattle.std.specs.Prelude.{◌≡◌, ◌==◌, ◌++◌, ◌+◌, ◌-◌, ◌≤◌, ◌%◌, ◌^◌, [], ◌∷◌, ℕ, List, length, take, drop, OnOk, IfOk};
+ghost use Rattle.std.specs.Prelude.{◌≡◌, ◌==◌, ◌++◌, ◌+◌, ◌-◌, ◌≤◌, ◌%◌, ◌^◌, [], ◌∷◌, ℕ, List, cond, length, take, drop, flat_map, IsTrue, OnOk, IfOk};
 ghost use Rattle.std.proofs.Common.{rules};
 ghost use Rattle.std.specs.Cmp.Rules.{comparing};
 ghost use Rattle.std.specs.Cmp.Lexicographic.{pointwise, bytes_decides};
 ghost use Rattle.std.specs.Hash as fed;
 ghost use Rattle.otel_exposition.specs.Samples.{Pair};
 ghost use Rattle.otel_prometheus.specs.Series.{kept_text, doubled_texts};
-ghost use Rattle.otel_prometheus.specs.Texts.{nothing_written, with_mark, pieces};
+ghost use Rattle.otel_prometheus.specs.Texts.{written_behind, with_mark, pieces_from, pieces};
 
 use indexmap::IndexSet;
 use std::alloc::{AllocError, Global};
@@ -84,13 +84,13 @@ impl Model for Texts {
 }
 
 impl Texts {
-    /// Makes the texts of no series. Takes no memory.
-    pub(crate) fn new(alloc: Global) -> Texts
-        ensures { result ≡ nothing_written }
+    /// Makes the texts of no series, whose lines will stand behind this text. Takes no memory.
+    pub(crate) fn behind(alloc: Global, text: Vec<u8>) -> Texts
+        ensures { result ≡ written_behind text.items }
     {
         Texts {
             labels: Vec::new(alloc),
-            lines: Vec::new(alloc),
+            lines: text,
             marks: Vec::new(alloc),
             front: Vec::new(alloc),
         }
@@ -122,24 +122,15 @@ impl Texts {
     }
 }
 
-/// Appends the lines of a series, unless its labels were seen. Returns 1 if they were, and else 0.
-fn push_series<'a>(
-    out: &mut Vec<u8>,
-    seen: &mut IndexSet<Spelled<'a>>,
-    labels: &'a [u8],
-    lines: &[u8],
-) -> Result<u64, AllocError>
-    ensures text { (rest : List Pair) → OnOk result (out.new.items ++ kept_text seen.new.keys rest ≡ out.old.items ++ kept_text seen.old.keys ((labels.now, lines.now) ∷ rest)) }
-    ensures doubled { (rest : List Pair) → IfOk result (λ n. doubled_texts seen.old.keys ((labels.now, lines.now) ∷ rest) ≡ n + doubled_texts seen.new.keys rest) }
+/// Notes labels as seen. Returns whether they are new.
+fn note<'a>(seen: &mut IndexSet<Spelled<'a>>, labels: &'a [u8]) -> Result<bool, AllocError>
+    ensures text { (lines : List ℕ) (rest : List Pair) → IfOk result (λ is_new. kept_text seen.old.keys ((labels.now, lines) ∷ rest) ≡ cond is_new (lines ++ kept_text seen.new.keys rest) (kept_text seen.new.keys rest)) }
+    ensures doubled { (lines : List ℕ) (rest : List Pair) → IfOk result (λ is_new. doubled_texts seen.old.keys ((labels.now, lines) ∷ rest) ≡ cond is_new (doubled_texts seen.new.keys rest) (1 + doubled_texts seen.new.keys rest)) }
 {
-    let Ok((_, is_new)) = seen.insert_full(Spelled { text: labels }) else {
-        return Err(AllocError);
-    };
-    if !is_new {
-        return Ok(1);
+    match seen.insert_full(Spelled { text: labels }) {
+        Ok((_, is_new)) => Ok(is_new),
+        Err(_) => Err(AllocError),
     }
-    out.extend_from_slice(lines)?;
-    Ok(0)
 }
 
 /// Splits a text behind this many bytes, or behind all if there are less.
@@ -150,25 +141,90 @@ fn split(text: &[u8], count: usize) -> (&[u8], &[u8])
     text.split_at(count.min(text.len()))
 }
 
+/// Whether no two series have the same labels.
+fn are_distinct(alloc: Global, labels: &[u8], marks: &[Mark]) -> Result<bool, AllocError>
+    ensures { (lines : List ℕ) → IfOk result (λ b. IsTrue b → doubled_texts [] (pieces_from labels.now lines marks.now) ≡ 0) }
+{
+    let mut seen = IndexSet::with_capacity(alloc, marks.len())?;
+    let mut left = labels;
+    for mark in marks {
+        let (own, more) = split(left, mark.labels);
+        if !note(&mut seen, own)? {
+            return Ok(false);
+        }
+        left = more;
+    }
+    Ok(true)
+}
+
+/// Appends the lines of a series, unless its labels were seen. Returns 1 if they were, and else 0.
+fn push_series<'a>(
+    out: &mut Vec<u8>,
+    seen: &mut IndexSet<Spelled<'a>>,
+    labels: &'a [u8],
+    lines: &[u8],
+) -> Result<u64, AllocError>
+    ensures text { (rest : List Pair) → OnOk result (out.new.items ++ kept_text seen.new.keys rest ≡ out.old.items ++ kept_text seen.old.keys ((labels.now, lines.now) ∷ rest)) }
+    ensures doubled { (rest : List Pair) → IfOk result (λ n. doubled_texts seen.old.keys ((labels.now, lines.now) ∷ rest) ≡ n + doubled_texts seen.new.keys rest) }
+{
+    if !note(seen, labels)? {
+        return Ok(1);
+    }
+    out.extend_from_slice(lines)?;
+    Ok(0)
+}
+
 /// Appends the lines of series. Of those with the same labels the first stands. Returns how many the others are, modulo
 /// 2^64.
 #[tactic(auto, using(crate::proofs::SeriesLemmas::counted))]
-pub(crate) fn push_all(alloc: Global, out: &mut Vec<u8>, texts: &Texts) -> Result<u64, AllocError>
-    ensures text { OnOk result (out.new.items ≡ out.old.items ++ kept_text [] (pieces texts.now)) }
-    ensures doubled { IfOk result (λ count. count ≡ doubled_texts [] (pieces texts.now) % 2 ^ 64) }
+fn push_first(
+    alloc: Global,
+    out: &mut Vec<u8>,
+    labels: &[u8],
+    lines: &[u8],
+    marks: &[Mark],
+) -> Result<u64, AllocError>
+    ensures text { OnOk result (out.new.items ≡ out.old.items ++ kept_text [] (pieces_from labels.now lines.now marks.now)) }
+    ensures doubled { IfOk result (λ count. count ≡ doubled_texts [] (pieces_from labels.now lines.now marks.now) % 2 ^ 64) }
 {
-    out.reserve(texts.lines.len())?;
-    let marks = texts.marks.as_slice();
     let mut seen = IndexSet::with_capacity(alloc, marks.len())?;
     let mut count = 0u64;
-    let mut labels = texts.labels.as_slice();
-    let mut lines = texts.lines.as_slice();
+    let mut labels_left = labels;
+    let mut lines_left = lines;
     for mark in marks {
-        let (key, more_labels) = split(labels, mark.labels);
-        let (own, more_lines) = split(lines, mark.lines);
+        let (key, more_labels) = split(labels_left, mark.labels);
+        let (own, more_lines) = split(lines_left, mark.lines);
         count = count.wrapping_add(push_series(out, &mut seen, key, own)?);
-        labels = more_labels;
-        lines = more_lines;
+        labels_left = more_labels;
+        lines_left = more_lines;
     }
     Ok(count)
+}
+
+/// Returns the text without the lines of series with the labels of an earlier one, and how many these series are,
+/// modulo 2^64. The lines of all series are those from this place on.
+pub(crate) fn without_doubled(
+    alloc: Global,
+    texts: Texts,
+    start: usize,
+) -> Result<(Vec<u8>, u64), AllocError>
+    requires within { start ≤ length texts.lines }
+    requires whole { flat_map (λ x. x.1) (pieces start texts) ≡ drop start texts.lines }
+    ensures text { IfOk result (λ made. made.0.items ≡ take start texts.lines ++ kept_text [] (pieces start texts)) }
+    ensures doubled { IfOk result (λ made. made.1 ≡ doubled_texts [] (pieces start texts) % 2 ^ 64) }
+{
+    let Texts {
+        labels,
+        lines,
+        marks,
+        front: _front,
+    } = texts;
+    if are_distinct(alloc, labels.as_slice(), marks.as_slice())? {
+        return Ok((lines, 0));
+    }
+    let (before, own) = lines.as_slice().split_at(start);
+    let mut out = Vec::with_capacity(alloc, lines.len())?;
+    out.extend_from_slice(before)?;
+    let count = push_first(alloc, &mut out, labels.as_slice(), own, marks.as_slice())?;
+    Ok((out, count))
 }
