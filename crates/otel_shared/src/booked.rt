@@ -89,8 +89,8 @@ fn answer_to(core: &mut Core, pending: &PendingRecord) -> Result<(), Fault>
             attributes,
         } => core.record(identity, *instrument, *value, attributes.as_slice()),
         PendingRecord::Bound { handle, value } => {
-                core.record_bound(identity, BoundHandle::numbered(*handle), *value)
-            }
+            core.record_bound(identity, BoundHandle::numbered(*handle), *value)
+        }
     }
 }
 

@@ -121,7 +121,10 @@ where
             "total" => show(text, &self.total()),
             "make_room" => self.make_room(),
             "bind" => self.bind(u64::read(step.value), step.set),
-            "update" => show(text, &self.update_bound(number, 0, Readable::read(step.value))),
+            "update" => show(
+                text,
+                &self.update_bound(number, 0, Readable::read(step.value)),
+            ),
             "unbind" => {
                 self.unbind(number);
                 Ok(())
