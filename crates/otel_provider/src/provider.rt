@@ -333,8 +333,8 @@ impl<P: Parts> Provider<P> {
     ///   number of the handle in each stream and in the provider. It is made in all streams or in none.
     /// - `RecordBound` looks up only the handle, once in the provider and once in each stream that its instrument
     ///   feeds. It takes no memory.
-    /// - `Unbind` looks up only the handle, in the provider and in each stream that its instrument feeds, and goes over
-    ///   the handles bound after it there. It takes no memory.
+    /// - `Unbind` looks up only the handle, in the provider and in each stream that its instrument feeds. It takes no
+    ///   memory, and constant time in each, amortized.
     /// - `Collect` checks each observation, in order, before it changes anything. Each goes to the streams of this
     ///   reader that its instrument feeds, as a record does; the entries of these streams are copied first, so that all
     ///   is undone if memory runs out. Then it goes once over the reader's streams, their points and the meters. It
