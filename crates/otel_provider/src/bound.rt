@@ -20,9 +20,10 @@ use std::marker::PhantomData;
 
 /// A live handle of an instrument with values of type `T` (Metrics API, "Synchronous Instrument API").
 ///
-/// It is the number of a handle, with its places in the tables that have it, and the identity of its provider. As long as it is live it holds a place in each stream
-/// that the instrument feeds, so it must be spent: by `unbind`, which ends it, or by `into_number`, which leaves that
-/// to `Call::Unbind`. The toolchain rejects a program that lets one go.
+/// It is the number of a handle, with where the provider and its streams look for it first, and the identity of its
+/// provider. As long as it is live it holds a place in each stream that the instrument feeds, so it must be spent: by
+/// `unbind`, which ends it, or by `into_number`, which leaves that to `Call::Unbind`. The toolchain rejects a program
+/// that lets one go.
 pub struct Bound<T> {
     pub(crate) identity: u64,
     pub(crate) handle: BoundHandle,
@@ -71,8 +72,8 @@ impl<T: NumberType> Bound<T> {
     /// Adds a value, in the instrument's unit, with the attributes of the handle, as `step` does with
     /// `Call::RecordBound`.
     ///
-    /// Takes no memory. The handle is found at its places in the provider and in each stream; it is looked up only where
-    /// it is no longer there, since many older handles have ended.
+    /// Takes no memory. The handle is found at its places in the provider and in the streams. It is looked up only where
+    /// it stands elsewhere: in a stream that several instruments feed, or once many older handles have ended.
     ///
     /// Refused with `UnknownHandle` if the handle belongs to a provider of another identity, before anything else is
     /// checked, or if `Call::Unbind` has ended it by its number. If two providers of one identity mix up their handles,
