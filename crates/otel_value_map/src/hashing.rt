@@ -1,6 +1,6 @@
 //! Hashing of sets of attributes.
 
-ghost use Rattle.std.specs.Prelude.{◌≡◌, ◌+◌, ◌<◌, ◌≤◌, length};
+ghost use Rattle.std.specs.Prelude.{◌≡◌, ◌==◌, ◌+◌, ◌<◌, ◌≤◌, length};
 ghost use Rattle.std.specs.Hash.FoldHasher.{folded_multiply, read_u32, read_u64, read_short, mix};
 ghost use Rattle.otel_value_map.specs.Hashing as spec;
 
@@ -31,6 +31,14 @@ impl SetHashBuilder {
         ensures { result ≡ record { seed = seed } }
     {
         SetHashBuilder { seed }
+    }
+
+    /// Whether another builder's hashers start from the same seed.
+    #[inline(always)]
+    pub fn is_same(&self, other: &SetHashBuilder) -> bool
+        ensures { result ≡ (self.now.seed == other.now.seed) }
+    {
+        self.seed == other.seed
     }
 }
 

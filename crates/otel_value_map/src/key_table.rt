@@ -10,13 +10,12 @@ ghost use Rattle.otel_value_map.specs.Keyed.{found, IsNew, IsSpelling, with_spel
 ghost use Rattle.otel_value_map.specs.Slots.{look_in};
 ghost use Rattle.otel_value_map.specs.declared.hashing.SetHashBuilder.{SetHashBuilder};
 
-use crate::hashed_key::HashedKey;
+use crate::hashed_key::{HashedKey, HashedSet};
 use crate::hashing::SetHashBuilder;
 use crate::slots::Slot;
 use indexmap::IndexMap;
 use indexmap::map::Iter;
 use otel_aggregators::aggregator::Aggregator;
-use otel_sets::set_key::SetKey;
 use slab::Slab;
 use std::alloc::{AllocError, Global};
 use std::marker::Model;
@@ -24,7 +23,7 @@ use std::marker::Model;
 /// Keys with the numbers of the slots that they lead to, in order of making.
 type Numbered = IndexMap<HashedKey<'static>, usize, SetHashBuilder>;
 
-/// The numbers of slots, by set and by list as given. What is looked up is hashed once for both.
+/// The numbers of slots, by set and by list as given.
 pub struct KeyTable {
     /// Hashes the sets and lists.
     hasher: SetHashBuilder,
@@ -63,6 +62,7 @@ impl Drop for KeyTable {
 }
 
 /// The number that a key leads to, where all keys are hashed alike.
+#[inline(always)]
 fn number_in<'s>(
     numbers: &'s IndexMap<HashedKey<'s>, usize, SetHashBuilder>,
     key: &'s HashedKey<'s>,
@@ -123,17 +123,18 @@ impl KeyTable {
     }
 
     /// The number that a set leads to.
-    pub fn find_set(&self, set: &SetKey) -> Option<usize>
+    pub fn find_set(&self, set: &HashedSet) -> Option<usize>
         ensures { result ≡ lookup (set_eq set.now) self.now.sets }
     {
-        number_in(&self.sets, &HashedKey::new(self.hasher, set.lent()))
+        number_in(&self.sets, &set.lent(self.hasher))
     }
 
     /// The number that a list leads to, as a set or else as given.
-    pub fn find(&self, list: &SetKey) -> Option<usize>
+    #[inline(always)]
+    pub fn find(&self, list: &HashedSet) -> Option<usize>
         ensures { result ≡ found list.now self.now.sets self.now.given }
     {
-        let key = HashedKey::new(self.hasher, list.lent());
+        let key = list.lent(self.hasher);
         match number_in(&self.sets, &key) {
             Some(number) => Some(number),
             None if self.given.is_empty() => None,
@@ -175,16 +176,16 @@ impl KeyTable {
     }
 
     /// Adds a set, and the list that admitted it if that is another, as keys of this number.
-    pub fn add(&mut self, set: SetKey<'static>, list: Option<SetKey<'static>>, number: usize)
+    pub fn add(&mut self, set: HashedSet<'static>, list: Option<HashedSet<'static>>, number: usize)
         requires new { IsNew self.old.sets set }
         requires spelling { IsSpelling self.old.given set list }
         requires room { self.old.room ≡ true }
         ensures sets { self.new.sets ≡ self.old.sets ++ (set.entry, number) ∷ [] }
         ensures given { self.new.given ≡ with_spelling list.entry number self.old.given }
     {
-        add_key(&mut self.sets, HashedKey::new(self.hasher, set), number);
+        add_key(&mut self.sets, set.into_key(self.hasher), number);
         if let Some(list) = list {
-            add_key(&mut self.given, HashedKey::new(self.hasher, list), number);
+            add_key(&mut self.given, list.into_key(self.hasher), number);
         }
     }
 

@@ -1,7 +1,7 @@
 //! A bounded map from sets of attributes to aggregators.
 #![tactic(auto)]
 
-mod hashed_key;
+pub mod hashed_key;
 pub mod hashing;
 mod key_table;
 mod pending;

@@ -10,7 +10,7 @@ ghost use Rattle.otel_value_map.specs.Slots.{kept_of, new_kept};
 ghost use Rattle.otel_value_map.specs.Held.{IsPlan, IsPlanAt, is_new, is_pending, leads};
 ghost use Rattle.otel_value_map.specs.declared.pending.Pending.TheVariants.{Nothing, At};
 
-use crate::sets::overflow_set;
+use crate::hashed_key::HashedSet;
 use crate::slots::Slot;
 use crate::table::Table;
 use otel_aggregators::aggregator::Aggregator;
@@ -31,7 +31,7 @@ pub enum Pending {
     /// A record or bind for the set whose entry has this number.
     At(usize),
     /// A record or bind for this set, which has no entry, and perhaps another list that is to lead to the entry too.
-    New(SetKey<'static>, Option<SetKey<'static>>),
+    New(HashedSet<'static>, Option<HashedSet<'static>>),
 }
 
 impl Pending {
@@ -50,7 +50,7 @@ impl Pending {
 /// A map's prepared record or bind, kept so that one for a set that has an entry is put and taken by its number alone.
 pub struct Prepared {
     number: Option<usize>,
-    added: Option<(SetKey<'static>, Option<SetKey<'static>>)>,
+    added: Option<(HashedSet<'static>, Option<HashedSet<'static>>)>,
 }
 
 impl Drop for Prepared {
@@ -121,7 +121,7 @@ impl Prepared {
     {
         self.number = None;
         if self.added.is_some() {
-            self.added = None;
+            give_up_added(&mut self.added);
         }
     }
 
@@ -163,9 +163,17 @@ impl Prepared {
     }
 }
 
+/// Gives up a set that is to be added. Out of line, as most records are for sets that have an entry.
+#[inline(never)]
+fn give_up_added(added: &mut Option<(HashedSet<'static>, Option<HashedSet<'static>>)>)
+    ensures { added.new ≡ None }
+{
+    *added = None;
+}
+
 /// The number of the entry to which a list, as given, leads. Takes no memory.
-#[inline]
-pub fn led_to<A: Aggregator>(table: &Table<A>, list: &SetKey) -> Option<usize>
+#[inline(always)]
+pub fn led_to<A: Aggregator>(table: &Table<A>, list: &HashedSet) -> Option<usize>
     ensures plan { IfSome result (IsPlanAt table.now list.now) }
     ensures unled { IfNone result (leads list.now table.now ≡ false) }
 {
@@ -175,22 +183,14 @@ pub fn led_to<A: Aggregator>(table: &Table<A>, list: &SetKey) -> Option<usize>
     table.find(list)
 }
 
-/// A key that owns the set of another one.
-fn owned(alloc: Global, set: &SetKey) -> Result<SetKey<'static>, Fault>
-    ensures copy { IfOk result (λ key. key ≡ set.now) }
-    ensures only_memory { IsOkUnless result Fault.OutOfMemory }
-{
-    Ok(SetKey::owned(set.share(alloc)?))
-}
-
 /// What a record is to do with a list that, as given, leads to no entry and isn't canonical. `few` says whether the
 /// number of counted entries is below the limit. Looks the canonical form up, which is handed in too.
 fn plan_sorted<A: Aggregator>(
     alloc: Global,
     table: &Table<A>,
     few: bool,
-    list: &SetKey,
-    sorted: &SetKey,
+    list: &HashedSet,
+    sorted: &HashedSet,
 ) -> Result<Pending, Fault>
     requires unled { leads list.now table.now ≡ false }
     requires other { set_eq (canon list.now) list.now ≡ false }
@@ -202,11 +202,11 @@ fn plan_sorted<A: Aggregator>(
     if let Some(number) = table.find_set(sorted) {
         return Ok(Pending::At(number));
     }
-    let set = owned(alloc, sorted)?;
+    let set = sorted.share(alloc)?;
     if !few {
         return Ok(Pending::New(set, None));
     }
-    let key = owned(alloc, list)?;
+    let key = list.share(alloc)?;
     Ok(Pending::New(set, Some(key)))
 }
 
@@ -216,7 +216,7 @@ fn plan_many<A: Aggregator>(
     alloc: Global,
     table: &Table<A>,
     few: bool,
-    list: &SetKey,
+    list: &HashedSet,
     allow: Option<&AllowedKeys>,
     attributes: &[KeyValue],
 ) -> Result<Pending, Fault>
@@ -232,11 +232,12 @@ fn plan_many<A: Aggregator>(
             let sorted = References {
                 slice: references.as_slice(),
             };
-            plan_sorted(alloc, table, few, list, &SetKey::referenced(&sorted))
+            let sorted = HashedSet::new(table.hasher(), SetKey::referenced(&sorted));
+            plan_sorted(alloc, table, few, list, &sorted)
         }
         Err(fault) => {
             let sorted = SetAttributes::canonical(allow, attributes);
-            match table.find_set(&SetKey::held(&sorted)) {
+            match table.find_set(&HashedSet::new(table.hasher(), SetKey::held(&sorted))) {
                 Some(number) => Ok(Pending::At(number)),
                 None => Err(fault),
             }
@@ -254,7 +255,7 @@ pub fn plan<A: Aggregator>(
     alloc: Global,
     table: &Table<A>,
     few: bool,
-    list: &SetKey,
+    list: &HashedSet,
     allow: Option<&AllowedKeys>,
     attributes: &[KeyValue],
 ) -> Result<Pending, Fault>
@@ -264,10 +265,10 @@ pub fn plan<A: Aggregator>(
     ensures placed { IsTrue (has (canon list.now) table.now.table.entries) → IsOk result }
     ensures only_memory { IsOkUnless result Fault.OutOfMemory }
 {
-    if list.is_canonical() {
+    if list.set().is_canonical() {
         // Tells the prover that the set has no number.
         table.told_numbers();
-        let own = owned(alloc, list)?;
+        let own = list.share(alloc)?;
         return Ok(Pending::New(own, None));
     }
     match few_references(allow, attributes) {
@@ -275,7 +276,8 @@ pub fn plan<A: Aggregator>(
             let sorted = References {
                 slice: references.as_slice(),
             };
-            plan_sorted(alloc, table, few, list, &SetKey::referenced(&sorted))
+            let sorted = HashedSet::new(table.hasher(), SetKey::referenced(&sorted));
+            plan_sorted(alloc, table, few, list, &sorted)
         }
         None => plan_many(alloc, table, few, list, allow, attributes),
     }
@@ -299,9 +301,14 @@ fn make_unused<A: Aggregator>(
     Ok(())
 }
 
-/// Makes the set of the overflow entry in advance, unless there is one already.
-fn make_key(key: &mut Option<SetKey<'static>>, alloc: Global) -> Result<(), Fault>
-    requires { IfSome key.old (λ made. made ≡ over_set) }
+/// Makes the key of the overflow entry in advance, unless there is one already. It shares the set that is given.
+fn make_key(
+    key: &mut Option<HashedSet<'static>>,
+    overflow: &HashedSet,
+    alloc: Global,
+) -> Result<(), Fault>
+    requires key { IfSome key.old (λ made. made ≡ over_set) }
+    requires overflow { overflow.now ≡ over_set }
     ensures over { IfSome key.new (λ made. made ≡ over_set) }
     ensures made { OnOk result (is_some key.new ≡ true) }
     ensures only_memory { IsOkUnless result Fault.OutOfMemory }
@@ -309,7 +316,7 @@ fn make_key(key: &mut Option<SetKey<'static>>, alloc: Global) -> Result<(), Faul
     if key.is_some() {
         return Ok(());
     }
-    *key = Some(SetKey::owned(overflow_set(alloc)?));
+    *key = Some(overflow.share(alloc)?);
     Ok(())
 }
 
@@ -317,12 +324,14 @@ fn make_key(key: &mut Option<SetKey<'static>>, alloc: Global) -> Result<(), Faul
 pub fn make_ready<A: Aggregator>(
     table: &mut Table<A>,
     unused: &mut Option<A>,
-    key: &mut Option<SetKey<'static>>,
+    key: &mut Option<HashedSet<'static>>,
+    overflow: &HashedSet,
     alloc: Global,
     config: &A::InitConfig,
 ) -> Result<(), Fault>
     requires unused { IfSome unused.old (λ made. A.meaning made ≡ A.empty config.now) }
     requires key { IfSome key.old (λ made. made ≡ over_set) }
+    requires overflow { overflow.now ≡ over_set }
     ensures table { table.new.table ≡ table.old.table }
     ensures numbers { table.new.numbers ≡ table.old.numbers }
     ensures given { table.new.given ≡ table.old.given }
@@ -333,7 +342,7 @@ pub fn make_ready<A: Aggregator>(
 {
     table.make_room()?;
     make_unused(unused, alloc, config)?;
-    make_key(key, alloc)?;
+    make_key(key, overflow, alloc)?;
     Ok(())
 }
 

@@ -58,6 +58,7 @@ pub fn fill<A: Aggregator>(slots: &mut Slab<Slot<A>>, slot: Slot<A>) -> usize
 }
 
 /// Takes a record into the slot with this number, without a look-up.
+#[inline(always)]
 pub fn touch<A: Aggregator>(slots: &mut Slab<Slot<A>>, number: usize, value: A::PreComputedValue)
     ensures look { SameLook (look_in A.meaning slots.new) (at_slot number (written (A.sample value)) (look_in A.meaning slots.old)) }
 {

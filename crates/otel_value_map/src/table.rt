@@ -17,6 +17,7 @@ ghost use Rattle.otel_value_map.specs.Keyed.{Fits, found, IsNew, IsSpelling, wit
 ghost use Rattle.otel_value_map.specs.Numbers.{number_of, handles_at, entry_without_handles, without_handles, AreNamed, AreNumbered, KeepLeft, IsNumberOf, is_number};
 ghost use Rattle.otel_value_map.specs.Slots.{HasForm, SameLook, look_in, kept_of, changed_each, left_of, entry_of, entry_at, copies};
 
+use crate::hashed_key::HashedSet;
 use crate::hashing::SetHashBuilder;
 use crate::key_table::KeyTable;
 use crate::slots::{Slot, fill, forget, free, hold, release, settle, touch};
@@ -288,6 +289,11 @@ impl<A: Aggregator> Table<A> {
         let _none = self.none;
     }
 
+    /// What sets and lists are hashed with.
+    pub fn hasher(&self) -> SetHashBuilder {
+        self.keys.hasher()
+    }
+
     /// The number of the empty set's slot.
     pub fn none(&self) -> usize
         ensures number { result ≡ self.now.numbers.none }
@@ -296,7 +302,7 @@ impl<A: Aggregator> Table<A> {
     }
 
     /// The number that a set leads to.
-    pub fn find_set(&self, set: &SetKey) -> Option<usize>
+    pub fn find_set(&self, set: &HashedSet) -> Option<usize>
         ensures number { result ≡ lookup (set_eq set.now) self.now.numbers.sets }
         ensures placed { is_some result ≡ has set.now self.now.table.entries }
         ensures named { IfSome result (λ n. IsNumberOf set.now n self.now.numbers) }
@@ -305,7 +311,8 @@ impl<A: Aggregator> Table<A> {
     }
 
     /// The number that a list leads to as given: as a set, or as the list that admitted one.
-    pub fn find(&self, list: &SetKey) -> Option<usize>
+    #[inline(always)]
+    pub fn find(&self, list: &HashedSet) -> Option<usize>
         ensures number { result ≡ found list.now self.now.numbers.sets self.now.given }
         ensures known { is_some result ≡ (is_member set_eq (keys_of self.now.given) list.now || has list.now self.now.table.entries) }
         ensures placed { IfSome result (λ _. has (canon list.now) self.now.table.entries ≡ true) }
@@ -333,6 +340,7 @@ impl<A: Aggregator> Table<A> {
     }
 
     /// Takes a record into the entry with this number, without a look-up.
+    #[inline(always)]
     pub fn touch(&mut self, number: usize, value: A::PreComputedValue)
         ensures table { (s : AttributeSet) → number_of s self.old.numbers ≡ Some number → self.new.table ≡ at_entry s (write (A.sample value)) self.old.table }
         ensures unknown { is_number number self.old.numbers ≡ false → self.new.table ≡ self.old.table }
@@ -370,8 +378,8 @@ impl<A: Aggregator> Table<A> {
     /// key for the list that admitted it if that is another. Only the overflow set's slot lasts.
     pub fn add(
         &mut self,
-        set: SetKey<'static>,
-        list: Option<SetKey<'static>>,
+        set: HashedSet<'static>,
+        list: Option<HashedSet<'static>>,
         slot: Slot<A>,
     ) -> usize
         requires new { IsNew self.old.numbers.sets set }
@@ -453,7 +461,7 @@ impl<A: Aggregator> Table<A> {
     }
 
     /// The aggregator of a set as a draining collection would show it, or `None` if it would show no point of the set.
-    pub fn get(&self, set: &SetKey) -> Option<&A>
+    pub fn get(&self, set: &HashedSet) -> Option<&A>
         ensures { option_map (λ found. A.meaning found.now) result ≡ fold_in (points true self.now.table) set.now }
     {
         if set.is_empty() {
@@ -495,7 +503,7 @@ fn copy_entries<A: Aggregator>(
             made.make_room()?;
             let slot = copy_slot(alloc, slot)?;
             let set = SetKey::owned(set.key().share(alloc)?);
-            made.add(set, None, slot);
+            made.add(HashedSet::new(keys.hasher(), set), None, slot);
         }
     }
     Ok(())

@@ -15,6 +15,7 @@ ghost use Rattle.otel_value_map.specs.Faults.{IsBindFault};
 ghost use Rattle.otel_value_map.specs.Numbers.{number_of, is_number, without_handles, handles_at, AreNamed, AreNumbered, spelling_of, is_placed, KeepNumbers, KeepLeft};
 ghost use Rattle.otel_value_map.specs.Slots.{HasForm, copies};
 
+use crate::hashed_key::{GivenAttributes, HashedSet};
 use crate::hashing::SetHashBuilder;
 use crate::pending::{Pending, Prepared, led_to, make_ready, plan, take_slot};
 use crate::saved::Saved;
@@ -29,7 +30,7 @@ use otel_sets::allowed_keys::AllowedKeys;
 use otel_sets::references::{References, kept_references};
 use otel_sets::set_attributes::SetAttributes;
 use otel_sets::set_key::SetKey;
-use std::alloc::Global;
+use std::alloc::{AllocError, Global};
 use std::marker::Model;
 
 /// A bounded map from sets of attributes to aggregators (Metrics SDK, "Cardinality limits").
@@ -52,9 +53,9 @@ pub struct ValueMap<A: Aggregator> {
     /// An aggregator made in advance for the next new entry.
     unused: Option<A>,
     /// The set of the overflow entry, for looking it up.
-    overflow: SetKey<'static>,
+    overflow: HashedSet<'static>,
     /// The same set, made in advance as the key of the overflow entry.
-    spare_key: Option<SetKey<'static>>,
+    spare_key: Option<HashedSet<'static>>,
     pending: Prepared,
 }
 
@@ -115,7 +116,7 @@ impl<A: Aggregator> ValueMap<A> {
     {
         let none = A::create(alloc, &config)?;
         let table = Table::new(alloc, hasher, none)?;
-        let overflow = SetKey::owned(overflow_set(alloc)?);
+        let overflow = HashedSet::new(hasher, SetKey::owned(overflow_set(alloc)?));
         Ok(ValueMap {
             alloc,
             config,
@@ -134,10 +135,10 @@ impl<A: Aggregator> ValueMap<A> {
     #[inline(always)]
     fn prepare_list(
         &mut self,
-        list: &SetKey,
+        list: &HashedSet,
         allow: Option<&AllowedKeys>,
         attributes: &[KeyValue],
-    ) -> Result<(), Fault>
+    ) -> Result<(), AllocError>
         requires { list.now ≡ allowed_part (option_copied allow) attributes.now }
         ensures same { self.new.state ≡ self.old.state }
         ensures numbers { self.new.numbers ≡ self.old.numbers }
@@ -147,20 +148,22 @@ impl<A: Aggregator> ValueMap<A> {
         ensures refused { OnErr result (self.new.pending ≡ None) }
         ensures known { SucceedsIfKnown list.now (known_of self.old) result }
         ensures placed { IsTrue (is_placed (canon list.now) self.old.state.table.entries) → IsOk result }
-        ensures only_memory { IsOkUnless result Fault.OutOfMemory }
     {
         if let Some(number) = led_to(&self.table, list) {
             self.pending.put_at(number);
             return Ok(());
         }
-        self.prepare_unknown(list, allow, attributes)
+        match self.prepare_unknown(list, allow, attributes) {
+            Ok(()) => Ok(()),
+            Err(_) => Err(AllocError),
+        }
     }
 
     /// Does what `prepare_list` does with a list that, as given, leads to no entry.
     #[inline(never)]
     fn prepare_unknown(
         &mut self,
-        list: &SetKey,
+        list: &HashedSet,
         allow: Option<&AllowedKeys>,
         attributes: &[KeyValue],
     ) -> Result<(), Fault>
@@ -186,6 +189,7 @@ impl<A: Aggregator> ValueMap<A> {
             &mut self.table,
             &mut self.unused,
             &mut self.spare_key,
+            &self.overflow,
             self.alloc,
             &self.config,
         )?;
@@ -226,7 +230,7 @@ impl<A: Aggregator> ValueMap<A> {
         };
         if self.count < self.limit {
             self.count += 1;
-            let lasting = set == self.overflow;
+            let lasting = set.set() == self.overflow.set();
             let slot = take_slot(&mut self.unused, &self.config, true, lasting);
             return self.table.add(set, list, slot);
         }
@@ -258,11 +262,24 @@ impl<A: Aggregator> ValueMap<A> {
         ensures placed { IsTrue (is_placed (canon attributes.now) self.old.state.table.entries) → IsOk result }
         ensures only_memory { IsOkUnless result Fault.OutOfMemory }
     {
-        if attributes.is_empty() {
-            self.pending.put_at(self.table.none());
-            return Ok(());
-        }
-        self.prepare_list(&SetKey::given(attributes), None, attributes)
+        self.prepare_given(&GivenAttributes::new(attributes))?;
+        Ok(())
+    }
+
+    /// Prepares a record or a bind as `prepare` does. Attributes that have their hash already are not hashed again.
+    #[inline(always)]
+    pub fn prepare_given(&mut self, given: &GivenAttributes) -> Result<(), AllocError>
+        ensures same { self.new.state ≡ self.old.state }
+        ensures numbers { self.new.numbers ≡ self.old.numbers }
+        ensures given { self.new.given ≡ self.old.given }
+        ensures ready { OnOk result (self.new.pending ≡ Some (canon given.now)) }
+        ensures spelling { OnOk result (self.new.spelling ≡ spelling_of given.now self.old.state) }
+        ensures refused { OnErr result (self.new.pending ≡ None) }
+        ensures known { SucceedsIfKnown given.now (known_of self.old) result }
+        ensures placed { IsTrue (is_placed (canon given.now) self.old.state.table.entries) → IsOk result }
+    {
+        let list = given.list(self.table.hasher());
+        self.prepare_list(&list, None, given.as_slice())
     }
 
     /// Prepares a record or a bind, as `prepare` does, for those of the attributes whose key is in the allow-list
@@ -290,7 +307,9 @@ impl<A: Aggregator> ValueMap<A> {
             let kept = References {
                 slice: few.as_slice(),
             };
-            return self.prepare_list(&SetKey::referenced(&kept), Some(allow), attributes);
+            let list = HashedSet::new(self.table.hasher(), SetKey::referenced(&kept));
+            self.prepare_list(&list, Some(allow), attributes)?;
+            return Ok(());
         }
         self.prepare_many_allowed(allow, attributes)
     }
@@ -314,7 +333,9 @@ impl<A: Aggregator> ValueMap<A> {
         ensures only_memory { IsOkUnless result Fault.OutOfMemory }
     {
         let kept = SetAttributes::kept(Some(allow), attributes);
-        self.prepare_list(&SetKey::held(&kept), Some(allow), attributes)
+        let list = HashedSet::new(self.table.hasher(), SetKey::held(&kept));
+        self.prepare_list(&list, Some(allow), attributes)?;
+        Ok(())
     }
 
     /// Gives up the prepared record or bind, if there is one.
@@ -335,6 +356,7 @@ impl<A: Aggregator> ValueMap<A> {
     }
 
     /// Takes in the prepared record. This is the second phase; it looks nothing up for a set that has an entry.
+    #[inline(always)]
     pub fn commit(&mut self, value: A::PreComputedValue)
         requires { IsSome self.old.pending }
         ensures measured { (s : AttributeSet) → self.old.pending ≡ Some s → self.new.state ≡ measured_map s (A.sample value) self.old.state }
@@ -348,6 +370,7 @@ impl<A: Aggregator> ValueMap<A> {
 
     /// Takes in a record for the empty set, which always has an entry. Looks nothing up, takes no memory, and gives up
     /// what was prepared.
+    #[inline(always)]
     pub fn measure_none(&mut self, value: A::PreComputedValue)
         ensures measured { self.new.state ≡ measured_map none_set (A.sample value) self.old.state }
         ensures numbers { self.new.numbers ≡ self.old.numbers }
@@ -440,6 +463,7 @@ impl<A: Aggregator> ValueMap<A> {
 
     /// Takes in a record through a handle, by the number of its entry; does nothing if no entry has the number. Looks
     /// nothing up, takes no memory, and gives up what was prepared.
+    #[inline(always)]
     pub fn update_bound(&mut self, number: usize, value: A::PreComputedValue)
         ensures updated { (s : AttributeSet) → number_of s self.old.numbers ≡ Some number → self.new.state ≡ updated_bound s (A.sample value) self.old.state }
         ensures unknown { is_number number self.old.numbers ≡ false → self.new.state ≡ self.old.state }
@@ -469,7 +493,7 @@ impl<A: Aggregator> ValueMap<A> {
     pub fn knows(&self, attributes: &[KeyValue]) -> bool
         ensures { result ≡ knows attributes.now (known_of self.now) }
     {
-        let list = SetKey::given(attributes);
+        let list = HashedSet::new(self.table.hasher(), SetKey::given(attributes));
         if list.is_empty() {
             return true;
         }
@@ -574,7 +598,8 @@ impl<A: Aggregator> ValueMap<A> {
     pub fn get(&self, attributes: &[KeyValue]) -> Option<&A>
         ensures { option_map (λ found. A.meaning found.now) result ≡ fold_in (draining_points self.now.state) attributes.now }
     {
-        self.table.get(&SetKey::given(attributes))
+        let set = HashedSet::new(self.table.hasher(), SetKey::given(attributes));
+        self.table.get(&set)
     }
 
     /// The points of a collection that changes nothing: that of the empty set if it was updated, and those of all

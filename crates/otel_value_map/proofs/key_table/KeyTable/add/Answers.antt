@@ -10,8 +10,8 @@ use Rattle.otel_value_map.proofs.key_table.KeyTable.add.Goals as goal
 pub add_key-requires-clause-absent : goal.add_key-requires-clause-absent
 add_key-requires-clause-absent c =
     let es = c.self.inside.sets.entries in
-    lookup-hashed c.self.inside.hasher c.new.result c.new.ensures.hashed es c.self.invariant.0
-    ∙ ap (λ (s : AttributeSet). lookup (set_eq s) (map plain es)) c.new.ensures.key
+    lookup-hashed c.self.inside.hasher c.into_key.result c.into_key.ensures.hashed es c.self.invariant.0
+    ∙ ap (λ (s : AttributeSet). lookup (set_eq s) (map plain es)) c.into_key.ensures.key
     ∙ ap (λ (t : Led). lookup (set_eq c.args.set) t.sets) c.self.view_is
     ∙ c.requires.new.absent
 
@@ -19,14 +19,14 @@ pub add_key-requires-in-Some-clause-absent : goal.add_key-requires-in-Some-claus
 add_key-requires-in-Some-clause-absent c =
     let es = c.self.inside.given.entries in
     let can : IsSpelling c.args.self.now.given c.args.set (Some c.in-Some.list) = subst (IsSpelling c.args.self.now.given c.args.set) c.in-Some.is c.requires.spelling in
-    lookup-hashed c.self.inside.hasher c.new-in-Some.result c.new-in-Some.ensures.hashed es c.self.invariant.1
-    ∙ ap (λ (s : AttributeSet). lookup (set_eq s) (map plain es)) c.new-in-Some.ensures.key
+    lookup-hashed c.self.inside.hasher c.into_key-in-Some.result c.into_key-in-Some.ensures.hashed es c.self.invariant.1
+    ∙ ap (λ (s : AttributeSet). lookup (set_eq s) (map plain es)) c.into_key-in-Some.ensures.key
     ∙ ap (λ (t : Led). lookup (set_eq c.in-Some.list) t.given) c.self.view_is
     ∙ can.1
 
 pub invariant_of-self : goal.invariant_of-self
 invariant_of-self c =
-    rw (c.add_key.ensures.keys, c.add_key-in-Some.ensures.keys) (all-push _ _ _ c.self.invariant.0 c.new.ensures.hashed, all-push _ _ _ c.self.invariant.1 c.new-in-Some.ensures.hashed)
+    rw (c.add_key.ensures.keys, c.add_key-in-Some.ensures.keys) (all-push _ _ _ c.self.invariant.0 c.into_key.ensures.hashed, all-push _ _ _ c.self.invariant.1 c.into_key-in-Some.ensures.hashed)
 
 pub invariant_of-self-in_default : goal.invariant_of-self-in_default
-invariant_of-self-in_default c = rw c.add_key.ensures.keys (all-push _ _ _ c.self.invariant.0 c.new.ensures.hashed, c.self.invariant.1)
+invariant_of-self-in_default c = rw c.add_key.ensures.keys (all-push _ _ _ c.self.invariant.0 c.into_key.ensures.hashed, c.self.invariant.1)
