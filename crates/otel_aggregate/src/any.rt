@@ -6,7 +6,7 @@ ghost use Rattle.otel_common.specs.Temporalities.{resets};
 ghost use Rattle.otel_model_stream.specs.Sets.{set_of};
 ghost use Rattle.otel_model_stream.specs.Folds.{Last, wrap};
 ghost use Rattle.otel_model_stream.specs.Maps.{new_map};
-ghost use Rattle.otel_model_stream.specs.Totals.{points_total};
+ghost use Rattle.otel_model_stream.specs.Totals.{points_total, size};
 ghost use Rattle.otel_value_map.specs.Numbers.{without_handles};
 ghost use Rattle.otel_aggregate.specs.Any.{aggregate_of, is_monotonic_of, drains_of, amount_of, any_after_commit, any_after_none, is_taken, is_signed_value, any_with_room, any_after_bind, any_after_update, is_updated, any_after_unbind, metrics_now, any_points, any_after_collection, saved_of, IsLike, with_saved};
 ghost use Rattle.otel_aggregate.specs.Kept.{IsWithin, any_data, state_of};
@@ -17,17 +17,17 @@ use crate::saved::SavedAggregate;
 use crate::settings::AnySettings;
 use crate::shown::{Shown, shown_observed, shown_stream};
 use crate::stream::Stream;
-use crate::values::{is_signed, told_within};
-use otel_common::attributes::KeyValue;
+use crate::values::{bits_of, is_signed, told_within};
 use otel_common::faults::Fault;
 use otel_common::keys::Key;
 use otel_common::lists::Items;
 use otel_common::metrics::Temporality;
 use otel_data::aggregated::{AggregatedMetrics, MetricData};
 use otel_data::numbers::NumberValue;
+use otel_value_map::hashed_key::GivenAttributes;
 use otel_value_map::hashing::SetHashBuilder;
 use otel_value_map::value_map::ValueMap;
-use std::alloc::Global;
+use std::alloc::{AllocError, Global};
 use std::marker::Model;
 
 /// A map for what was reported, if each collection empties a stream with these settings.
@@ -132,19 +132,32 @@ impl AnyAggregate {
     /// all. What is kept of the attributes is looked up without a copy, as given and otherwise by sorted references. A
     /// set that has an entry is never refused for want of memory, and takes none in the order that first brought it or
     /// with up to 16 keys.
-    pub fn prepare(&mut self, attributes: &[KeyValue]) -> Result<(), Fault>
+    #[inline(always)]
+    pub fn prepare(&mut self, given: &GivenAttributes) -> Result<(), AllocError>
         ensures same { self.new.state ≡ self.old.state }
         ensures live { self.new.live ≡ self.old.live }
         ensures room { self.new.room ≡ self.old.room }
         ensures number { self.new.is_signed ≡ self.old.is_signed }
         ensures drains { self.new.drains ≡ self.old.drains }
         ensures reported { self.new.reported ≡ self.old.reported }
-        ensures ready { OnOk result (self.new.pending ≡ Some (set_of self.old.state.allow attributes.now)) }
+        ensures ready { OnOk result (self.new.pending ≡ Some (set_of self.old.state.allow given.now)) }
         ensures refused { OnErr result (self.new.pending ≡ None) }
-        ensures known { IsTrue (is_known self.old.state.allow attributes.now self.old.state.map_state) → IsOk result }
-        ensures only_memory { IsOkUnless result Fault.OutOfMemory }
+        ensures known { IsTrue (is_known self.old.state.allow given.now self.old.state.map_state) → IsOk result }
     {
-        self.stream.prepare(attributes)
+        self.stream.prepare(given)
+    }
+
+    /// What a record of a value adds to the total of the records: the value's bits, 1 for a histogram, or 0 for last
+    /// values and observed sums.
+    #[inline(always)]
+    pub fn size(&self, value: NumberValue) -> u64
+        ensures { result ≡ size self.now.state.aggregate (amount_of value) }
+    {
+        match self.stream.settings() {
+            AnySettings::Sum { is_monotonic: _ } => bits_of(value),
+            AnySettings::Histogram(_) => 1,
+            _ => 0,
+        }
     }
 
     /// Whether a value has the stream's number type.

@@ -99,7 +99,8 @@ impl AnyBuckets {
         })
     }
 
-    /// Takes in one more record.
+    /// Takes in one more record. Out of line, so that a sum's records are short.
+    #[inline(never)]
     fn update(&mut self, recorded: AnyRecord)
         ensures { spread_in self.new ≡ record_spread (spread_in self.old) (sample_in recorded) }
     {
@@ -170,6 +171,7 @@ impl Aggregator for AnyAggregator {
         }
     }
 
+    #[inline(always)]
     fn update(&mut self, recorded: AnyRecord) {
         match self {
             AnyAggregator::Sum(sum) => *sum = sum.wrapping_add(bits_of(recorded.value)),

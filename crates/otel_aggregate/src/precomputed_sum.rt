@@ -24,6 +24,7 @@ use otel_common::lists::{Items, SharedItems};
 use otel_common::metrics::Temporality;
 use otel_data::points::SumDataPoint;
 use otel_data::sums::Sum as SumData;
+use otel_value_map::hashed_key::GivenAttributes;
 use otel_value_map::hashing::SetHashBuilder;
 use otel_value_map::saved::Saved;
 use otel_value_map::value_map::ValueMap;
@@ -180,7 +181,8 @@ impl<T: Number + Drop> PrecomputedSum<T> {
         ensures known { IsTrue (is_known self.old.state.stream.allow attributes.now self.old.state.stream.map_state) → IsOk result }
         ensures only_memory { IsOkUnless result Fault.OutOfMemory }
     {
-        self.stream.prepare(attributes)
+        self.stream.prepare(&GivenAttributes::new(attributes))?;
+        Ok(())
     }
 
     /// Whether an observation is prepared.

@@ -22,10 +22,11 @@ use otel_common::keys::Key;
 use otel_common::lists::{Items, SharedItems};
 use otel_common::metrics::Temporality;
 use otel_sets::allowed_keys::AllowedKeys;
+use otel_value_map::hashed_key::GivenAttributes;
 use otel_value_map::hashing::SetHashBuilder;
 use otel_value_map::saved::Saved;
 use otel_value_map::value_map::ValueMap;
-use std::alloc::Global;
+use std::alloc::{AllocError, Global};
 use std::marker::Model;
 use std::mem::swap;
 
@@ -163,18 +164,21 @@ impl<A: Measures> Stream<A> {
     /// all. What is kept of the attributes is looked up without a copy, as given and otherwise by sorted references. A
     /// set that has an entry is never refused for want of memory, and takes none in the order that first brought it or
     /// with up to 16 keys.
-    pub fn prepare(&mut self, attributes: &[KeyValue]) -> Result<(), Fault>
+    #[inline(always)]
+    pub fn prepare(&mut self, given: &GivenAttributes) -> Result<(), AllocError>
         ensures same { self.new.state ≡ self.old.state }
         ensures live { self.new.live ≡ self.old.live }
         ensures room { self.new.room ≡ self.old.room }
-        ensures ready { OnOk result (self.new.pending ≡ Some (set_of self.old.state.allow attributes.now)) }
+        ensures ready { OnOk result (self.new.pending ≡ Some (set_of self.old.state.allow given.now)) }
         ensures refused { OnErr result (self.new.pending ≡ None) }
-        ensures known { IsTrue (is_known self.old.state.allow attributes.now self.old.state.map_state) → IsOk result }
-        ensures only_memory { IsOkUnless result Fault.OutOfMemory }
+        ensures known { IsTrue (is_known self.old.state.allow given.now self.old.state.map_state) → IsOk result }
     {
         match &self.allow {
-            None => self.map.prepare(attributes),
-            Some(allow) => self.map.prepare_allowed(allow, attributes),
+            None => self.map.prepare_given(given),
+            Some(allow) => match self.map.prepare_allowed(allow, given.as_slice()) {
+                Ok(()) => Ok(()),
+                Err(_) => Err(AllocError),
+            },
         }
     }
 
@@ -186,6 +190,7 @@ impl<A: Measures> Stream<A> {
     }
 
     /// Takes in the prepared record. This is the second phase.
+    #[inline(always)]
     pub(crate) fn take_in(&mut self, value: A::Value)
         requires { IsSome self.old.pending }
         ensures measured { (s : AttributeSet) → self.old.pending ≡ Some s → self.new.state ≡ recorded_set s (A.amount value) self.old.state }
@@ -200,6 +205,7 @@ impl<A: Measures> Stream<A> {
     }
 
     /// Takes in the prepared record, if there is one, and returns whether there was.
+    #[inline(always)]
     pub fn commit(&mut self, value: A::Value) -> bool
         ensures taken { self.new ≡ stream_after_commit (A.amount value) self.old }
         ensures told { result ≡ is_some self.old.pending }
@@ -221,12 +227,13 @@ impl<A: Measures> Stream<A> {
         ensures known { IsTrue (is_known self.old.state.allow attributes.now self.old.state.map_state) → IsOk result }
         ensures only_memory { IsOkUnless result Fault.OutOfMemory }
     {
-        self.prepare(attributes)?;
+        self.prepare(&GivenAttributes::new(attributes))?;
         self.take_in(value);
         Ok(())
     }
 
     /// Takes in a record without attributes. Looks nothing up, takes no memory, and gives up what was prepared.
+    #[inline(always)]
     pub fn measure_none(&mut self, value: A::Value)
         ensures { self.new ≡ record self.old { state = recorded_set none_set (A.amount value) self.old.state; pending = None } }
     {
@@ -272,7 +279,7 @@ impl<A: Measures> Stream<A> {
         ensures live { OnErr result (self.new.live ≡ self.old.live) }
         ensures only_memory { IsOkUnless result Fault.OutOfMemory }
     {
-        self.prepare(attributes)?;
+        self.prepare(&GivenAttributes::new(attributes))?;
         self.make_room()?;
         self.commit_bind(handle);
         Ok(())
@@ -280,6 +287,7 @@ impl<A: Measures> Stream<A> {
 
     /// Takes in a record through a handle, if it is live, and returns whether it is. Looks for the handle at this place
     /// first, and looks it up only if it is not there. Takes no memory, and gives up what was prepared.
+    #[inline(always)]
     pub fn update_bound(&mut self, handle: u64, place: usize, value: A::Value) -> bool
         ensures updated { self.new ≡ stream_after_update handle (A.amount value) self.old }
         ensures told { result ≡ is_some (held_by handle self.old.live) }
@@ -344,6 +352,7 @@ impl<A: Measures> Stream<A> {
     }
 
     /// The settings that all its sets share.
+    #[inline(always)]
     pub(crate) fn settings(&self) -> &A::Settings
         ensures aggregate { self.now.state.aggregate ≡ A.aggregate result.now }
         ensures monotonic { self.now.state.is_monotonic ≡ A.is_monotonic result.now }

@@ -4,6 +4,7 @@
 use super::bounds;
 use super::scripts::Made;
 use super::steps::{Readable, Step, Stepped, assert_steps, show, show_set};
+use otel_aggregate::internal::GivenAttributes;
 use otel_aggregate::settings::HistogramSettings;
 use otel_aggregate::shows::Shows;
 use otel_aggregate::stream::Stream;
@@ -114,7 +115,7 @@ where
         let number = u64::read(step.place);
         match step.name {
             "measure" => self.measure(Readable::read(step.value), step.set),
-            "prepare" => self.prepare(step.set),
+            "prepare" => Ok(self.prepare(&GivenAttributes::new(step.set))?),
             "is_prepared" => show(text, &self.is_prepared()),
             "commit" => show(text, &self.commit(Readable::read(step.value))),
             "resets" => show(text, &self.resets()),
