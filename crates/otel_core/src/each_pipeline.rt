@@ -20,7 +20,9 @@ use otel_data::numbers::NumberValue;
 use otel_pipeline::about::About;
 use otel_pipeline::pipeline::Pipeline;
 use otel_stream::stream::Stream;
+use otel_value_map::hashed_key::GivenAttributes;
 use otel_value_map::hashing::SetHashBuilder;
+use std::alloc::AllocError;
 
 /// Plans a build at all readers, given each view's answer. What the readers have doesn't change.
 fn plan_all(
@@ -56,13 +58,12 @@ fn build_all(pipelines: &mut [Pipeline])
 fn prepare_all(
     pipelines: &mut [Pipeline],
     instrument: usize,
-    attributes: &[KeyValue],
-) -> Result<(), Fault>
+    attributes: &GivenAttributes,
+) -> Result<(), AllocError>
     ensures same { map part_of pipelines.new ≡ map part_of pipelines.old }
     ensures prepared { OnOk result (All (IsPreparedFor instrument attributes.now) pipelines.new) }
     ensures free { attributes.now ≡ [] → IsOk result }
     ensures known { list_all (is_known_at instrument attributes.now) (map part_of pipelines.old) ≡ true → IsOk result }
-    ensures only_memory { IsOkUnless result Fault.OutOfMemory }
 {
     for i in 0..pipelines.len() {
         pipelines[i].prepare(instrument, attributes)?;
@@ -95,7 +96,7 @@ fn record_none_all(pipelines: &mut [Pipeline], instrument: usize, value: NumberV
 fn prepare_bind_all(
     pipelines: &mut [Pipeline],
     instrument: usize,
-    attributes: &[KeyValue],
+    attributes: &GivenAttributes,
 ) -> Result<(), Fault>
     ensures same { map part_of pipelines.new ≡ map part_of pipelines.old }
     ensures ready { OnOk result (All (IsReadyToBindAt instrument attributes.now) pipelines.new) }
@@ -155,6 +156,37 @@ pub(crate) fn build_or_none(
     Ok(())
 }
 
+/// The attributes of a record or a bind, with their hash if several readers are to look them up.
+fn given_at<'a>(pipelines: &[Pipeline], attributes: &'a [KeyValue]) -> GivenAttributes<'a>
+    ensures { result ≡ attributes.now }
+{
+    if pipelines.len() > 1 {
+        GivenAttributes::hashed(pipelines[0].hasher(), attributes)
+    } else {
+        GivenAttributes::new(attributes)
+    }
+}
+
+/// Makes a record with attributes in the streams that an instrument feeds, at all readers or at none. Out of line, so that
+/// a record without attributes is short.
+#[inline(never)]
+fn record_given(
+    pipelines: &mut [Pipeline],
+    instrument: usize,
+    value: NumberValue,
+    attributes: &[KeyValue],
+) -> Result<(), AllocError>
+    requires { FeedType instrument (number_of value) (map part_of pipelines.old) }
+    ensures ok { OnOk result (map part_of pipelines.new ≡ map (part_after_call 0 (model.Call.Record instrument (number_of value) attributes.now)) (map part_of pipelines.old)) }
+    ensures err { OnErr result (map part_of pipelines.new ≡ map part_of pipelines.old) }
+    ensures known { list_all (is_known_at instrument attributes.now) (map part_of pipelines.old) ≡ true → IsOk result }
+{
+    let given = given_at(pipelines, attributes);
+    prepare_all(pipelines, instrument, &given)?;
+    commit_all(pipelines, instrument, value);
+    Ok(())
+}
+
 /// Makes a record in the streams that an instrument feeds, at all readers or at none.
 #[inline(always)]
 pub(crate) fn record_or_none(
@@ -174,8 +206,7 @@ pub(crate) fn record_or_none(
         record_none_all(pipelines, instrument, value);
         return Ok(());
     }
-    prepare_all(pipelines, instrument, attributes)?;
-    commit_all(pipelines, instrument, value);
+    record_given(pipelines, instrument, value, attributes)?;
     Ok(())
 }
 
@@ -193,7 +224,8 @@ pub(crate) fn bind_or_none(
     ensures err { OnErr result (map part_of pipelines.new ≡ map part_of pipelines.old) }
     ensures only_memory { IsOkUnless result Fault.OutOfMemory }
 {
-    prepare_bind_all(pipelines, instrument, attributes)?;
+    let given = given_at(pipelines, attributes);
+    prepare_bind_all(pipelines, instrument, &given)?;
     Ok(commit_bind_all(pipelines, instrument, handle))
 }
 

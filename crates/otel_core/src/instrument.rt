@@ -7,8 +7,8 @@ ghost use Rattle.otel_core.specs.Instruments.{new_state};
 ghost use Rattle.otel_core.specs.Correspondence.{number_of};
 
 use crate::sorts::InstrumentSort;
+use otel_aggregate::values::bits_of;
 use otel_data::numbers::NumberValue;
-use otel_pipeline::numbers::bits_of;
 use std::marker::Model;
 
 /// An instrument, with the number and the sum of the records that it has accepted, both modulo 2^64.

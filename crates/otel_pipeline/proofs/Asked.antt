@@ -36,6 +36,10 @@ asked-if d a false o v is = is
 pub asked-taken : (d : Demand) (a new : HeldAny) (value : NumberValue) (o : Option AttributeSet) → IsAsked d a → new ≡ cond (beq (is_signed_value value) a.is_signed) (with_stream a (taken_from o (amount_of value) (stream_in a))) a → IsAsked d new
 asked-taken d a new value o is e = subst (IsAsked d) (sym e) (asked-if d a (beq (is_signed_value value) a.is_signed) o (amount_of value) is)
 
+-- what a record adds to the total is what it adds in the aggregate that was asked for
+pub asked-size : (d : Demand) (a : HeldAny) (value : NumberValue) → IsAsked d a → size a.state.aggregate (amount_of value) ≡ size (aggregate_of d) (amount_of value)
+asked-size d a value is = ap (λ (s : StreamState). size s.aggregate (amount_of value)) is.state
+
 -- of the set that is prepared, or of the empty one
 module _ (d : Demand) (a : HeldAny) (value : NumberValue) (recorded exported : ℕ) (is : IsAsked d a) (o : Option AttributeSet) where
   abbrev v : Amount

@@ -5,16 +5,13 @@ ghost use Rattle.otel_aggregate.specs.Any as any;
 ghost use Rattle.otel_model.specs.Demands as demands;
 ghost use Rattle.otel_model.specs.Demands.{resets};
 ghost use Rattle.otel_model.specs.Streams.{aggregate_of, always_resets, has_sum, is_delta, is_drained, is_monotonic_kind, observes_sums};
-ghost use Rattle.otel_model_stream.specs.Totals.{size};
 ghost use Rattle.otel_pipeline.specs.Streams.{IsMakeable, asks_monotonic};
 
-use crate::numbers::bits_of;
 use otel_aggregate::settings::{AnySettings, HistogramSettings};
 use otel_aggregators::bounds::Bounds;
 use otel_common::faults::Fault;
 use otel_common::lists::SharedItems;
 use otel_common::metrics::{Aggregation, Temporality};
-use otel_data::numbers::NumberValue;
 use otel_stream::answers::Answers;
 use otel_stream::demand::Demand;
 use otel_stream::instrument::InstrumentKind;
@@ -142,18 +139,5 @@ pub(crate) fn settings_of(demand: &Demand) -> Result<AnySettings, Fault>
         Aggregation::Sum | Aggregation::Drop | Aggregation::Default => Ok(AnySettings::Sum {
             is_monotonic: is_monotonic(kind),
         }),
-    }
-}
-
-/// What a record of a value adds to the total of a stream: the value's bits, 1 for a histogram, or 0 for last values
-/// and observed sums.
-pub(crate) fn size_of(demand: &Demand, value: NumberValue) -> u64
-    ensures { result ≡ size (aggregate_of demand.now) (any.amount_of value) }
-{
-    match &demand.aggregation {
-        Aggregation::LastValue => 0,
-        Aggregation::ExplicitBucketHistogram { .. } => 1,
-        Aggregation::Sum if observes_sums(demand.identity.kind) => 0,
-        Aggregation::Sum | Aggregation::Drop | Aggregation::Default => bits_of(value),
     }
 }

@@ -8,10 +8,11 @@ ghost use Rattle.otel_pipeline.specs.Pipelines.{AreNumbers, ArePrepared, all_wit
 ghost use Rattle.otel_pipeline.specs.Streams.{held_after_bind, held_after_commit, held_after_none, held_after_unbind, held_after_update};
 
 use crate::metric_stream::MetricStream;
-use otel_common::attributes::KeyValue;
 use otel_common::faults::Fault;
 use otel_common::lists::Items;
 use otel_data::numbers::NumberValue;
+use otel_value_map::hashed_key::GivenAttributes;
+use std::alloc::AllocError;
 
 /// The numbers of the streams that an instrument feeds; none if there is no such instrument.
 #[inline(always)]
@@ -29,14 +30,13 @@ pub(crate) fn streams_fed(feeds: &[Items<usize>], instrument: usize) -> &[usize]
 pub(crate) fn prepare_each(
     streams: &mut Vec<MetricStream>,
     feeds: &[usize],
-    attributes: &[KeyValue],
-) -> Result<(), Fault>
+    attributes: &GivenAttributes,
+) -> Result<(), AllocError>
     requires { AreNumbers (all_without_pending streams.old.items) feeds.now }
     ensures same { all_without_pending streams.new.items ≡ all_without_pending streams.old.items }
     ensures prepared { OnOk result (ArePrepared attributes.now streams.new.items feeds.now) }
     ensures free { attributes.now ≡ [] → IsOk result }
     ensures known { All (λ n. IsKnownIfThere attributes.now (slice_get (all_without_pending streams.old.items) n)) feeds.now → IsOk result }
-    ensures only_memory { IsOkUnless result Fault.OutOfMemory }
 {
     for k in feeds {
         streams[*k].prepare(attributes)?;
@@ -48,7 +48,7 @@ pub(crate) fn prepare_each(
 pub(crate) fn prepare_bind_each(
     streams: &mut Vec<MetricStream>,
     feeds: &[usize],
-    attributes: &[KeyValue],
+    attributes: &GivenAttributes,
 ) -> Result<(), Fault>
     requires { AreNumbers (all_without_pending streams.old.items) feeds.now }
     ensures same { all_without_pending streams.new.items ≡ all_without_pending streams.old.items }

@@ -8,7 +8,6 @@ pub mod defaults;
 pub mod demands;
 mod each_stream;
 mod metric_stream;
-pub mod numbers;
 mod observing;
 pub mod pipeline;
 mod plan;

@@ -10,10 +10,9 @@ ghost use Rattle.otel_pipeline.specs.Handles.{IsReadyToBind};
 ghost use Rattle.otel_pipeline.specs.Observations.{IsSavedOf, held_after_restore, saved_by};
 ghost use Rattle.otel_pipeline.specs.Streams.{IsMakeable, new_held, without_pending, held_after_commit, held_after_none, held_after_bind, held_after_update, held_after_unbind, held_after_collection, shown_metric, if_points};
 
-use crate::aggregations::{settings_of, size_of};
+use crate::aggregations::settings_of;
 use crate::saved::SavedStream;
 use otel_aggregate::any::AnyAggregate;
-use otel_common::attributes::KeyValue;
 use otel_common::faults::Fault;
 use otel_common::laws::copied_attributes;
 use otel_common::metrics::Temporality;
@@ -22,8 +21,9 @@ use otel_data::collections::Metric;
 use otel_data::numbers::NumberValue;
 use otel_stream::demand::Demand;
 use otel_stream::instrument::InstrumentKind;
+use otel_value_map::hashed_key::GivenAttributes;
 use otel_value_map::hashing::SetHashBuilder;
-use std::alloc::Global;
+use std::alloc::{AllocError, Global};
 use std::marker::Model;
 
 /// A stream: what was demanded, and the records so far.
@@ -132,12 +132,11 @@ impl MetricStream {
 
     /// Prepares a record with these attributes. What the stream shows stays unchanged.
     #[inline(always)]
-    pub(crate) fn prepare(&mut self, attributes: &[KeyValue]) -> Result<(), Fault>
+    pub(crate) fn prepare(&mut self, attributes: &GivenAttributes) -> Result<(), AllocError>
         ensures same { without_pending self.new ≡ without_pending self.old }
         ensures ready { OnOk result (self.new.pending ≡ Some (set_for self.old.stream.demand attributes.now)) }
         ensures free { attributes.now ≡ [] → IsOk result }
         ensures known { is_known_to attributes.now self.old.stream ≡ true → IsOk result }
-        ensures only_memory { IsOkUnless result Fault.OutOfMemory }
     {
         self.aggregate.prepare(attributes)
     }
@@ -148,7 +147,7 @@ impl MetricStream {
         ensures { self.new ≡ held_after_commit value self.old }
     {
         if self.aggregate.commit(value) {
-            self.recorded = self.recorded.wrapping_add(size_of(&self.demand, value));
+            self.recorded = self.recorded.wrapping_add(self.aggregate.size(value));
         }
     }
 
@@ -158,12 +157,12 @@ impl MetricStream {
         ensures { self.new ≡ held_after_none value self.old }
     {
         if self.aggregate.measure_none(value) {
-            self.recorded = self.recorded.wrapping_add(size_of(&self.demand, value));
+            self.recorded = self.recorded.wrapping_add(self.aggregate.size(value));
         }
     }
 
     /// Prepares a bind to these attributes, and makes room for its handle. What the stream shows stays unchanged.
-    pub(crate) fn prepare_bind(&mut self, attributes: &[KeyValue]) -> Result<(), Fault>
+    pub(crate) fn prepare_bind(&mut self, attributes: &GivenAttributes) -> Result<(), Fault>
         ensures same { without_pending self.new ≡ without_pending self.old }
         ensures ready { OnOk result (IsReadyToBind attributes.now self.new) }
         ensures only_memory { IsOkUnless result Fault.OutOfMemory }
@@ -190,7 +189,7 @@ impl MetricStream {
         ensures { self.new ≡ held_after_update handle value self.old }
     {
         if self.aggregate.update_bound(handle, place, value) {
-            self.recorded = self.recorded.wrapping_add(size_of(&self.demand, value));
+            self.recorded = self.recorded.wrapping_add(self.aggregate.size(value));
         }
     }
 

@@ -19,6 +19,7 @@ use otel_common::resource::Resource;
 use otel_common::scopes::InstrumentationScope;
 use otel_data::collections::ResourceMetrics;
 use otel_stream::observation::Observed;
+use otel_value_map::hashed_key::GivenAttributes;
 use std::alloc::Global;
 
 /// Makes room to save this many streams, of which none is saved yet.
@@ -110,7 +111,8 @@ fn observe_in(
     ensures demands { fates_of streams.new.items ≡ fates_of streams.old.items }
     ensures only_memory { IsOkUnless result Fault.OutOfMemory }
 {
-    prepare_each(streams, numbers, observation.attributes.as_slice())?;
+    let attributes = GivenAttributes::new(observation.attributes.as_slice());
+    prepare_each(streams, numbers, &attributes)?;
     commit_each(streams, numbers, observation.value);
     Ok(())
 }

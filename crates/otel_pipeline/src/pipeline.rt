@@ -21,7 +21,6 @@ use crate::metric_stream::MetricStream;
 use crate::observing::collect_observed;
 use crate::plan::Plan;
 use indexmap::IndexSet;
-use otel_common::attributes::KeyValue;
 use otel_common::faults::Fault;
 use otel_common::lists::Items;
 use otel_common::resource::Resource;
@@ -33,8 +32,9 @@ use otel_stream::demand::Identity;
 use otel_stream::laws::kind_laws;
 use otel_stream::observation::Observed;
 use otel_stream::stream::Stream;
+use otel_value_map::hashed_key::GivenAttributes;
 use otel_value_map::hashing::SetHashBuilder;
-use std::alloc::Global;
+use std::alloc::{AllocError, Global};
 use std::marker::Model;
 
 /// What one reader answered, its streams in order of making, and, for each instrument, the streams that it feeds.
@@ -156,6 +156,11 @@ impl Pipeline {
         self.feeds.push_reserved(Items::from(feeds));
     }
 
+    /// What sets of attributes are hashed with.
+    pub fn hasher(&self) -> SetHashBuilder {
+        self.hasher
+    }
+
     /// Whether an instrument feeds a stream of this reader.
     pub fn has_stream(&self, instrument: usize) -> bool
         ensures { result ≡ has_stream_at instrument (part_of self.now) }
@@ -168,12 +173,15 @@ impl Pipeline {
     ///
     /// Looks the attributes up in each of these streams; `AnyAggregate::prepare` tells when that takes memory.
     #[inline(always)]
-    pub fn prepare(&mut self, instrument: usize, attributes: &[KeyValue]) -> Result<(), Fault>
+    pub fn prepare(
+        &mut self,
+        instrument: usize,
+        attributes: &GivenAttributes,
+    ) -> Result<(), AllocError>
         ensures same { part_of self.new ≡ part_of self.old }
         ensures prepared { OnOk result (IsPreparedFor instrument attributes.now self.new) }
         ensures free { attributes.now ≡ [] → IsOk result }
         ensures known { is_known_at instrument attributes.now (part_of self.old) ≡ true → IsOk result }
-        ensures only_memory { IsOkUnless result Fault.OutOfMemory }
     {
         // These two tell the prover that no identity occurs twice.
         kind_laws();
@@ -219,7 +227,11 @@ impl Pipeline {
     /// there. What the reader has stays unchanged.
     ///
     /// Looks the attributes up in each of these streams.
-    pub fn prepare_bind(&mut self, instrument: usize, attributes: &[KeyValue]) -> Result<(), Fault>
+    pub fn prepare_bind(
+        &mut self,
+        instrument: usize,
+        attributes: &GivenAttributes,
+    ) -> Result<(), Fault>
         ensures same { part_of self.new ≡ part_of self.old }
         ensures ready { OnOk result (IsReadyToBindAt instrument attributes.now self.new) }
         ensures only_memory { IsOkUnless result Fault.OutOfMemory }

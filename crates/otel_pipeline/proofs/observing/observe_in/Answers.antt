@@ -16,8 +16,8 @@ returns-in_err-prepare_each-clause-demands c = fates-same _ _ (answers-settled c
 
 pub returns-clause-observed : goal.returns-clause-observed
 returns-clause-observed c =
-    taken-in c.args.observation.now c.as_slice.result.now c.args.numbers.now c.args.streams.now.items c.prepare_each.new.streams.items c.commit_each.new.streams.items
-    c.requires.once c.as_slice.ensures c.prepare_each.ensures.same c.in_ok-prepare_each.ensures.prepared c.commit_each.ensures
+    taken-in c.args.observation.now c.new-attributes.result c.args.numbers.now c.args.streams.now.items c.prepare_each.new.streams.items c.commit_each.new.streams.items
+    c.requires.once (c.new-attributes.ensures ∙ c.as_slice.ensures) c.prepare_each.ensures.same c.in_ok-prepare_each.ensures.prepared c.commit_each.ensures
 
 pub returns-clause-undone : goal.returns-clause-undone
 returns-clause-undone c = λ saved all.
