@@ -1,6 +1,7 @@
 -- What a stream of any aggregate keeps stays of its form and number type.
 use Rattle.std.proofs.Common.{◌≡◌, ◌∙◌, refl, ap, sym, subst, ℕ, Bool, true, false, cond, List, [], ◌∷◌, ◌++◌, map, filter, Option, Some, None, is_none, Result, Ok, Err}
-use Rattle.std.specs.Prelude.{ℤ, ◌&&◌, ◌||◌, nat_lt, OnOk, OnErr}
+use Rattle.std.specs.Prelude.{ℤ, ◌&&◌, ◌||◌, nat_lt, OnOk, OnErr, IfOk}
+use Rattle.std.proofs.lemmas.List.{map-id}
 use Rattle.std.specs.List.{AllByRecursion}
 use Rattle.otel_common.specs.Equality.{set_eq}
 use Rattle.otel_model_stream.specs.Sets.{AttributeSet, AllowList, none_set, over_set}
@@ -229,3 +230,8 @@ showable-points s k every t h =
     (all-append s k (filter (λ (e : Entry). e.updated) (t.none ∷ [])) (filter (λ (e : Entry). every || e.updated) t.entries)
     (all-filter s k (λ (e : Entry). e.updated) (t.none ∷ []) (h.0, tt))
     (all-filter s k (λ (e : Entry). every || e.updated) t.entries h.1))
+
+-- what contracts see of points that they see as they are
+pub seen-whole : {X E : Type 0} (r : Result (List X) E) (all : List X) → IfOk r (λ given. map (λ (x : X). x) given ≡ all) → IfOk r (λ given. given ≡ all)
+seen-whole (Ok given) all is = sym (map-id given) ∙ is
+seen-whole (Err e) all is = tt

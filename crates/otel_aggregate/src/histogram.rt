@@ -69,32 +69,22 @@ impl<T: Number + Drop> Shows for Buckets<T> {
 
     ghost collection = { λ _ temporality start now points. record { data_points = points; start_time = start; time = now; temporality = temporality } };
 
-    fn into_point(
-        self,
+    fn to_point(
+        &self,
         alloc: Global,
         settings: &HistogramSettings,
-        attributes: SharedItems<KeyValue>,
+        set: SharedItems<KeyValue>,
     ) -> Result<HistogramDataPoint<T>, Fault> {
-        let bounds = settings.bounds.share()?;
-        let Buckets {
-            has_min_max: _,
-            has_sum: _,
-            count,
-            sum,
-            least,
-            greatest,
-            counts,
-        } = self;
-        sum.told_by_bits();
+        self.sum.told_by_bits();
         Ok(HistogramDataPoint::new(
-            attributes,
+            set,
             Items::from(Vec::new(alloc)),
-            bounds,
-            Items::from(counts),
-            count,
-            told(least),
-            told(greatest),
-            sum,
+            settings.bounds.share()?,
+            Items::from(self.counts.clone()?),
+            self.count,
+            told(self.least),
+            told(self.greatest),
+            self.sum,
         ))
     }
 

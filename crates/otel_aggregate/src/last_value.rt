@@ -47,15 +47,15 @@ impl<T: Number + Drop> Shows for Assign<T> {
 
     ghost collection = { λ _ _ start now points. record { data_points = points; start_time = start; time = now } };
 
-    fn into_point(
-        self,
+    fn to_point(
+        &self,
         alloc: Global,
         _settings: &(),
-        attributes: SharedItems<KeyValue>,
+        set: SharedItems<KeyValue>,
     ) -> Result<GaugeDataPoint<T>, Fault> {
         let value = self.value;
         value.told_by_bits();
-        Ok(GaugeDataPoint::new(attributes, Items::from(Vec::new(alloc)), value))
+        Ok(GaugeDataPoint::new(set, Items::from(Vec::new(alloc)), value))
     }
 
     fn into_data(

@@ -3,6 +3,7 @@
 ghost use Rattle.std.specs.Prelude.{◌≡◌, [], cond, map, is_some, None, Some, IsTrue, IsSome, OnOk, OnErr, IfOk, IsOk, IsOkUnless};
 ghost use Rattle.std.specs.Option.{option_map};
 ghost use Rattle.otel_common.specs.Temporalities.{resets};
+ghost use Rattle.otel_data.specs.declared.points.SumDataPoint.{SumDataPoint as SumValue};
 ghost use Rattle.otel_model_stream.specs.Sets.{AttributeSet, none_set, set_of};
 ghost use Rattle.otel_model_stream.specs.Folds.{Last, LastValue, wrap};
 ghost use Rattle.otel_model_stream.specs.Totals.{points_total};
@@ -10,7 +11,6 @@ ghost use Rattle.otel_model_stream.specs.Maps.{draining_points};
 ghost use Rattle.otel_model_stream.specs.Observed.{value_before, less};
 ghost use Rattle.otel_model_stream.specs.Data.{sum_point};
 ghost use Rattle.otel_value_map.specs.Numbers.{without_handles};
-ghost use Rattle.otel_value_map.specs.Slots.{copies};
 ghost use Rattle.otel_aggregate.specs.Streams.{is_known};
 ghost use Rattle.otel_aggregate.specs.Observed.{new_observed, observed_set, observed_attributes, observed_after_commit, values_now, since_reported, drained_at, observed_data};
 
@@ -26,6 +26,7 @@ use otel_data::points::SumDataPoint;
 use otel_data::sums::Sum as SumData;
 use otel_value_map::hashed_key::GivenAttributes;
 use otel_value_map::hashing::SetHashBuilder;
+use otel_value_map::maker::PointMaker;
 use otel_value_map::saved::Saved;
 use otel_value_map::value_map::ValueMap;
 use std::alloc::Global;
@@ -64,34 +65,33 @@ fn shown_value<T: Number + Drop>(
     }
 }
 
-/// The point of a set.
-fn shown_point<T: Number + Drop>(
-    alloc: Global,
-    reported: Option<&ValueMap<Assign<T>>>,
-    attributes: SharedItems<KeyValue>,
-    value: T,
-) -> SumDataPoint<T>
-    ensures { result ≡ sum_point T.of_bits T.of_wide (since_reported (option_map (λ before. draining_points before.now.state) reported.entry) (attributes, Last (T.bits value))) }
-{
-    let value = shown_value(reported, attributes.as_slice(), value);
-    value.told_by_bits();
-    SumDataPoint::new(attributes, Items::from(Vec::new(alloc)), value)
+/// Makes the points of observed values, each less its set's value in `reported` if that is given.
+#[derive(Drop)]
+struct ObservedPoints<'a, T: Number + Drop> {
+    reported: Option<&'a ValueMap<Assign<T>>>,
 }
 
-/// The points of observed values.
-fn shown_points<T: Number + Drop>(
-    alloc: Global,
-    reported: Option<&ValueMap<Assign<T>>>,
-    given: Vec<(SharedItems<KeyValue>, Assign<T>)>,
-) -> Result<Items<SumDataPoint<T>>, Fault>
-    ensures points { IfOk result (λ made. made ≡ map (λ p. sum_point T.of_bits T.of_wide (since_reported (option_map (λ before. draining_points before.now.state) reported.entry) p)) (copies (λ last. Last (T.bits last.value)) given.items)) }
-    ensures only_memory { IsOkUnless result Fault.OutOfMemory }
-{
-    let mut points = Vec::with_capacity(alloc, given.len())?;
-    for (attributes, last) in given {
-        points.push(shown_point(alloc, reported, attributes, last.value))?;
+impl<'a, T: Number + Drop> PointMaker<Assign<T>> for ObservedPoints<'a, T> {
+    type Point = SumDataPoint<T>;
+
+    ghost Seen = { SumValue T };
+
+    ghost seen = { λ made. made };
+
+    ghost shown = { λ maker p. sum_point T.of_bits T.of_wide (since_reported (option_map (λ before. draining_points before.now.state) maker.reported) p) };
+
+    ghost can_show = { λ _ _. Unit {0} };
+
+    fn point(
+        &self,
+        alloc: Global,
+        set: SharedItems<KeyValue>,
+        last: &Assign<T>,
+    ) -> Result<SumDataPoint<T>, Fault> {
+        let value = shown_value(self.reported, set.as_slice(), last.value);
+        value.told_by_bits();
+        Ok(SumDataPoint::new(set, Items::from(Vec::new(alloc)), value))
     }
-    Ok(Items::from(points))
 }
 
 /// The sums that a stream's asynchronous counters observe, by set: values that are already summed (Metrics SDK,
@@ -247,8 +247,10 @@ impl<T: Number + Drop> PrecomputedSum<T> {
         ensures data { IfOk result (λ given. given ≡ observed_data T.of_bits T.of_wide now self.now.state) }
         ensures only_memory { IsOkUnless result Fault.OutOfMemory }
     {
-        let given = self.stream.every_set(alloc)?;
-        let points = shown_points(alloc, self.reported(), given)?;
+        let maker = ObservedPoints {
+            reported: self.reported(),
+        };
+        let points = self.stream.shown_of_every(alloc, &maker)?;
         let temporality = shown_temporality(self.stream.resets());
         Ok(SumData::new(
             points,

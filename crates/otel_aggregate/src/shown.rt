@@ -3,6 +3,9 @@
 ghost use Rattle.std.specs.Prelude.{◌≡◌, Bool, true, false, cond, map, Some, None, IfOk, IsOkUnless};
 ghost use Rattle.std.specs.Option.{option_map};
 ghost use Rattle.otel_data.specs.declared.aggregated.MetricData.TheVariants as metric;
+ghost use Rattle.otel_data.specs.declared.points.SumDataPoint.{SumDataPoint as SumValue};
+ghost use Rattle.otel_data.specs.declared.points.GaugeDataPoint.{GaugeDataPoint as GaugeValue};
+ghost use Rattle.otel_data.specs.declared.points.HistogramDataPoint.{HistogramDataPoint as HistogramValue};
 ghost use Rattle.otel_model_stream.specs.Maps.{draining_points};
 ghost use Rattle.otel_model_stream.specs.Observed.{value_before};
 ghost use Rattle.otel_model_stream.specs.Totals.{value_of};
@@ -11,14 +14,14 @@ ghost use Rattle.otel_value_map.specs.Slots.{copies};
 ghost use Rattle.otel_aggregate.specs.Any.{Spreads as SpreadForm, data_of};
 ghost use Rattle.otel_aggregate.specs.AnyKept.{fold_in};
 ghost use Rattle.otel_aggregate.specs.Kept.{IsWithin, IsWithinIfSome, IsKept, IsKeptStream, AreShowable};
+ghost use Rattle.otel_aggregate.specs.Streams.{points_now};
 ghost use Rattle.otel_aggregate.specs.Observed.{since_reported, observed_data};
 
-use crate::any_aggregator::{AnyAggregator, AnyBuckets};
+use crate::any_aggregator::AnyAggregator;
 use crate::precomputed_sum::difference_of;
 use crate::settings::AnySettings;
 use crate::stream::{Stream, shown_temporality};
 use otel_aggregators::bounds::Bounds;
-use otel_aggregators::buckets::Buckets;
 use otel_aggregators::number::Number;
 use otel_common::attributes::KeyValue;
 use otel_common::faults::Fault;
@@ -28,8 +31,10 @@ use otel_data::gauges::Gauge;
 use otel_data::histograms::Histogram as HistogramData;
 use otel_data::points::{GaugeDataPoint, HistogramDataPoint, SumDataPoint};
 use otel_data::sums::Sum as SumData;
+use otel_value_map::maker::PointMaker;
 use otel_value_map::value_map::ValueMap;
 use std::alloc::Global;
+use std::marker::PhantomData;
 
 /// A set with what is kept of its records.
 type Kept = (SharedItems<KeyValue>, AnyAggregator);
@@ -109,21 +114,21 @@ fn shown_bits(
     }
 }
 
-/// The point of a sum, less the set's value in `reported` if that is given.
-fn shown_sum<T: Shown>(
+/// The point of an observed sum, less the set's value in `reported` if that is given.
+fn observed_sum<T: Shown>(
     alloc: Global,
     reported: Option<&ValueMap<AnyAggregator>>,
-    attributes: SharedItems<KeyValue>,
+    set: SharedItems<KeyValue>,
     kept: &AnyAggregator,
 ) -> SumDataPoint<T>
-    ensures { result ≡ sum_point T.of_bits T.of_wide (since_reported (option_map (λ before. draining_points before.now.state) reported.entry) (attributes, fold_in kept.now)) }
+    ensures { result ≡ sum_point T.of_bits T.of_wide (since_reported (option_map (λ before. draining_points before.now.state) reported.entry) (set, fold_in kept.now)) }
 {
-    let bits = shown_bits(reported, attributes.as_slice(), kept);
-    SumDataPoint::new(attributes, Items::from(Vec::new(alloc)), T::from_bits(bits))
+    let bits = shown_bits(reported, set.as_slice(), kept);
+    SumDataPoint::new(set, Items::from(Vec::new(alloc)), T::from_bits(bits))
 }
 
-/// The points of sums, each less its set's value in `reported` if that is given.
-fn shown_sums<T: Shown>(
+/// The points of observed sums, each less its set's value in `reported` if that is given.
+fn observed_sums<T: Shown>(
     alloc: Global,
     reported: Option<&ValueMap<AnyAggregator>>,
     given: Vec<Kept>,
@@ -132,85 +137,152 @@ fn shown_sums<T: Shown>(
     ensures only_memory { IsOkUnless result Fault.OutOfMemory }
 {
     let mut points = Vec::with_capacity(alloc, given.len())?;
-    for (attributes, kept) in given {
-        points.push(shown_sum(alloc, reported, attributes, &kept))?;
+    for (set, kept) in given {
+        points.push(observed_sum(alloc, reported, set, &kept))?;
     }
     Ok(Items::from(points))
+}
+
+/// Makes the points of sums.
+#[derive(Drop)]
+struct SumPoints<T: Shown> {
+    of: PhantomData<T>,
+}
+
+impl<T: Shown> PointMaker<AnyAggregator> for SumPoints<T> {
+    type Point = SumDataPoint<T>;
+
+    ghost Seen = { SumValue T };
+
+    ghost seen = { λ made. made };
+
+    ghost shown = { λ _ p. sum_point T.of_bits T.of_wide p };
+
+    ghost can_show = { λ _ _. Unit {0} };
+
+    #[inline(always)]
+    fn point(
+        &self,
+        alloc: Global,
+        set: SharedItems<KeyValue>,
+        kept: &AnyAggregator,
+    ) -> Result<SumDataPoint<T>, Fault> {
+        let value = T::from_bits(kept.bits());
+        Ok(SumDataPoint::new(set, Items::from(Vec::new(alloc)), value))
+    }
+}
+
+/// Makes the points of last values.
+#[derive(Drop)]
+struct GaugePoints<T: Shown> {
+    of: PhantomData<T>,
+}
+
+impl<T: Shown> PointMaker<AnyAggregator> for GaugePoints<T> {
+    type Point = GaugeDataPoint<T>;
+
+    ghost Seen = { GaugeValue T };
+
+    ghost seen = { λ made. made };
+
+    ghost shown = { λ _ p. gauge_point T.of_bits T.of_wide p };
+
+    ghost can_show = { λ _ _. Unit {0} };
+
+    #[inline(always)]
+    fn point(
+        &self,
+        alloc: Global,
+        set: SharedItems<KeyValue>,
+        kept: &AnyAggregator,
+    ) -> Result<GaugeDataPoint<T>, Fault> {
+        let value = T::from_bits(kept.bits());
+        Ok(GaugeDataPoint::new(set, Items::from(Vec::new(alloc)), value))
+    }
+}
+
+/// Makes the points of histograms with these bounds, which the points share. Copies the counts.
+#[derive(Drop)]
+struct HistogramPoints<T: Shown> {
+    bounds: SharedItems<i64>,
+    of: PhantomData<T>,
+}
+
+impl<T: Shown> PointMaker<AnyAggregator> for HistogramPoints<T> {
+    type Point = HistogramDataPoint<T>;
+
+    ghost Seen = { HistogramValue T };
+
+    ghost seen = { λ made. made };
+
+    ghost shown = { λ maker p. histogram_point T.of_bits T.of_wide maker.bounds p };
+
+    ghost can_show = { λ _ p. IsKept T.is_signed SpreadForm p.1 };
+
+    #[inline(always)]
+    fn point(
+        &self,
+        alloc: Global,
+        set: SharedItems<KeyValue>,
+        kept: &AnyAggregator,
+    ) -> Result<HistogramDataPoint<T>, Fault> {
+        let spread = match kept {
+            AnyAggregator::Histogram(spread) => spread,
+            _ => unreachable!(),
+        };
+        let buckets = &spread.buckets;
+        Ok(HistogramDataPoint::new(
+            set,
+            Items::from(Vec::new(alloc)),
+            self.bounds.share()?,
+            Items::from(buckets.counts.clone()?),
+            buckets.count,
+            from_wide_if_some(spread.least),
+            from_wide_if_some(spread.greatest),
+            T::from_bits(buckets.sum),
+        ))
+    }
+}
+
+/// The points of sums.
+fn shown_sums<T: Shown>(
+    alloc: Global,
+    stream: &Stream<AnyAggregator>,
+) -> Result<Items<SumDataPoint<T>>, Fault>
+    ensures points { IfOk result (λ made. made ≡ map (sum_point T.of_bits T.of_wide) (points_now stream.now.state)) }
+    ensures only_memory { IsOkUnless result Fault.OutOfMemory }
+{
+    let maker = SumPoints { of: PhantomData };
+    stream.shown(alloc, &maker)
 }
 
 /// The points of last values.
 fn shown_values<T: Shown>(
     alloc: Global,
-    given: Vec<Kept>,
+    stream: &Stream<AnyAggregator>,
 ) -> Result<Items<GaugeDataPoint<T>>, Fault>
-    ensures points { IfOk result (λ made. made ≡ map (gauge_point T.of_bits T.of_wide) (copies fold_in given.items)) }
+    ensures points { IfOk result (λ made. made ≡ map (gauge_point T.of_bits T.of_wide) (points_now stream.now.state)) }
     ensures only_memory { IsOkUnless result Fault.OutOfMemory }
 {
-    let mut points = Vec::with_capacity(alloc, given.len())?;
-    for (attributes, kept) in given {
-        let value = T::from_bits(kept.bits());
-        points.push(GaugeDataPoint::new(attributes, Items::from(Vec::new(alloc)), value))?;
-    }
-    Ok(Items::from(points))
+    let maker = GaugePoints { of: PhantomData };
+    stream.shown(alloc, &maker)
 }
 
-/// The point of a histogram.
-fn shown_buckets<T: Shown>(
-    alloc: Global,
-    bounds: &Bounds,
-    attributes: SharedItems<KeyValue>,
-    kept: AnyAggregator,
-) -> Result<HistogramDataPoint<T>, Fault>
-    requires { IsKept T.is_signed SpreadForm (fold_in kept) }
-    ensures point { IfOk result (λ made. made ≡ histogram_point T.of_bits T.of_wide bounds.now (attributes, fold_in kept)) }
-    ensures only_memory { IsOkUnless result Fault.OutOfMemory }
-{
-    let bounds = bounds.share()?;
-    let AnyBuckets {
-        has_min_max: _,
-        least,
-        greatest,
-        buckets,
-    } = match kept {
-        AnyAggregator::Histogram(buckets) => Box::into_inner(buckets),
-        _ => unreachable!(),
-    };
-    let Buckets {
-        has_min_max: _,
-        has_sum: _,
-        count,
-        sum,
-        least: _,
-        greatest: _,
-        counts,
-    } = buckets;
-    Ok(HistogramDataPoint::new(
-        attributes,
-        Items::from(Vec::new(alloc)),
-        bounds,
-        Items::from(counts),
-        count,
-        from_wide_if_some(least),
-        from_wide_if_some(greatest),
-        T::from_bits(sum),
-    ))
-}
-
-/// The points of histograms.
+/// The points of histograms with these bounds.
 fn shown_histograms<T: Shown>(
     alloc: Global,
+    stream: &Stream<AnyAggregator>,
     bounds: &Bounds,
-    given: Vec<Kept>,
 ) -> Result<Items<HistogramDataPoint<T>>, Fault>
-    requires { AreShowable T.is_signed SpreadForm (copies fold_in given.items) }
-    ensures points { IfOk result (λ made. made ≡ map (histogram_point T.of_bits T.of_wide bounds.now) (copies fold_in given.items)) }
+    requires { AreShowable T.is_signed SpreadForm (points_now stream.now.state) }
+    ensures points { IfOk result (λ made. made ≡ map (histogram_point T.of_bits T.of_wide bounds.now) (points_now stream.now.state)) }
     ensures only_memory { IsOkUnless result Fault.OutOfMemory }
 {
-    let mut points = Vec::with_capacity(alloc, given.len())?;
-    for (attributes, kept) in given {
-        points.push(shown_buckets(alloc, bounds, attributes, kept)?)?;
-    }
-    Ok(Items::from(points))
+    let maker = HistogramPoints {
+        bounds: bounds.share()?,
+        of: PhantomData,
+    };
+    stream.shown(alloc, &maker)
 }
 
 /// What a collection at the moment `now` gives of a stream, by its aggregate.
@@ -223,21 +295,20 @@ pub(crate) fn shown_stream<T: Shown>(
     ensures data { IfOk result (λ given. given ≡ data_of T.of_bits T.of_wide stream.now.state.aggregate now stream.now.state) }
     ensures only_memory { IsOkUnless result Fault.OutOfMemory }
 {
-    let given = stream.shown_sets(alloc)?;
     let start = stream.start();
     let temporality = shown_temporality(stream.resets());
     match stream.settings() {
         AnySettings::Sum { is_monotonic } => {
-            let points = shown_sums(alloc, None, given)?;
+            let points = shown_sums(alloc, stream)?;
             let sum = SumData::new(points, start, now, temporality, *is_monotonic);
             Ok(MetricData::Sum(sum))
         }
         AnySettings::Histogram(settings) => {
-            let points = shown_histograms(alloc, &settings.bounds, given)?;
+            let points = shown_histograms(alloc, stream, &settings.bounds)?;
             Ok(MetricData::Histogram(HistogramData::new(points, start, now, temporality)))
         }
         _ => {
-            let points = shown_values(alloc, given)?;
+            let points = shown_values(alloc, stream)?;
             Ok(MetricData::Gauge(Gauge::new(points, start, now)))
         }
     }
@@ -268,7 +339,7 @@ pub(crate) fn shown_observed<T: Shown>(
     ensures only_memory { IsOkUnless result Fault.OutOfMemory }
 {
     let given = stream.every_set(alloc)?;
-    let points = shown_sums(alloc, compared_with(stream, reported), given)?;
+    let points = observed_sums(alloc, compared_with(stream, reported), given)?;
     let temporality = shown_temporality(stream.resets());
     let start = stream.start();
     let settings = stream.settings();

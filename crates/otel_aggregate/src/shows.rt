@@ -1,16 +1,16 @@
 //! How aggregators become the points of a metric.
 
-ghost use Rattle.std.specs.Prelude.{◌≡◌, ℕ, Bool, List, map, IfOk, IsOkUnless};
+ghost use Rattle.std.specs.Prelude.{◌≡◌, ℕ, Bool, List, IfOk, IsOkUnless};
 ghost use Rattle.otel_common.specs.declared.metrics.Temporality.{Temporality as TemporalityValue};
 ghost use Rattle.otel_model_stream.specs.Entries.{Point};
 ghost use Rattle.otel_model_stream.specs.Folds.{Aggregate};
-ghost use Rattle.otel_value_map.specs.Slots.{copies};
 
 use crate::measures::Measures;
 use otel_common::attributes::KeyValue;
 use otel_common::faults::Fault;
 use otel_common::lists::{Items, SharedItems};
 use otel_common::metrics::Temporality;
+use otel_value_map::maker::PointMaker;
 use std::alloc::Global;
 
 /// An aggregator that a collection can show as a point.
@@ -27,14 +27,14 @@ pub trait Shows: Measures {
     /// The data of points that count from one moment and are collected at another.
     ghost collection: { Bool → TemporalityValue → ℕ → ℕ → List Self.Point → Self.Data };
 
-    /// The point of a set.
-    fn into_point(
-        self,
+    /// Makes the point of a set. Shares the set and the settings' lists, and copies nothing but counts.
+    fn to_point(
+        &self,
         alloc: Global,
         settings: &Self::Settings,
-        attributes: SharedItems<KeyValue>,
+        set: SharedItems<KeyValue>,
     ) -> Result<Self::Point, Fault>
-        ensures point { IfOk result (λ made. made ≡ point (Self.aggregate settings.now) (attributes, Self.meaning self)) }
+        ensures point { IfOk result (λ made. made ≡ point (Self.aggregate settings.now) (set, Self.meaning self.now)) }
         ensures only_memory { IsOkUnless result Fault.OutOfMemory };
 
     /// The data of these points, which count from `start` and are collected at `now`, in nanoseconds since 1970.
@@ -48,18 +48,29 @@ pub trait Shows: Measures {
         ensures { result ≡ collection (Self.is_monotonic settings.now) temporality start now points };
 }
 
-/// Makes points of sets and their aggregators.
-pub(crate) fn into_points<A: Shows>(
-    alloc: Global,
-    settings: &A::Settings,
-    given: Vec<(SharedItems<KeyValue>, A)>,
-) -> Result<Items<A::Point>, Fault>
-    ensures points { IfOk result (λ made. made ≡ map (A.point (A.aggregate settings.now)) (copies A.meaning given.items)) }
-    ensures only_memory { IsOkUnless result Fault.OutOfMemory }
-{
-    let mut points = Vec::with_capacity(alloc, given.len())?;
-    for (attributes, aggregator) in given {
-        points.push(aggregator.into_point(alloc, settings, attributes)?)?;
+/// Makes points of aggregators with these settings.
+#[derive(Drop)]
+pub(crate) struct ShownPoints<'a, S> {
+    pub(crate) settings: &'a S,
+}
+
+impl<'a, A: Shows> PointMaker<A> for ShownPoints<'a, A::Settings> {
+    type Point = A::Point;
+
+    ghost Seen = { A.Point };
+
+    ghost seen = { λ made. made };
+
+    ghost shown = { λ maker p. A.point (A.aggregate maker.settings.now) p };
+
+    ghost can_show = { λ _ _. Unit {0} };
+
+    fn point(
+        &self,
+        alloc: Global,
+        set: SharedItems<KeyValue>,
+        aggregator: &A,
+    ) -> Result<A::Point, Fault> {
+        aggregator.to_point(alloc, self.settings, set)
     }
-    Ok(Items::from(points))
 }

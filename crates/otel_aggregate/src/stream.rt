@@ -1,6 +1,7 @@
 //! One stream of one reader, whatever its aggregate.
 
 ghost use Rattle.std.specs.Prelude.{◌≡◌, [], true, false, cond, map, is_some, None, Some, IsTrue, IsSome, IfOk, OnOk, OnErr, IsOk, IsOkUnless};
+ghost use Rattle.std.specs.List.{AllByRecursion};
 ghost use Rattle.otel_common.specs.Temporalities.{resets};
 ghost use Rattle.otel_common.specs.declared.metrics.Temporality.TheVariants as shown;
 ghost use Rattle.otel_model_stream.specs.Sets.{AttributeSet, none_set, set_of};
@@ -15,7 +16,7 @@ ghost use Rattle.otel_aggregate.specs.Streams.{new_stream, is_known, recorded_se
 
 use crate::links::{Links, add, make_room, number_in, number_near, take_out};
 use crate::measures::Measures;
-use crate::shows::{Shows, into_points};
+use crate::shows::{ShownPoints, Shows};
 use otel_common::attributes::KeyValue;
 use otel_common::faults::Fault;
 use otel_common::keys::Key;
@@ -24,6 +25,7 @@ use otel_common::metrics::Temporality;
 use otel_sets::allowed_keys::AllowedKeys;
 use otel_value_map::hashed_key::GivenAttributes;
 use otel_value_map::hashing::SetHashBuilder;
+use otel_value_map::maker::PointMaker;
 use otel_value_map::saved::Saved;
 use otel_value_map::value_map::ValueMap;
 use std::alloc::{AllocError, Global};
@@ -318,12 +320,17 @@ impl<A: Measures> Stream<A> {
         }
     }
 
-    /// The sets that a collection shows, with copies of their aggregators. Shares the sets.
-    pub(crate) fn shown_sets(&self, alloc: Global) -> Result<Vec<(SharedItems<KeyValue>, A)>, Fault>
-        ensures points { IfOk result (λ given. copies A.meaning given.items ≡ points_now self.now.state) }
+    /// The points that this makes of what a collection shows. Shares the sets.
+    pub(crate) fn shown<M: PointMaker<A>>(
+        &self,
+        alloc: Global,
+        maker: &M,
+    ) -> Result<Items<M::Point>, Fault>
+        requires { AllByRecursion (M.can_show maker.now) (points_now self.now.state) }
+        ensures points { IfOk result (λ given. map M.seen given ≡ map (M.shown maker.now) (points_now self.now.state)) }
         ensures only_memory { IsOkUnless result Fault.OutOfMemory }
     {
-        self.map.points(alloc, !self.resets)
+        Ok(Items::from(self.map.shown(alloc, maker, !self.resets)?))
     }
 
     /// Every set that has an entry, and the empty set if it was updated, with copies of their aggregators. Shares the
@@ -333,6 +340,20 @@ impl<A: Measures> Stream<A> {
         ensures only_memory { IsOkUnless result Fault.OutOfMemory }
     {
         self.map.points(alloc, true)
+    }
+
+    /// The points that this makes of every set that has an entry, and of the empty set if it was updated. Shares the
+    /// sets.
+    pub(crate) fn shown_of_every<M: PointMaker<A>>(
+        &self,
+        alloc: Global,
+        maker: &M,
+    ) -> Result<Items<M::Point>, Fault>
+        requires { AllByRecursion (M.can_show maker.now) (draining_points self.now.state.map_state) }
+        ensures points { IfOk result (λ given. map M.seen given ≡ map (M.shown maker.now) (draining_points self.now.state.map_state)) }
+        ensures only_memory { IsOkUnless result Fault.OutOfMemory }
+    {
+        Ok(Items::from(self.map.shown(alloc, maker, true)?))
     }
 
     /// What the points of a collection made now would add up to, modulo 2^64: the 64 bits of the values of a sum, the
@@ -457,8 +478,10 @@ impl<A: Shows> Stream<A> {
         ensures points { IfOk result (λ given. given ≡ A.collection self.now.state.is_monotonic (temporality_of self.now.state) self.now.state.start now (map (A.point self.now.state.aggregate) (points_now self.now.state))) }
         ensures only_memory { IsOkUnless result Fault.OutOfMemory }
     {
-        let given = self.map.points(alloc, !self.resets)?;
-        let points = into_points(alloc, &self.settings, given)?;
+        let maker = ShownPoints {
+            settings: self.settings(),
+        };
+        let points = self.shown(alloc, &maker)?;
         let temporality = shown_temporality(self.resets);
         Ok(A::into_data(&self.settings, points, temporality, self.start, now))
     }

@@ -48,15 +48,15 @@ impl<T: Number + Drop> Shows for Increment<T> {
 
     ghost collection = { λ is_monotonic temporality start now points. record { data_points = points; start_time = start; time = now; temporality = temporality; is_monotonic = is_monotonic } };
 
-    fn into_point(
-        self,
+    fn to_point(
+        &self,
         alloc: Global,
         _settings: &bool,
-        attributes: SharedItems<KeyValue>,
+        set: SharedItems<KeyValue>,
     ) -> Result<SumDataPoint<T>, Fault> {
         let value = self.value;
         value.told_by_bits();
-        Ok(SumDataPoint::new(attributes, Items::from(Vec::new(alloc)), value))
+        Ok(SumDataPoint::new(set, Items::from(Vec::new(alloc)), value))
     }
 
     fn into_data(

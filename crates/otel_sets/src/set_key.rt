@@ -231,17 +231,29 @@ impl<'a> SetKey<'a> {
         }
     }
 
+    /// A copy of the set.
+    #[inline(never)]
+    fn copied(&self, alloc: Global) -> Result<SharedItems<KeyValue>, Fault>
+        ensures set { IfOk result (λ set. set ≡ self.now) }
+        ensures only_memory { IsOkUnless result Fault.OutOfMemory }
+    {
+        match &self.form {
+            Form::Given(attributes) => {
+                Ok(SharedItems::new(Vec::from_clones(alloc, *attributes)?)?)
+            }
+            _ => Ok(SharedItems::new(copies_of(alloc, self.attributes())?)?),
+        }
+    }
+
     /// The set: another owner of it if the key owns one, without a copy and without memory; otherwise a copy.
+    #[inline(always)]
     pub fn share(&self, alloc: Global) -> Result<SharedItems<KeyValue>, Fault>
         ensures set { IfOk result (λ set. set ≡ self.now) }
         ensures only_memory { IsOkUnless result Fault.OutOfMemory }
     {
         match &self.form {
             Form::Owned(set) => Ok(set.share()?),
-            Form::Given(attributes) => {
-                Ok(SharedItems::new(Vec::from_clones(alloc, *attributes)?)?)
-            }
-            _ => Ok(SharedItems::new(copies_of(alloc, self.attributes())?)?),
+            _ => self.copied(alloc),
         }
     }
 }

@@ -4,6 +4,7 @@
 pub mod hashed_key;
 pub mod hashing;
 mod key_table;
+pub mod maker;
 mod pending;
 pub mod saved;
 pub mod sets;

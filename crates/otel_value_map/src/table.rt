@@ -15,14 +15,14 @@ ghost use Rattle.otel_model_stream.specs.Entries.{point_of_entry, new_entry, has
 ghost use Rattle.std.specs.List.{AllByRecursion, IsDistinct};
 ghost use Rattle.otel_value_map.specs.Keyed.{Fits, found, IsNew, IsSpelling, with_spelling};
 ghost use Rattle.otel_value_map.specs.Numbers.{number_of, handles_at, entry_without_handles, without_handles, AreNamed, AreNumbered, KeepLeft, IsNumberOf, is_number};
-ghost use Rattle.otel_value_map.specs.Slots.{HasForm, SameLook, look_in, kept_of, changed_each, left_of, entry_of, entry_at, copies};
+ghost use Rattle.otel_value_map.specs.Slots.{HasForm, SameLook, look_in, kept_of, changed_each, left_of, entry_of, entry_at, number_updated};
 
 use crate::hashed_key::HashedSet;
 use crate::hashing::SetHashBuilder;
 use crate::key_table::KeyTable;
+use crate::maker::PointMaker;
 use crate::slots::{Slot, fill, forget, free, hold, release, settle, touch};
 use otel_aggregators::aggregator::Aggregator;
-use otel_common::attributes::KeyValue;
 use otel_common::faults::Fault;
 use otel_common::lists::SharedItems;
 use otel_sets::set_key::SetKey;
@@ -78,59 +78,74 @@ fn reserve_one<A: Aggregator>(
     keys.reserve_one()
 }
 
-/// Adds the point of a set, with a copy of the slot's aggregator.
-fn push_point<A: Aggregator>(
-    alloc: Global,
-    set: SharedItems<KeyValue>,
-    slot: &Slot<A>,
-    points: &mut Vec<(SharedItems<KeyValue>, A)>,
-) -> Result<(), Fault>
-    ensures point { OnOk result (copies A.meaning points.new.items ≡ copies A.meaning points.old.items ++ (set, A.meaning slot.now.aggregator) ∷ []) }
-    ensures only_memory { IsOkUnless result Fault.OutOfMemory }
+/// Whether the slot with this number was updated.
+fn is_updated<A: Aggregator>(slots: &Slab<Slot<A>>, number: usize) -> bool
+    ensures { (s : AttributeSet) → result ≡ (entry_at (look_in A.meaning slots.now) (s, number)).updated }
 {
-    points.push((set, slot.aggregator.copy(alloc)?))?;
-    Ok(())
+    match slots.get(number) {
+        None => false,
+        Some(slot) => slot.updated,
+    }
 }
 
-/// The point of the empty set, whose slot has this number, if that slot was updated.
-fn first_points<A: Aggregator>(
-    alloc: Global,
-    slots: &Slab<Slot<A>>,
-    none: usize,
-) -> Result<Vec<(SharedItems<KeyValue>, A)>, Fault>
-    ensures points { IfOk result (λ given. copies A.meaning given.items ≡ map point_of_entry (filter (λ entry. entry.updated) (entry_at (look_in A.meaning slots.now) (none_set, none) ∷ []))) }
-    ensures only_memory { IsOkUnless result Fault.OutOfMemory }
+/// How many of the sets were updated.
+#[tactic(auto, using(crate::proofs::TableLemmas::updated_cons, crate::proofs::TableLemmas::updated_few))]
+fn count_updated<A: Aggregator>(slots: &Slab<Slot<A>>, keys: &KeyTable) -> usize
+    ensures { result ≡ number_updated (map (entry_at (look_in A.meaning slots.now)) keys.now.sets) }
 {
-    let mut points = Vec::new(alloc);
-    if let Some(slot) = slots.get(none) {
-        if slot.updated {
-            let set = SharedItems::new(Vec::new(alloc))?;
-            push_point(alloc, set, slot, &mut points)?;
+    let mut count = 0;
+    for (_, number) in keys.sets() {
+        if is_updated(slots, *number) {
+            count += 1;
         }
     }
-    Ok(points)
+    count
+}
+
+/// The point of the empty set, whose slot has this number, if that slot was updated, in a list with room for this many
+/// more points.
+fn first_points<A: Aggregator, M: PointMaker<A>>(
+    alloc: Global,
+    maker: &M,
+    slots: &Slab<Slot<A>>,
+    none: usize,
+    more: usize,
+) -> Result<Vec<M::Point>, Fault>
+    requires { AllByRecursion (M.can_show maker.now) (map point_of_entry (filter (λ entry. entry.updated) (entry_at (look_in A.meaning slots.now) (none_set, none) ∷ []))) }
+    ensures points { IfOk result (λ given. map M.seen given.items ≡ map (M.shown maker.now) (map point_of_entry (filter (λ entry. entry.updated) (entry_at (look_in A.meaning slots.now) (none_set, none) ∷ [])))) }
+    ensures only_memory { IsOkUnless result Fault.OutOfMemory }
+{
+    match shown_in(slots, none) {
+        None => Ok(Vec::with_capacity(alloc, more)?),
+        Some(aggregator) => {
+            let mut points = Vec::with_capacity(alloc, more.saturating_add(1))?;
+            let set = SharedItems::new(Vec::new(alloc))?;
+            points.push(maker.point(alloc, set, aggregator)?)?;
+            Ok(points)
+        }
+    }
 }
 
 /// Adds the points of the sets, in order, either all of them or those that were updated.
-fn copy_out<A: Aggregator>(
+fn add_points<A: Aggregator, M: PointMaker<A>>(
     alloc: Global,
+    maker: &M,
     slots: &Slab<Slot<A>>,
     keys: &KeyTable,
     every: bool,
-    points: &mut Vec<(SharedItems<KeyValue>, A)>,
+    points: &mut Vec<M::Point>,
 ) -> Result<(), Fault>
-    requires { AllByRecursion (Fits (look_in A.meaning slots.now)) keys.now.sets }
-    ensures points { OnOk result (copies A.meaning points.new.items ≡ copies A.meaning points.old.items ++ map point_of_entry (filter (λ entry. every || entry.updated) (map (entry_at (look_in A.meaning slots.now)) keys.now.sets))) }
+    requires fits { AllByRecursion (Fits (look_in A.meaning slots.now)) keys.now.sets }
+    requires shown { AllByRecursion (M.can_show maker.now) (map point_of_entry (filter (λ entry. every || entry.updated) (map (entry_at (look_in A.meaning slots.now)) keys.now.sets))) }
+    ensures points { OnOk result (map M.seen points.new.items ≡ map M.seen points.old.items ++ map (M.shown maker.now) (map point_of_entry (filter (λ entry. every || entry.updated) (map (entry_at (look_in A.meaning slots.now)) keys.now.sets)))) }
     ensures only_memory { IsOkUnless result Fault.OutOfMemory }
 {
-    if every {
-        points.reserve(keys.count_sets())?;
-    }
     for (set, number) in keys.sets() {
         if let Some(slot) = slots.get(*number) {
             let is_shown = every || slot.updated;
             if is_shown {
-                push_point(alloc, set.key().share(alloc)?, slot, points)?;
+                let set = set.key().share(alloc)?;
+                points.push(maker.point(alloc, set, &slot.aggregator)?)?;
             }
         }
     }
@@ -432,20 +447,27 @@ impl<A: Aggregator> Table<A> {
 
     /// The points: that of the empty set if it was updated, then those of the sets in order of making, either all or
     /// those that were updated. They share the table's sets: none is copied.
-    pub fn points(
+    pub fn shown<M: PointMaker<A>>(
         &self,
         alloc: Global,
+        maker: &M,
         every: bool,
-    ) -> Result<Vec<(SharedItems<KeyValue>, A)>, Fault>
-        ensures points { IfOk result (λ given. copies A.meaning given.items ≡ points every self.now.table) }
+    ) -> Result<Vec<M::Point>, Fault>
+        requires { AllByRecursion (M.can_show maker.now) (points every self.now.table) }
+        ensures points { IfOk result (λ given. map M.seen given.items ≡ map (M.shown maker.now) (points every self.now.table)) }
         ensures only_memory { IsOkUnless result Fault.OutOfMemory }
     {
-        let mut points = first_points(alloc, &self.slots, self.none)?;
-        copy_out(alloc, &self.slots, &self.keys, every, &mut points)?;
+        let more = if every {
+            self.keys.count_sets()
+        } else {
+            count_updated(&self.slots, &self.keys)
+        };
+        let mut points = first_points(alloc, maker, &self.slots, self.none, more)?;
+        add_points(alloc, maker, &self.slots, &self.keys, every, &mut points)?;
         Ok(points)
     }
 
-    /// What the records that `points` shows add up to, modulo 2^64.
+    /// What the records that the points show add up to, modulo 2^64.
     pub fn total(&self, every: bool) -> u64
         ensures { result ≡ wrap (points_total (points every self.now.table)) }
     {

@@ -1,6 +1,7 @@
 //! A bounded map from sets of attributes to aggregators.
 
-ghost use Rattle.std.specs.Prelude.{◌≡◌, ◌<◌, ◌-◌, ◌+◌, ◌*◌, ◌≤◌, ◌^◌, ◌++◌, [], true, false, is_some, length, None, Some, IsSome, OnOk, OnErr, IfOk, IsOk, IfErr, IsOkUnless, IsTrue, ℕ};
+ghost use Rattle.std.specs.Prelude.{◌≡◌, ◌<◌, ◌-◌, ◌+◌, ◌*◌, ◌≤◌, ◌^◌, ◌++◌, [], true, false, is_some, length, map, None, Some, IsSome, OnOk, OnErr, IfOk, IsOk, IfErr, IsOkUnless, IsTrue, ℕ};
+ghost use Rattle.std.specs.List.{AllByRecursion};
 ghost use Rattle.std.specs.Option.{option_copied, option_map};
 ghost use Rattle.otel_common.specs.Canonical.{canon};
 ghost use Rattle.otel_model_stream.specs.Entries.{entry_for, points, number_counted};
@@ -17,6 +18,7 @@ ghost use Rattle.otel_value_map.specs.Slots.{HasForm, copies};
 
 use crate::hashed_key::{GivenAttributes, HashedSet};
 use crate::hashing::SetHashBuilder;
+use crate::maker::{Copies, PointMaker};
 use crate::pending::{Pending, Prepared, led_to, make_ready, plan, take_slot};
 use crate::saved::Saved;
 use crate::sets::overflow_set;
@@ -534,7 +536,22 @@ impl<A: Aggregator> ValueMap<A> {
         ensures points { IfOk result (λ given. copies A.meaning given.items ≡ points every self.now.state.table) }
         ensures only_memory { IsOkUnless result Fault.OutOfMemory }
     {
-        self.table.points(alloc, every)
+        self.table.shown(alloc, &Copies {}, every)
+    }
+
+    /// The points that this makes of the sets and aggregators that `points` gives, without copies of those. They share the
+    /// map's sets. Takes memory for the list once.
+    pub fn shown<M: PointMaker<A>>(
+        &self,
+        alloc: Global,
+        maker: &M,
+        every: bool,
+    ) -> Result<Vec<M::Point>, Fault>
+        requires { AllByRecursion (M.can_show maker.now) (points every self.now.state.table) }
+        ensures points { IfOk result (λ given. map M.seen given.items ≡ map (M.shown maker.now) (points every self.now.state.table)) }
+        ensures only_memory { IsOkUnless result Fault.OutOfMemory }
+    {
+        self.table.shown(alloc, maker, every)
     }
 
     /// What the records that `points` shows add up to, modulo 2^64.

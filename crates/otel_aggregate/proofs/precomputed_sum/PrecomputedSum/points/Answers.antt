@@ -1,4 +1,5 @@
-use Rattle.std.proofs.Common.{Bool, cond, ap, ◌∙◌}
+use Rattle.std.proofs.Common.{Bool, cond, ap, sym, ◌∙◌}
+use Rattle.std.proofs.lemmas.List.{map-id}
 use Rattle.otel_common.specs.declared.metrics.Temporality.TheVariants.{Cumulative, Delta}
 use Rattle.otel_aggregate.specs.Data.{temporality_of}
 use Rattle.otel_aggregate.specs.Observed.{ObservedState, HeldObserved, values_now}
@@ -9,9 +10,9 @@ pub returns-clause-data : goal.returns-clause-data
 returns-clause-data g c =
     let seen = ap (λ (h : HeldObserved). h.state) c.self.view_is in
     c.new.ensures ∙ shown-data g.T.Number.of_bits g.T.Number.of_wide c.args.now c.args.self.now.state _ _ _ _ _ _
-    c.in_ok-points.ensures.points
+    (sym (map-id _) ∙ c.in_ok-points.ensures.points)
     c.reported.ensures
-    (c.in_ok-given.ensures.points ∙ ap values_now seen)
+    (ap values_now seen)
     (c.start.ensures ∙ ap (λ (a : ObservedState). a.stream.start) seen)
     (c.shown_temporality-temporality.ensures ∙ ap (λ (b : Bool). cond b Delta Cumulative) c.resets.ensures ∙ ap (λ (a : ObservedState). temporality_of a.stream) seen)
     (ap (λ (a : ObservedState). a.stream.is_monotonic) seen)

@@ -5,10 +5,10 @@ use Rattle.otel_model_stream.specs.Data.{sum_point}
 use Rattle.otel_value_map.specs.Slots.{copies}
 use Rattle.otel_aggregate.specs.AnyKept.{fold_in}
 use Rattle.otel_aggregate.specs.Observed.{since_reported}
-use Rattle.otel_aggregate.proofs.shown.shown_sums.Given as goal
+use Rattle.otel_aggregate.proofs.shown.observed_sums.Given as goal
 
 -- the points so far and those of the sets that are left are all
-abbrev pub invariant-loop-attributes : goal.invariant-loop-attributes
-invariant-loop-attributes g l =
-    l.points.items ++ map (λ p. sum_point g.T.Number.of_bits g.T.Number.of_wide (since_reported (option_map (λ before. draining_points before.now.state) l.reported) p)) (copies fold_in l.attributes-iterator.rest.items)
+abbrev pub invariant-loop-set : goal.invariant-loop-set
+invariant-loop-set g l =
+    l.points.items ++ map (λ p. sum_point g.T.Number.of_bits g.T.Number.of_wide (since_reported (option_map (λ before. draining_points before.now.state) l.reported) p)) (copies fold_in l.set-iterator.rest.items)
     ≡ map (λ p. sum_point g.T.Number.of_bits g.T.Number.of_wide (since_reported (option_map (λ before. draining_points before.now.state) l.reported) p)) (copies fold_in l.fn.given.items)
