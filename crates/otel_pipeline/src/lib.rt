@@ -14,3 +14,4 @@ pub mod pipeline;
 mod plan;
 mod planning;
 mod saved;
+mod vectors;
