@@ -31,6 +31,7 @@ use std::alloc::{AllocError, Global};
 use std::marker::Model;
 
 /// A map for what was reported, if each collection empties a stream with these settings.
+#[inline(never)]
 fn reported_map(
     alloc: Global,
     hasher: SetHashBuilder,
@@ -97,6 +98,7 @@ impl AnyAggregate {
     /// it goes on from `now`. Any limit is accepted; with 0, every set but the empty one goes to the overflow point.
     ///
     /// Sets are hashed with `hasher`, which has no visible effect.
+    #[inline(always)]
     pub fn new(
         alloc: Global,
         hasher: SetHashBuilder,

@@ -44,6 +44,7 @@ impl Drop for Links {
 
 impl Links {
     /// Makes one without handles, which hashes their numbers with this hasher.
+    #[inline(always)]
     pub fn new(alloc: Global, hasher: SetHashBuilder) -> Links
         ensures { result.entries ≡ [] }
     {

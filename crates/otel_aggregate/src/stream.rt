@@ -131,6 +131,7 @@ impl<A: Measures> Stream<A> {
     ///
     /// Sets are hashed with `hasher`, which has no visible effect. An allow-list of more than 8 keys is sorted too, so that a
     /// record looks up a key of its attributes by a binary search.
+    #[inline(always)]
     pub fn new(
         alloc: Global,
         hasher: SetHashBuilder,

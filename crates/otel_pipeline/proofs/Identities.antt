@@ -1,7 +1,7 @@
 -- The test of identities is equality, whichever stands first.
 use Rattle.std.proofs.Common.{◌≡◌, ℕ, zero, suc, Bool, true, false, ◌&&◌, List, [], ◌∷◌, Some, slice_get, position, refl, sym, ◌∙◌, ap, subst, option_map, true≢false, eq-eqb}
 use Rattle.std.specs.Bool.{beq, Decides}
-use Rattle.std.specs.List.{list_any, IsDistinct, AllByRecursion}
+use Rattle.std.specs.List.{IsDistinct, AllByRecursion}
 use Rattle.otel_common.specs.Equality.{bytes_eq}
 use Rattle.otel_common.specs.Scopes.{scope_eq}
 use Rattle.otel_model.specs.Calls.{InstrumentKind, kind_eq, kind_number}
@@ -47,9 +47,6 @@ module _ (same : InstrumentKind → InstrumentKind → Bool) (law : (x y : Instr
 
   pub position-same : (x : Identity) (xs : List Identity) → position (test_of x) xs ≡ position (identity_eq x) xs
   position-same x xs = ap (λ (t : Identity → Identity → Bool). position (t x) xs) test-same
-
-  pub absent-same : (x : Identity) (xs : List Identity) → list_any (identity_eq x) xs ≡ false → list_any (test_of x) xs ≡ false
-  absent-same x xs e = ap (λ (t : Identity → Identity → Bool). list_any (t x) xs) test-same ∙ e
 
 some_is : (a b : Identity) → Some a ≡ Some b → a ≡ b
 some_is a b e = cc

@@ -9,7 +9,6 @@ use Rattle.std.proofs.lemmas.Option.{slice_get_read}
 use Rattle.std.specs.List.{list_any, IsDistinct, AllByRecursion}
 use Rattle.std.specs.Option.{option_map}
 use Rattle.std.proofs.lemmas.Bool.{and_parts}
-use Rattle.std.proofs.lemmas.List.Folds.{list_any-append}
 use Rattle.std.proofs.lemmas.List.{append-nil, map-append, length-map, length-append}
 use Rattle.std.proofs.lemmas.List.Elements.{All-push, filter-append}
 use Rattle.std.proofs.lemmas.List.Sums.{fold-append}
@@ -556,13 +555,6 @@ demanded-added answers made now d old new n b resets e long drops delta is ds be
     subst (IsPlanOf answers made now (ds ++ d ∷ []))
     ((λ i. record { feeds = fed_once (sym drops i) ((length-append {A = Held} made old.added ∙ sym long) i) old.feeds; added = old.added ++ new_held resets d now ∷ [] }) ∙ sym is)
     (plan-new answers made now ds d old before resets none delta)
-
--- an identity that has no stream is not among the new ones
-pub absent-added : (x : Identity) (ks ms : List Held) → None ≡ found_at x (ks ++ ms) → list_any (identity_eq x) (stream_identities ms) ≡ false
-absent-added x ks ms e =
-    second (list_any (identity_eq x) (stream_identities ks)) (list_any (identity_eq x) (stream_identities ms))
-    (sym (ap (list_any (identity_eq x)) (identities-append ks ms) ∙ list_any-append (identity_eq x) (stream_identities ks) (stream_identities ms))
-    ∙ (sym (any-position (identity_eq x) (stream_identities (ks ++ ms))) ∙ ap is_some (not-found (stream_number x (stream_identities (ks ++ ms))) (ks ++ ms) e)))
 
 -- ======== no demand ========
 pub plan-none : (answers : ReaderAnswers) (made : List Held) (now : ℕ) → IsDistinct identity_eq (stream_identities made) → IsPlanOf answers made now [] (record { feeds = []; added = [] })

@@ -8,6 +8,7 @@ ghost use Rattle.otel_pipeline.specs.Collections.{append_each, shown_one, shown_
 
 use crate::aggregations::is_drop;
 use crate::metric_stream::MetricStream;
+use crate::vectors::reserve_one;
 use indexmap::IndexSet;
 use otel_common::faults::Fault;
 use otel_common::laws::copied_scope;
@@ -21,7 +22,7 @@ fn empty_lists(alloc: Global, many: usize) -> Result<Vec<Vec<Metric>>, Fault>
     ensures lists { IfOk result (λ lists. map (λ v. v.items) lists.items ≡ replicate many []) }
     ensures only_memory { IsOkUnless result Fault.OutOfMemory }
 {
-    let mut lists = Vec::new(alloc);
+    let mut lists = Vec::with_capacity(alloc, many)?;
     for _ in 0..many {
         lists.push(Vec::new(alloc))?;
     }
@@ -53,7 +54,9 @@ fn push_metric(
         return Ok(());
     };
     if let Some(metric) = stream.metric(alloc, now)? {
-        lists[place].push(metric)?;
+        let metrics = &mut lists[place];
+        reserve_one(metrics)?;
+        metrics.push_reserved(metric);
     }
     Ok(())
 }
@@ -107,7 +110,7 @@ pub(crate) fn scopes_of(
     ensures only_memory { IsOkUnless result Fault.OutOfMemory }
 {
     let lists = metrics_by_meter(alloc, streams, meters, now)?;
-    let mut scopes = Vec::new(alloc);
+    let mut scopes = Vec::with_capacity(alloc, meters.len().min(streams.len()))?;
     for (scope, metrics) in meters.iter().zip(lists) {
         push_scope(&mut scopes, scope, metrics)?;
     }

@@ -13,3 +13,4 @@ pub mod pipeline;
 mod plan;
 mod planning;
 mod saved;
+mod vectors;

@@ -8,7 +8,7 @@ ghost use Rattle.otel_model.specs.Sent.{set_for};
 ghost use Rattle.otel_pipeline.specs.Known.{is_known_to};
 ghost use Rattle.otel_pipeline.specs.Handles.{IsReadyToBind};
 ghost use Rattle.otel_pipeline.specs.Observations.{IsSavedOf, held_after_restore, saved_by};
-ghost use Rattle.otel_pipeline.specs.Streams.{IsMakeable, new_held, without_pending, held_after_commit, held_after_none, held_after_bind, held_after_update, held_after_unbind, held_after_collection, shown_metric, if_points};
+ghost use Rattle.otel_pipeline.specs.Streams.{IsAsked, IsMakeable, held_of, new_held, without_pending, held_after_commit, held_after_none, held_after_bind, held_after_update, held_after_unbind, held_after_collection, shown_metric, if_points};
 
 use crate::aggregations::settings_of;
 use crate::saved::SavedStream;
@@ -88,9 +88,40 @@ fn has_points(metrics: &AggregatedMetrics) -> bool
     many > 0
 }
 
+/// Makes the aggregate of the stream of this demand, without records, at the moment `now`, in nanoseconds since 1970, for
+/// a reader that answered this temporality.
+#[inline(always)]
+fn new_aggregate(
+    alloc: Global,
+    hasher: SetHashBuilder,
+    temporality: Temporality,
+    demand: &Demand,
+    now: u64,
+) -> Result<AnyAggregate, Fault>
+    requires { IsMakeable demand.now }
+    ensures asked { IfOk result (λ made. IsAsked demand.now made) }
+    ensures made { IfOk result (λ made. held_of demand.now made 0 0 ≡ new_held (resets temporality) demand.now now) }
+    ensures only_memory { IsOkUnless result Fault.OutOfMemory }
+{
+    copied_attributes();
+    let settings = settings_of(demand)?;
+    let allow = demand.allow.clone()?;
+    AnyAggregate::new(
+        alloc,
+        hasher,
+        settings,
+        demand.identity.signed,
+        temporality,
+        allow,
+        demand.limit,
+        now,
+    )
+}
+
 impl MetricStream {
     /// Makes a stream without records at the moment `now`, in nanoseconds since 1970, for a reader that answered this
     /// temporality.
+    #[inline(always)]
     pub(crate) fn new(
         alloc: Global,
         hasher: SetHashBuilder,
@@ -102,19 +133,7 @@ impl MetricStream {
         ensures made { IfOk result (λ s. s ≡ new_held (resets temporality) demand now) }
         ensures only_memory { IsOkUnless result Fault.OutOfMemory }
     {
-        copied_attributes();
-        let settings = settings_of(&demand)?;
-        let allow = demand.allow.clone()?;
-        let aggregate = AnyAggregate::new(
-            alloc,
-            hasher,
-            settings,
-            demand.identity.signed,
-            temporality,
-            allow,
-            demand.limit,
-            now,
-        )?;
+        let aggregate = new_aggregate(alloc, hasher, temporality, &demand, now)?;
         Ok(MetricStream {
             demand,
             aggregate,

@@ -20,6 +20,7 @@ use crate::each_stream::{
 use crate::metric_stream::MetricStream;
 use crate::observing::collect_observed;
 use crate::plan::Plan;
+use crate::vectors::insert_each;
 use indexmap::IndexSet;
 use otel_common::faults::Fault;
 use otel_common::lists::Items;
@@ -148,10 +149,10 @@ impl Pipeline {
         let Plan {
             hasher: _,
             feeds,
-            mut identities,
+            identities,
             mut added,
         } = plan;
-        self.identities.append(&mut identities).unwrap();
+        insert_each(&mut self.identities, identities);
         self.streams.append(&mut added).unwrap();
         self.feeds.push_reserved(Items::from(feeds));
     }

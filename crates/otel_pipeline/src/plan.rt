@@ -1,17 +1,15 @@
 //! What a build will do to the streams of one reader.
 
-ghost use Rattle.std.specs.Prelude.{◌≡◌, ◌<◌, ◌^◌, [], ◌∷◌, ◌++◌, List, false, IfOk, OnOk, IsOkUnless};
+ghost use Rattle.std.specs.Prelude.{◌≡◌, ◌<◌, ◌^◌, [], ◌∷◌, ◌++◌, List, OnOk, IsOkUnless, position};
 ghost use Rattle.std.specs.Option.{option_map};
-ghost use Rattle.indexmap.specs.IndexSet.{spare};
-ghost use Rattle.std.specs.List.{list_any};
 ghost use Rattle.otel_model.specs.Demands as demands;
-ghost use Rattle.otel_model.specs.Demands.{identity_eq};
 ghost use Rattle.otel_model.specs.Streams.{is_delta};
 ghost use Rattle.otel_pipeline.specs.Pipelines.{IsPlanOf, stream_identities, counted_from, fed_once, found_at};
 ghost use Rattle.otel_pipeline.specs.Streams.{IsMakeable, new_held};
 
 use crate::aggregations::{is_drop, temporality_of};
 use crate::metric_stream::MetricStream;
+use crate::vectors::reserve_one;
 use indexmap::IndexSet;
 use otel_common::faults::Fault;
 use otel_stream::answers::Answers;
@@ -26,7 +24,7 @@ use std::marker::Model;
 pub(crate) struct Plan {
     pub(crate) hasher: SetHashBuilder,
     pub(crate) feeds: Vec<usize>,
-    pub(crate) identities: IndexSet<Identity>,
+    pub(crate) identities: Vec<Identity>,
     pub(crate) added: Vec<MetricStream>,
 }
 
@@ -38,36 +36,14 @@ impl Model for Plan {
 
     ghost view = { λ p. record { feeds = p.feeds.items; added = p.added.items } };
 
-    ghost invariant = { λ p. (p.identities.keys ≡ stream_identities p.added.items) × AreFedOnce p.feeds.items };
+    ghost invariant = { λ p. (p.identities.items ≡ stream_identities p.added.items) × AreFedOnce p.feeds.items };
 }
 
-/// Adds an identity that isn't there yet, for which there is room.
-fn add_key(identities: &mut IndexSet<Identity>, identity: Identity)
-    requires room { 0 < spare identities.old }
-    requires absent { list_any (⟦<Identity as PartialEq>⟧.eq identity) identities.old.keys ≡ false }
-    ensures { identities.new.keys ≡ identities.old.keys ++ identity ∷ [] }
+/// The place of an identity among others, if it is there.
+fn place_of(identities: &[Identity], identity: &Identity) -> Option<usize>
+    ensures { result ≡ position (⟦<Identity as PartialEq>⟧.eq identity.now) identities.now }
 {
-    let _ = identities.insert(identity).unwrap();
-}
-
-/// Makes a stream for this demand, and copies its identity.
-fn new_stream(
-    alloc: Global,
-    hasher: SetHashBuilder,
-    answers: &Answers,
-    demand: Demand,
-    now: u64,
-) -> Result<(Identity, MetricStream), Fault>
-    requires { IsMakeable demand }
-    ensures stream { IfOk result (λ made. made ≡ (demand.identity, new_held (is_delta answers.now demand) demand now)) }
-    ensures only_memory { IsOkUnless result Fault.OutOfMemory }
-{
-    let temporality = temporality_of(answers, &demand);
-    let identity = demand.identity.clone()?;
-    Ok((
-        identity,
-        MetricStream::new(alloc, hasher, temporality, demand, now)?,
-    ))
+    identities.iter().position(|other| identity == other)
 }
 
 impl Plan {
@@ -78,19 +54,19 @@ impl Plan {
         Plan {
             hasher,
             feeds: Vec::new(alloc),
-            identities: IndexSet::new(alloc),
+            identities: Vec::new(alloc),
             added: Vec::new(alloc),
         }
     }
 
     /// The number that the stream of an identity will have, and whether it drops, if it is among the new streams.
-    /// These have the numbers from `first` on.
+    /// These have the numbers from `first` on. Goes over them.
     fn find_added(&self, first: usize, identity: &Identity) -> Option<(usize, bool)>
         requires { first < 2 ^ 63 }
         ensures { result ≡ option_map (counted_from first) (found_at identity.now self.now.added) }
     {
         kind_laws();
-        match self.identities.get_index_of(identity) {
+        match place_of(&self.identities, identity) {
             Some(place) => {
                 Some((
                     first + place,
@@ -130,7 +106,8 @@ impl Plan {
         Ok(())
     }
 
-    /// Adds a stream for this demand, whose identity has none yet.
+    /// Adds a stream for this demand.
+    #[inline(always)]
     fn add(
         &mut self,
         alloc: Global,
@@ -138,23 +115,24 @@ impl Plan {
         demand: Demand,
         now: u64,
     ) -> Result<(), Fault>
-        requires makeable { IsMakeable demand }
-        requires absent { list_any (identity_eq demand.identity) (stream_identities self.old.added) ≡ false }
+        requires { IsMakeable demand }
         ensures added { OnOk result (self.new ≡ record { feeds = self.old.feeds; added = self.old.added ++ new_held (is_delta answers.now demand) demand now ∷ [] }) }
         ensures only_memory { IsOkUnless result Fault.OutOfMemory }
     {
         kind_laws();
-        self.identities.reserve(1)?;
-        self.added.reserve(1)?;
-        let (identity, stream) = new_stream(alloc, self.hasher, answers, demand, now)?;
-        add_key(&mut self.identities, identity);
+        reserve_one(&mut self.identities)?;
+        reserve_one(&mut self.added)?;
+        let temporality = temporality_of(answers, &demand);
+        let identity = demand.identity.clone()?;
+        let stream = MetricStream::new(alloc, self.hasher, temporality, demand, now)?;
+        self.identities.push_reserved(identity);
         self.added.push_reserved(stream);
         Ok(())
     }
 
     /// Takes in one more demand, at a reader that has these streams.
     ///
-    /// Looks the identity up once among the reader's streams, and once among the new ones.
+    /// Looks the identity up once among the reader's streams, and goes once over the new ones.
     pub(crate) fn demand(
         &mut self,
         alloc: Global,

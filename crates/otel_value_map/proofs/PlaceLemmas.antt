@@ -1,6 +1,7 @@
 -- Where a record's entry is, once its set has a place.
 use Rattle.std.proofs.Common.{ℕ, ◌+◌, ◌-◌, ◌^◌, ◌<◌, ◌≡◌, List, [], ◌∷◌, ◌++◌, nat_lt, Bool, true, false, cond, ◌||◌, Option, Some, None, refl, ap, arith, subst, sym, ◌∙◌}
 use Rattle.std.specs.Map.{lookup, keys_of}
+use Rattle.std.specs.Option.{IfSome}
 use Rattle.std.proofs.lemmas.Bool.{or_parts}
 use Rattle.std.proofs.lemmas.List.Folds.{list_any-append}
 use Rattle.std.proofs.lemmas.List.{map-append}
@@ -109,6 +110,10 @@ new-there t few room (New set list) s sound is e =
 -- nothing is prepared
 pub nothing-prepared : (ns : Numbers) (p : Pending) (s : AttributeSet) {C : Type 0} → Nothing ≡ p → pending_in ns p ≡ Some s → C
 nothing-prepared ns p s is e = let none : None ≡ Some s = ap (pending_in ns) is ∙ e in absurd (cc)
+
+-- the key that was made in advance
+pub made_key : (o : Option AttributeSet) (key : AttributeSet) → IfSome o (λ k. k ≡ over_set) → o ≡ Some key → key ≡ over_set
+made_key o key h e = let P : Option AttributeSet → Type 0 = λ p. IfSome p (λ k. k ≡ over_set) in subst P e h
 
 -- a list more
 pub keys-spelled : (list : Option (List KeyValue)) (n : ℕ) (gs : List Keyed) → keys_of (with_spelling list n gs) ≡ keys_of gs ++ list_of list

@@ -106,6 +106,7 @@ fn keep_filled<A: Aggregator>(numbers: &mut Numbered, slots: &Slab<Slot<A>>)
 
 impl KeyTable {
     /// Makes a table without keys, which hashes sets and lists with this hasher. Takes no memory.
+    #[inline(always)]
     pub fn new(alloc: Global, hasher: SetHashBuilder) -> KeyTable
         ensures sets { result.sets ≡ [] }
         ensures given { result.given ≡ [] }

@@ -11,6 +11,8 @@ ghost use Rattle.otel_value_map.specs.Held.{IsPlan, IsPlanAt, is_new, is_pending
 ghost use Rattle.otel_value_map.specs.declared.pending.Pending.TheVariants.{Nothing, At};
 
 use crate::hashed_key::HashedSet;
+use crate::hashing::SetHashBuilder;
+use crate::sets::overflow_set;
 use crate::slots::Slot;
 use crate::table::Table;
 use otel_aggregators::aggregator::Aggregator;
@@ -301,14 +303,13 @@ fn make_unused<A: Aggregator>(
     Ok(())
 }
 
-/// Makes the key of the overflow entry in advance, unless there is one already. It shares the set that is given.
+/// Makes the set of the overflow entry in advance, unless there is one already.
 fn make_key(
     key: &mut Option<HashedSet<'static>>,
-    overflow: &HashedSet,
+    hasher: SetHashBuilder,
     alloc: Global,
 ) -> Result<(), Fault>
-    requires key { IfSome key.old (λ made. made ≡ over_set) }
-    requires overflow { overflow.now ≡ over_set }
+    requires { IfSome key.old (λ made. made ≡ over_set) }
     ensures over { IfSome key.new (λ made. made ≡ over_set) }
     ensures made { OnOk result (is_some key.new ≡ true) }
     ensures only_memory { IsOkUnless result Fault.OutOfMemory }
@@ -316,7 +317,8 @@ fn make_key(
     if key.is_some() {
         return Ok(());
     }
-    *key = Some(overflow.share(alloc)?);
+    let set = SetKey::owned(overflow_set(alloc)?);
+    *key = Some(HashedSet::new(hasher, set));
     Ok(())
 }
 
@@ -325,13 +327,11 @@ pub fn make_ready<A: Aggregator>(
     table: &mut Table<A>,
     unused: &mut Option<A>,
     key: &mut Option<HashedSet<'static>>,
-    overflow: &HashedSet,
     alloc: Global,
     config: &A::InitConfig,
 ) -> Result<(), Fault>
     requires unused { IfSome unused.old (λ made. A.meaning made ≡ A.empty config.now) }
     requires key { IfSome key.old (λ made. made ≡ over_set) }
-    requires overflow { overflow.now ≡ over_set }
     ensures table { table.new.table ≡ table.old.table }
     ensures numbers { table.new.numbers ≡ table.old.numbers }
     ensures given { table.new.given ≡ table.old.given }
@@ -342,7 +342,7 @@ pub fn make_ready<A: Aggregator>(
 {
     table.make_room()?;
     make_unused(unused, alloc, config)?;
-    make_key(key, overflow, alloc)?;
+    make_key(key, table.hasher(), alloc)?;
     Ok(())
 }
 

@@ -261,6 +261,7 @@ fn copy_slot<A: Aggregator>(alloc: Global, slot: &Slot<A>) -> Result<Slot<A>, Fa
 impl<A: Aggregator> Table<A> {
     /// Makes a table with no entry but that of the empty set, whose aggregator has no records. Takes memory for that
     /// one slot.
+    #[inline(always)]
     pub fn new(alloc: Global, hasher: SetHashBuilder, aggregator: A) -> Result<Table<A>, Fault>
         ensures table { IfOk result (λ made. made.table ≡ new_table (A.meaning aggregator)) }
         ensures sets { IfOk result (λ made. made.numbers.sets ≡ []) }
@@ -271,6 +272,7 @@ impl<A: Aggregator> Table<A> {
     }
 
     /// Makes a table with no entry but that of the empty set, in this slot.
+    #[inline(always)]
     fn with_none(alloc: Global, hasher: SetHashBuilder, slot: Slot<A>) -> Result<Table<A>, Fault>
         requires lasting { slot.lasting ≡ true }
         requires uncounted { slot.counted ≡ false }

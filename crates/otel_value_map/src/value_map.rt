@@ -21,7 +21,6 @@ use crate::hashing::SetHashBuilder;
 use crate::maker::{Copies, PointMaker};
 use crate::pending::{Pending, Prepared, led_to, make_ready, plan, take_slot};
 use crate::saved::Saved;
-use crate::sets::overflow_set;
 use crate::slots::Slot;
 use crate::table::Table;
 use otel_aggregators::aggregator::Aggregator;
@@ -54,9 +53,7 @@ pub struct ValueMap<A: Aggregator> {
     table: Table<A>,
     /// An aggregator made in advance for the next new entry.
     unused: Option<A>,
-    /// The set of the overflow entry, for looking it up.
-    overflow: HashedSet<'static>,
-    /// The same set, made in advance as the key of the overflow entry.
+    /// The set of the overflow entry, made in advance as that entry's key, and for looking it up.
     spare_key: Option<HashedSet<'static>>,
     pending: Prepared,
 }
@@ -80,7 +77,6 @@ impl<A: Aggregator> Model for ValueMap<A> {
 
     ghost invariant = { λ m. (m.count ≡ number_counted m.table.table.entries)
         × IfSome m.unused (λ made. A.meaning made ≡ A.empty m.config)
-        × (m.overflow ≡ over_set)
         × IfSome m.spare_key (λ key. key ≡ over_set)
         × IsSound m.table (nat_lt m.count m.limit) (is_some m.unused && (is_some m.spare_key && m.table.room)) m.pending };
 }
@@ -95,7 +91,6 @@ impl<A: Aggregator> Drop for ValueMap<A> {
             count: _,
             table: _table,
             unused: _unused,
-            overflow: _overflow,
             spare_key: _spare_key,
             pending: _pending,
         } = self;
@@ -104,7 +99,8 @@ impl<A: Aggregator> Drop for ValueMap<A> {
 
 impl<A: Aggregator> ValueMap<A> {
     /// Makes a map with no entry but that of the empty set, which hashes sets with this hasher. Takes memory for that
-    /// entry, for the set of the overflow entry, and for what an aggregator takes.
+    /// entry and for what an aggregator takes.
+    #[inline(always)]
     pub fn new(
         alloc: Global,
         hasher: SetHashBuilder,
@@ -118,7 +114,6 @@ impl<A: Aggregator> ValueMap<A> {
     {
         let none = A::create(alloc, &config)?;
         let table = Table::new(alloc, hasher, none)?;
-        let overflow = HashedSet::new(hasher, SetKey::owned(overflow_set(alloc)?));
         Ok(ValueMap {
             alloc,
             config,
@@ -126,7 +121,6 @@ impl<A: Aggregator> ValueMap<A> {
             count: 0,
             table,
             unused: None,
-            overflow,
             spare_key: None,
             pending: Prepared::nothing(),
         })
@@ -191,7 +185,6 @@ impl<A: Aggregator> ValueMap<A> {
             &mut self.table,
             &mut self.unused,
             &mut self.spare_key,
-            &self.overflow,
             self.alloc,
             &self.config,
         )?;
@@ -230,13 +223,14 @@ impl<A: Aggregator> ValueMap<A> {
             Pending::At(number) => return number,
             Pending::New(set, list) => (set, list),
         };
+        let overflow = self.spare_key.as_ref().unwrap();
         if self.count < self.limit {
+            let lasting = set.set() == overflow.set();
             self.count += 1;
-            let lasting = set.set() == self.overflow.set();
             let slot = take_slot(&mut self.unused, &self.config, true, lasting);
             return self.table.add(set, list, slot);
         }
-        if let Some(number) = self.table.find_set(&self.overflow) {
+        if let Some(number) = self.table.find_set(overflow) {
             return number;
         }
         let slot = take_slot(&mut self.unused, &self.config, false, true);
@@ -433,7 +427,11 @@ impl<A: Aggregator> ValueMap<A> {
         if self.limit > self.count {
             return 0;
         }
-        match self.table.find_set(&self.overflow) {
+        // A record or a bind for a new set has such a key.
+        let Some(overflow) = &self.spare_key else {
+            return 0;
+        };
+        match self.table.find_set(overflow) {
             Some(number) => self.table.handles(number),
             None => 0,
         }

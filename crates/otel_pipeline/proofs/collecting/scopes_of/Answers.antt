@@ -11,7 +11,7 @@ loop-scope-init c =
     let keys : c.into_iter-scope-iterator.result.a ≡ c.args.meters.now.keys = ap (λ z. z.a) is ∙ (c.zip-scope-items.ensures.first ∙ c.iter.ensures.rest) in
     let long = left-long (λ v. v.items) (λ m. shown_in m c.args.now c.args.streams.now) c.in_ok-lists.lists.items c.args.meters.now.keys c.in_ok-lists.ensures.metrics in
     record {
-      all = ap (λ xs. xs ++ scopes_shown c.args.now c.args.streams.now c.into_iter-scope-iterator.result.a) c.new-scopes.ensures.items ∙ ap (scopes_shown c.args.now c.args.streams.now) keys;
+      all = ap (λ xs. xs ++ scopes_shown c.args.now c.args.streams.now c.into_iter-scope-iterator.result.a) c.in_ok-scopes.ensures.items ∙ ap (scopes_shown c.args.now c.args.streams.now) keys;
       left = ap (λ z. map (λ v. v.items) (into_iter_items z.b)) is ∙ (ap (map (λ v. v.items)) second.0 ∙ (c.in_ok-lists.ensures.metrics ∙ ap (map (λ m. shown_in m c.args.now c.args.streams.now)) (sym keys)));
       many = ap (λ z. into_iter_len z.b) is ∙ (second.1 ∙ (c.in_ok-lists.lists.ok.0 ∙ (long ∙ ap length (sym keys))));
     }

@@ -1,7 +1,7 @@
 use Rattle.std.proofs.Common.{◌≡◌, ◌∙◌, ap, sym, refl, ◌+◌, ◌++◌, arith, length, Some, ℕ, Bool, Option}
 use Rattle.otel_pipeline.specs.Pipelines.{Planned, found_at, fed_once}
 use Rattle.otel_pipeline.proofs.Outcomes.{OnOk-weaker}
-use Rattle.otel_pipeline.proofs.Plans.{demanded-found, demanded-added, absent-added}
+use Rattle.otel_pipeline.proofs.Plans.{demanded-found, demanded-added}
 use Rattle.otel_pipeline.proofs.plan.Plan.demand.Goals as goal
 
 pub returns-in-Some-clause-meets : goal.returns-in-Some-clause-meets
@@ -20,6 +20,3 @@ returns-clause-meets c =
     refl
     (is ∙ λ i. record { feeds = fed_once c.is_drop-drops.result (length c.args.made.now + c.len.result) (c.in_ok-add.ensures.added i).feeds; added = (c.in_ok-add.ensures.added i).added }))
     c.feed-2.ensures.fed
-
-pub add-requires-clause-absent : goal.add-requires-clause-absent
-add-requires-clause-absent c = absent-added c.args.demand.identity c.args.made.now c.args.self.now.added (sym c.in_default.is ∙ c.find.ensures)

@@ -11,7 +11,7 @@ returns-in-Some c =
     let x : Identity = c.args.identity.now in
     let added = c.self.inside.added.items in
     let number : stream_number x (stream_identities added) ≡ Some c.in-Some.place =
-    ap (stream_number x) (sym c.self.invariant.0) ∙ (sym (position-same _ c.kind_laws.ensures.equal x c.self.inside.identities.keys) ∙ (sym c.get_index_of.ensures.index ∙ c.in-Some.is)) in
+    ap (stream_number x) (sym c.self.invariant.0 ∙ sym c.deref.ensures.value) ∙ (sym (position-same _ c.kind_laws.ensures.equal x c.deref.result.now) ∙ (sym c.place_of.ensures ∙ c.in-Some.is)) in
     rw (← c.self.view_is) (found-new x added c.args.first c.in-Some.place c.index.result.now c.is_drop.result number c.index.ensures (c.is_drop.ensures ∙ ap (λ d. is_drop d.aggregation) c.demand.ensures))
 
 pub returns-in-None : goal.returns-in-None
@@ -19,5 +19,5 @@ returns-in-None c =
     let x : Identity = c.args.identity.now in
     let added = c.self.inside.added.items in
     let number : stream_number x (stream_identities added) ≡ None =
-    ap (stream_number x) (sym c.self.invariant.0) ∙ (sym (position-same _ c.kind_laws.ensures.equal x c.self.inside.identities.keys) ∙ (sym c.get_index_of.ensures.index ∙ c.in-None.is)) in
+    ap (stream_number x) (sym c.self.invariant.0 ∙ sym c.deref.ensures.value) ∙ (sym (position-same _ c.kind_laws.ensures.equal x c.deref.result.now) ∙ (sym c.place_of.ensures ∙ c.in-None.is)) in
     rw (← c.self.view_is) (sym (ap (λ o. option_map (counted_from c.args.first) (option_map (with_drop added) o)) number))

@@ -13,7 +13,7 @@ pub invariant_of-self : goal.invariant_of-self
 invariant_of-self g c =
     let spent : pending_in c.self.inside.table.numbers c.self.inside.pending ≡ None = ap (λ (h : Held). h.pending) c.self.view_is ∙ c.place-number.ensures.spent in
     let nothing : c.self.inside.pending ≡ Nothing = nothing-left c.self.inside.table.numbers c.self.inside.pending spent in
-    (c.self.invariant.0 ∙ sym c.hold.ensures.counted, c.self.invariant.1, c.self.invariant.2, c.self.invariant.3, subst (IsSound _ _ _) (sym nothing) tt)
+    (c.self.invariant.0 ∙ sym c.hold.ensures.counted, c.self.invariant.1, c.self.invariant.2, subst (IsSound _ _ _) (sym nothing) tt)
 
 pub hold-requires : goal.hold-requires
 hold-requires g c =

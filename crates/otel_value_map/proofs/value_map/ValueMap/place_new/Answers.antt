@@ -1,6 +1,6 @@
-use Rattle.std.proofs.Common.{◌≡◌, ◌∙◌, ◌++◌, ◌∷◌, [], List, ap, sym, subst, refl, true, false, None, Some, Option, nat_lt, ◌≤◌, ℕ, arith}
+use Rattle.std.proofs.Common.{◌≡◌, ◌∙◌, ◌++◌, ◌∷◌, [], List, ap, sym, subst, refl, true, false, None, Some, nat_lt, ◌≤◌, ℕ, arith}
 use Rattle.std.specs.Map.{lookup}
-use Rattle.std.specs.Option.{IfSome}
+use Rattle.std.specs.Option.{option_copied}
 use Rattle.std.proofs.lemmas.Bool.{lt-ltb}
 use Rattle.std.proofs.lemmas.Bool.Decides.{nat_tests}
 use Rattle.otel_common.specs.Equality.{set_eq}
@@ -13,15 +13,11 @@ use Rattle.otel_value_map.specs.Numbers.{number_of}
 use Rattle.otel_value_map.specs.Held.{Held, IsReady}
 use Rattle.otel_value_map.proofs.CanonicalSets.{canon-over}
 use Rattle.otel_model_stream.specs.Maps.{MapState, with_place}
-use Rattle.otel_value_map.proofs.PlaceLemmas.{Placing, place-admitted, place-over_made, as_state, new-prepared, new-set, numbers-added}
+use Rattle.otel_value_map.proofs.PlaceLemmas.{Placing, made_key, place-admitted, place-over_made, as_state, new-prepared, new-set, numbers-added}
 use Rattle.otel_value_map.proofs.value_map.ValueMap.place_new.Goals as goal
 
 not_below : (a b : ℕ) → b ≤ a → nat_lt a b ≡ false
 not_below a b h = grind (arith, nat_tests)
-
--- the key that was made in advance
-made_key : (o : Option AttributeSet) (key : AttributeSet) → IfSome o (λ k. k ≡ over_set) → o ≡ Some key → key ≡ over_set
-made_key o key h e = let P : Option AttributeSet → Type 0 = λ p. IfSome p (λ k. k ≡ over_set) in subst P e h
 
 -- the overflow set is new where it isn't found
 over_new : (sets : List (AttributeSet × ℕ)) (overflow : AttributeSet) → overflow ≡ over_set → None ≡ lookup (set_eq overflow) sets → IsNew sets over_set
@@ -34,7 +30,7 @@ returns-then-self-clause-state g c = λ s e.
     let empty : Fold = g.A.Aggregator.empty c.self.inside.config in
     let entries : List Entry = t.table.entries in
     let before : MapState = record { limit = c.self.inside.limit; empty = empty; table = t.table } in
-    let ready : IsReady t _ _ set c.in-New.list = new-prepared t _ _ c.self.inside.pending set c.in-New.list c.self.invariant.4 c.in-New.ensures.taken in
+    let ready : IsReady t _ _ set c.in-New.list = new-prepared t _ _ c.self.inside.pending set c.in-New.list c.self.invariant.3 c.in-New.ensures.taken in
     let same : set ≡ s = new-set t.numbers c.self.inside.pending set s c.in-New.list c.in-New.ensures.taken (ap (λ (h : Held). h.pending) c.self.view_is ∙ e) in
     let few : nat_lt (number_counted entries) c.self.inside.limit ≡ true = rw (← c.self.invariant.0) (lt-ltb _ _ c.if-self.true) in
     let place : Placing c.self.inside.limit empty set entries _ set = place-admitted c.self.inside.limit empty set entries ready.new.some ready.absent few in
@@ -50,7 +46,7 @@ returns-then-self-clause-number g c = λ s e.
     let set : AttributeSet = c.in-New.set in
     let empty : Fold = g.A.Aggregator.empty c.self.inside.config in
     let entries : List Entry = t.table.entries in
-    let ready : IsReady t _ _ set c.in-New.list = new-prepared t _ _ c.self.inside.pending set c.in-New.list c.self.invariant.4 c.in-New.ensures.taken in
+    let ready : IsReady t _ _ set c.in-New.list = new-prepared t _ _ c.self.inside.pending set c.in-New.list c.self.invariant.3 c.in-New.ensures.taken in
     let same : set ≡ s = new-set t.numbers c.self.inside.pending set s c.in-New.list c.in-New.ensures.taken (ap (λ (h : Held). h.pending) c.self.view_is ∙ e) in
     let few : nat_lt (number_counted entries) c.self.inside.limit ≡ true = rw (← c.self.invariant.0) (lt-ltb _ _ c.if-self.true) in
     let place : Placing c.self.inside.limit empty set entries _ set = place-admitted c.self.inside.limit empty set entries ready.new.some ready.absent few in
@@ -64,14 +60,15 @@ returns-then-self-clause-number g c = λ s e.
 pub returns-then-self-clause-numbers : goal.returns-then-self-clause-numbers
 returns-then-self-clause-numbers g c =
     let t = c.self.inside.table in
-    let ready : IsReady t _ _ c.in-New.set c.in-New.list = new-prepared t _ _ c.self.inside.pending c.in-New.set c.in-New.list c.self.invariant.4 c.in-New.ensures.taken in
+    let ready : IsReady t _ _ c.in-New.set c.in-New.list = new-prepared t _ _ c.self.inside.pending c.in-New.set c.in-New.list c.self.invariant.3 c.in-New.ensures.taken in
     rw (← c.self.view_is) (numbers-added t.numbers c.add.new.self.numbers c.in-New.set c.add.result c.add.ensures.none c.add.ensures.sets ready.new).0
 
 pub add-requires-2-clause-new : goal.add-requires-2-clause-new
 add-requires-2-clause-new g c =
     let sets = c.self.inside.table.numbers.sets in
-    let key : c.unwrap-key.result ≡ over_set = made_key c.self.inside.spare_key c.unwrap-key.result c.self.invariant.3 (sym c.take-2.ensures.value ∙ c.unwrap-key.ensures) in
-    subst (IsNew sets) (sym key) (over_new sets c.self.inside.overflow c.self.invariant.2 c.in_default.ensures.number)
+    let over : c.unwrap-overflow.result.now ≡ over_set = made_key c.self.inside.spare_key c.unwrap-overflow.result.now c.self.invariant.2 (sym c.as_ref.ensures.value ∙ ap option_copied c.unwrap-overflow.ensures) in
+    let key : c.unwrap-key.result ≡ over_set = made_key c.self.inside.spare_key c.unwrap-key.result c.self.invariant.2 (sym c.take-2.ensures.value ∙ c.unwrap-key.ensures) in
+    subst (IsNew sets) (sym key) (over_new sets c.unwrap-overflow.result.now over c.in_default.ensures.number)
 
 pub returns-clause-state : goal.returns-clause-state
 returns-clause-state g c = λ s e.
@@ -80,11 +77,12 @@ returns-clause-state g c = λ s e.
     let empty : Fold = g.A.Aggregator.empty c.self.inside.config in
     let entries : List Entry = t.table.entries in
     let before : MapState = record { limit = c.self.inside.limit; empty = empty; table = t.table } in
-    let ready : IsReady t _ _ set c.in-New.list = new-prepared t _ _ c.self.inside.pending set c.in-New.list c.self.invariant.4 c.in-New.ensures.taken in
+    let ready : IsReady t _ _ set c.in-New.list = new-prepared t _ _ c.self.inside.pending set c.in-New.list c.self.invariant.3 c.in-New.ensures.taken in
     let same : set ≡ s = new-set t.numbers c.self.inside.pending set s c.in-New.list c.in-New.ensures.taken (ap (λ (h : Held). h.pending) c.self.view_is ∙ e) in
     let full : nat_lt (number_counted entries) c.self.inside.limit ≡ false = rw (← c.self.invariant.0) (not_below _ _ (omega (arith, c.if-self.false))) in
-    let key : c.unwrap-key.result ≡ over_set = made_key c.self.inside.spare_key c.unwrap-key.result c.self.invariant.3 (sym c.take-2.ensures.value ∙ c.unwrap-key.ensures) in
-    let gone : has over_set entries ≡ false = ap (λ (x : AttributeSet). has x entries) (sym c.self.invariant.2) ∙ sym c.in_default.ensures.placed in
+    let over : c.unwrap-overflow.result.now ≡ over_set = made_key c.self.inside.spare_key c.unwrap-overflow.result.now c.self.invariant.2 (sym c.as_ref.ensures.value ∙ ap option_copied c.unwrap-overflow.ensures) in
+    let key : c.unwrap-key.result ≡ over_set = made_key c.self.inside.spare_key c.unwrap-key.result c.self.invariant.2 (sym c.take-2.ensures.value ∙ c.unwrap-key.ensures) in
+    let gone : has over_set entries ≡ false = ap (λ (x : AttributeSet). has x entries) (sym over) ∙ sym c.in_default.ensures.placed in
     let place : Placing c.self.inside.limit empty set entries _ over_set = place-over_made c.self.inside.limit empty set entries ready.new.some ready.absent full gone in
     let after : c.add-2.new.self.table.entries ≡ entries ++ new_entry empty over_set false ∷ [] =
     ap (λ (x : Table). x.entries) c.add-2.ensures.table ∙ ap (λ (k : Kept). entries ++ entry_of c.unwrap-key.result (Some k) ∷ []) c.take_slot-slot-2.ensures.slot ∙ ap (λ (x : AttributeSet). entries ++ new_entry empty x false ∷ []) key in
@@ -98,16 +96,17 @@ returns-clause-number g c = λ s e.
     let set : AttributeSet = c.in-New.set in
     let empty : Fold = g.A.Aggregator.empty c.self.inside.config in
     let entries : List Entry = t.table.entries in
-    let ready : IsReady t _ _ set c.in-New.list = new-prepared t _ _ c.self.inside.pending set c.in-New.list c.self.invariant.4 c.in-New.ensures.taken in
+    let ready : IsReady t _ _ set c.in-New.list = new-prepared t _ _ c.self.inside.pending set c.in-New.list c.self.invariant.3 c.in-New.ensures.taken in
     let same : set ≡ s = new-set t.numbers c.self.inside.pending set s c.in-New.list c.in-New.ensures.taken (ap (λ (h : Held). h.pending) c.self.view_is ∙ e) in
     let full : nat_lt (number_counted entries) c.self.inside.limit ≡ false = rw (← c.self.invariant.0) (not_below _ _ (omega (arith, c.if-self.false))) in
-    let key : c.unwrap-key.result ≡ over_set = made_key c.self.inside.spare_key c.unwrap-key.result c.self.invariant.3 (sym c.take-2.ensures.value ∙ c.unwrap-key.ensures) in
-    let gone : has over_set entries ≡ false = ap (λ (x : AttributeSet). has x entries) (sym c.self.invariant.2) ∙ sym c.in_default.ensures.placed in
+    let over : c.unwrap-overflow.result.now ≡ over_set = made_key c.self.inside.spare_key c.unwrap-overflow.result.now c.self.invariant.2 (sym c.as_ref.ensures.value ∙ ap option_copied c.unwrap-overflow.ensures) in
+    let key : c.unwrap-key.result ≡ over_set = made_key c.self.inside.spare_key c.unwrap-key.result c.self.invariant.2 (sym c.take-2.ensures.value ∙ c.unwrap-key.ensures) in
+    let gone : has over_set entries ≡ false = ap (λ (x : AttributeSet). has x entries) (sym over) ∙ sym c.in_default.ensures.placed in
     let place : Placing c.self.inside.limit empty set entries _ over_set = place-over_made c.self.inside.limit empty set entries ready.new.some ready.absent full gone in
     let after : c.add-2.new.self.table.entries ≡ entries ++ new_entry empty over_set false ∷ [] =
     ap (λ (x : Table). x.entries) c.add-2.ensures.table ∙ ap (λ (k : Kept). entries ++ entry_of c.unwrap-key.result (Some k) ∷ []) c.take_slot-slot-2.ensures.slot ∙ ap (λ (x : AttributeSet). entries ++ new_entry empty x false ∷ []) key in
     let goal : entry_for set c.add-2.new.self.table.entries ≡ over_set = ap (entry_for set) after ∙ place.goal in
-    let new : IsNew t.numbers.sets c.unwrap-key.result = subst (IsNew t.numbers.sets) (sym key) (over_new t.numbers.sets c.self.inside.overflow c.self.invariant.2 c.in_default.ensures.number) in
+    let new : IsNew t.numbers.sets c.unwrap-key.result = subst (IsNew t.numbers.sets) (sym key) (over_new t.numbers.sets c.unwrap-overflow.result.now over c.in_default.ensures.number) in
     let number = (numbers-added t.numbers c.add-2.new.self.numbers c.unwrap-key.result c.add-2.result c.add-2.ensures.none c.add-2.ensures.sets new).1 in
     subst (λ (x : AttributeSet). number_of (entry_for x c.add-2.new.self.table.entries) c.add-2.new.self.numbers ≡ Some c.add-2.result) same
     (ap (λ (x : AttributeSet). number_of x c.add-2.new.self.numbers) (goal ∙ sym key) ∙ number)
@@ -115,6 +114,7 @@ returns-clause-number g c = λ s e.
 pub returns-clause-numbers : goal.returns-clause-numbers
 returns-clause-numbers g c =
     let t = c.self.inside.table in
-    let key : c.unwrap-key.result ≡ over_set = made_key c.self.inside.spare_key c.unwrap-key.result c.self.invariant.3 (sym c.take-2.ensures.value ∙ c.unwrap-key.ensures) in
-    let new : IsNew t.numbers.sets c.unwrap-key.result = subst (IsNew t.numbers.sets) (sym key) (over_new t.numbers.sets c.self.inside.overflow c.self.invariant.2 c.in_default.ensures.number) in
+    let over : c.unwrap-overflow.result.now ≡ over_set = made_key c.self.inside.spare_key c.unwrap-overflow.result.now c.self.invariant.2 (sym c.as_ref.ensures.value ∙ ap option_copied c.unwrap-overflow.ensures) in
+    let key : c.unwrap-key.result ≡ over_set = made_key c.self.inside.spare_key c.unwrap-key.result c.self.invariant.2 (sym c.take-2.ensures.value ∙ c.unwrap-key.ensures) in
+    let new : IsNew t.numbers.sets c.unwrap-key.result = subst (IsNew t.numbers.sets) (sym key) (over_new t.numbers.sets c.unwrap-overflow.result.now over c.in_default.ensures.number) in
     rw (← c.self.view_is) (numbers-added t.numbers c.add-2.new.self.numbers c.unwrap-key.result c.add-2.result c.add-2.ensures.none c.add-2.ensures.sets new).0

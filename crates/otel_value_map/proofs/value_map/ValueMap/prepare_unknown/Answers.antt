@@ -30,7 +30,6 @@ invariant_of-self-2 g c =
     let room : Bool = is_some c.make_ready.new.unused && (is_some c.make_ready.new.key && n.room) in (
       c.self.invariant.0 ∙ ap (λ (x : Table). number_counted x.entries) (sym c.make_ready.ensures.table),
       c.make_ready.ensures.empty,
-      c.self.invariant.2,
       c.make_ready.ensures.over,
       subst (IsSound n few room) (sym c.put-2.ensures) (sound-same t n few room c.in_ok-plan.plan c.make_ready.ensures.table c.make_ready.ensures.numbers c.make_ready.ensures.given (c.in_ok-plan.ensures.plan.sound room c.in_ok-make_ready.ensures.ready)),
     )
