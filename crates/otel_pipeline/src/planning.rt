@@ -1,4 +1,4 @@
-//! Plans what a build demands of one reader.
+//! Plans which streams a build of an instrument demands of one reader.
 
 ghost use Rattle.std.specs.Prelude.{◌≡◌, ◌∷◌, ◌++◌, [], ℕ, List, Some, is_some, IfOk, OnOk, IsOkUnless};
 ghost use Rattle.std.specs.List.{list_any};
@@ -21,7 +21,8 @@ use otel_stream::instrument::InstrumentKind;
 use otel_stream::laws::kind_laws;
 use otel_stream::stream::Stream;
 
-/// Whether the aggregation that a view answered, if any, can be used with the kind.
+/// Tells whether the aggregation that a view answered can be used with this kind of instrument. An answer without an
+/// aggregation can always be used.
 fn can_keep(kind: InstrumentKind, stream: &Stream) -> bool
     ensures { result ≡ views.can_keep kind stream.now.aggregation }
 {
@@ -31,7 +32,7 @@ fn can_keep(kind: InstrumentKind, stream: &Stream) -> bool
     }
 }
 
-/// Whether a view answered with an aggregation that can't be used with the kind.
+/// Tells whether a view answered with an aggregation that can't be used with this kind of instrument.
 fn is_unfit(kind: InstrumentKind, answer: &Option<Stream>) -> bool
     ensures { result ≡ views.is_unfit kind answer.now }
 {
@@ -41,12 +42,14 @@ fn is_unfit(kind: InstrumentKind, answer: &Option<Stream>) -> bool
     }
 }
 
+/// Tells whether any view answered for the instrument.
 fn any_answer(answered: &[Option<Stream>]) -> bool
     ensures { result ≡ list_any is_some answered.now }
 {
     answered.iter().any(|answer| answer.is_some())
 }
 
+/// Tells whether any view answered with an aggregation that can't be used with this kind of instrument.
 fn any_unfit(kind: InstrumentKind, answered: &[Option<Stream>]) -> bool
     ensures { result ≡ list_any (views.is_unfit kind) answered.now }
 {
@@ -54,8 +57,9 @@ fn any_unfit(kind: InstrumentKind, answered: &[Option<Stream>]) -> bool
 }
 
 impl Plan {
-    /// Whether the instrument demands its own stream, once what its views answered is planned. It does if no view
-    /// answered, or if one answered what can't be used and the instrument feeds nothing.
+    /// Tells whether the instrument demands a stream of its own, beside the streams of its views, which are planned
+    /// already. It does in two cases: no view answered, or a view answered with an aggregation that can't be used and
+    /// no stream is planned that the instrument feeds.
     fn demands_own(&self, kind: InstrumentKind, answered: &[Option<Stream>]) -> bool
         ensures { result ≡ views.demands_own kind answered.now self.now.feeds }
     {
@@ -64,7 +68,7 @@ impl Plan {
 }
 
 impl Pipeline {
-    /// Makes a plan without demands.
+    /// Makes a plan that demands no stream.
     fn plan_nothing(&self) -> Plan
         ensures { (now : ℕ) → IsPlanOf self.now.answers self.now.streams now [] result }
     {
@@ -74,7 +78,8 @@ impl Pipeline {
         Plan::new(self.alloc, self.hasher)
     }
 
-    /// Plans one more demand.
+    /// Adds one more demand to the plan. If the reader or the plan has a stream of the same identity already, the
+    /// instrument is to feed that one.
     fn plan_demand(&self, plan: &mut Plan, demand: Demand, now: u64) -> Result<(), Fault>
         requires { IsMakeable demand }
         ensures meets { OnOk result ((ds : List demands.Demand) → IsPlanOf self.now.answers self.now.streams now ds plan.old → IsPlanOf self.now.answers self.now.streams now (ds ++ demand ∷ []) plan.new) }
@@ -90,7 +95,7 @@ impl Pipeline {
         )
     }
 
-    /// Plans what a view answered, if it can be used.
+    /// Adds the stream that a view answered to the plan. An answer whose aggregation can't be used adds nothing.
     fn plan_view(
         &self,
         plan: &mut Plan,
@@ -110,7 +115,8 @@ impl Pipeline {
         self.plan_demand(plan, demand, now)
     }
 
-    /// Plans what a view answered, if it did and the answer can be used.
+    /// Adds the stream that a view answered to the plan. It adds nothing if the view gave no answer, or one whose
+    /// aggregation can't be used.
     fn plan_answer(
         &self,
         plan: &mut Plan,
@@ -129,7 +135,8 @@ impl Pipeline {
         }
     }
 
-    /// Plans what the views answered, as far as it can be used.
+    /// Makes a plan of the streams that the views answered, in the order of the views and without the answers whose
+    /// aggregations can't be used.
     fn plan_views(
         &self,
         scope: &InstrumentationScope,
@@ -148,7 +155,8 @@ impl Pipeline {
         Ok(plan)
     }
 
-    /// The plan of a build of this instrument, given the answer of each view. Without a scope it is empty.
+    /// Makes the plan of a build of this instrument from the answer of each view. Without a scope, the plan demands no
+    /// stream.
     pub(crate) fn plan_in(
         &self,
         scope: Option<&InstrumentationScope>,

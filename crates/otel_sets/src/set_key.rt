@@ -1,4 +1,4 @@
-//! The keys of a table of sets.
+//! Keys of a table of sets, which own a set or borrow one.
 
 ghost use Rattle.std.specs.Prelude.{◌≡◌, ◌==◌, IfSome, IfOk, IsOkUnless, length};
 ghost use Rattle.std.specs.List.{flat_map, fold};
@@ -21,21 +21,21 @@ use std::alloc::Global;
 use std::hash::{Hash, Hasher};
 use std::marker::Model;
 
-/// How a key holds its set.
+/// Where a key has its set.
 #[derive(Drop)]
 pub enum Form<'a> {
-    /// It owns the set, perhaps beside others.
+    /// The key is an owner of the set, which may have other owners.
     Owned(SharedItems<KeyValue>),
-    /// It borrows the attributes, exactly as given.
+    /// The key borrows a list, and its set is exactly this list.
     Given(&'a [KeyValue]),
-    /// It borrows references to the attributes.
+    /// The key borrows references, and its set is the attributes that they lead to.
     Referenced(&'a References<'a>),
-    /// It borrows attributes that are held in another way.
+    /// The key borrows attributes that are read one after another.
     Held(&'a SetAttributes<'a>),
 }
 
-/// A key of a table of sets. In a table it owns its set; for a look-up it borrows attributes, so that they need no
-/// copy.
+/// A key of a table of sets. A key that stands in a table owns its set. A key that is only looked up borrows the
+/// attributes, so a look-up copies nothing.
 pub struct SetKey<'a> {
     form: Form<'a>,
 }
@@ -56,7 +56,7 @@ impl<'a> Model for SetKey<'a> {
     ghost view = { λ k. set_in k.form };
 }
 
-/// Whether the same attributes, in the same order, stand in two lists.
+/// Tells whether two lists have the same attributes in the same order.
 #[inline]
 fn same_lists(attributes: &[KeyValue], others: &[KeyValue]) -> bool
     ensures { result ≡ set_eq attributes.now others.now }
@@ -72,7 +72,7 @@ fn same_lists(attributes: &[KeyValue], others: &[KeyValue]) -> bool
     true
 }
 
-/// Whether references lead to the attributes of a list, in its order.
+/// Tells whether the references lead to the attributes of a list, in the order of the list.
 fn same_referenced(references: &[&KeyValue], attributes: &[KeyValue]) -> bool
     ensures { result ≡ set_eq (shown references.now) attributes.now }
 {
@@ -87,7 +87,7 @@ fn same_referenced(references: &[&KeyValue], attributes: &[KeyValue]) -> bool
     true
 }
 
-/// Feeds the hasher the attributes that references lead to.
+/// Feeds the hasher the attributes that the references lead to, one after another.
 fn hash_references<H: Hasher>(references: &[&KeyValue], state: &mut H)
     ensures { state.new ≡ fold H.write state.old (flat_map key_value_writes (shown references.now)) }
 {
@@ -97,7 +97,7 @@ fn hash_references<H: Hasher>(references: &[&KeyValue], state: &mut H)
 }
 
 impl<'a> SetKey<'a> {
-    /// Makes a key that owns this set.
+    /// Makes a key that is an owner of this set.
     pub fn owned(set: SharedItems<KeyValue>) -> SetKey<'a>
         ensures { result ≡ set }
     {
@@ -106,7 +106,8 @@ impl<'a> SetKey<'a> {
         }
     }
 
-    /// Makes a key that borrows these attributes, exactly as given.
+    /// Makes a key whose set is this list as it is given: it is neither sorted nor freed of doubled keys. The key
+    /// borrows the list.
     #[inline]
     pub fn given(attributes: &'a [KeyValue]) -> SetKey<'a>
         ensures { result ≡ attributes.now }
@@ -116,7 +117,7 @@ impl<'a> SetKey<'a> {
         }
     }
 
-    /// Makes a key of the attributes that these references lead to, which it borrows.
+    /// Makes a key whose set is the attributes that these references lead to. The key borrows the references.
     #[inline]
     pub fn referenced(references: &'a References<'a>) -> SetKey<'a>
         ensures { result ≡ shown references.now.slice.now }
@@ -126,7 +127,7 @@ impl<'a> SetKey<'a> {
         }
     }
 
-    /// Makes a key of the attributes that are held here, which it borrows.
+    /// Makes a key whose set is these attributes, which are read anew at each use. The key borrows them.
     pub fn held(attributes: &'a SetAttributes<'a>) -> SetKey<'a>
         ensures { result ≡ held_in attributes.now }
     {
@@ -135,7 +136,7 @@ impl<'a> SetKey<'a> {
         }
     }
 
-    /// A key of the same set, which it borrows from this one.
+    /// Makes a key of the same set, which borrows the set from this key.
     #[inline]
     pub fn lent(&self) -> SetKey<'_>
         ensures { result ≡ self.now }
@@ -149,7 +150,7 @@ impl<'a> SetKey<'a> {
         SetKey { form }
     }
 
-    /// The set as a list, if it stands as one.
+    /// Returns the set as one list, or `None` if the key has its attributes in another way.
     #[inline]
     fn whole(&self) -> Option<&[KeyValue]>
         ensures { IfSome result (λ set. set.now ≡ self.now) }
@@ -162,7 +163,7 @@ impl<'a> SetKey<'a> {
         }
     }
 
-    /// The attributes of the set.
+    /// Returns the attributes of the set, to be read one after another.
     fn attributes(&self) -> SetAttributes<'_>
         ensures { held_in result ≡ self.now }
     {
@@ -174,7 +175,8 @@ impl<'a> SetKey<'a> {
         }
     }
 
-    /// Whether the set has the attributes of a list, in its order. Out of line, as most look-ups compare two lists.
+    /// Tells whether the set has the attributes of a list, in the order of the list. It is kept out of line, since most
+    /// look-ups compare two lists and don't need it.
     #[inline(never)]
     fn is_list(&self, list: &[KeyValue]) -> bool
         ensures { result ≡ set_eq self.now list.now }
@@ -185,7 +187,8 @@ impl<'a> SetKey<'a> {
         }
     }
 
-    /// Whether another key has the same set, by one attribute after another. Out of line, as few look-ups need it.
+    /// Tells whether another key has the same set, by comparing one attribute after another. It is kept out of line,
+    /// since few look-ups need it.
     #[inline(never)]
     fn is_same_held(&self, other: &SetKey) -> bool
         ensures { result ≡ set_eq self.now other.now }
@@ -193,7 +196,8 @@ impl<'a> SetKey<'a> {
         same_attributes(self.attributes(), other.attributes())
     }
 
-    /// Feeds the hasher the attributes of a set that is no list. Out of line, as most look-ups hash a list.
+    /// Feeds the hasher the attributes of a set that doesn't stand as one list. It is kept out of line, since most
+    /// look-ups hash a list.
     #[inline(never)]
     fn hash_apart<H: Hasher>(&self, state: &mut H)
         ensures { state.new ≡ fold H.write state.old (flat_map key_value_writes self.now) }
@@ -204,7 +208,7 @@ impl<'a> SetKey<'a> {
         }
     }
 
-    /// Whether the set is empty.
+    /// Tells whether the set has no attributes.
     #[inline]
     pub fn is_empty(&self) -> bool
         ensures { result ≡ (length self.now == 0) }
@@ -217,7 +221,8 @@ impl<'a> SetKey<'a> {
         }
     }
 
-    /// Whether the set is its own canonical form: whether its keys strictly rise.
+    /// Tells whether the set is its own canonical form, which it is exactly if each key is greater than the one before
+    /// it.
     pub fn is_canonical(&self) -> bool
         ensures { result ≡ set_eq (canon self.now) self.now }
     {
@@ -231,7 +236,7 @@ impl<'a> SetKey<'a> {
         }
     }
 
-    /// A copy of the set.
+    /// Returns a copy of the set. Out of line, as a collection shares the sets that keys own.
     #[inline(never)]
     fn copied(&self, alloc: Global) -> Result<SharedItems<KeyValue>, Fault>
         ensures set { IfOk result (λ set. set ≡ self.now) }
@@ -245,7 +250,8 @@ impl<'a> SetKey<'a> {
         }
     }
 
-    /// The set: another owner of it if the key owns one, without a copy and without memory; otherwise a copy.
+    /// Returns the set with an owner of its own. If the key owns the set, the caller becomes one more owner of it,
+    /// which copies nothing and takes no memory. Otherwise the attributes are copied.
     #[inline(always)]
     pub fn share(&self, alloc: Global) -> Result<SharedItems<KeyValue>, Fault>
         ensures set { IfOk result (λ set. set ≡ self.now) }
