@@ -14,7 +14,7 @@ use Rattle.otel_aggregate.specs.declared.settings.AnySettings.{AnySettings}
 use Rattle.otel_aggregate.specs.declared.settings.AnySettings.TheVariants as kinds
 use Rattle.otel_aggregate.specs.Any.{Form, form_of, aggregate_of, is_monotonic_of, drains_of}
 use Rattle.otel_aggregate.specs.Kept.{form_of_fold, IsWithin, IsWithinIfSome, IsKept, AreKept, IsKeptMap, IsKeptStream, IsReportedOf, AreShowable}
-use Rattle.otel_aggregate.specs.Streams.{StreamState, HeldStream, new_stream, recorded_set, taken_from, stream_after_commit, bind_of, stream_after_bind, update_at, stream_after_update, unbind_at, stream_after_unbind, stream_after_collection}
+use Rattle.otel_aggregate.specs.Streams.{AggregateState, AggregateContents, new_aggregate, recorded_set, taken_from, stream_after_commit, bind_of, stream_after_bind, update_at, stream_after_update, unbind_at, stream_after_unbind, stream_after_collection}
 use Rattle.otel_aggregate.proofs.ObservedLemmas.{drained-measured, drained-drained}
 
 -- ======== folds ========
@@ -113,17 +113,17 @@ kept-unheld : (s : Bool) (k : Form) (t : Table) → AreKept s k t → AreKept s 
 kept-unheld s k t h = (h.0, all-map s k entry_without_handles (λ (e : Entry). λ (h : IsKept s k e.fold). h) t.entries h.1)
 
 -- ======== streams ========
-pub kept-taken : (s : Bool) (v : Amount) (h : HeldStream) → IsWithin s v.wide → IsKeptStream s h → IsKeptStream s (stream_after_commit v h)
+pub kept-taken : (s : Bool) (v : Amount) (h : AggregateContents) → IsWithin s v.wide → IsKeptStream s h → IsKeptStream s (stream_after_commit v h)
 kept-taken s v h w kept = by h.pending
   where
     by : (o : Option AttributeSet) → IsKeptStream s (taken_from o v h)
     by None = kept
     by (Some set) = kept-measured s (form_of h.state.aggregate) set (sample_of h.state.aggregate v) h.state.map_state w kept
 
-pub kept-none : (s : Bool) (v : Amount) (h : HeldStream) → IsWithin s v.wide → IsKeptStream s h → IsKeptStream s (record h { state = recorded_set none_set v h.state; pending = None })
+pub kept-none : (s : Bool) (v : Amount) (h : AggregateContents) → IsWithin s v.wide → IsKeptStream s h → IsKeptStream s (record h { state = recorded_set none_set v h.state; pending = None })
 kept-none s v h w kept = kept-measured s (form_of h.state.aggregate) none_set (sample_of h.state.aggregate v) h.state.map_state w kept
 
-pub kept-bind : (s : Bool) (n : ℕ) (h : HeldStream) → IsKeptStream s h → IsKeptStream s (stream_after_bind n h)
+pub kept-bind : (s : Bool) (n : ℕ) (h : AggregateContents) → IsKeptStream s h → IsKeptStream s (stream_after_bind n h)
 kept-bind s n h kept = by (h.room && is_none (held_by n h.live)) h.pending
   where
     by : (b : Bool) (o : Option AttributeSet) → IsKeptStream s (cond b (bind_of o n h) h)
@@ -131,21 +131,21 @@ kept-bind s n h kept = by (h.room && is_none (held_by n h.live)) h.pending
     by true (Some set) = kept-bound s (form_of h.state.aggregate) set h.state.map_state kept
     by false o = kept
 
-pub kept-update : (s : Bool) (n : ℕ) (v : Amount) (h : HeldStream) → IsWithin s v.wide → IsKeptStream s h → IsKeptStream s (stream_after_update n v h)
+pub kept-update : (s : Bool) (n : ℕ) (v : Amount) (h : AggregateContents) → IsWithin s v.wide → IsKeptStream s h → IsKeptStream s (stream_after_update n v h)
 kept-update s n v h w kept = by (held_by n h.live)
   where
     by : (o : Option AttributeSet) → IsKeptStream s (record h { state = update_at o v h.state; pending = None })
     by None = kept
     by (Some g) = kept-updated s (form_of h.state.aggregate) g (sample_of h.state.aggregate v) h.state.map_state w kept
 
-pub kept-unbind : (s : Bool) (n : ℕ) (h : HeldStream) → IsKeptStream s h → IsKeptStream s (stream_after_unbind n h)
+pub kept-unbind : (s : Bool) (n : ℕ) (h : AggregateContents) → IsKeptStream s h → IsKeptStream s (stream_after_unbind n h)
 kept-unbind s n h kept = by (held_by n h.live)
   where
     by : (o : Option AttributeSet) → IsKeptStream s (record h { state = unbind_at o h.state; pending = None })
     by None = kept
     by (Some g) = kept-unbound s (form_of h.state.aggregate) g h.state.map_state kept
 
-pub kept-collected : (s : Bool) (now : ℕ) (a : StreamState) → IsKeptMap s (form_of a.aggregate) a.map_state → IsKeptMap s (form_of (stream_after_collection now a).aggregate) (stream_after_collection now a).map_state
+pub kept-collected : (s : Bool) (now : ℕ) (a : AggregateState) → IsKeptMap s (form_of a.aggregate) a.map_state → IsKeptMap s (form_of (stream_after_collection now a).aggregate) (stream_after_collection now a).map_state
 kept-collected s now a kept = by a.resets
   where
     by : (b : Bool) → IsKeptMap s (form_of (cond b (record a { map_state = evicted_map a.map_state; start = now }) a).aggregate) (cond b (record a { map_state = evicted_map a.map_state; start = now }) a).map_state
@@ -153,9 +153,9 @@ kept-collected s now a kept = by a.resets
     by false = kept
 
 -- after room is made for a handle, or not
-pub kept-room : {T E : Type 0} (s : Bool) (old new : HeldStream) (r : Result T E) → OnOk r (new ≡ record old { room = true }) → OnErr r (new ≡ old) → IsKeptStream s old → IsKeptStream s new
-kept-room s old new (Ok v) ok err kept = subst (λ (h : HeldStream). IsKeptStream s h) (sym ok) kept
-kept-room s old new (Err e) ok err kept = subst (λ (h : HeldStream). IsKeptStream s h) (sym err) kept
+pub kept-room : {T E : Type 0} (s : Bool) (old new : AggregateContents) (r : Result T E) → OnOk r (new ≡ record old { room = true }) → OnErr r (new ≡ old) → IsKeptStream s old → IsKeptStream s new
+kept-room s old new (Ok v) ok err kept = subst (λ (h : AggregateContents). IsKeptStream s h) (sym ok) kept
+kept-room s old new (Err e) ok err kept = subst (λ (h : AggregateContents). IsKeptStream s h) (sym err) kept
 
 -- ======== a new stream ========
 kept-new : (s : Bool) (settings : AnySettings) (limit : ℕ) → IsKeptMap s (form_of (aggregate_of settings)) (new_map limit (empty_of (aggregate_of settings)))
@@ -164,34 +164,34 @@ kept-new s (kinds.PrecomputedSum is_monotonic) limit = ((refl, (tt, tt)), ((refl
 kept-new s kinds.LastValue limit = ((refl, (tt, tt)), ((refl, (tt, tt)), tt))
 kept-new s (kinds.Histogram h) limit = ((refl, (tt, tt)), ((refl, (tt, tt)), tt))
 
-pub stream-new : (s : Bool) (settings : AnySettings) (h : HeldStream) (allow : AllowList) (resets : Bool) (limit now : ℕ) → h.state ≡ new_stream (aggregate_of settings) (is_monotonic_of settings) allow resets limit now → IsKeptStream s h
-stream-new s settings h allow resets limit now new = subst (λ (a : StreamState). IsKeptMap s (form_of a.aggregate) a.map_state) (sym new) (kept-new s settings limit)
+pub stream-new : (s : Bool) (settings : AnySettings) (h : AggregateContents) (allow : AllowList) (resets : Bool) (limit now : ℕ) → h.state ≡ new_aggregate (aggregate_of settings) (is_monotonic_of settings) allow resets limit now → IsKeptStream s h
+stream-new s settings h allow resets limit now new = subst (λ (a : AggregateState). IsKeptMap s (form_of a.aggregate) a.map_state) (sym new) (kept-new s settings limit)
 
-pub reported-new : (settings : AnySettings) (h : HeldStream) (allow : AllowList) (resets : Bool) (limit now : ℕ) (o : Option MapState) → o ≡ cond (drains_of settings) (Some (new_map limit (Last 0))) None
-    → h.state ≡ new_stream (aggregate_of settings) (is_monotonic_of settings) allow resets limit now → h.live ≡ [] → h.room ≡ false → IsReportedOf h o
+pub reported-new : (settings : AnySettings) (h : AggregateContents) (allow : AllowList) (resets : Bool) (limit now : ℕ) (o : Option MapState) → o ≡ cond (drains_of settings) (Some (new_map limit (Last 0))) None
+    → h.state ≡ new_aggregate (aggregate_of settings) (is_monotonic_of settings) allow resets limit now → h.live ≡ [] → h.room ≡ false → IsReportedOf h o
 reported-new settings h allow resets limit now o is new live room = subst (λ (p : Option MapState). IsReportedOf h p) (sym is) (by settings new)
   where
-    by : (x : AnySettings) → h.state ≡ new_stream (aggregate_of x) (is_monotonic_of x) allow resets limit now → IsReportedOf h (cond (drains_of x) (Some (new_map limit (Last 0))) None)
+    by : (x : AnySettings) → h.state ≡ new_aggregate (aggregate_of x) (is_monotonic_of x) allow resets limit now → IsReportedOf h (cond (drains_of x) (Some (new_map limit (Last 0))) None)
     by (kinds.Sum is_monotonic) new = tt
-    by (kinds.PrecomputedSum is_monotonic) new = (sym (ap (λ (a : StreamState). drained_map a.map_state) new), live, room, ap (λ (a : StreamState). form_of a.aggregate) new)
+    by (kinds.PrecomputedSum is_monotonic) new = (sym (ap (λ (a : AggregateState). drained_map a.map_state) new), live, room, ap (λ (a : AggregateState). form_of a.aggregate) new)
     by kinds.LastValue new = tt
     by (kinds.Histogram s) new = tt
 
 -- ======== what was reported ========
-pub reported-none : (h : HeldStream) (o : Option MapState) → o ≡ None → IsReportedOf h o
+pub reported-none : (h : AggregateContents) (o : Option MapState) → o ≡ None → IsReportedOf h o
 reported-none h None e = tt
 reported-none h (Some m) e = absurd (cc)
 
-pub reported-same : (old new : HeldStream) (o : Option MapState) → new.state ≡ old.state → new.live ≡ old.live → new.room ≡ old.room → IsReportedOf old o → IsReportedOf new o
+pub reported-same : (old new : AggregateContents) (o : Option MapState) → new.state ≡ old.state → new.live ≡ old.live → new.room ≡ old.room → IsReportedOf old o → IsReportedOf new o
 reported-same old new None state live room is = tt
 reported-same old new (Some m) state live room is =
-    (is.0 ∙ sym (ap (λ (a : StreamState). drained_map a.map_state) state), live ∙ is.1, room ∙ is.2, ap (λ (a : StreamState). form_of a.aggregate) state ∙ is.3)
+    (is.0 ∙ sym (ap (λ (a : AggregateState). drained_map a.map_state) state), live ∙ is.1, room ∙ is.2, ap (λ (a : AggregateState). form_of a.aggregate) state ∙ is.3)
 
-pub reported-set : (set : AttributeSet) (v : Sample) (h : HeldStream) (p : Option AttributeSet) (o : Option MapState) → IsReportedOf h o → IsReportedOf (record h { state = record h.state { map_state = measured_map set v h.state.map_state }; pending = p }) o
+pub reported-set : (set : AttributeSet) (v : Sample) (h : AggregateContents) (p : Option AttributeSet) (o : Option MapState) → IsReportedOf h o → IsReportedOf (record h { state = record h.state { map_state = measured_map set v h.state.map_state }; pending = p }) o
 reported-set set v h p None is = tt
 reported-set set v h p (Some m) is = (is.0 ∙ sym (drained-measured set v h.state.map_state), is.1, is.2, is.3)
 
-pub reported-taken : (v : Amount) (h : HeldStream) (o : Option MapState) → IsReportedOf h o → IsReportedOf (stream_after_commit v h) o
+pub reported-taken : (v : Amount) (h : AggregateContents) (o : Option MapState) → IsReportedOf h o → IsReportedOf (stream_after_commit v h) o
 reported-taken v h o is = by h.pending
   where
     by : (p : Option AttributeSet) → IsReportedOf (taken_from p v h) o
@@ -199,22 +199,22 @@ reported-taken v h o is = by h.pending
     by (Some set) = reported-set set (sample_of h.state.aggregate v) h None o is
 
 -- once the two maps are swapped, and what was reported before is forgotten
-pub kept-swapped : (s : Bool) (old new : HeldStream) (m : MapState) (now : ℕ) → IsReportedOf old (Some m) → new.state ≡ record old.state { map_state = drained_map m; start = now } → IsKeptStream s old → IsKeptStream s new
+pub kept-swapped : (s : Bool) (old new : AggregateContents) (m : MapState) (now : ℕ) → IsReportedOf old (Some m) → new.state ≡ record old.state { map_state = drained_map m; start = now } → IsKeptStream s old → IsKeptStream s new
 kept-swapped s old new m now is state kept =
-    subst (λ (a : StreamState). IsKeptMap s (form_of a.aggregate) a.map_state) (sym state)
+    subst (λ (a : AggregateState). IsKeptMap s (form_of a.aggregate) a.map_state) (sym state)
     (subst (λ (d : MapState). IsKeptMap s (form_of old.state.aggregate) d) (sym is.0) (kept-drained s (form_of old.state.aggregate) old.state.map_state kept))
 
-pub reported-swapped : (old new : HeldStream) (m n : MapState) (now : ℕ) → IsReportedOf old (Some m) → n ≡ old.state.map_state → new.state ≡ record old.state { map_state = drained_map m; start = now }
+pub reported-swapped : (old new : AggregateContents) (m n : MapState) (now : ℕ) → IsReportedOf old (Some m) → n ≡ old.state.map_state → new.state ≡ record old.state { map_state = drained_map m; start = now }
     → new.live ≡ [] → new.room ≡ old.room → IsReportedOf new (Some n)
 reported-swapped old new m n now is reported state live room = (
-  ap drained_map reported ∙ sym is.0 ∙ sym (drained-drained m) ∙ sym (ap (λ (a : StreamState). drained_map a.map_state) state),
+  ap drained_map reported ∙ sym is.0 ∙ sym (drained-drained m) ∙ sym (ap (λ (a : AggregateState). drained_map a.map_state) state),
   live,
   room ∙ is.2,
-  ap (λ (a : StreamState). form_of a.aggregate) state ∙ is.3,
+  ap (λ (a : AggregateState). form_of a.aggregate) state ∙ is.3,
 )
 
 -- ======== saved entries ========
-pub kept-saved : (s : Bool) (h : HeldStream) (t : Table) → t ≡ without_handles h.state.map_state.table → IsKeptStream s h → AreKept s (form_of_fold t.none.fold) t
+pub kept-saved : (s : Bool) (h : AggregateContents) (t : Table) → t ≡ without_handles h.state.map_state.table → IsKeptStream s h → AreKept s (form_of_fold t.none.fold) t
 kept-saved s h t e kept =
     subst (λ (x : Table). AreKept s (form_of_fold x.none.fold) x) (sym e)
     (subst (λ (k : Form). AreKept s k (without_handles h.state.map_state.table)) (sym kept.1.0.0) (kept-unheld s (form_of h.state.aggregate) h.state.map_state.table kept.1))

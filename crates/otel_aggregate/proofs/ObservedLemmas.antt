@@ -13,7 +13,7 @@ use Rattle.otel_model_stream.specs.Totals.{value_of}
 use Rattle.otel_model_stream.specs.Data.{sum_point}
 use Rattle.otel_model_stream.proofs.Clearing.{cleared-recorded}
 use Rattle.otel_value_map.specs.Slots.{HasForm}
-use Rattle.otel_aggregate.specs.Streams.{StreamState, HeldStream, recorded_set, stream_after_commit, taken_from}
+use Rattle.otel_aggregate.specs.Streams.{AggregateState, AggregateContents, recorded_set, stream_after_commit, taken_from}
 use Rattle.otel_aggregate.specs.Data.{temporality_of}
 use Rattle.otel_aggregate.specs.Observed.{ObservedState, values_now, since_reported, sums_now, observed_data}
 
@@ -39,13 +39,13 @@ pub drained-drained : (m : MapState) → drained_map (drained_map m) ≡ drained
 drained-drained m = ap (λ f. record m { table = record { none = record m.table.none { updated = false; fold = f }; entries = [] } }) (cleared-cleared m.table.none.fold)
 
 -- after a record that was prepared
-pub drained-set : (old new : HeldStream) (v : Amount) (o : Option AttributeSet) → old.pending ≡ o → IsSome o → ((s : AttributeSet) → old.pending ≡ Some s → new.state ≡ recorded_set s v old.state)
+pub drained-set : (old new : AggregateContents) (v : Amount) (o : Option AttributeSet) → old.pending ≡ o → IsSome o → ((s : AttributeSet) → old.pending ≡ Some s → new.state ≡ recorded_set s v old.state)
     → drained_map new.state.map_state ≡ drained_map old.state.map_state
 drained-set old new v None e some measured = absurd (true≢false (sym some))
-drained-set old new v (Some s) e some measured = ap (λ (st : StreamState). drained_map st.map_state) (measured s e) ∙ drained-measured s (sample_of old.state.aggregate v) old.state.map_state
+drained-set old new v (Some s) e some measured = ap (λ (st : AggregateState). drained_map st.map_state) (measured s e) ∙ drained-measured s (sample_of old.state.aggregate v) old.state.map_state
 
 -- and if there was one
-pub drained-taken : (v : Amount) (h : HeldStream) → drained_map (stream_after_commit v h).state.map_state ≡ drained_map h.state.map_state
+pub drained-taken : (v : Amount) (h : AggregateContents) → drained_map (stream_after_commit v h).state.map_state ≡ drained_map h.state.map_state
 drained-taken v h = by h.pending
   where
     by : (o : Option AttributeSet) → drained_map (taken_from o v h).state.map_state ≡ drained_map h.state.map_state
@@ -53,7 +53,7 @@ drained-taken v h = by h.pending
     by (Some s) = drained-measured s (sample_of h.state.aggregate v) h.state.map_state
 
 -- which leaves the live handles
-pub live-taken : (v : Amount) (h : HeldStream) → (stream_after_commit v h).live ≡ h.live
+pub live-taken : (v : Amount) (h : AggregateContents) → (stream_after_commit v h).live ≡ h.live
 live-taken v h = by h.pending
   where
     by : (o : Option AttributeSet) → (taken_from o v h).live ≡ h.live

@@ -13,7 +13,7 @@ use Rattle.otel_model_stream.specs.Entries.{Table, entry_for, place, take_handle
 use Rattle.otel_model_stream.specs.Maps.{MapState, measured_map, bound_map, bound_to, updated_bound, unbound_map}
 use Rattle.otel_value_map.specs.Numbers.{Numbers, number_of, set_named, is_placed, KeepNumbers, AreNamed, AreNumbered}
 use Rattle.otel_aggregate.specs.Links.{Link, handle_of, handles_of, IsLinked, AreHeld}
-use Rattle.otel_aggregate.specs.Streams.{HeldStream, recorded_set, bind_of, stream_after_bind, update_at, stream_after_update, unbind_at, stream_after_unbind}
+use Rattle.otel_aggregate.specs.Streams.{AggregateContents, recorded_set, bind_of, stream_after_bind, update_at, stream_after_update, unbind_at, stream_after_unbind}
 use Rattle.otel_aggregate.proofs.LinkLemmas.{IsLinkedStill, still-kept, handles-still, linked-still, linked-push, held-linked}
 use Rattle.otel_aggregate.proofs.HandleLemmas.{has-on, held-written, held-taken, held-placed}
 
@@ -91,7 +91,7 @@ module _ (old new : Numbers) (before after : MapState) (ps : List Link) (h n : �
   bound-prepared None qs some is number added = absurd (true≢false (sym some))
   bound-prepared (Some s) qs some is number added = subst (λ (rs : List Link). IsBound before after (Some s) (handles_of old ps) new rs h) (sym added) (bound-set s (is s refl) (number s refl))
 
-pub bind-made : {s old : HeldStream} → s ≡ old → (h : ℕ) (after : MapState) (new : Numbers) (links : List Link) (pending : Option AttributeSet) → s.room ≡ true → held_by h s.live ≡ None → pending ≡ None
+pub bind-made : {s old : AggregateContents} → s ≡ old → (h : ℕ) (after : MapState) (new : Numbers) (links : List Link) (pending : Option AttributeSet) → s.room ≡ true → held_by h s.live ≡ None → pending ≡ None
     → IsBound s.state.map_state after s.pending s.live new links h → record s { state = record s.state { map_state = after }; live = handles_of new links; pending = pending; room = false } ≡ stream_after_bind h old
 bind-made {s} {old} was h after new links pending room away spent made =
     (λ i. record s { state = record s.state { map_state = made.state i }; live = made.handles i; pending = spent i; room = false })
@@ -99,10 +99,10 @@ bind-made {s} {old} was h after new links pending room away spent made =
     ∙ ap (stream_after_bind h) was
 
 -- a bind that isn't made
-pub no_bind-room : (s : HeldStream) (h : ℕ) → s.room ≡ false → s ≡ stream_after_bind h s
+pub no_bind-room : (s : AggregateContents) (h : ℕ) → s.room ≡ false → s ≡ stream_after_bind h s
 no_bind-room s h e = ap (λ b. cond (b && is_none (held_by h s.live)) (bind_of s.pending h s) s) (sym e)
 
-pub no_bind-prepared : (s : HeldStream) (h : ℕ) → is_some s.pending ≡ false → s ≡ stream_after_bind h s
+pub no_bind-prepared : (s : AggregateContents) (h : ℕ) → is_some s.pending ≡ false → s ≡ stream_after_bind h s
 no_bind-prepared s h e = by (s.room && is_none (held_by h s.live)) s.pending e
   where
     by : (b : Bool) (o : Option AttributeSet) → is_some o ≡ false → s ≡ cond b (bind_of o h s) s
@@ -110,7 +110,7 @@ no_bind-prepared s h e = by (s.room && is_none (held_by h s.live)) s.pending e
     by true (Some g) e = absurd (true≢false e)
     by false o e = refl
 
-pub no_bind-live : (s : HeldStream) (h : ℕ) → is_some (held_by h s.live) ≡ true → s ≡ stream_after_bind h s
+pub no_bind-live : (s : AggregateContents) (h : ℕ) → is_some (held_by h s.live) ≡ true → s ≡ stream_after_bind h s
 no_bind-live s h e = by s.room (held_by h s.live) e
   where
     by : (b : Bool) (o : Option AttributeSet) → is_some o ≡ true → s ≡ cond (b && is_none o) (bind_of s.pending h s) s
@@ -119,11 +119,11 @@ no_bind-live s h e = by s.room (held_by h s.live) e
     by false o e = refl
 
 -- ======== a record of the empty set ========
-pub none-made : {s old : HeldStream} → s ≡ old → (v : Amount) (w : Sample) (after : MapState) (live : Handles) (pending : Option AttributeSet) → w ≡ sample_of s.state.aggregate v → after ≡ measured_map none_set w s.state.map_state → live ≡ s.live → pending ≡ None
+pub none-made : {s old : AggregateContents} → s ≡ old → (v : Amount) (w : Sample) (after : MapState) (live : Handles) (pending : Option AttributeSet) → w ≡ sample_of s.state.aggregate v → after ≡ measured_map none_set w s.state.map_state → live ≡ s.live → pending ≡ None
     → record s { state = record s.state { map_state = after }; live = live; pending = pending } ≡ record old { state = recorded_set none_set v old.state; pending = None }
 none-made {s} {old} was v w after live pending sampled is same spent =
     (λ i. record s { state = record s.state { map_state = (is ∙ ap (λ x. measured_map none_set x s.state.map_state) sampled) i }; live = same i; pending = spent i })
-    ∙ ap (λ (x : HeldStream). record x { state = recorded_set none_set v x.state; pending = None }) was
+    ∙ ap (λ (x : AggregateContents). record x { state = recorded_set none_set v x.state; pending = None }) was
 
 -- ======== a record through a handle, and its end ========
 -- a handle that isn't live
@@ -135,28 +135,28 @@ without-none h (p ∷ hs) e = by (p.0 == h) e (without-none h hs)
     by true e ih = absurd (cc)
     by false e ih = ap (λ (rs : Handles). p ∷ rs) (ih e)
 
-pub update-made : {s old : HeldStream} → s ≡ old → (h : ℕ) (g : AttributeSet) (v : Amount) (w : Sample) (after : MapState) (live : Handles) (pending : Option AttributeSet) → held_by h s.live ≡ Some g → w ≡ sample_of s.state.aggregate v
+pub update-made : {s old : AggregateContents} → s ≡ old → (h : ℕ) (g : AttributeSet) (v : Amount) (w : Sample) (after : MapState) (live : Handles) (pending : Option AttributeSet) → held_by h s.live ≡ Some g → w ≡ sample_of s.state.aggregate v
     → after ≡ updated_bound g w s.state.map_state → live ≡ s.live → pending ≡ None → record s { state = record s.state { map_state = after }; live = live; pending = pending } ≡ stream_after_update h v old
 update-made {s} {old} was h g v w after live pending found sampled is same spent =
     (λ i. record s { state = record s.state { map_state = (is ∙ ap (λ x. updated_bound g x s.state.map_state) sampled) i }; live = same i; pending = spent i })
     ∙ sym (λ i. record s { state = update_at (found i) v s.state; pending = None })
     ∙ ap (stream_after_update h v) was
 
-pub update-none : {s old : HeldStream} → s ≡ old → (h : ℕ) (v : Amount) (after : MapState) (live : Handles) (pending : Option AttributeSet) → held_by h s.live ≡ None → after ≡ s.state.map_state → live ≡ s.live → pending ≡ None
+pub update-none : {s old : AggregateContents} → s ≡ old → (h : ℕ) (v : Amount) (after : MapState) (live : Handles) (pending : Option AttributeSet) → held_by h s.live ≡ None → after ≡ s.state.map_state → live ≡ s.live → pending ≡ None
     → record s { state = record s.state { map_state = after }; live = live; pending = pending } ≡ stream_after_update h v old
 update-none {s} {old} was h v after live pending found is same spent =
     (λ i. record s { state = record s.state { map_state = is i }; live = same i; pending = spent i })
     ∙ sym (λ i. record s { state = update_at (found i) v s.state; pending = None })
     ∙ ap (stream_after_update h v) was
 
-pub unbind-made : {s old : HeldStream} → s ≡ old → (h : ℕ) (g : AttributeSet) (after : MapState) (live : Handles) (pending : Option AttributeSet) → held_by h s.live ≡ Some g → after ≡ unbound_map g s.state.map_state → live ≡ without h s.live → pending ≡ None
+pub unbind-made : {s old : AggregateContents} → s ≡ old → (h : ℕ) (g : AttributeSet) (after : MapState) (live : Handles) (pending : Option AttributeSet) → held_by h s.live ≡ Some g → after ≡ unbound_map g s.state.map_state → live ≡ without h s.live → pending ≡ None
     → record s { state = record s.state { map_state = after }; live = live; pending = pending } ≡ stream_after_unbind h old
 unbind-made {s} {old} was h g after live pending found is same spent =
     (λ i. record s { state = record s.state { map_state = is i }; live = same i; pending = spent i })
     ∙ sym (λ i. record s { state = unbind_at (found i) s.state; live = without h s.live; pending = None })
     ∙ ap (stream_after_unbind h) was
 
-pub unbind-none : {s old : HeldStream} → s ≡ old → (h : ℕ) (after : MapState) (live : Handles) (pending : Option AttributeSet) → held_by h s.live ≡ None → after ≡ s.state.map_state → live ≡ s.live → pending ≡ None
+pub unbind-none : {s old : AggregateContents} → s ≡ old → (h : ℕ) (after : MapState) (live : Handles) (pending : Option AttributeSet) → held_by h s.live ≡ None → after ≡ s.state.map_state → live ≡ s.live → pending ≡ None
     → record s { state = record s.state { map_state = after }; live = live; pending = pending } ≡ stream_after_unbind h old
 unbind-none {s} {old} was h after live pending found is same spent =
     (λ i. record s { state = record s.state { map_state = is i }; live = (same ∙ sym (without-none h s.live found)) i; pending = spent i })

@@ -8,9 +8,9 @@ use Rattle.otel_model_stream.specs.Folds.{Fold, Total, Last, Spreads}
 use Rattle.otel_model_stream.specs.Entries.{Table, Point}
 use Rattle.otel_model_stream.specs.Maps.{MapState, draining_points, drained_map}
 use Rattle.otel_model_stream.specs.Data.{spread_of}
-use Rattle.otel_value_map.specs.Held.{Held}
-use Rattle.otel_aggregate.specs.Streams.{HeldStream}
-use Rattle.otel_aggregate.specs.Any.{Form, Sums, LastValues, Spreads as SpreadForm, HeldAny, form_of, observed_in, data_of}
+use Rattle.otel_value_map.specs.Contents.{MapContents}
+use Rattle.otel_aggregate.specs.Streams.{AggregateContents}
+use Rattle.otel_aggregate.specs.Any.{Form, Sums, LastValues, Spreads as SpreadForm, AnyContents, form_of, observed_in, data_of}
 use Rattle.otel_aggregate.specs.Observed.{observed_data}
 
 -- ======== by form and number type ========
@@ -52,11 +52,11 @@ AreShowable is_signed form ps = AllByRecursion (λ (p : Point). IsKept is_signed
 
 -- ======== a stream's parts ========
 -- a stream keeps what its aggregate says, in values of this number type
-abbrev pub IsKeptStream : Bool → HeldStream → Type 0
+abbrev pub IsKeptStream : Bool → AggregateContents → Type 0
 IsKeptStream is_signed s = IsKeptMap is_signed (form_of s.state.aggregate) s.state.map_state
 
 -- the state of a map of what was reported, if there is one
-abbrev pub state_of : Option (Box Held Global) → Option MapState
+abbrev pub state_of : Option (Box MapContents Global) → Option MapState
 state_of None = None
 state_of (Some m) = Some m.value.state
 
@@ -67,12 +67,12 @@ reported_in (Some m) = draining_points m
 
 -- a stream that has a map of what was reported keeps last values, and has no handles and no room for one; drained they
 -- are the same
-abbrev pub IsReportedOf : HeldStream → Option MapState → Type 0
+abbrev pub IsReportedOf : AggregateContents → Option MapState → Type 0
 IsReportedOf s None = Unit
 IsReportedOf s (Some m) = (drained_map m ≡ drained_map s.state.map_state) × (s.live ≡ []) × (s.room ≡ false) × (form_of s.state.aggregate ≡ LastValues)
 
 -- ======== collections ========
 -- what a collection at a moment gives of a stream, in a number type
 module _ {T : Type 0} (of_bits : ℕ → T) (of_whole : ℤ → T) where
-  abbrev pub any_data : ℕ → HeldAny → MetricData T
+  abbrev pub any_data : ℕ → AnyContents → MetricData T
   any_data now a = cond a.drains (metric.Sum (observed_data of_bits of_whole now (observed_in a))) (data_of of_bits of_whole a.state.aggregate now a.state)

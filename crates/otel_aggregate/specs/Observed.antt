@@ -9,22 +9,22 @@ use Rattle.otel_model_stream.specs.Entries.{Point}
 use Rattle.otel_model_stream.specs.Maps.{draining_points, drained_map}
 use Rattle.otel_model_stream.specs.Observed.{difference}
 use Rattle.otel_model_stream.specs.Data.{sum}
-use Rattle.otel_aggregate.specs.Streams.{StreamState, HeldStream, new_stream, recorded_set, recorded_attributes, stream_after_commit}
+use Rattle.otel_aggregate.specs.Streams.{AggregateState, AggregateContents, new_aggregate, recorded_set, recorded_attributes, stream_after_commit}
 use Rattle.otel_aggregate.specs.Data.{temporality_of}
 
 -- what was observed since the last collection, and the values that a delta stream reported in that collection
 pub record ObservedState : Type 0 where
-  pub stream : StreamState
+  pub stream : AggregateState
   pub reported : List Point
 
 -- that, and the set of the prepared observation, if there is one
-pub record HeldObserved : Type 0 where
+pub record ObservedContents : Type 0 where
   pub state : ObservedState
   pub pending : Option AttributeSet
 
 -- a stream without observations, with this limit, made at this moment
 abbrev pub new_observed : Bool → AllowList → Bool → ℕ → ℕ → ObservedState
-new_observed is_monotonic allow resets limit start = record { stream = new_stream LastValue is_monotonic allow resets limit start; reported = [] }
+new_observed is_monotonic allow resets limit start = record { stream = new_aggregate LastValue is_monotonic allow resets limit start; reported = [] }
 
 -- ======== observations ========
 -- after an observation of an amount under a set
@@ -36,15 +36,15 @@ abbrev pub observed_attributes : List KeyValue → Amount → ObservedState → 
 observed_attributes l v a = record { stream = recorded_attributes l v a.stream; reported = a.reported }
 
 -- the stream without the reported values
-abbrev pub stream_in : HeldObserved → HeldStream
+abbrev pub stream_in : ObservedContents → AggregateContents
 stream_in s = record { state = s.state.stream; live = []; pending = s.pending; room = false }
 
 -- the stream with these reported values
-abbrev pub with_reported : List Point → HeldStream → HeldObserved
+abbrev pub with_reported : List Point → AggregateContents → ObservedContents
 with_reported ps s = record { state = record { stream = s.state; reported = ps }; pending = s.pending }
 
 -- after the prepared observation, if there is one
-abbrev pub observed_after_commit : Amount → HeldObserved → HeldObserved
+abbrev pub observed_after_commit : Amount → ObservedContents → ObservedContents
 observed_after_commit v s = with_reported s.state.reported (stream_after_commit v (stream_in s))
 
 -- ======== collections ========

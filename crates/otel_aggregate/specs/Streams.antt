@@ -9,7 +9,7 @@ use Rattle.otel_model_stream.specs.Events.{Handles, held_by, without}
 use Rattle.otel_model_stream.specs.Maps.{MapState, new_map, measured_map, bound_map, bound_to, updated_bound, unbound_map, evicted_map}
 use Rattle.otel_value_map.specs.Numbers.{is_placed}
 
-pub record StreamState : Type 0 where
+pub record AggregateState : Type 0 where
   pub map_state : MapState
   pub aggregate : Aggregate
   pub is_monotonic : Bool
@@ -18,8 +18,8 @@ pub record StreamState : Type 0 where
   pub start : ℕ
 
 -- a stream without records, with this limit, made at this moment
-abbrev pub new_stream : Aggregate → Bool → AllowList → Bool → ℕ → ℕ → StreamState
-new_stream aggregate is_monotonic allow resets limit start = record {
+abbrev pub new_aggregate : Aggregate → Bool → AllowList → Bool → ℕ → ℕ → AggregateState
+new_aggregate aggregate is_monotonic allow resets limit start = record {
   map_state = new_map limit (empty_of aggregate);
   aggregate = aggregate;
   is_monotonic = is_monotonic;
@@ -29,8 +29,8 @@ new_stream aggregate is_monotonic allow resets limit start = record {
 }
 
 -- a stream, its live handles, the set of the prepared record or bind, if any, and whether room is made for a handle
-pub record HeldStream : Type 0 where
-  pub state : StreamState
+pub record AggregateContents : Type 0 where
+  pub state : AggregateState
   pub live : Handles
   pub pending : Option AttributeSet
   pub room : Bool
@@ -40,59 +40,59 @@ abbrev pub is_known : AllowList → List KeyValue → MapState → Bool
 is_known allow l m = is_placed (set_of allow l) m.table.entries
 
 -- after a record of an amount under a set
-abbrev pub recorded_set : AttributeSet → Amount → StreamState → StreamState
+abbrev pub recorded_set : AttributeSet → Amount → AggregateState → AggregateState
 recorded_set s v a = record a { map_state = measured_map s (sample_of a.aggregate v) a.map_state }
 
 -- after a record of an amount with these attributes
-abbrev pub recorded_attributes : List KeyValue → Amount → StreamState → StreamState
+abbrev pub recorded_attributes : List KeyValue → Amount → AggregateState → AggregateState
 recorded_attributes l v a = recorded_set (set_of a.allow l) v a
 
 -- what a collection gives: the updated entries if the stream resets, and otherwise all, but for the empty set's entry
 -- if that was not updated
-abbrev pub points_now : StreamState → List Point
+abbrev pub points_now : AggregateState → List Point
 points_now a = points (not a.resets) a.map_state.table
 
 -- after a collection at a moment, which changes only a stream that resets
-abbrev pub stream_after_collection : ℕ → StreamState → StreamState
+abbrev pub stream_after_collection : ℕ → AggregateState → AggregateState
 stream_after_collection now a = cond a.resets (record a { map_state = evicted_map a.map_state; start = now }) a
 
 -- after a prepared record of this set, if there is one
-abbrev pub taken_from : Option AttributeSet → Amount → HeldStream → HeldStream
+abbrev pub taken_from : Option AttributeSet → Amount → AggregateContents → AggregateContents
 taken_from None v s = s
 taken_from (Some set) v s = record s { state = recorded_set set v s.state; pending = None }
 
 -- after the prepared record, if there is one
-abbrev pub stream_after_commit : Amount → HeldStream → HeldStream
+abbrev pub stream_after_commit : Amount → AggregateContents → AggregateContents
 stream_after_commit v s = taken_from s.pending v s
 
 -- ======== handles ========
 -- after a bind of this set, if there is one, as this handle; it uses the room
-abbrev pub bind_of : Option AttributeSet → ℕ → HeldStream → HeldStream
+abbrev pub bind_of : Option AttributeSet → ℕ → AggregateContents → AggregateContents
 bind_of None h s = s
 bind_of (Some set) h s = record { state = record s.state { map_state = bound_map set s.state.map_state }; live = s.live ++ (h, bound_to set s.state.map_state) ∷ []; pending = None; room = false }
 
 -- after the prepared bind as the handle with this number, if room is made and no such handle is live
-abbrev pub stream_after_bind : ℕ → HeldStream → HeldStream
+abbrev pub stream_after_bind : ℕ → AggregateContents → AggregateContents
 stream_after_bind h s = cond (s.room && is_none (held_by h s.live)) (bind_of s.pending h s) s
 
 -- after a record through a handle of this set's entry, if there is a set
-abbrev pub update_at : Option AttributeSet → Amount → StreamState → StreamState
+abbrev pub update_at : Option AttributeSet → Amount → AggregateState → AggregateState
 update_at None v a = a
 update_at (Some g) v a = record a { map_state = updated_bound g (sample_of a.aggregate v) a.map_state }
 
 -- after a record through the handle with this number, if it is live; what was prepared is given up
-abbrev pub stream_after_update : ℕ → Amount → HeldStream → HeldStream
+abbrev pub stream_after_update : ℕ → Amount → AggregateContents → AggregateContents
 stream_after_update h v s = record s { state = update_at (held_by h s.live) v s.state; pending = None }
 
 -- after the end of a handle of this set's entry, if there is a set
-abbrev pub unbind_at : Option AttributeSet → StreamState → StreamState
+abbrev pub unbind_at : Option AttributeSet → AggregateState → AggregateState
 unbind_at None a = a
 unbind_at (Some g) a = record a { map_state = unbound_map g a.map_state }
 
 -- after the end of the handle with this number, if it is live; what was prepared is given up
-abbrev pub stream_after_unbind : ℕ → HeldStream → HeldStream
+abbrev pub stream_after_unbind : ℕ → AggregateContents → AggregateContents
 stream_after_unbind h s = record s { state = unbind_at (held_by h s.live) s.state; live = without h s.live; pending = None }
 
 -- with a record or a bind of these attributes prepared, and room for a handle
-abbrev pub ready_to_bind : List KeyValue → HeldStream → HeldStream
+abbrev pub ready_to_bind : List KeyValue → AggregateContents → AggregateContents
 ready_to_bind l s = record s { pending = Some (set_of s.state.allow l); room = true }

@@ -10,14 +10,14 @@ ghost use Rattle.otel_model_stream.specs.Totals.{points_total, size};
 ghost use Rattle.otel_value_map.specs.Numbers.{without_handles};
 ghost use Rattle.otel_aggregate.specs.Any.{aggregate_of, is_monotonic_of, drains_of, amount_of, any_after_commit, any_after_none, is_taken, is_signed_value, any_with_room, any_after_bind, any_after_update, is_updated, any_after_unbind, metrics_now, any_points, any_after_collection, saved_of, IsLike, with_saved};
 ghost use Rattle.otel_aggregate.specs.Kept.{IsWithin, any_data, state_of};
-ghost use Rattle.otel_aggregate.specs.Streams.{new_stream, is_known};
+ghost use Rattle.otel_aggregate.specs.Streams.{new_aggregate, is_known};
 
+use crate::aggregate_stream::AggregateStream;
 use crate::any_aggregator::{AnyAggregator, AnyConfig};
 use crate::saved::SavedAggregate;
 use crate::settings::AnySettings;
 use crate::shown::{Shown, shown_observed, shown_stream};
-use crate::stream::Stream;
-use crate::values::{bits_of, is_signed, told_within};
+use crate::values::{bits_of, is_signed, law_of_range};
 use otel_common::faults::Fault;
 use otel_common::keys::Key;
 use otel_common::lists::Items;
@@ -54,7 +54,7 @@ fn reported_map(
 /// Observed sums have two maps, one for what is observed and one for what was reported. With `Delta` a collection
 /// swaps them, so that no value is copied to be kept.
 pub struct AnyAggregate {
-    stream: Stream<AnyAggregator>,
+    stream: AggregateStream<AnyAggregator>,
     /// What the last collection of observed sums reported; always empty in a stream that doesn't reset. Boxed, so that
     /// other streams take less room.
     reported: Option<Box<ValueMap<AnyAggregator>>>,
@@ -62,11 +62,11 @@ pub struct AnyAggregate {
 }
 
 impl Model for AnyAggregate {
-    ghost use Rattle.otel_aggregate.specs.Any.{HeldAny};
+    ghost use Rattle.otel_aggregate.specs.Any.{AnyContents};
     ghost use Rattle.otel_aggregate.specs.Kept.{IsKeptStream, IsReportedOf, reported_in, state_of};
     ghost use Rattle.std.specs.Prelude.{is_some};
 
-    ghost Value = { HeldAny };
+    ghost Value = { AnyContents };
 
     ghost view = { λ a. record {
       is_signed = a.is_signed;
@@ -109,7 +109,7 @@ impl AnyAggregate {
         limit: usize,
         now: u64,
     ) -> Result<Self, Fault>
-        ensures made { IfOk result (λ made. made.state ≡ new_stream (aggregate_of settings) (is_monotonic_of settings) allow (resets temporality) limit now) }
+        ensures made { IfOk result (λ made. made.state ≡ new_aggregate (aggregate_of settings) (is_monotonic_of settings) allow (resets temporality) limit now) }
         ensures number { IfOk result (λ made. made.is_signed ≡ is_signed) }
         ensures handles { IfOk result (λ made. made.live ≡ []) }
         ensures unprepared { IfOk result (λ made. made.pending ≡ None) }
@@ -119,7 +119,7 @@ impl AnyAggregate {
         ensures only_memory { IsOkUnless result Fault.OutOfMemory }
     {
         let reported = reported_map(alloc, hasher, &settings, limit)?;
-        let stream = Stream::new(alloc, hasher, settings, temporality, allow, limit, now)?;
+        let stream = AggregateStream::new(alloc, hasher, settings, temporality, allow, limit, now)?;
         Ok(AnyAggregate {
             stream,
             reported,
@@ -168,7 +168,7 @@ impl AnyAggregate {
         ensures told { result ≡ beq (is_signed_value value) self.now.is_signed }
         ensures within { result ≡ true → IsWithin self.now.is_signed (amount_of value).wide }
     {
-        told_within(value);
+        law_of_range(value);
         is_signed(value) == self.is_signed
     }
 
@@ -331,7 +331,7 @@ impl AnyAggregate {
         ensures { self.new ≡ with_saved saved self.old }
     {
         // Tells the prover that no entry is held.
-        self.stream.told_unheld();
+        self.stream.law_of_handles();
         let SavedAggregate {
             is_signed: _,
             entries,
@@ -340,10 +340,10 @@ impl AnyAggregate {
     }
 
     /// The law that no entry is held if no handle is live, and that observed sums have no handles.
-    pub fn told_unheld(&self)
+    pub fn law_of_handles(&self)
         ensures unheld { self.now.live ≡ [] → without_handles self.now.state.map_state.table ≡ self.now.state.map_state.table }
         ensures observed { self.now.drains ≡ true → self.now.live ≡ [] }
     {
-        self.stream.told_unheld();
+        self.stream.law_of_handles();
     }
 }

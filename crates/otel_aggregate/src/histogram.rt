@@ -5,10 +5,10 @@ ghost use Rattle.std.specs.Option.{option_map};
 ghost use Rattle.otel_model_stream.specs.Folds.{Histogram as HistogramAggregate, bounds_of};
 ghost use Rattle.otel_model_stream.specs.Data.{histogram_point};
 
+use crate::aggregate_stream::AggregateStream;
 use crate::measures::Measures;
 use crate::settings::HistogramSettings;
 use crate::shows::Shows;
-use crate::stream::Stream;
 use otel_aggregators::buckets::{Buckets, BucketsConfig};
 use otel_aggregators::number::Number;
 use otel_common::attributes::KeyValue;
@@ -21,16 +21,16 @@ use std::alloc::Global;
 
 /// The histograms of a stream's records, by set (Metrics SDK, "Explicit Bucket Histogram Aggregation"). Without bounds
 /// there are no buckets.
-pub type Histogram<T> = Stream<Buckets<T>>;
+pub type Histogram<T> = AggregateStream<Buckets<T>>;
 
-/// Returns the value, and tells the prover that its whole number determines it.
-fn told<T: Number>(value: Option<T>) -> Option<T>
+/// Returns the value, with the law that its whole number determines it.
+fn with_law_of_wide<T: Number>(value: Option<T>) -> Option<T>
     ensures { result ≡ option_map T.of_wide (option_map T.wide value) }
 {
     match value {
         None => None,
         Some(value) => {
-            value.told_by_wide();
+            value.law_of_wide();
             Some(value)
         }
     }
@@ -75,15 +75,15 @@ impl<T: Number + Drop> Shows for Buckets<T> {
         settings: &HistogramSettings,
         set: SharedItems<KeyValue>,
     ) -> Result<HistogramDataPoint<T>, Fault> {
-        self.sum.told_by_bits();
+        self.sum.law_of_bits();
         Ok(HistogramDataPoint::new(
             set,
             Items::from(Vec::new(alloc)),
             settings.bounds.share()?,
             Items::from(self.counts.clone()?),
             self.count,
-            told(self.least),
-            told(self.greatest),
+            with_law_of_wide(self.least),
+            with_law_of_wide(self.greatest),
             self.sum,
         ))
     }

@@ -4,9 +4,9 @@ ghost use Rattle.std.specs.Prelude.{◌≡◌, false};
 ghost use Rattle.otel_model_stream.specs.Folds.{LastValue as LastValueAggregate};
 ghost use Rattle.otel_model_stream.specs.Data.{gauge_point};
 
+use crate::aggregate_stream::AggregateStream;
 use crate::measures::Measures;
 use crate::shows::Shows;
-use crate::stream::Stream;
 use otel_aggregators::assign::Assign;
 use otel_aggregators::number::Number;
 use otel_common::attributes::KeyValue;
@@ -18,7 +18,7 @@ use otel_data::points::GaugeDataPoint;
 use std::alloc::Global;
 
 /// The last values of a stream's records, by set (Metrics SDK, "Last Value Aggregation"). There are no settings.
-pub type LastValue<T> = Stream<Assign<T>>;
+pub type LastValue<T> = AggregateStream<Assign<T>>;
 
 impl<T: Number + Drop> Measures for Assign<T> {
     type Value = T;
@@ -54,7 +54,7 @@ impl<T: Number + Drop> Shows for Assign<T> {
         set: SharedItems<KeyValue>,
     ) -> Result<GaugeDataPoint<T>, Fault> {
         let value = self.value;
-        value.told_by_bits();
+        value.law_of_bits();
         Ok(GaugeDataPoint::new(set, Items::from(Vec::new(alloc)), value))
     }
 

@@ -2,6 +2,7 @@
 //! sums, over two maps; and streams of any of these.
 #![tactic(auto)]
 
+pub mod aggregate_stream;
 pub mod any;
 pub mod any_aggregator;
 pub mod histogram;
@@ -14,6 +15,5 @@ pub mod saved;
 pub mod settings;
 mod shown;
 pub mod shows;
-pub mod stream;
 pub mod sum;
 pub mod values;

@@ -14,7 +14,7 @@ ghost use Rattle.otel_value_map.specs.Numbers.{without_handles};
 ghost use Rattle.otel_aggregate.specs.Streams.{is_known};
 ghost use Rattle.otel_aggregate.specs.Observed.{new_observed, observed_set, observed_attributes, observed_after_commit, values_now, since_reported, drained_at, observed_data};
 
-use crate::stream::{Stream, shown_temporality};
+use crate::aggregate_stream::{AggregateStream, shown_temporality};
 use otel_aggregators::assign::Assign;
 use otel_aggregators::number::Number;
 use otel_common::attributes::KeyValue;
@@ -89,7 +89,7 @@ impl<'a, T: Number + Drop> PointMaker<Assign<T>> for ObservedPoints<'a, T> {
         last: &Assign<T>,
     ) -> Result<SumDataPoint<T>, Fault> {
         let value = shown_value(self.reported, set.as_slice(), last.value);
-        value.told_by_bits();
+        value.law_of_bits();
         Ok(SumDataPoint::new(set, Items::from(Vec::new(alloc)), value))
     }
 }
@@ -104,7 +104,7 @@ impl<'a, T: Number + Drop> PointMaker<Assign<T>> for ObservedPoints<'a, T> {
 /// It has two maps, one for what is observed and one for what was reported. With `Delta` a collection swaps them, so
 /// that no value is copied to be kept.
 pub struct PrecomputedSum<T: Number + Drop> {
-    stream: Stream<Assign<T>>,
+    stream: AggregateStream<Assign<T>>,
     /// What the last collection reported; always empty in a stream that doesn't reset.
     reported: ValueMap<Assign<T>>,
     is_monotonic: bool,
@@ -113,9 +113,9 @@ pub struct PrecomputedSum<T: Number + Drop> {
 impl<T: Number + Drop> Model for PrecomputedSum<T> {
     ghost use Rattle.std.specs.Prelude.{◌≡◌, []};
     ghost use Rattle.otel_model_stream.specs.Maps.{draining_points, drained_map};
-    ghost use Rattle.otel_aggregate.specs.Observed.{HeldObserved};
+    ghost use Rattle.otel_aggregate.specs.Observed.{ObservedContents};
 
-    ghost Value = { HeldObserved };
+    ghost Value = { ObservedContents };
 
     ghost view = { λ s. record {
       state = record {
@@ -159,7 +159,7 @@ impl<T: Number + Drop> PrecomputedSum<T> {
         ensures only_memory { IsOkUnless result Fault.OutOfMemory }
     {
         let reported = ValueMap::new(alloc, hasher, (), limit)?;
-        let stream = Stream::new(alloc, hasher, (), temporality, allow, limit, now)?;
+        let stream = AggregateStream::new(alloc, hasher, (), temporality, allow, limit, now)?;
         Ok(PrecomputedSum {
             stream,
             reported,
@@ -304,19 +304,19 @@ impl<T: Number + Drop> PrecomputedSum<T> {
         ensures unprepared { self.new.pending ≡ None }
     {
         // Tells the prover that no entry is held.
-        self.stream.told_unheld();
+        self.stream.law_of_handles();
         self.stream.restore(saved);
     }
 
     /// The law that no entry is held.
-    pub fn told_unheld(&self)
+    pub fn law_of_handles(&self)
         ensures { without_handles self.now.state.stream.map_state.table ≡ self.now.state.stream.map_state.table }
     {
-        self.stream.told_unheld();
+        self.stream.law_of_handles();
     }
 
     /// The law that it is a stream of last values.
-    pub fn told_aggregate(&self)
+    pub fn law_of_aggregate(&self)
         ensures { self.now.state.stream.aggregate ≡ LastValue }
     {
         let _ = self.stream.settings();

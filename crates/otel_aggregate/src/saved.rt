@@ -12,10 +12,10 @@ pub struct SavedAggregate {
 }
 
 impl Model for SavedAggregate {
-    ghost use Rattle.otel_aggregate.specs.Any.{HeldSaved};
+    ghost use Rattle.otel_aggregate.specs.Any.{SavedContents};
     ghost use Rattle.otel_aggregate.specs.Kept.{form_of_fold, AreKept};
 
-    ghost Value = { HeldSaved };
+    ghost Value = { SavedContents };
 
     ghost view = { λ s. record { is_signed = s.is_signed; form = form_of_fold s.entries.none.fold; table = s.entries } };
 

@@ -17,10 +17,10 @@ ghost use Rattle.otel_aggregate.specs.Kept.{IsWithin, IsWithinIfSome, IsKept, Is
 ghost use Rattle.otel_aggregate.specs.Streams.{points_now};
 ghost use Rattle.otel_aggregate.specs.Observed.{since_reported, observed_data};
 
+use crate::aggregate_stream::{AggregateStream, shown_temporality};
 use crate::any_aggregator::AnyAggregator;
 use crate::precomputed_sum::difference_of;
 use crate::settings::AnySettings;
-use crate::stream::{Stream, shown_temporality};
 use otel_aggregators::bounds::Bounds;
 use otel_aggregators::number::Number;
 use otel_common::attributes::KeyValue;
@@ -247,7 +247,7 @@ impl<T: Shown> PointMaker<AnyAggregator> for HistogramPoints<T> {
 /// The points of sums.
 fn shown_sums<T: Shown>(
     alloc: Global,
-    stream: &Stream<AnyAggregator>,
+    stream: &AggregateStream<AnyAggregator>,
 ) -> Result<Items<SumDataPoint<T>>, Fault>
     ensures points { IfOk result (λ made. made ≡ map (sum_point T.of_bits T.of_wide) (points_now stream.now.state)) }
     ensures only_memory { IsOkUnless result Fault.OutOfMemory }
@@ -259,7 +259,7 @@ fn shown_sums<T: Shown>(
 /// The points of last values.
 fn shown_values<T: Shown>(
     alloc: Global,
-    stream: &Stream<AnyAggregator>,
+    stream: &AggregateStream<AnyAggregator>,
 ) -> Result<Items<GaugeDataPoint<T>>, Fault>
     ensures points { IfOk result (λ made. made ≡ map (gauge_point T.of_bits T.of_wide) (points_now stream.now.state)) }
     ensures only_memory { IsOkUnless result Fault.OutOfMemory }
@@ -271,7 +271,7 @@ fn shown_values<T: Shown>(
 /// The points of histograms with these bounds.
 fn shown_histograms<T: Shown>(
     alloc: Global,
-    stream: &Stream<AnyAggregator>,
+    stream: &AggregateStream<AnyAggregator>,
     bounds: &Bounds,
 ) -> Result<Items<HistogramDataPoint<T>>, Fault>
     requires { AreShowable T.is_signed SpreadForm (points_now stream.now.state) }
@@ -288,7 +288,7 @@ fn shown_histograms<T: Shown>(
 /// What a collection at the moment `now` gives of a stream, by its aggregate.
 pub(crate) fn shown_stream<T: Shown>(
     alloc: Global,
-    stream: &Stream<AnyAggregator>,
+    stream: &AggregateStream<AnyAggregator>,
     now: u64,
 ) -> Result<MetricData<T>, Fault>
     requires { IsKeptStream T.is_signed stream.now }
@@ -316,7 +316,7 @@ pub(crate) fn shown_stream<T: Shown>(
 
 /// The map that points show differences from, in a stream that resets.
 fn compared_with<'a>(
-    stream: &Stream<AnyAggregator>,
+    stream: &AggregateStream<AnyAggregator>,
     reported: &'a ValueMap<AnyAggregator>,
 ) -> Option<&'a ValueMap<AnyAggregator>>
     ensures { option_map (λ before. draining_points before.now.state) result ≡ cond stream.now.state.resets (Some (draining_points reported.now.state)) None }
@@ -331,7 +331,7 @@ fn compared_with<'a>(
 /// What a collection at the moment `now` gives of observed sums.
 pub(crate) fn shown_observed<T: Shown>(
     alloc: Global,
-    stream: &Stream<AnyAggregator>,
+    stream: &AggregateStream<AnyAggregator>,
     reported: &ValueMap<AnyAggregator>,
     now: u64,
 ) -> Result<MetricData<T>, Fault>

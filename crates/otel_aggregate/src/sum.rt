@@ -4,9 +4,9 @@ ghost use Rattle.std.specs.Prelude.{◌≡◌};
 ghost use Rattle.otel_model_stream.specs.Folds.{Sum as SumAggregate};
 ghost use Rattle.otel_model_stream.specs.Data.{sum_point};
 
+use crate::aggregate_stream::AggregateStream;
 use crate::measures::Measures;
 use crate::shows::Shows;
-use crate::stream::Stream;
 use otel_aggregators::aggregator::Increment;
 use otel_aggregators::number::Number;
 use otel_common::attributes::KeyValue;
@@ -19,7 +19,7 @@ use std::alloc::Global;
 
 /// The sums of a stream's records, by set (Metrics SDK, "Sum Aggregation"). The settings say whether only values of at
 /// least 0 are added.
-pub type Sum<T> = Stream<Increment<T>>;
+pub type Sum<T> = AggregateStream<Increment<T>>;
 
 impl<T: Number + Drop> Measures for Increment<T> {
     type Value = T;
@@ -55,7 +55,7 @@ impl<T: Number + Drop> Shows for Increment<T> {
         set: SharedItems<KeyValue>,
     ) -> Result<SumDataPoint<T>, Fault> {
         let value = self.value;
-        value.told_by_bits();
+        value.law_of_bits();
         Ok(SumDataPoint::new(set, Items::from(Vec::new(alloc)), value))
     }
 

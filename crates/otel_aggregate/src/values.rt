@@ -41,7 +41,7 @@ pub(crate) fn wide_of(value: NumberValue) -> i128
 
 /// The law that a value is within its number type.
 #[inline]
-pub(crate) fn told_within(value: NumberValue)
+pub(crate) fn law_of_range(value: NumberValue)
     ensures { IsWithin (is_signed_value value) (amount_of value).wide }
 {
     match value {

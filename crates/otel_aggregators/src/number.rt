@@ -18,11 +18,11 @@ pub trait Number: Copy {
     ghost of_wide: { ℤ → Self };
 
     /// The law that the bits determine the number.
-    fn told_by_bits(self)
+    fn law_of_bits(self)
         ensures { of_bits (bits self) ≡ self };
 
     /// The law that the value as a whole number determines the number.
-    fn told_by_wide(self)
+    fn law_of_wide(self)
         ensures { of_wide (wide self) ≡ self };
 
     /// Zero.
@@ -59,9 +59,9 @@ impl Number for u64 {
 
     ghost of_wide = { natural_of };
 
-    fn told_by_bits(self) {}
+    fn law_of_bits(self) {}
 
-    fn told_by_wide(self) {}
+    fn law_of_wide(self) {}
 
     fn zero() -> u64 {
         0

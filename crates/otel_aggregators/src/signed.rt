@@ -14,9 +14,9 @@ impl Number for i64 {
 
     ghost of_wide = { λ z. z };
 
-    fn told_by_bits(self) {}
+    fn law_of_bits(self) {}
 
-    fn told_by_wide(self) {}
+    fn law_of_wide(self) {}
 
     fn zero() -> i64 {
         0

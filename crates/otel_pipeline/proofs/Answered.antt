@@ -14,67 +14,67 @@ use Rattle.otel_model.specs.Sent.{set_for}
 use Rattle.otel_model.specs.Streams.{is_drained}
 use Rattle.otel_pipeline.specs.Observations.{observed_all, observed_in, observed_one, observing_numbers}
 use Rattle.otel_pipeline.specs.Pipelines.{all_without_pending}
-use Rattle.otel_pipeline.specs.Streams.{Held, held_after_bind, bound_by, held_after_commit, committed_by, held_after_none, held_after_unbind, without_handle, held_after_update, with_update, with_record, without_pending}
+use Rattle.otel_pipeline.specs.Streams.{StreamContents, contents_after_bind, bound_by, contents_after_commit, committed_by, contents_after_none, contents_after_unbind, without_handle, contents_after_update, with_update, with_record, without_pending}
 use Rattle.otel_pipeline.proofs.Writes.{unseen-each}
 
-abbrev pub answer_of : Held → Bool × Demand
+abbrev pub answer_of : StreamContents → Bool × Demand
 answer_of k = (k.resets, k.stream.demand)
 
 -- a change of streams that leaves both
-abbrev pub KeepsAnswer : (Held → Held) → Type 0
-KeepsAnswer f = (k : Held) → answer_of (f k) ≡ answer_of k
+abbrev pub KeepsAnswer : (StreamContents → StreamContents) → Type 0
+KeepsAnswer f = (k : StreamContents) → answer_of (f k) ≡ answer_of k
 
 -- ======== what is done to one stream ========
-kept-if : (b : Bool) (m n k : Held) → answer_of m ≡ answer_of k → answer_of n ≡ answer_of k → answer_of (cond b m n) ≡ answer_of k
+kept-if : (b : Bool) (m n k : StreamContents) → answer_of m ≡ answer_of k → answer_of n ≡ answer_of k → answer_of (cond b m n) ≡ answer_of k
 kept-if true m n k p q = p
 kept-if false m n k p q = q
 
-pub commits : (value : NumberValue) → KeepsAnswer (held_after_commit value)
+pub commits : (value : NumberValue) → KeepsAnswer (contents_after_commit value)
 commits value k = kept-if (beq (is_signed_value value) k.stream.demand.identity.signed) (committed_by k.pending (amount_of value) k) k k (by k.pending) refl
   where
     by : (o : Option AttributeSet) → answer_of (committed_by o (amount_of value) k) ≡ answer_of k
     by None = refl
     by (Some s) = refl
 
-pub measures : (value : NumberValue) → KeepsAnswer (held_after_none value)
+pub measures : (value : NumberValue) → KeepsAnswer (contents_after_none value)
 measures value k = kept-if (beq (is_signed_value value) k.stream.demand.identity.signed) (with_record none_set (amount_of value) k) k k refl refl
 
 pub observes : (o : Observed) → KeepsAnswer (observed_one o)
 observes o k = kept-if (beq (is_signed_value o.value) k.stream.demand.identity.signed) (with_record (set_for k.stream.demand o.attributes) (amount_of o.value) k) k k refl refl
 
-pub binds : (h : ℕ) → KeepsAnswer (held_after_bind h)
+pub binds : (h : ℕ) → KeepsAnswer (contents_after_bind h)
 binds h k = kept-if (not (is_observable k.stream.demand.identity.kind) && (k.room && is_none (held_by h k.stream.machine.live))) (bound_by k.pending h k) k k (by k.pending) refl
   where
     by : (o : Option AttributeSet) → answer_of (bound_by o h k) ≡ answer_of k
     by None = refl
     by (Some s) = refl
 
-pub updates : (h : ℕ) (value : NumberValue) → KeepsAnswer (held_after_update h value)
+pub updates : (h : ℕ) (value : NumberValue) → KeepsAnswer (contents_after_update h value)
 updates h value k = kept-if (not (is_drained k.stream.demand) && beq (is_signed_value value) k.stream.demand.identity.signed) (with_update (held_by h k.stream.machine.live) (amount_of value) k) k k refl refl
 
-pub unbinds : (h : ℕ) → KeepsAnswer (held_after_unbind h)
+pub unbinds : (h : ℕ) → KeepsAnswer (contents_after_unbind h)
 unbinds h k = kept-if (is_drained k.stream.demand) k (without_handle h k) k refl refl
 
 -- ======== what is done to streams ========
-pub answers-settled : (a b : List Held) → all_without_pending a ≡ all_without_pending b → map answer_of a ≡ map answer_of b
+pub answers-settled : (a b : List StreamContents) → all_without_pending a ≡ all_without_pending b → map answer_of a ≡ map answer_of b
 answers-settled a b e = sym (map-map answer_of without_pending a) ∙ (ap (map answer_of) e ∙ map-map answer_of without_pending b)
 
-pub answers-observed : (feeds : List (List ℕ)) (os : List Observed) (ks : List Held) → map answer_of (observed_all feeds os ks) ≡ map answer_of ks
+pub answers-observed : (feeds : List (List ℕ)) (os : List Observed) (ks : List StreamContents) → map answer_of (observed_all feeds os ks) ≡ map answer_of ks
 answers-observed feeds [] ks = refl
 answers-observed feeds (o ∷ os) ks = answers-observed feeds os (observed_in feeds ks o) ∙ unseen-each answer_of (observed_one o) (observes o) (observing_numbers feeds o) ks
 
 -- ======== what is read off both ========
-abbrev pub OfAnswer : (Bool → Demand → Type 0) → List Held → Type 0
-OfAnswer P ks = AllByRecursion (λ (k : Held). P k.resets k.stream.demand) ks
+abbrev pub OfAnswer : (Bool → Demand → Type 0) → List StreamContents → Type 0
+OfAnswer P ks = AllByRecursion (λ (k : StreamContents). P k.resets k.stream.demand) ks
 
 module _ (P : Bool → Demand → Type 0) where
-  pub answered-same : (new old : List Held) → map answer_of new ≡ map answer_of old → OfAnswer P old → OfAnswer P new
+  pub answered-same : (new old : List StreamContents) → map answer_of new ≡ map answer_of old → OfAnswer P old → OfAnswer P new
   answered-same [] old e all = tt
   answered-same (a ∷ new) [] e all = absurd (cc)
   answered-same (a ∷ new) (b ∷ old) e all =
       let parts : (answer_of b ≡ answer_of a) × (map answer_of new ≡ map answer_of old) = (cc, cc) in
       (subst (λ (x : Bool × Demand). P x.0 x.1) parts.0 all.0, answered-same new old parts.1 all.1)
 
-  pub answered-push : (ks : List Held) (k : Held) → OfAnswer P ks → P k.resets k.stream.demand → OfAnswer P (ks ++ k ∷ [])
+  pub answered-push : (ks : List StreamContents) (k : StreamContents) → OfAnswer P ks → P k.resets k.stream.demand → OfAnswer P (ks ++ k ∷ [])
   answered-push [] k all is = (is, tt)
   answered-push (m ∷ ks) k all is = (all.0, answered-push ks k all.1 is)

@@ -8,11 +8,11 @@ use Rattle.otel_model.specs.Demands as model
 use Rattle.otel_model.specs.Demands.{Identity, Demand, identity_eq}
 use Rattle.otel_model.proofs.Gather.{identity_eq_true, identity_eq_self}
 use Rattle.otel_pipeline.specs.Pipelines.{identity_of, fates_of, stream_identities, stream_number, drops_at}
-use Rattle.otel_pipeline.specs.Streams.{Held}
+use Rattle.otel_pipeline.specs.Streams.{StreamContents}
 use Rattle.otel_pipeline.proofs.Identities.{test-flip}
 
 -- whether a stream that is there drops
-pub drops-is : (ks : List Held) (n : ℕ) (k : Held) → slice_get ks n ≡ Some k → drops_at ks n ≡ model.is_drop k.stream.demand.aggregation
+pub drops-is : (ks : List StreamContents) (n : ℕ) (k : StreamContents) → slice_get ks n ≡ Some k → drops_at ks n ≡ model.is_drop k.stream.demand.aggregation
 drops-is ks n k e = rw e refl
 
 -- ======== what is known ========
@@ -38,20 +38,20 @@ pub any-position : {X : Type 0} (p : X → Bool) (xs : List X) → is_some (posi
 any-position p [] = refl
 any-position p (x ∷ xs) = ap is_some (position-cons p x xs) ∙ (some_or (p x) (position p xs) ∙ ap (λ b. p x || b) (any-position p xs))
 
-pub known : (x : Identity) (ks : List Held) → model.is_known (fates_of ks) x ≡ is_some (stream_number x (stream_identities ks))
+pub known : (x : Identity) (ks : List StreamContents) → model.is_known (fates_of ks) x ≡ is_some (stream_number x (stream_identities ks))
 known x [] = refl
 known x (k ∷ ks) =
     (λ i. test-flip x (identity_of k) i || known x ks i)
     ∙ sym (ap is_some (position-cons (identity_eq x) (identity_of k) (stream_identities ks)) ∙ some_or (identity_eq x (identity_of k)) (stream_number x (stream_identities ks)))
 
 -- the stream of this number has the identity, and its demand decides whether that drops
-pub record IsStreamOf (x : Identity) (ks : List Held) (n : ℕ) : Type 0 where
-  pub held : Held
+pub record IsStreamOf (x : Identity) (ks : List StreamContents) (n : ℕ) : Type 0 where
+  pub held : StreamContents
   pub at : slice_get ks n ≡ Some held
   pub is : x ≡ identity_of held
   pub drops : model.is_dropped (fates_of ks) x ≡ drops_at ks n
 
-next_stream : (x : Identity) (k : Held) (ks : List Held) (b : Bool) (o : Option ℕ) (n : ℕ) → identity_eq x (identity_of k) ≡ b
+next_stream : (x : Identity) (k : StreamContents) (ks : List StreamContents) (b : Bool) (o : Option ℕ) (n : ℕ) → identity_eq x (identity_of k) ≡ b
     → ((m : ℕ) → o ≡ Some m → IsStreamOf x ks m) → cond b (Some 0) (option_map suc o) ≡ Some n → IsStreamOf x (k ∷ ks) n
 next_stream x k ks true o zero t rest e =
     record { held = k; at = refl; is = identity_eq_true x (identity_of k) t; drops = ap (λ b. model.is_drop_fate (cond b (Some k.stream.demand) (model.fate_of (fates_of ks) x))) (test-flip x (identity_of k) ∙ t) }
@@ -67,7 +67,7 @@ next_stream x k ks false (Some m) n t rest e =
       drops = ap (λ b. model.is_drop_fate (cond b (Some k.stream.demand) (model.fate_of (fates_of ks) x))) (test-flip x (identity_of k) ∙ t) ∙ r.drops;
     })
 
-pub found : (x : Identity) (ks : List Held) (n : ℕ) → stream_number x (stream_identities ks) ≡ Some n → IsStreamOf x ks n
+pub found : (x : Identity) (ks : List StreamContents) (n : ℕ) → stream_number x (stream_identities ks) ≡ Some n → IsStreamOf x ks n
 found x [] n e = absurd (cc)
 found x (k ∷ ks) n e =
     next_stream x k ks (identity_eq x (identity_of k)) (stream_number x (stream_identities ks)) n refl (λ m q. found x ks m q) (sym (position-cons (identity_eq x) (identity_of k) (stream_identities ks)) ∙ e)

@@ -19,7 +19,7 @@ use Rattle.otel_model.specs.Streams.{aggregate_of, is_drained, observes_sums}
 use Rattle.otel_pipeline.specs.Handles.{FeedsSynchronous, AreObservableFor, IsNewAt, IsHeldByFed, IsReadyToBind, IsReadyIfThere, IsReadyToBindAt, part_after_bind}
 use Rattle.otel_pipeline.specs.Observations.{AreObservableIn}
 use Rattle.otel_pipeline.specs.Pipelines.{Piped, IsLawful, FeedsType, identity_of, is_streamed, model_streams, named_identities, number_of, part_of, part_changed_by, fed_by}
-use Rattle.otel_pipeline.specs.Streams.{Held, with_bind, bound_by, held_after_bind, with_update, held_after_update, without_handle, held_after_unbind}
+use Rattle.otel_pipeline.specs.Streams.{StreamContents, with_bind, bound_by, contents_after_bind, with_update, contents_after_update, without_handle, contents_after_unbind}
 use Rattle.otel_pipeline.proofs.Answered.{binds, unbinds, updates}
 use Rattle.otel_pipeline.proofs.Records.{each-sent, fed-at, fits, some_same, there-at, typed-fits}
 
@@ -42,22 +42,22 @@ undrained d e = by _ (observes_sums d.identity.kind) (drained-by d.identity.kind
     by false b e = refl
 
 -- ======== what holds of a part's streams ========
-of-rest : (P : Stream → Type 0) (m : Held) (ks : List Held) → EachOf P (model_streams (m ∷ ks)) → EachOf P (model_streams ks)
+of-rest : (P : Stream → Type 0) (m : StreamContents) (ks : List StreamContents) → EachOf P (model_streams (m ∷ ks)) → EachOf P (model_streams ks)
 of-rest P m ks all = by (is_streamed m) refl all
   where
     by : (b : Bool) → is_streamed m ≡ b → EachOf P (model_streams (m ∷ ks)) → EachOf P (model_streams ks)
     by true e all = (rw e at all).1
     by false e all = rw e at all
 
-of-first : (P : Stream → Type 0) (m : Held) (ks : List Held) → EachOf P (model_streams (m ∷ ks)) → is_streamed m ≡ true → P m.stream
+of-first : (P : Stream → Type 0) (m : StreamContents) (ks : List StreamContents) → EachOf P (model_streams (m ∷ ks)) → is_streamed m ≡ true → P m.stream
 of-first P m ks all e = (rw e at all).0
 
 -- holds of a stream, by its number
-pub of-streamed : (P : Stream → Type 0) (ks : List Held) → EachOf P (model_streams ks) → (i : ℕ) (k : Held) → slice_get ks i ≡ Some k → is_streamed k ≡ true → P k.stream
+pub of-streamed : (P : Stream → Type 0) (ks : List StreamContents) → EachOf P (model_streams ks) → (i : ℕ) (k : StreamContents) → slice_get ks i ≡ Some k → is_streamed k ≡ true → P k.stream
 of-streamed P [] all i k at s = absurd (cc)
 of-streamed P (m ∷ ks) all zero k at s =
     let same : m ≡ k = some_same m k at in
-    subst (λ (x : Held). P x.stream) same (of-first P m ks all (ap is_streamed same ∙ s))
+    subst (λ (x : StreamContents). P x.stream) same (of-first P m ks all (ap is_streamed same ∙ s))
 of-streamed P (m ∷ ks) all (suc i) k at s = of-streamed P ks (of-rest P m ks all) i k at s
 
 -- ======== observations ========
@@ -77,16 +77,16 @@ observable-in os p lawful all i d h j e g k at =
     all i d h (identity_of k) (fed-at p lawful n (get_or (fed_by n p) j e) k at ∙ number-there (fed_by n p) j e g)
 
 -- ======== binds ========
-bind-if : (answers : model.ReaderAnswers) (h n : ℕ) (l : List KeyValue) (feeds : List (List model.Identity)) (k : Held) (b : Bool) → is_fed feeds n (identity_of k) ≡ b
+bind-if : (answers : model.ReaderAnswers) (h n : ℕ) (l : List KeyValue) (feeds : List (List model.Identity)) (k : StreamContents) (b : Bool) → is_fed feeds n (identity_of k) ≡ b
     → stream_after answers feeds h (Bind n l) k.stream ≡ (cond b (with_bind h (set_for k.stream.demand l) k) k).stream
 bind-if answers h n l feeds k true e = rw e refl
 bind-if answers h n l feeds k false e = rw e refl
 
-abbrev can_bind : ℕ → Held → Bool
+abbrev can_bind : ℕ → StreamContents → Bool
 can_bind h k = not (is_observable k.stream.demand.identity.kind) && (k.room && is_none (held_by h k.stream.machine.live))
 
 pub bound-sent : (h n : ℕ) (l : List KeyValue) (p : Piped) → IsReadyToBindAt n l p → FeedsSynchronous n (part_of p) → IsNewAt h (part_of p) → part_after_bind n h p ≡ part_after_call h (Bind n l) (part_of p)
-bound-sent h n l p ready sync new = each-sent p ready.lawful h n (Bind n l) (held_after_bind h) (binds h)
+bound-sent h n l p ready sync new = each-sent p ready.lawful h n (Bind n l) (contents_after_bind h) (binds h)
     (λ i k at s t fed.
     let is : IsReadyToBind l k = there-at (IsReadyIfThere l) p.streams (fed_by n p) ready.ready i k at t in
     let kind : is_observable k.stream.demand.identity.kind ≡ false = sync (identity_of k) fed in
@@ -123,12 +123,12 @@ unbind-is answers feeds next h q o e = ap (λ p. unbind_by p h q) e
 -- ======== all streams that an instrument feeds ========
 module _ (n h : ℕ) (p : Piped) (lawful : IsLawful p) (sync : FeedsSynchronous n (part_of p)) (held : IsHeldByFed n h (part_of p)) where
   -- a stream that is not fed has no such handle
-  unfed-free : (i : ℕ) (k : Held) → slice_get p.streams i ≡ Some k → is_streamed k ≡ true → is_fed (map (named_identities p.streams) p.feeds) n (identity_of k) ≡ false → held_by h k.stream.machine.live ≡ None
+  unfed-free : (i : ℕ) (k : StreamContents) → slice_get p.streams i ≡ Some k → is_streamed k ≡ true → is_fed (map (named_identities p.streams) p.feeds) n (identity_of k) ≡ false → held_by h k.stream.machine.live ≡ None
   unfed-free i k at s fed = of-streamed (λ (q : Stream). is_fed (map (named_identities p.streams) p.feeds) n q.demand.identity ≡ false → held_by h q.machine.live ≡ None) p.streams held i k at s fed
 
   -- records through handles
-  pub update-sent : (value : NumberValue) → FeedsType n (is_signed_value value) (part_of p) → part_changed_by (held_after_update h value) n p ≡ part_after_call 0 (RecordBound h (number_of value)) (part_of p)
-  update-sent value typed = each-sent p lawful 0 n (RecordBound h (number_of value)) (held_after_update h value) (updates h value)
+  pub update-sent : (value : NumberValue) → FeedsType n (is_signed_value value) (part_of p) → part_changed_by (contents_after_update h value) n p ≡ part_after_call 0 (RecordBound h (number_of value)) (part_of p)
+  update-sent value typed = each-sent p lawful 0 n (RecordBound h (number_of value)) (contents_after_update h value) (updates h value)
       (λ i k at s t fed.
       let free : is_drained k.stream.demand ≡ false = undrained k.stream.demand (sync (identity_of k) fed) in
       let fit : fits value k.stream.demand ≡ true = typed-fits n value (part_of p) k.stream.demand typed fed in
@@ -136,8 +136,8 @@ module _ (n h : ℕ) (p : Piped) (lawful : IsLawful p) (sync : FeedsSynchronous 
       (λ i k at s fed. update-is p.answers (map (named_identities p.streams) p.feeds) 0 h (number_of value) k.stream None (unfed-free i k at s fed))
 
   -- the end of handles
-  pub unbind-sent : part_changed_by (held_after_unbind h) n p ≡ part_after_call 0 (Unbind h) (part_of p)
-  unbind-sent = each-sent p lawful 0 n (Unbind h) (held_after_unbind h) (unbinds h)
+  pub unbind-sent : part_changed_by (contents_after_unbind h) n p ≡ part_after_call 0 (Unbind h) (part_of p)
+  unbind-sent = each-sent p lawful 0 n (Unbind h) (contents_after_unbind h) (unbinds h)
       (λ i k at s t fed.
       let free : is_drained k.stream.demand ≡ false = undrained k.stream.demand (sync (identity_of k) fed) in
       λ j. (cond (sym free j) k (without_handle h k)).stream)

@@ -9,7 +9,7 @@ use Rattle.std.proofs.lemmas.Option.{slice_get-map}
 use Rattle.otel_model.specs.Demands.{Identity, identity_eq}
 use Rattle.otel_model.proofs.Gather.{kind_eq_true, identity_eq_true, identity_eq_self}
 use Rattle.otel_pipeline.specs.Pipelines.{identity_of, stream_identities}
-use Rattle.otel_pipeline.specs.Streams.{Held}
+use Rattle.otel_pipeline.specs.Streams.{StreamContents}
 
 -- the same answer, with the two turned round
 pub test-flip : (x y : Identity) → identity_eq y x ≡ identity_eq x y
@@ -65,10 +65,10 @@ apart_by (z ∷ xs) distinct (suc i) zero x y p q e = absurd (not_among z xs dis
 apart_by (z ∷ xs) distinct (suc i) (suc j) x y p q e = ap suc (apart_by xs distinct.1 i j x y p q e)
 
 -- no identity stands twice among the streams
-abbrev pub AreApart : List Held → Type 0
-AreApart ks = (i j : ℕ) (a b : Held) → slice_get ks i ≡ Some a → slice_get ks j ≡ Some b → identity_eq (identity_of a) (identity_of b) ≡ true → i ≡ j
+abbrev pub AreApart : List StreamContents → Type 0
+AreApart ks = (i j : ℕ) (a b : StreamContents) → slice_get ks i ≡ Some a → slice_get ks j ≡ Some b → identity_eq (identity_of a) (identity_of b) ≡ true → i ≡ j
 
-pub are_apart : (ks : List Held) → IsDistinct identity_eq (stream_identities ks) → AreApart ks
+pub are_apart : (ks : List StreamContents) → IsDistinct identity_eq (stream_identities ks) → AreApart ks
 are_apart ks distinct i j a b p q t =
     apart_by (stream_identities ks) distinct i j (identity_of a) (identity_of b)
     (slice_get-map identity_of ks i ∙ ap (option_map identity_of) p)

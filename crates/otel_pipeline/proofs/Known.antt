@@ -8,7 +8,7 @@ use Rattle.otel_common.specs.declared.attributes.KeyValue.{KeyValue}
 use Rattle.otel_model.specs.Demands.{Identity, identity_eq}
 use Rattle.otel_pipeline.specs.Known.{is_known_to, is_known_by, is_known_at, IsKnownIfThere}
 use Rattle.otel_pipeline.specs.Pipelines.{IsLawful, Piped, all_without_pending, fed_by, identity_of, is_streamed, model_streams, named_identities, part_of}
-use Rattle.otel_pipeline.specs.Streams.{Held, without_pending}
+use Rattle.otel_pipeline.specs.Streams.{StreamContents, without_pending}
 use Rattle.otel_pipeline.proofs.Identities.{AreApart, are_apart}
 use Rattle.otel_pipeline.proofs.Records.{HaveStreams, fed-named, fed-numbers, identity_at-is, numbers-named, some_same}
 
@@ -17,10 +17,10 @@ either true b e = inl refl
 either false b e = inr e
 
 -- a stream of this identity that knows them
-abbrev Found : List KeyValue → Identity → List Held → Type 0
-Found l x ks = (j : ℕ) × (k : Held) × (slice_get ks j ≡ Some k) × (identity_eq (identity_of k) x ≡ true) × (is_known_to l k.stream ≡ true)
+abbrev Found : List KeyValue → Identity → List StreamContents → Type 0
+Found l x ks = (j : ℕ) × (k : StreamContents) × (slice_get ks j ≡ Some k) × (identity_eq (identity_of k) x ≡ true) × (is_known_to l k.stream ≡ true)
 
-find : (l : List KeyValue) (x : Identity) (ks : List Held) → is_known_by l (model_streams ks) x ≡ true → Found l x ks
+find : (l : List KeyValue) (x : Identity) (ks : List StreamContents) → is_known_by l (model_streams ks) x ≡ true → Found l x ks
 find l x [] e = absurd (true≢false (sym e))
 find l x (k ∷ ks) e = by (is_streamed k) e (λ q. later (find l x ks q))
   where
@@ -30,19 +30,19 @@ find l x (k ∷ ks) e = by (is_streamed k) e (λ q. later (find l x ks q))
     here : (identity_eq (identity_of k) x && is_known_to l k.stream) ≡ true → Found l x (k ∷ ks)
     here t = (zero, k, refl, (and_parts (identity_eq (identity_of k) x) (is_known_to l k.stream) t).0, (and_parts (identity_eq (identity_of k) x) (is_known_to l k.stream) t).1)
 
-    by : (b : Bool) → is_known_by l (map (λ (h : Held). h.stream) (cond b (k ∷ filter is_streamed ks) (filter is_streamed ks))) x ≡ true → (is_known_by l (model_streams ks) x ≡ true → Found l x (k ∷ ks)) → Found l x (k ∷ ks)
+    by : (b : Bool) → is_known_by l (map (λ (h : StreamContents). h.stream) (cond b (k ∷ filter is_streamed ks) (filter is_streamed ks))) x ≡ true → (is_known_by l (model_streams ks) x ≡ true → Found l x (k ∷ ks)) → Found l x (k ∷ ks)
     by true e rest = ⊎_elim here rest (either (identity_eq (identity_of k) x && is_known_to l k.stream) (is_known_by l (model_streams ks) x) e)
     by false e rest = rest e
 
 -- where identities are apart that is the stream of this number
-known-of : (l : List KeyValue) (ks : List Held) → AreApart ks → (n : ℕ) (m : Held) → slice_get ks n ≡ Some m → is_known_by l (model_streams ks) (identity_of m) ≡ true → is_known_to l m.stream ≡ true
+known-of : (l : List KeyValue) (ks : List StreamContents) → AreApart ks → (n : ℕ) (m : StreamContents) → slice_get ks n ≡ Some m → is_known_by l (model_streams ks) (identity_of m) ≡ true → is_known_to l m.stream ≡ true
 known-of l ks apart n m at e =
     let f : Found l (identity_of m) ks = find l (identity_of m) ks e in
     let same : f.1 ≡ m = some_same f.1 m (sym f.2 ∙ (ap (slice_get ks) (apart f.0 n f.1 m f.2 at f.3) ∙ at)) in
-    subst (λ (k : Held). is_known_to l k.stream ≡ true) same f.4
+    subst (λ (k : StreamContents). is_known_to l k.stream ≡ true) same f.4
 
 -- if each identity that is named is known, so is each stream of these numbers
-known-numbers : (l : List KeyValue) (ks : List Held) → AreApart ks → (ns : List ℕ) → HaveStreams ns ks → list_all (is_known_by l (model_streams ks)) (named_identities ks ns) ≡ true
+known-numbers : (l : List KeyValue) (ks : List StreamContents) → AreApart ks → (ns : List ℕ) → HaveStreams ns ks → list_all (is_known_by l (model_streams ks)) (named_identities ks ns) ≡ true
     → All (λ n. IsKnownIfThere l (slice_get (all_without_pending ks) n)) ns
 known-numbers l ks apart [] all e = λ i d h. absurd (omega arith)
 known-numbers l ks apart (n ∷ ns) all e = go (known-numbers l ks apart ns all.1 parts.1)

@@ -21,7 +21,7 @@ use Rattle.otel_model.proofs.Follow.{run_append, recorded_append}
 use Rattle.otel_pipeline.specs.Collections.{IsCollectedFrom, scopes_shown}
 use Rattle.otel_pipeline.specs.Observations.{observed_of, AreTypedFor, observed_one, observed_in, observed_all}
 use Rattle.otel_pipeline.specs.Pipelines.{AreAnswered, FeedsType, IsLawful, Piped, all_without_pending, fates_of, fed_by, all_after_collection, part_by, part_changed_by, part_of}
-use Rattle.otel_pipeline.specs.Streams.{Held, with_record}
+use Rattle.otel_pipeline.specs.Streams.{StreamContents, with_record}
 use Rattle.otel_pipeline.proofs.Answered.{answered-same, answers-observed, observes}
 use Rattle.otel_pipeline.proofs.Collects.{collected-is, part-finished}
 use Rattle.otel_pipeline.proofs.PipelineLemmas.{fates-changed, feeds-same, identities-same, numbers-kept}
@@ -121,16 +121,16 @@ answered-observed : (os : List Observed) (p : Piped) → AreAnswered p.answers p
 answered-observed os p all = answered-same (λ resets d. resets ≡ is_delta p.answers d) (observed_all p.feeds os p.streams) p.streams (answers-observed p.feeds os p.streams) all
 
 -- the reader, with these streams
-abbrev with_streams : List Held → Piped → Piped
+abbrev with_streams : List StreamContents → Piped → Piped
 with_streams ks p = record { answers = p.answers; streams = ks; feeds = p.feeds; plan = p.plan; room = p.room }
 
 observed-sent : (os : List Observed) (p : Piped) → IsLawful p → AreTypedFor os (part_of p) → part_by p.answers (observed_all p.feeds os p.streams) p.feeds ≡ records_sent (map observed_of os) (part_of p)
 observed-sent [] p lawful typed = refl
 observed-sent (o ∷ os) p lawful typed =
-    let next : List Held = observed_in p.feeds p.streams o in
+    let next : List StreamContents = observed_in p.feeds p.streams o in
     let same : fates_of next ≡ fates_of p.streams = fates-changed (observed_one o) (observes o) (fed_by o.instrument p) p.streams in
     observed-sent os (with_streams next p)
-    (record { apart = subst (IsDistinct identity_eq) (sym (identities-same next p.streams same)) lawful.apart; numbers = numbers-kept p.streams next p.feeds (length-seen (λ (k : Held). k.stream.demand) p.streams next (sym same)) lawful.numbers; once = lawful.once })
+    (record { apart = subst (IsDistinct identity_eq) (sym (identities-same next p.streams same)) lawful.apart; numbers = numbers-kept p.streams next p.feeds (length-seen (λ (k : StreamContents). k.stream.demand) p.streams next (sym same)) lawful.numbers; once = lawful.once })
     (subst (λ (fs : List (List Identity)). All (λ (q : Observed). (x : Identity) → is_fed fs q.instrument x ≡ true → x.signed ≡ is_signed_value q.value) os) (sym (feeds-same next p.streams same p.feeds))
     (All-tail (λ (q : Observed). FeedsType q.instrument (is_signed_value q.value) (part_of p)) o os typed))
     ∙ ap (records_sent (map observed_of os)) (one-observed o p lawful (typed 0 o (omega arith)))
@@ -143,7 +143,7 @@ observed-is resource meters now os p c lawful typed all r e = λ s to_resource t
     ∙ (ap (collect_from s now []) (observed-sent os p lawful typed) ∙ collected-from s now (map observed_of os) (part_of p))
 
 -- and it leaves what the model says
-pub observed-finished : (r now : ℕ) (os : List Observed) (p : Piped) (new : List Held) → IsLawful p → AreTypedFor os (part_of p) → AreAnswered p.answers p.streams
+pub observed-finished : (r now : ℕ) (os : List Observed) (p : Piped) (new : List StreamContents) → IsLawful p → AreTypedFor os (part_of p) → AreAnswered p.answers p.streams
     → all_without_pending new ≡ all_without_pending (all_after_collection now (observed_all p.feeds os p.streams))
     → part_by p.answers new p.feeds ≡ part_after_call 0 (model.Call.Collect r now (map observed_of os)) (part_of p)
 observed-finished r now os p new lawful typed all e =

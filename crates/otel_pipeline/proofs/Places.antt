@@ -9,7 +9,7 @@ use Rattle.otel_data.specs.declared.collections.ScopeMetrics.{ScopeMetrics}
 use Rattle.otel_model.specs.Collections.{has_points, has_metrics}
 use Rattle.otel_pipeline.specs.Collections.{if_shown, append_each, shown_one, shown_in, scope_shown, scopes_shown}
 use Rattle.otel_pipeline.specs.Pipelines.{is_streamed}
-use Rattle.otel_pipeline.specs.Streams.{Held, shown_metric, if_points}
+use Rattle.otel_pipeline.specs.Streams.{StreamContents, shown_metric, if_points}
 use Rattle.otel_pipeline.proofs.Builds.{position-cons}
 use Rattle.otel_pipeline.proofs.Shows.{shown-suc}
 
@@ -84,11 +84,11 @@ module _ (s : InstrumentationScope) (c : Bool) (x : Metric) where
 
 -- ======== one stream more ========
 -- a stream that drops gives nothing
-pub pushed-dropped : (now : ℕ) (k : Held) (xs : List (List Metric)) (ms : List InstrumentationScope) → is_streamed k ≡ false → append_each xs (map (λ m. shown_one m now k) ms) ≡ xs
+pub pushed-dropped : (now : ℕ) (k : StreamContents) (xs : List (List Metric)) (ms : List InstrumentationScope) → is_streamed k ≡ false → append_each xs (map (λ m. shown_one m now k) ms) ≡ xs
 pushed-dropped now k xs ms e = joined-nothing (λ m. shown_one m now k) xs ms (λ m. ap (λ b. if_shown (b && (scope_eq k.stream.demand.identity.scope m && has_points (shown_metric now k))) (shown_metric now k)) e)
 
 -- nor does one without points
-pub pushed-pointless : (now : ℕ) (k : Held) (xs : List (List Metric)) (ms : List InstrumentationScope) → has_points (shown_metric now k) ≡ false → append_each xs (map (λ m. shown_one m now k) ms) ≡ xs
+pub pushed-pointless : (now : ℕ) (k : StreamContents) (xs : List (List Metric)) (ms : List InstrumentationScope) → has_points (shown_metric now k) ≡ false → append_each xs (map (λ m. shown_one m now k) ms) ≡ xs
 pushed-pointless now k xs ms e =
     joined-nothing (λ m. shown_one m now k) xs ms
     (λ m. ap (λ b. if_shown (is_streamed k && (scope_eq k.stream.demand.identity.scope m && b)) (shown_metric now k)) e ∙ none (is_streamed k) (scope_eq k.stream.demand.identity.scope m))
@@ -113,16 +113,16 @@ pointless m o e is = by (has_points m) refl (sym is ∙ e)
     by true p q = absurd (cc)
     by false p q = p
 
-streamed_gets : (now : ℕ) (k : Held) → is_streamed k ≡ true → (λ (m : InstrumentationScope). shown_one m now k) ≡ gets k.stream.demand.identity.scope (has_points (shown_metric now k)) (shown_metric now k)
+streamed_gets : (now : ℕ) (k : StreamContents) → is_streamed k ≡ true → (λ (m : InstrumentationScope). shown_one m now k) ≡ gets k.stream.demand.identity.scope (has_points (shown_metric now k)) (shown_metric now k)
 streamed_gets now k e = λ i m. if_shown (e i && (scope_eq k.stream.demand.identity.scope m && has_points (shown_metric now k))) (shown_metric now k)
 
 -- nor does one whose scope has no meter
-pub pushed-nowhere : (now : ℕ) (k : Held) (xs : List (List Metric)) (ms : List InstrumentationScope) → is_streamed k ≡ true → position (scope_eq k.stream.demand.identity.scope) ms ≡ None
+pub pushed-nowhere : (now : ℕ) (k : StreamContents) (xs : List (List Metric)) (ms : List InstrumentationScope) → is_streamed k ≡ true → position (scope_eq k.stream.demand.identity.scope) ms ≡ None
     → append_each xs (map (λ m. shown_one m now k) ms) ≡ xs
 pushed-nowhere now k xs ms e at = ap (λ (f : InstrumentationScope → List Metric). append_each xs (map f ms)) (streamed_gets now k e) ∙ placed-none k.stream.demand.identity.scope _ _ xs ms at
 
 -- the others give their metric to the meter of their scope
-pub pushed-at : {V : Type 0} (view : V → List Metric) (now : ℕ) (k : Held) (vs : List V) (ms : List InstrumentationScope) (n : ℕ) (old new : V) → is_streamed k ≡ true → has_points (shown_metric now k) ≡ true
+pub pushed-at : {V : Type 0} (view : V → List Metric) (now : ℕ) (k : StreamContents) (vs : List V) (ms : List InstrumentationScope) (n : ℕ) (old new : V) → is_streamed k ≡ true → has_points (shown_metric now k) ≡ true
     → length vs ≡ length ms → IsDistinct scope_eq ms → position (scope_eq k.stream.demand.identity.scope) ms ≡ Some n → old ≡ get_or vs n old → view new ≡ view old ++ shown_metric now k ∷ []
     → map view (set vs n new) ≡ append_each (map view vs) (map (λ m. shown_one m now k) ms)
 pushed-at view now k vs ms n old new e points long apart at is more =
@@ -130,13 +130,13 @@ pushed-at view now k vs ms n old new e points long apart at is more =
     ∙ ap (λ (f : InstrumentationScope → List Metric). append_each (map view vs) (map f ms)) (sym (streamed_gets now k e))
 
 -- one stream's metric more
-pub places-more : (now : ℕ) (done done' all : List (List Metric)) (ks : List Held) (i : ℕ) (k : Held) (ms : List InstrumentationScope) → i < length ks → k ≡ get_or ks i k
+pub places-more : (now : ℕ) (done done' all : List (List Metric)) (ks : List StreamContents) (i : ℕ) (k : StreamContents) (ms : List InstrumentationScope) → i < length ks → k ≡ get_or ks i k
     → done' ≡ append_each done (map (λ m. shown_one m now k) ms) → append_each done (map (λ m. shown_in m now (drop i ks)) ms) ≡ all → append_each done' (map (λ m. shown_in m now (drop (i + 1) ks)) ms) ≡ all
 places-more now done done' all ks i k ms h at e so_far =
     rw (add-one, e) (joined-twice (λ m. shown_one m now k) (λ m. shown_in m now (drop (suc i) ks)) (λ m. shown_in m now (drop i ks)) done ms (λ m. shown-suc m now ks i k h at) ∙ so_far)
 
 -- no stream is left
-pub places-all : (now : ℕ) (done all : List (List Metric)) (ks : List Held) (i : ℕ) (ms : List InstrumentationScope) → length ks ≤ i → append_each done (map (λ m. shown_in m now (drop i ks)) ms) ≡ all → done ≡ all
+pub places-all : (now : ℕ) (done all : List (List Metric)) (ks : List StreamContents) (i : ℕ) (ms : List InstrumentationScope) → length ks ≤ i → append_each done (map (λ m. shown_in m now (drop i ks)) ms) ≡ all → done ≡ all
 places-all now done all ks i ms h so_far =
     sym (joined-nothing (λ m. shown_in m now (drop i ks)) done ms (λ m. ap (shown_in m now) (drop_all i ks h))) ∙ so_far
 
@@ -157,7 +157,7 @@ left-more view f vs vs' ms ms' v m e g same =
 pub left-long : {V : Type 0} (view : V → List Metric) (f : InstrumentationScope → List Metric) (vs : List V) (ms : List InstrumentationScope) → map view vs ≡ map f ms → length vs ≡ length ms
 left-long view f vs ms e = sym (length-map vs view) ∙ (ap length e ∙ length-map ms f)
 
-pub scopes-more : (now : ℕ) (ks : List Held) (done done' all : List ScopeMetrics) (s : InstrumentationScope) (metrics : List Metric) (ms ms' : List InstrumentationScope) → ms ≡ s ∷ ms' → metrics ≡ shown_in s now ks
+pub scopes-more : (now : ℕ) (ks : List StreamContents) (done done' all : List ScopeMetrics) (s : InstrumentationScope) (metrics : List Metric) (ms ms' : List InstrumentationScope) → ms ≡ s ∷ ms' → metrics ≡ shown_in s now ks
     → done' ≡ done ++ filter has_metrics (record { scope = s; metrics = metrics } ∷ []) → done ++ scopes_shown now ks ms ≡ all → done' ++ scopes_shown now ks ms' ≡ all
 scopes-more now ks done done' all s metrics ms ms' at shown e so_far =
     rw (e, append_assoc)
@@ -165,6 +165,6 @@ scopes-more now ks done done' all s metrics ms ms' at shown e so_far =
     ∙ (ap (λ (l : List ScopeMetrics). done ++ l) (sym (filter_one has_metrics (scope_shown now ks s) (map (scope_shown now ks) ms')))
     ∙ (ap (λ (l : List InstrumentationScope). done ++ scopes_shown now ks l) (sym at) ∙ so_far)))
 
-pub scopes-all : (now : ℕ) (ks : List Held) (done all : List ScopeMetrics) (ms : List InstrumentationScope) → length ms ≡ 0 → done ++ scopes_shown now ks ms ≡ all → done ≡ all
+pub scopes-all : (now : ℕ) (ks : List StreamContents) (done all : List ScopeMetrics) (ms : List InstrumentationScope) → length ms ≡ 0 → done ++ scopes_shown now ks ms ≡ all → done ≡ all
 scopes-all now ks done all ms e so_far =
     sym (append-nil done) ∙ (ap (λ (l : List InstrumentationScope). done ++ scopes_shown now ks l) (sym (nil_from_length ms e)) ∙ so_far)

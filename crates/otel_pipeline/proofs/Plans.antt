@@ -23,7 +23,7 @@ use Rattle.otel_model.proofs.Gather.{identity_eq_true, identity_eq_self, known-a
 use Rattle.otel_common.specs.declared.scopes.InstrumentationScope.{InstrumentationScope}
 use Rattle.indexmap.specs.IndexSet.{insert_key, insert_all}
 use Rattle.otel_pipeline.specs.Pipelines.{Piped, Planned, demands_in, dropped_with, part_of, part_by, piped_after_build, built_by, IsPlanned, IsReadyFor, identity_at, named_identities, identity_of, fates_of, is_streamed, model_streams, stream_identities, stream_number, drops_at, with_drop, found_at, counted_from, fed_once, IsPlanOf, AreNumbers}
-use Rattle.otel_pipeline.specs.Streams.{Held, new_held}
+use Rattle.otel_pipeline.specs.Streams.{StreamContents, new_contents}
 use Rattle.otel_pipeline.proofs.Answered.{OfAnswer, answered-push}
 use Rattle.otel_pipeline.proofs.Builds.{IsStreamOf, found, known, fate-new, any-position, position-cons, position-within, drops-is}
 use Rattle.otel_pipeline.proofs.Identities.{test_of, test-same, test-flip, are_apart}
@@ -245,40 +245,40 @@ demanded-fed now feeds p [] = refl
 demanded-fed now feeds p (d ∷ ds) = demanded-fed now feeds (machine.part_after_demand now p d) ds
 
 -- ======== longer lists of streams ========
-get-append : (ks ms : List Held) (n : ℕ) (m : Held) → slice_get ks n ≡ Some m → slice_get (ks ++ ms) n ≡ Some m
+get-append : (ks ms : List StreamContents) (n : ℕ) (m : StreamContents) → slice_get ks n ≡ Some m → slice_get (ks ++ ms) n ≡ Some m
 get-append [] ms n m e = absurd (cc)
 get-append (x ∷ ks) ms zero m e = e
 get-append (x ∷ ks) ms (suc n) m e = get-append ks ms n m e
 
-get-last : (ks : List Held) (k : Held) → slice_get (ks ++ k ∷ []) (length ks) ≡ Some k
+get-last : (ks : List StreamContents) (k : StreamContents) → slice_get (ks ++ k ∷ []) (length ks) ≡ Some k
 get-last [] k = refl
 get-last (x ∷ ks) k = get-last ks k
 
 -- the streams there keep their numbers
-named-front : (ks ms : List Held) (ns : List ℕ) → HaveStreams ns ks → named_identities (ks ++ ms) ns ≡ named_identities ks ns
+named-front : (ks ms : List StreamContents) (ns : List ℕ) → HaveStreams ns ks → named_identities (ks ++ ms) ns ≡ named_identities ks ns
 named-front ks ms [] all = refl
 named-front ks ms (n ∷ ns) all =
     λ i. (identity_at-is (ks ++ ms) n (all.0.0) (get-append ks ms n (all.0.0) all.0.1) ∙ sym (identity_at-is ks n (all.0.0) all.0.1)) i ++ named-front ks ms ns all.1 i
 
-named-push : (ks : List Held) (ns : List ℕ) (n : ℕ) (k : Held) → slice_get ks n ≡ Some k → named_identities ks (ns ++ n ∷ []) ≡ named_identities ks ns ++ identity_of k ∷ []
+named-push : (ks : List StreamContents) (ns : List ℕ) (n : ℕ) (k : StreamContents) → slice_get ks n ≡ Some k → named_identities ks (ns ++ n ∷ []) ≡ named_identities ks ns ++ identity_of k ∷ []
 named-push ks [] n k e = ap (λ xs. xs ++ []) (identity_at-is ks n k e)
 named-push ks (m ∷ ns) n k e = ap (λ xs. identity_at ks m ++ xs) (named-push ks ns n k e) ∙ sym (append_assoc (identity_at ks m) (named_identities ks ns) (identity_of k ∷ []))
 
-all_named-front : (ks ms : List Held) (feeds : List (List ℕ)) → All (AreNumbers ks) feeds → map (named_identities (ks ++ ms)) feeds ≡ map (named_identities ks) feeds
+all_named-front : (ks ms : List StreamContents) (feeds : List (List ℕ)) → All (AreNumbers ks) feeds → map (named_identities (ks ++ ms)) feeds ≡ map (named_identities ks) feeds
 all_named-front ks ms [] all = refl
 all_named-front ks ms (ns ∷ feeds) all = λ i. named-front ks ms ns (numbers-named ks ns (all 0 ns (omega arith))) i ∷ all_named-front ks ms feeds (λ j d h. all (suc j) d (omega arith)) i
 
-streamed-push : (ks : List Held) (k : Held) → model_streams (ks ++ k ∷ []) ≡ model_streams ks ++ cond (is_streamed k) (k.stream ∷ []) []
+streamed-push : (ks : List StreamContents) (k : StreamContents) → model_streams (ks ++ k ∷ []) ≡ model_streams ks ++ cond (is_streamed k) (k.stream ∷ []) []
 streamed-push [] k = by (is_streamed k)
   where
-    by : (b : Bool) → map (λ (h : Held). h.stream) (cond b (k ∷ []) []) ≡ cond b (k.stream ∷ []) []
+    by : (b : Bool) → map (λ (h : StreamContents). h.stream) (cond b (k ∷ []) []) ≡ cond b (k.stream ∷ []) []
     by true = refl
     by false = refl
 streamed-push (x ∷ ks) k = by (is_streamed x) (streamed-push ks k)
   where
     by : (b : Bool) → model_streams (ks ++ k ∷ []) ≡ model_streams ks ++ cond (is_streamed k) (k.stream ∷ []) []
-        → map (λ (h : Held). h.stream) (cond b (x ∷ filter is_streamed (ks ++ k ∷ [])) (filter is_streamed (ks ++ k ∷ [])))
-        ≡ map (λ (h : Held). h.stream) (cond b (x ∷ filter is_streamed ks) (filter is_streamed ks)) ++ cond (is_streamed k) (k.stream ∷ []) []
+        → map (λ (h : StreamContents). h.stream) (cond b (x ∷ filter is_streamed (ks ++ k ∷ [])) (filter is_streamed (ks ++ k ∷ [])))
+        ≡ map (λ (h : StreamContents). h.stream) (cond b (x ∷ filter is_streamed ks) (filter is_streamed ks)) ++ cond (is_streamed k) (k.stream ∷ []) []
     by true rest = ap (λ ss. x.stream ∷ ss) rest
     by false rest = rest
 
@@ -288,7 +288,7 @@ if_dropped true x = refl
 if_dropped false x = refl
 
 -- a demand that is known changes nothing
-demanded-known : (now : ℕ) (answers : ReaderAnswers) (ks : List Held) (d : Demand) → model.is_known (fates_of ks) d.identity ≡ true → machine.part_after_demand now (part_by answers ks []) d ≡ part_by answers ks []
+demanded-known : (now : ℕ) (answers : ReaderAnswers) (ks : List StreamContents) (d : Demand) → model.is_known (fates_of ks) d.identity ≡ true → machine.part_after_demand now (part_by answers ks []) d ≡ part_by answers ks []
 demanded-known now answers ks d e = λ i. record {
   answers = answers;
   fates = cond (e i) (fates_of ks) (fates_of ks ++ d ∷ []);
@@ -297,8 +297,8 @@ demanded-known now answers ks d e = λ i. record {
 }
 
 -- one that isn't makes a stream
-demanded-new : (now : ℕ) (answers : ReaderAnswers) (ks : List Held) (d : Demand) (resets : Bool) → model.is_known (fates_of ks) d.identity ≡ false
-    → machine.part_after_demand now (part_by answers ks []) d ≡ part_by answers (ks ++ new_held resets d now ∷ []) []
+demanded-new : (now : ℕ) (answers : ReaderAnswers) (ks : List StreamContents) (d : Demand) (resets : Bool) → model.is_known (fates_of ks) d.identity ≡ false
+    → machine.part_after_demand now (part_by answers ks []) d ≡ part_by answers (ks ++ new_contents resets d now ∷ []) []
 demanded-new now answers ks d resets e =
     (λ i. record {
       answers = answers;
@@ -308,13 +308,13 @@ demanded-new now answers ks d resets e =
     })
     ∙ sym (λ i. record {
       answers = answers;
-      fates = map-append (λ (k : Held). k.stream.demand) ks (new_held resets d now ∷ []) i;
-      streams = (streamed-push ks (new_held resets d now) ∙ ap (λ s. model_streams ks ++ s) (if_dropped (model.is_drop d.aggregation) (machine.new_stream now d))) i;
+      fates = map-append (λ (k : StreamContents). k.stream.demand) ks (new_contents resets d now ∷ []) i;
+      streams = (streamed-push ks (new_contents resets d now) ∙ ap (λ s. model_streams ks ++ s) (if_dropped (model.is_drop d.aggregation) (machine.new_stream now d))) i;
       feeds = [];
     })
 
 -- the numbers that are fed, with one more
-numbers-once : (ks : List Held) (b : Bool) (n : ℕ) (ns : List ℕ) → n < length ks → AreNumbers ks ns → AreNumbers ks (fed_once b n ns)
+numbers-once : (ks : List StreamContents) (b : Bool) (n : ℕ) (ns : List ℕ) → n < length ks → AreNumbers ks ns → AreNumbers ks (fed_once b n ns)
 numbers-once ks b n ns h all = by (b || has_number n ns)
   where
     by : (c : Bool) → AreNumbers ks (cond c ns (ns ++ n ∷ []))
@@ -322,7 +322,7 @@ numbers-once ks b n ns h all = by (b || has_number n ns)
     by false = All-push (λ n. n < length ks) ns n all h
 
 -- no number is that of a stream to come
-number-new : (ks : List Held) (ns : List ℕ) (n : ℕ) → length ks ≤ n → AreNumbers ks ns → has_number n ns ≡ false
+number-new : (ks : List StreamContents) (ns : List ℕ) (n : ℕ) → length ks ≤ n → AreNumbers ks ns → has_number n ns ≡ false
 number-new ks [] n h all = refl
 number-new ks (m ∷ ns) n h all =
     let below : m < length ks = all 0 m (omega arith) in
@@ -335,8 +335,8 @@ identities-equivalent = record {
   congr = λ x y z e. ap (λ w. identity_eq w z) (identity_eq_true x y e);
 }
 
-module _ (answers : ReaderAnswers) (made : List Held) (now : ℕ) (ds : List Demand) (d : Demand) (plan : Planned) (is : IsPlanOf answers made now ds plan) where
-  abbrev all : List Held
+module _ (answers : ReaderAnswers) (made : List StreamContents) (now : ℕ) (ds : List Demand) (d : Demand) (plan : Planned) (is : IsPlanOf answers made now ds plan) where
+  abbrev all : List StreamContents
   all = made ++ plan.added
 
   abbrev dropped : Identity → Bool
@@ -356,7 +356,7 @@ module _ (answers : ReaderAnswers) (made : List Held) (now : ℕ) (ds : List Dem
       → IsPlanOf answers made now (ds ++ d ∷ []) (record { feeds = fed_once (drops_at all n) n plan.feeds; added = plan.added })
   plan-known n e = record {
     apart = is.apart;
-    numbers = numbers-once all (drops_at all n) n plan.feeds (omega (arith, position-within (identity_eq d.identity) (stream_identities all) n e, length-map {A = Held} {B = Identity})) is.numbers;
+    numbers = numbers-once all (drops_at all n) n plan.feeds (omega (arith, position-within (identity_eq d.identity) (stream_identities all) n e, length-map {A = StreamContents} {B = Identity})) is.numbers;
     answered = is.answered;
     streams = sym (demanded-known now answers all d (known d.identity all ∙ ap is_some e)) ∙ sym after-more;
     feeds = by (drops_at all n) refl ∙ sym (fed-push dropped ds d);
@@ -389,20 +389,20 @@ module _ (answers : ReaderAnswers) (made : List Held) (now : ℕ) (ds : List Dem
 
   -- a demand of an identity that has none
   pub plan-new : (resets : Bool) → stream_number d.identity (stream_identities all) ≡ None → resets ≡ is_delta answers d
-      → IsPlanOf answers made now (ds ++ d ∷ []) (record { feeds = fed_once (model.is_drop d.aggregation) (length all) plan.feeds; added = plan.added ++ new_held resets d now ∷ [] })
+      → IsPlanOf answers made now (ds ++ d ∷ []) (record { feeds = fed_once (model.is_drop d.aggregation) (length all) plan.feeds; added = plan.added ++ new_contents resets d now ∷ [] })
   plan-new resets e delta = record {
-    apart = subst (λ (l : List Held). IsDistinct identity_eq (stream_identities l)) longer (subst (IsDistinct identity_eq) (sym (map-append identity_of all (fresh ∷ []))) (IsDistinct-push identities-equivalent (stream_identities all) d.identity is.apart absent));
-    numbers = subst (λ (l : List Held). AreNumbers l (fed_once (model.is_drop d.aggregation) (length all) plan.feeds)) longer (numbers-once (all ++ fresh ∷ []) (model.is_drop d.aggregation) (length all) plan.feeds (omega (arith, length-append {A = Held})) numbers-more);
+    apart = subst (λ (l : List StreamContents). IsDistinct identity_eq (stream_identities l)) longer (subst (IsDistinct identity_eq) (sym (map-append identity_of all (fresh ∷ []))) (IsDistinct-push identities-equivalent (stream_identities all) d.identity is.apart absent));
+    numbers = subst (λ (l : List StreamContents). AreNumbers l (fed_once (model.is_drop d.aggregation) (length all) plan.feeds)) longer (numbers-once (all ++ fresh ∷ []) (model.is_drop d.aggregation) (length all) plan.feeds (omega (arith, length-append {A = StreamContents})) numbers-more);
     answered = answered-push (λ resets d. resets ≡ is_delta answers d) plan.added fresh is.answered delta;
-    streams = ap (λ (l : List Held). part_by answers l []) (sym longer) ∙ (sym (demanded-new now answers all d resets unknown) ∙ sym after-more);
-    feeds = ap (λ (l : List Held). named_identities l (fed_once (model.is_drop d.aggregation) (length all) plan.feeds)) (sym longer)
+    streams = ap (λ (l : List StreamContents). part_by answers l []) (sym longer) ∙ (sym (demanded-new now answers all d resets unknown) ∙ sym after-more);
+    feeds = ap (λ (l : List StreamContents). named_identities l (fed_once (model.is_drop d.aggregation) (length all) plan.feeds)) (sym longer)
         ∙ (named-new (model.is_drop d.aggregation) refl
         ∙ (sym (fed-push dropped_then ds d)
-        ∙ ap (λ (l : List Held). model.fed_identities (model.is_dropped (fates_of l)) (ds ++ d ∷ [])) longer));
+        ∙ ap (λ (l : List StreamContents). model.fed_identities (model.is_dropped (fates_of l)) (ds ++ d ∷ [])) longer));
   }
     where
-      fresh : Held
-      fresh = new_held resets d now
+      fresh : StreamContents
+      fresh = new_contents resets d now
 
       longer : all ++ fresh ∷ [] ≡ made ++ (plan.added ++ fresh ∷ [])
       longer = append_assoc made plan.added (fresh ∷ [])
@@ -417,14 +417,14 @@ module _ (answers : ReaderAnswers) (made : List Held) (now : ℕ) (ds : List Dem
       absent = sym (any-position (identity_eq d.identity) (stream_identities all)) ∙ ap is_some e
 
       numbers-more : AreNumbers (all ++ fresh ∷ []) plan.feeds
-      numbers-more j n h = let q = is.numbers j n h in omega (arith, length-append {A = Held})
+      numbers-more j n h = let q = is.numbers j n h in omega (arith, length-append {A = StreamContents})
 
       -- what was demanded is known
       known-demanded : (y : Identity) → model.is_known (fates_of all) y ≡ (model.is_known (fates_of made) y || has (ids ds) y)
       known-demanded y = ap (λ (p : ReaderPart). model.is_known p.fates y) is.streams ∙ (ap (λ fs. model.is_known fs y) (demanded-fates now part ds) ∙ entered-known (fates_of made) ds y)
 
       longer-fates : fates_of (all ++ fresh ∷ []) ≡ fates_of all ++ d ∷ []
-      longer-fates = map-append (λ (k : Held). k.stream.demand) all (fresh ∷ [])
+      longer-fates = map-append (λ (k : StreamContents). k.stream.demand) all (fresh ∷ [])
 
       undemanded : has (ids ds) d.identity ≡ false
       undemanded = second (model.is_known (fates_of made) d.identity) (has (ids ds) d.identity) (sym (known-demanded d.identity) ∙ unknown)
@@ -473,38 +473,38 @@ position-past p (x ∷ xs) ys o e f = position-cons p x (xs ++ ys) ∙ by (p x) 
     by false None rest q = ap (option_map suc) (rest refl) ∙ more o
     by false (Some m) rest q = absurd (cc)
 
-get-past : (ks ms : List Held) (n m : ℕ) → m ≡ length ks + n → slice_get (ks ++ ms) m ≡ slice_get ms n
+get-past : (ks ms : List StreamContents) (n m : ℕ) → m ≡ length ks + n → slice_get (ks ++ ms) m ≡ slice_get ms n
 get-past [] ms n m e = ap (slice_get ms) (omega arith)
 get-past (k ∷ ks) ms n zero e = absurd (omega arith)
 get-past (k ∷ ks) ms n (suc m) e = get-past ks ms n m (omega arith)
 
-abbrev drops_by : Option Held → Bool
+abbrev drops_by : Option StreamContents → Bool
 drops_by None = false
 drops_by (Some h) = model.is_drop h.stream.demand.aggregation
 
-drops-as : (ks : List Held) (n : ℕ) → drops_at ks n ≡ drops_by (slice_get ks n)
+drops-as : (ks : List StreamContents) (n : ℕ) → drops_at ks n ≡ drops_by (slice_get ks n)
 drops-as ks n = by (slice_get ks n) refl
   where
-    by : (o : Option Held) → slice_get ks n ≡ o → drops_at ks n ≡ drops_by (slice_get ks n)
+    by : (o : Option StreamContents) → slice_get ks n ≡ o → drops_at ks n ≡ drops_by (slice_get ks n)
     by None e = rw e refl
     by (Some k) e = rw e refl
 
-drops-past : (ks ms : List Held) (n : ℕ) → drops_at ms n ≡ drops_at (ks ++ ms) (length ks + n)
+drops-past : (ks ms : List StreamContents) (n : ℕ) → drops_at ms n ≡ drops_at (ks ++ ms) (length ks + n)
 drops-past ks ms n = drops-as ms n ∙ (ap drops_by (sym (get-past ks ms n (length ks + n) refl)) ∙ sym (drops-as (ks ++ ms) (length ks + n)))
 
-pub identities-append : (ks ms : List Held) → stream_identities (ks ++ ms) ≡ stream_identities ks ++ stream_identities ms
+pub identities-append : (ks ms : List StreamContents) → stream_identities (ks ++ ms) ≡ stream_identities ks ++ stream_identities ms
 identities-append ks ms = map-append identity_of ks ms
 
 -- among the streams of the reader
-pub found-made : (x : Identity) (ks ms : List Held) (n : ℕ) (k : Held) → stream_number x (stream_identities ks) ≡ Some n → k ≡ get_or ks n k
+pub found-made : (x : Identity) (ks ms : List StreamContents) (n : ℕ) (k : StreamContents) → stream_number x (stream_identities ks) ≡ Some n → k ≡ get_or ks n k
     → ◌≡◌ {A = Option (ℕ × Bool)} (Some (n, model.is_drop k.stream.demand.aggregation)) (found_at x (ks ++ ms))
 found-made x ks ms n k e is =
-    let at : slice_get ks n ≡ Some k = slice_get_read ks (length ks) n k refl (omega (arith, position-within (identity_eq x) (stream_identities ks) n e, length-map {A = Held} {B = Identity})) is in
+    let at : slice_get ks n ≡ Some k = slice_get_read ks (length ks) n k refl (omega (arith, position-within (identity_eq x) (stream_identities ks) n e, length-map {A = StreamContents} {B = Identity})) is in
     (λ i. Some (n, sym (drops-is (ks ++ ms) n k (get-append ks ms n k at)) i))
     ∙ sym (ap (option_map (with_drop (ks ++ ms))) (ap (position (identity_eq x)) (identities-append ks ms) ∙ position-front (identity_eq x) (stream_identities ks) (stream_identities ms) n e))
 
 -- among the new ones, or nowhere
-pub found-past : (x : Identity) (ks ms : List Held) (first : ℕ) → first ≡ length ks → stream_number x (stream_identities ks) ≡ None
+pub found-past : (x : Identity) (ks ms : List StreamContents) (first : ℕ) → first ≡ length ks → stream_number x (stream_identities ks) ≡ None
     → option_map (counted_from first) (found_at x ms) ≡ found_at x (ks ++ ms)
 found-past x ks ms first long none =
     by (stream_number x (stream_identities ms))
@@ -518,14 +518,14 @@ found-past x ks ms first long none =
     by (Some n) = λ i. Some (long i + n, drops-past ks ms n i)
 
 -- in the new ones alone
-pub found-new : (x : Identity) (ms : List Held) (first n : ℕ) (k : Held) (b : Bool) → stream_number x (stream_identities ms) ≡ Some n → k ≡ get_or ms n k → b ≡ model.is_drop k.stream.demand.aggregation
+pub found-new : (x : Identity) (ms : List StreamContents) (first n : ℕ) (k : StreamContents) (b : Bool) → stream_number x (stream_identities ms) ≡ Some n → k ≡ get_or ms n k → b ≡ model.is_drop k.stream.demand.aggregation
     → ◌≡◌ {A = Option (ℕ × Bool)} (Some (first + n, b)) (option_map (counted_from first) (found_at x ms))
 found-new x ms first n k b e is drops =
-    let at : slice_get ms n ≡ Some k = slice_get_read ms (length ms) n k refl (omega (arith, position-within (identity_eq x) (stream_identities ms) n e, length-map {A = Held} {B = Identity})) is in
+    let at : slice_get ms n ≡ Some k = slice_get_read ms (length ms) n k refl (omega (arith, position-within (identity_eq x) (stream_identities ms) n e, length-map {A = StreamContents} {B = Identity})) is in
     (λ i. Some (first + n, (drops ∙ sym (drops-is ms n k at)) i)) ∙ sym (ap (λ o. option_map (counted_from first) (option_map (with_drop ms) o)) e)
 
 -- what was found is where it was found
-found-number : (o : Option ℕ) (ks : List Held) (n : ℕ) (b : Bool) → ◌≡◌ {A = Option (ℕ × Bool)} (Some (n, b)) (option_map (with_drop ks) o) → (o ≡ Some n) × (b ≡ drops_at ks n)
+found-number : (o : Option ℕ) (ks : List StreamContents) (n : ℕ) (b : Bool) → ◌≡◌ {A = Option (ℕ × Bool)} (Some (n, b)) (option_map (with_drop ks) o) → (o ≡ Some n) × (b ≡ drops_at ks n)
 found-number None ks n b e = absurd (cc)
 found-number (Some m) ks n b e =
     let same : n ≡ m = ap (λ (p : ℕ × Bool). p.0) (some_pair (n, b) (with_drop ks m) e) in
@@ -535,34 +535,34 @@ found-number (Some m) ks n b e =
     some_pair : (p q : ℕ × Bool) → Some p ≡ Some q → p ≡ q
     some_pair p q h = cc
 
-not-found : (o : Option ℕ) (ks : List Held) → None ≡ option_map (with_drop ks) o → o ≡ None
+not-found : (o : Option ℕ) (ks : List StreamContents) → None ≡ option_map (with_drop ks) o → o ≡ None
 not-found None ks e = refl
 not-found (Some m) ks e = absurd (cc)
 
 -- a demand whose stream was found
-pub demanded-found : (answers : ReaderAnswers) (made : List Held) (now : ℕ) (d : Demand) (old new : Planned) (n : ℕ) (b : Bool) → ◌≡◌ {A = Option (ℕ × Bool)} (Some (n, b)) (found_at d.identity (made ++ old.added))
+pub demanded-found : (answers : ReaderAnswers) (made : List StreamContents) (now : ℕ) (d : Demand) (old new : Planned) (n : ℕ) (b : Bool) → ◌≡◌ {A = Option (ℕ × Bool)} (Some (n, b)) (found_at d.identity (made ++ old.added))
     → new ≡ record { feeds = fed_once b n old.feeds; added = old.added } → (ds : List Demand) → IsPlanOf answers made now ds old → IsPlanOf answers made now (ds ++ d ∷ []) new
 demanded-found answers made now d old new n b e is ds before =
     let at = found-number (stream_number d.identity (stream_identities (made ++ old.added))) (made ++ old.added) n b e in
     subst (IsPlanOf answers made now (ds ++ d ∷ [])) ((λ i. record { feeds = fed_once (sym at.1 i) n old.feeds; added = old.added }) ∙ sym is) (plan-known answers made now ds d old before n at.0)
 
 -- one whose stream is new
-pub demanded-added : (answers : ReaderAnswers) (made : List Held) (now : ℕ) (d : Demand) (old new : Planned) (n : ℕ) (b resets : Bool) → None ≡ found_at d.identity (made ++ old.added)
+pub demanded-added : (answers : ReaderAnswers) (made : List StreamContents) (now : ℕ) (d : Demand) (old new : Planned) (n : ℕ) (b resets : Bool) → None ≡ found_at d.identity (made ++ old.added)
     → n ≡ length made + length old.added → b ≡ model.is_drop d.aggregation → resets ≡ is_delta answers d
-    → new ≡ record { feeds = fed_once b n old.feeds; added = old.added ++ new_held resets d now ∷ [] } → (ds : List Demand) → IsPlanOf answers made now ds old → IsPlanOf answers made now (ds ++ d ∷ []) new
+    → new ≡ record { feeds = fed_once b n old.feeds; added = old.added ++ new_contents resets d now ∷ [] } → (ds : List Demand) → IsPlanOf answers made now ds old → IsPlanOf answers made now (ds ++ d ∷ []) new
 demanded-added answers made now d old new n b resets e long drops delta is ds before =
     let none = not-found (stream_number d.identity (stream_identities (made ++ old.added))) (made ++ old.added) e in
     subst (IsPlanOf answers made now (ds ++ d ∷ []))
-    ((λ i. record { feeds = fed_once (sym drops i) ((length-append {A = Held} made old.added ∙ sym long) i) old.feeds; added = old.added ++ new_held resets d now ∷ [] }) ∙ sym is)
+    ((λ i. record { feeds = fed_once (sym drops i) ((length-append {A = StreamContents} made old.added ∙ sym long) i) old.feeds; added = old.added ++ new_contents resets d now ∷ [] }) ∙ sym is)
     (plan-new answers made now ds d old before resets none delta)
 
 -- ======== no demand ========
-pub plan-none : (answers : ReaderAnswers) (made : List Held) (now : ℕ) → IsDistinct identity_eq (stream_identities made) → IsPlanOf answers made now [] (record { feeds = []; added = [] })
+pub plan-none : (answers : ReaderAnswers) (made : List StreamContents) (now : ℕ) → IsDistinct identity_eq (stream_identities made) → IsPlanOf answers made now [] (record { feeds = []; added = [] })
 plan-none answers made now apart = record {
-  apart = subst (λ (l : List Held). IsDistinct identity_eq (stream_identities l)) (sym (append-nil made)) apart;
+  apart = subst (λ (l : List StreamContents). IsDistinct identity_eq (stream_identities l)) (sym (append-nil made)) apart;
   numbers = λ j n h. absurd (omega arith);
   answered = tt;
-  streams = ap (λ (l : List Held). part_by answers l []) (append-nil made);
+  streams = ap (λ (l : List StreamContents). part_by answers l []) (append-nil made);
   feeds = refl;
 }
 
@@ -575,7 +575,7 @@ plan-built now ds p plan numbers e is =
     ∙ ((λ i. record { answers = p.answers; fates = fates_of ks; streams = model_streams ks; feeds = (map-append (named_identities ks) p.feeds (plan.feeds ∷ []) ∙ λ j. all_named-front p.streams plan.added p.feeds numbers j ++ is.feeds j ∷ []) i })
     ∙ sym (ap (machine.with_feeds ds) (demanded-fed now (map (named_identities p.streams) p.feeds) (part_by p.answers p.streams []) ds ∙ ap (fed_by_these (map (named_identities p.streams) p.feeds)) (sym is.streams))))
   where
-    ks : List Held
+    ks : List StreamContents
     ks = p.streams ++ plan.added
 
 -- the demands of the model's build, of an instrument that is good where there is a scope
@@ -619,19 +619,19 @@ inserted-all ks (x ∷ xs) apart =
     ∙ (inserted-all (ks ++ x ∷ []) xs (subst (IsDistinct identity_eq) (sym (append_assoc ks (x ∷ []) xs)) apart) ∙ append_assoc ks (x ∷ []) xs)
 
 -- by whichever test of identities
-pub appended-keys : (same : InstrumentKind → InstrumentKind → Bool) (law : (x y : InstrumentKind) → Decides (same x y) (x ≡ y)) (ks ms : List Held) (old more : List Identity) → old ≡ stream_identities ks → more ≡ stream_identities ms
+pub appended-keys : (same : InstrumentKind → InstrumentKind → Bool) (law : (x y : InstrumentKind) → Decides (same x y) (x ≡ y)) (ks ms : List StreamContents) (old more : List Identity) → old ≡ stream_identities ks → more ≡ stream_identities ms
     → IsDistinct identity_eq (stream_identities (ks ++ ms)) → insert_all (test_of same law) old more ≡ stream_identities (ks ++ ms)
 appended-keys same law ks ms old more e f apart =
     (λ i. insert_all (test-same same law i) (e i) (f i))
     ∙ (inserted-all (stream_identities ks) (stream_identities ms) (subst (IsDistinct identity_eq) (identities-append ks ms) apart) ∙ sym (identities-append ks ms))
 
 -- the numbers that were there, and those of the new instrument
-pub numbers-built : (ks ms : List Held) (feeds : List (List ℕ)) (ns : List ℕ) → All (AreNumbers ks) feeds → AreNumbers (ks ++ ms) ns → All (AreNumbers (ks ++ ms)) (feeds ++ ns ∷ [])
+pub numbers-built : (ks ms : List StreamContents) (feeds : List (List ℕ)) (ns : List ℕ) → All (AreNumbers ks) feeds → AreNumbers (ks ++ ms) ns → All (AreNumbers (ks ++ ms)) (feeds ++ ns ∷ [])
 numbers-built ks ms feeds ns all last =
-    All-push (AreNumbers (ks ++ ms)) feeds ns (λ i d h j d' h'. let q = all i d h j d' h' in omega (arith, length-append {A = Held})) last
+    All-push (AreNumbers (ks ++ ms)) feeds ns (λ i d h j d' h'. let q = all i d h j d' h' in omega (arith, length-append {A = StreamContents})) last
 
 -- what holds of each of two lists of streams
-pub each-append : (P : Bool → Demand → Type 0) (ks ms : List Held) → OfAnswer P ks → OfAnswer P ms → OfAnswer P (ks ++ ms)
+pub each-append : (P : Bool → Demand → Type 0) (ks ms : List StreamContents) → OfAnswer P ks → OfAnswer P ms → OfAnswer P (ks ++ ms)
 each-append P [] ms each more = more
 each-append P (k ∷ ks) ms each more = (each.0, each-append P ks ms each.1 more)
 
@@ -640,7 +640,7 @@ pub room-parts : (a b c : Bool) → IsTrue (a && (b && c)) → (a ≡ true) × (
 room-parts a b c e = let p = and_parts a (b && c) e in let q = and_parts b c p.1 in (p.0, q.0, q.1)
 
 -- carrying out a plan
-pub built-is : (answers : ReaderAnswers) (ks : List Held) (feeds : List (List ℕ)) (o : Option Planned) (room : Bool) (plan : Planned) → Some plan ≡ o
+pub built-is : (answers : ReaderAnswers) (ks : List StreamContents) (feeds : List (List ℕ)) (o : Option Planned) (room : Bool) (plan : Planned) → Some plan ≡ o
     → part_by answers (ks ++ plan.added) (feeds ++ plan.feeds ∷ []) ≡ part_of (piped_after_build (record { answers = answers; streams = ks; feeds = feeds; plan = o; room = room }))
 built-is answers ks feeds o room plan took = ap (λ (q : Option Planned). part_of (piped_after_build (record { answers = answers; streams = ks; feeds = feeds; plan = q; room = room }))) took
 

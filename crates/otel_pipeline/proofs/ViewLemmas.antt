@@ -11,7 +11,7 @@ use Rattle.otel_model.specs.Demands as model
 use Rattle.otel_model.specs.Demands.{Identity, Demand, ReaderAnswers, StreamSpec, answer_for, fits, is_valid, kind_default, default_from, reader_default, with_bounds, with_own, resolved_aggregation, demand_of, own_demand, view_demands, is_compatible}
 use Rattle.otel_model.specs.Machine as machine
 use Rattle.otel_pipeline.specs.Pipelines.{Planned, part_by, named_identities, fates_of, demands_in, dropped_with, IsPlanOf}
-use Rattle.otel_pipeline.specs.Streams.{Held}
+use Rattle.otel_pipeline.specs.Streams.{StreamContents}
 use Rattle.otel_pipeline.specs.Views.{views_answering, usable_answer, usable_demands, can_keep, is_unfit, has_none, demands_own}
 use Rattle.otel_pipeline.proofs.Plans.{demanded-fates, no_identity, fed-empty}
 use Rattle.otel_pipeline.proofs.Records.{HaveStreams, identity_at-is, numbers-named}
@@ -114,11 +114,11 @@ module _ (answers : ReaderAnswers) (scope : InstrumentationScope) (about : About
   unfit-is (Some s ∷ l) = λ i. not (compatible-is answers scope about s i) || unfit-is l i
 
   -- nothing is fed exactly if all that is demanded drops
-  module _ (made : List Held) (now : ℕ) (plan : Planned) (ds : List Demand) (is : IsPlanOf answers made now ds plan) where
+  module _ (made : List StreamContents) (now : ℕ) (plan : Planned) (ds : List Demand) (is : IsPlanOf answers made now ds plan) where
     same-fates : fates_of (made ++ plan.added) ≡ fold machine.enter (fates_of made) ds
     same-fates = ap (λ p. p.fates) is.streams ∙ demanded-fates now (part_by answers made []) ds
 
-    none-named : (ks : List Held) (ns : List ℕ) → HaveStreams ns ks → has_none ns ≡ no_identity (named_identities ks ns)
+    none-named : (ks : List StreamContents) (ns : List ℕ) → HaveStreams ns ks → has_none ns ≡ no_identity (named_identities ks ns)
     none-named ks [] all = refl
     none-named ks (n ∷ ns) all = sym (ap (λ xs. no_identity (xs ++ named_identities ks ns)) (identity_at-is ks n (all.0.0) all.0.1))
 
@@ -130,19 +130,19 @@ module _ (answers : ReaderAnswers) (scope : InstrumentationScope) (about : About
         ∙ ap (λ fs. not (list_any (λ (d : Demand). not (model.is_dropped fs d.identity)) ds)) same-fates))
 
   -- so the plan of what can be used tells whether the own stream is demanded
-  pub demands_own-is : (made : List Held) (now : ℕ) (plan : Planned) (l : List (Option StreamSpec)) → IsPlanOf answers made now (usable l) plan
+  pub demands_own-is : (made : List StreamContents) (now : ℕ) (plan : Planned) (l : List (Option StreamSpec)) → IsPlanOf answers made now (usable l) plan
       → demands_own about.kind l plan.feeds ≡ model.needs_own (dropped_with made (usable l)) (demands l)
   demands_own-is made now plan l is = λ i. sym (is_empty-is l) i || (sym (unfit-is l) i && fed-none made now plan (usable l) is i)
 
   -- all that an instrument demands
-  pub demands-with : (made : List Held) (o : Option InstrumentationScope) (l : List (Option StreamSpec)) (b : Bool) → o ≡ Some scope → model.needs_own (dropped_with made (usable l)) (demands l) ≡ b
+  pub demands-with : (made : List StreamContents) (o : Option InstrumentationScope) (l : List (Option StreamSpec)) (b : Bool) → o ≡ Some scope → model.needs_own (dropped_with made (usable l)) (demands l) ≡ b
       → demands_in (dropped_with made) (views_answering l) answers o about ≡ usable l ++ cond b (own_demand answers scope about ∷ []) []
   demands-with made o l b e needs =
       ap (λ s. demands_in (dropped_with made) (views_answering l) answers s about) e
       ∙ ap (λ n. usable l ++ cond n (own_demand answers scope about ∷ []) []) needs
 
 -- without a scope nothing is demanded
-pub demands-none : (made : List Held) (answers : ReaderAnswers) (o : Option InstrumentationScope) (about : About) (l : List (Option StreamSpec)) → o ≡ None → demands_in (dropped_with made) (views_answering l) answers o about ≡ []
+pub demands-none : (made : List StreamContents) (answers : ReaderAnswers) (o : Option InstrumentationScope) (about : About) (l : List (Option StreamSpec)) → o ≡ None → demands_in (dropped_with made) (views_answering l) answers o about ≡ []
 demands-none made answers o about l e = ap (λ s. demands_in (dropped_with made) (views_answering l) answers s about) e
 
 -- an aggregation that can't be used is not demanded
@@ -154,5 +154,5 @@ pub fit-demands : (answers : ReaderAnswers) (scope : InstrumentationScope) (abou
 fit-demands answers scope about s e = ap (λ b. cond b (demand_of answers scope about s ∷ []) []) (compatible-is answers scope about s ∙ e)
 
 -- nothing more
-pub plan-same : (answers : ReaderAnswers) (made : List Held) (now : ℕ) (plan : Planned) (more : List Demand) → more ≡ [] → (ds : List Demand) → IsPlanOf answers made now ds plan → IsPlanOf answers made now (ds ++ more) plan
+pub plan-same : (answers : ReaderAnswers) (made : List StreamContents) (now : ℕ) (plan : Planned) (more : List Demand) → more ≡ [] → (ds : List Demand) → IsPlanOf answers made now ds plan → IsPlanOf answers made now (ds ++ more) plan
 plan-same answers made now plan more e ds is = subst (λ (l : List Demand). IsPlanOf answers made now l plan) (sym (append-nil ds) ∙ ap (λ m. ds ++ m) (sym e)) is

@@ -11,18 +11,18 @@ use Rattle.otel_model.specs.Calls.{Observed}
 use Rattle.otel_model.specs.State.{Shared, ReaderPart}
 use Rattle.otel_model.specs.Steps.{collect_from}
 use Rattle.otel_pipeline.specs.Pipelines.{is_streamed}
-use Rattle.otel_pipeline.specs.Streams.{Held, shown_metric}
+use Rattle.otel_pipeline.specs.Streams.{StreamContents, shown_metric}
 
 -- the metric of a stream, with its scope
-abbrev pub scoped_metric : ℕ → Held → ScopedMetric
+abbrev pub scoped_metric : ℕ → StreamContents → ScopedMetric
 scoped_metric now h = (h.stream.demand.identity.scope, shown_metric now h)
 
 -- the metrics of all streams, without those that drop
-abbrev pub all_scoped : ℕ → List Held → List ScopedMetric
+abbrev pub all_scoped : ℕ → List StreamContents → List ScopedMetric
 all_scoped now streams = map (scoped_metric now) (filter is_streamed streams)
 
 -- the metrics of a scope that have points
-abbrev pub shown_in : InstrumentationScope → ℕ → List Held → List Metric
+abbrev pub shown_in : InstrumentationScope → ℕ → List StreamContents → List Metric
 shown_in scope now streams = (in_scope (all_scoped now streams) scope).metrics
 
 abbrev pub if_shown : Bool → Metric → List Metric
@@ -30,14 +30,14 @@ if_shown true m = m ∷ []
 if_shown false m = []
 
 -- the metric of one stream, if it doesn't drop, has this scope and has points
-abbrev pub shown_one : InstrumentationScope → ℕ → Held → List Metric
+abbrev pub shown_one : InstrumentationScope → ℕ → StreamContents → List Metric
 shown_one scope now h = if_shown (is_streamed h && (scope_eq h.stream.demand.identity.scope scope && has_points (shown_metric now h))) (shown_metric now h)
 
-abbrev pub scope_shown : ℕ → List Held → InstrumentationScope → ScopeMetrics
+abbrev pub scope_shown : ℕ → List StreamContents → InstrumentationScope → ScopeMetrics
 scope_shown now streams scope = in_scope (all_scoped now streams) scope
 
 -- the scopes of these meters that have metrics, with them
-abbrev pub scopes_shown : ℕ → List Held → List InstrumentationScope → List ScopeMetrics
+abbrev pub scopes_shown : ℕ → List StreamContents → List InstrumentationScope → List ScopeMetrics
 scopes_shown now streams meters = filter has_metrics (map (scope_shown now streams) meters)
 
 -- each list followed by the one at the same position among the others, if there is one

@@ -10,7 +10,7 @@ use Rattle.otel_model.specs.Sent.{is_fed, set_for}
 use Rattle.otel_model.specs.State.{Stream, ReaderPart}
 use Rattle.otel_model.specs.Streams.{is_drained}
 use Rattle.otel_pipeline.specs.Pipelines.{Piped, IsLawful, fed_by, part_changed_by}
-use Rattle.otel_pipeline.specs.Streams.{Held, held_after_bind}
+use Rattle.otel_pipeline.specs.Streams.{StreamContents, contents_after_bind}
 
 -- ======== what the streams of a reader have ========
 -- the instrument feeds only streams of synchronous instruments
@@ -36,17 +36,17 @@ IsHeldByFed instrument h p = EachOf (λ (q : Stream). is_fed p.feeds instrument 
 -- ======== binds ========
 -- the stream is ready for a bind of these attributes: their set is prepared, and unless the stream is drained, room is
 -- made
-pub record IsReadyToBind (l : List KeyValue) (k : Held) : Type 0 where
+pub record IsReadyToBind (l : List KeyValue) (k : StreamContents) : Type 0 where
   pub set : k.pending ≡ Some (set_for k.stream.demand l)
   pub room : k.room ≡ not (is_drained k.stream.demand)
 
 -- the same of a stream, if there is one
-abbrev pub IsReadyIfThere : List KeyValue → Option Held → Type 0
+abbrev pub IsReadyIfThere : List KeyValue → Option StreamContents → Type 0
 IsReadyIfThere l None = Unit {0}
 IsReadyIfThere l (Some k) = IsReadyToBind l k
 
 -- the same of the streams with these numbers
-abbrev pub AreReadyToBind : List KeyValue → List Held → List ℕ → Type 0
+abbrev pub AreReadyToBind : List KeyValue → List StreamContents → List ℕ → Type 0
 AreReadyToBind l streams ns = All (λ n. IsReadyIfThere l (slice_get streams n)) ns
 
 -- the reader is ready for a bind of these attributes at the instrument
@@ -56,4 +56,4 @@ pub record IsReadyToBindAt (instrument : ℕ) (attributes : List KeyValue) (p : 
 
 -- the reader's part, once the bind is made in each stream that the instrument feeds
 abbrev pub part_after_bind : ℕ → ℕ → Piped → ReaderPart
-part_after_bind instrument h p = part_changed_by (held_after_bind h) instrument p
+part_after_bind instrument h p = part_changed_by (contents_after_bind h) instrument p

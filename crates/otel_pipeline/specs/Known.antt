@@ -8,7 +8,7 @@ use Rattle.otel_model_stream.specs.Sets.{none_set, set_of}
 use Rattle.otel_model.specs.Calls.{or_else}
 use Rattle.otel_model.specs.Demands.{Identity, identity_eq}
 use Rattle.otel_model.specs.State.{Stream, ReaderPart}
-use Rattle.otel_pipeline.specs.Streams.{Held}
+use Rattle.otel_pipeline.specs.Streams.{StreamContents}
 
 -- whether the stream knows the attributes: their set has an entry, or is the empty one
 abbrev pub is_known_to : List KeyValue → Stream → Bool
@@ -23,6 +23,6 @@ abbrev pub is_known_at : ℕ → List KeyValue → ReaderPart → Bool
 is_known_at n l p = list_all (is_known_by l p.streams) (or_else (slice_get p.feeds n) [])
 
 -- the stream, if there is one, knows them
-abbrev pub IsKnownIfThere : List KeyValue → Option Held → Type 0
+abbrev pub IsKnownIfThere : List KeyValue → Option StreamContents → Type 0
 IsKnownIfThere l None = Unit {0}
 IsKnownIfThere l (Some k) = is_known_to l k.stream ≡ true

@@ -11,7 +11,7 @@ use Rattle.otel_model.specs.Sent.{set_for}
 use Rattle.otel_model.specs.State.{ReaderPart}
 use Rattle.otel_model.specs.Streams.{aggregate_of}
 use Rattle.otel_pipeline.specs.Pipelines.{FeedsType, all_without_pending, changed_each}
-use Rattle.otel_pipeline.specs.Streams.{Held, with_record, without_pending}
+use Rattle.otel_pipeline.specs.Streams.{StreamContents, with_record, without_pending}
 
 -- an observation in the words of the model
 abbrev pub observed_of : Observed → model.Observed
@@ -23,7 +23,7 @@ AreTypedFor os p = All (λ o. FeedsType o.instrument (is_signed_value o.value) p
 
 -- ======== taken in ========
 -- the stream, once it takes the observation in; only one with its number type does
-abbrev pub observed_one : Observed → Held → Held
+abbrev pub observed_one : Observed → StreamContents → StreamContents
 observed_one o h = cond (beq (is_signed_value o.value) h.stream.demand.identity.signed) (with_record (set_for h.stream.demand o.attributes) (amount_of o.value) h) h
 
 -- the numbers of the streams that take an observation in
@@ -31,39 +31,39 @@ abbrev pub observing_numbers : List (List ℕ) → Observed → List ℕ
 observing_numbers feeds o = or_else (slice_get feeds o.instrument) []
 
 -- the streams, once those that its instrument feeds take an observation in
-abbrev pub observed_in : List (List ℕ) → List Held → Observed → List Held
+abbrev pub observed_in : List (List ℕ) → List StreamContents → Observed → List StreamContents
 observed_in feeds streams o = changed_each (observed_one o) (observing_numbers feeds o) streams
 
 -- the streams, once these observations are taken in, one after another
-abbrev pub observed_all : List (List ℕ) → List Observed → List Held → List Held
+abbrev pub observed_all : List (List ℕ) → List Observed → List StreamContents → List StreamContents
 observed_all feeds os streams = fold (observed_in feeds) streams os
 
 -- ======== undone ========
 -- what is saved of a stream: its number type, the form of its entries, its entries, and the total of its records
-pub record SavedHeld : Type 0 where
+pub record SavedStreamContents : Type 0 where
   pub is_signed : Bool
   pub form : Form
   pub table : Table
   pub recorded : ℕ
 
 -- what is saved of this stream
-abbrev pub saved_by : Held → SavedHeld
+abbrev pub saved_by : StreamContents → SavedStreamContents
 saved_by h = record { is_signed = h.stream.demand.identity.signed; form = form_of (aggregate_of h.stream.demand); table = h.stream.machine.table; recorded = h.stream.recorded }
 
 -- what was saved before, or else this
-abbrev pub kept_or : Option SavedHeld → SavedHeld → Option SavedHeld
+abbrev pub kept_or : Option SavedStreamContents → SavedStreamContents → Option SavedStreamContents
 kept_or None new = Some new
 kept_or (Some old) new = Some old
 
 -- what was saved can be put back into the stream: number type and form are the same, and the instrument is observable
-pub record IsSavedOf (saved : SavedHeld) (h : Held) : Type 0 where
+pub record IsSavedOf (saved : SavedStreamContents) (h : StreamContents) : Type 0 where
   pub number : saved.is_signed ≡ h.stream.demand.identity.signed
   pub form : saved.form ≡ form_of (aggregate_of h.stream.demand)
   pub observable : is_observable h.stream.demand.identity.kind ≡ true
 
 -- the stream with what was saved put back; what was prepared is given up
-abbrev pub held_after_restore : SavedHeld → Held → Held
-held_after_restore saved h = record {
+abbrev pub contents_after_restore : SavedStreamContents → StreamContents → StreamContents
+contents_after_restore saved h = record {
   stream = record {
     demand = h.stream.demand;
     machine = record { table = saved.table; live = h.stream.machine.live };
@@ -78,42 +78,42 @@ held_after_restore saved h = record {
 }
 
 -- the stream with what was saved put back, if anything was; in any case nothing is prepared, and no room is made
-abbrev pub restored_if : Option SavedHeld → Held → Held
+abbrev pub restored_if : Option SavedStreamContents → StreamContents → StreamContents
 restored_if None h = without_pending h
-restored_if (Some saved) h = without_pending (held_after_restore saved h)
+restored_if (Some saved) h = without_pending (contents_after_restore saved h)
 
 -- the same for each stream of a list
-abbrev pub restored_all : List (Option SavedHeld) → List Held → List Held
+abbrev pub restored_all : List (Option SavedStreamContents) → List StreamContents → List StreamContents
 restored_all [] hs = all_without_pending hs
 restored_all (s ∷ ss) [] = []
 restored_all (s ∷ ss) (h ∷ hs) = restored_if s h ∷ restored_all ss hs
 
 -- what was saved can be put back into these streams
-abbrev pub AreSavedOf : List (Option SavedHeld) → List Held → Type 0
+abbrev pub AreSavedOf : List (Option SavedStreamContents) → List StreamContents → Type 0
 AreSavedOf [] hs = Unit {0}
 AreSavedOf (s ∷ ss) [] = Unit {0}
 AreSavedOf (None ∷ ss) (h ∷ hs) = AreSavedOf ss hs
 AreSavedOf (Some s ∷ ss) (h ∷ hs) = IsSavedOf s h × AreSavedOf ss hs
 
 -- something was saved of the stream with this number
-abbrev pub IsSaved : List (Option SavedHeld) → ℕ → Type 0
-IsSaved ss n = (s : SavedHeld) × (slice_get ss n ≡ Some (Some s))
+abbrev pub IsSaved : List (Option SavedStreamContents) → ℕ → Type 0
+IsSaved ss n = (s : SavedStreamContents) × (slice_get ss n ≡ Some (Some s))
 
 -- the stream with this number, if there is one, is of an observable instrument
-abbrev pub IsObservable : List Held → ℕ → Type 0
-IsObservable streams n = (h : Held) → slice_get streams n ≡ Some h → is_observable h.stream.demand.identity.kind ≡ true
+abbrev pub IsObservable : List StreamContents → ℕ → Type 0
+IsObservable streams n = (h : StreamContents) → slice_get streams n ≡ Some h → is_observable h.stream.demand.identity.kind ≡ true
 
 -- the same of the streams with these numbers
-abbrev pub AreObservable : List Held → List ℕ → Type 0
+abbrev pub AreObservable : List StreamContents → List ℕ → Type 0
 AreObservable streams ns = All (IsObservable streams) ns
 
 -- the same of the streams that take these observations in
-abbrev pub AreObservableIn : List (List ℕ) → List Observed → List Held → Type 0
+abbrev pub AreObservableIn : List (List ℕ) → List Observed → List StreamContents → Type 0
 AreObservableIn feeds os streams = All (λ o. AreObservable streams (observing_numbers feeds o)) os
 
 -- putting back what was saved changes nothing in these streams but what was prepared, and something was saved of each
 -- that takes these observations in
-pub record CanUndo (feeds : List (List ℕ)) (os : List Observed) (streams : List Held) (ss : List (Option SavedHeld)) : Type 0 where
+pub record CanUndo (feeds : List (List ℕ)) (os : List Observed) (streams : List StreamContents) (ss : List (Option SavedStreamContents)) : Type 0 where
   pub many : length ss ≤ length streams
   pub same : restored_all ss streams ≡ all_without_pending streams
   pub kept : AreSavedOf ss streams

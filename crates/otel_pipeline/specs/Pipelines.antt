@@ -13,19 +13,19 @@ use Rattle.otel_model.specs.Machine.{changed_at, part_after_demand, enter}
 use Rattle.otel_model.specs.Sent.{is_fed, set_for}
 use Rattle.otel_model.specs.Streams.{is_delta}
 use Rattle.otel_model_stream.specs.Totals.{has_number}
-use Rattle.otel_pipeline.specs.Streams.{Held, held_after_commit, without_pending, held_after_collection}
+use Rattle.otel_pipeline.specs.Streams.{StreamContents, contents_after_commit, without_pending, contents_after_collection}
 
 -- what a build is going to do: the numbers of the streams that the instrument will feed, and the new streams
 pub record Planned : Type 0 where
   pub feeds : List ℕ
-  pub added : List Held
+  pub added : List StreamContents
 
 -- a reader's answers; its streams, in order of making; for each instrument the numbers of those that it feeds; what is
 -- planned, if anything; and whether there is room for that. A demand that drops is kept among the streams, so that it
 -- is known
 pub record Piped : Type 0 where
   pub answers : ReaderAnswers
-  pub streams : List Held
+  pub streams : List StreamContents
   pub feeds : List (List ℕ)
   pub plan : Option Planned
   pub room : Bool
@@ -36,39 +36,39 @@ many_added None = 0
 many_added (Some plan) = length plan.added
 
 -- ======== the model's part ========
-abbrev pub identity_of : Held → Identity
+abbrev pub identity_of : StreamContents → Identity
 identity_of h = h.stream.demand.identity
 
-abbrev pub stream_identities : List Held → List Identity
+abbrev pub stream_identities : List StreamContents → List Identity
 stream_identities streams = map identity_of streams
 
 -- the identity of the stream with this number, if there is one
-abbrev pub identity_at : List Held → ℕ → List Identity
+abbrev pub identity_at : List StreamContents → ℕ → List Identity
 identity_at streams n = found (slice_get streams n)
   where
-    found : Option Held → List Identity
+    found : Option StreamContents → List Identity
     found None = []
     found (Some h) = identity_of h ∷ []
 
 -- the identities of the streams with these numbers
-abbrev pub named_identities : List Held → List ℕ → List Identity
+abbrev pub named_identities : List StreamContents → List ℕ → List Identity
 named_identities streams [] = []
 named_identities streams (n ∷ ns) = identity_at streams n ++ named_identities streams ns
 
 -- whether the demand makes a stream, that is, doesn't drop
-abbrev pub is_streamed : Held → Bool
+abbrev pub is_streamed : StreamContents → Bool
 is_streamed h = not (is_drop h.stream.demand.aggregation)
 
 -- the streams, without those that drop
-abbrev pub model_streams : List Held → List Stream
-model_streams streams = map (λ (h : Held). h.stream) (filter is_streamed streams)
+abbrev pub model_streams : List StreamContents → List Stream
+model_streams streams = map (λ (h : StreamContents). h.stream) (filter is_streamed streams)
 
 -- the demands of the streams
-abbrev pub fates_of : List Held → List Demand
-fates_of streams = map (λ (h : Held). h.stream.demand) streams
+abbrev pub fates_of : List StreamContents → List Demand
+fates_of streams = map (λ (h : StreamContents). h.stream.demand) streams
 
 -- the part of a reader with these answers and streams, where each instrument feeds the streams with its numbers
-abbrev pub part_by : ReaderAnswers → List Held → List (List ℕ) → ReaderPart
+abbrev pub part_by : ReaderAnswers → List StreamContents → List (List ℕ) → ReaderPart
 part_by answers streams feeds = record {
   answers = answers;
   fates = fates_of streams;
@@ -90,7 +90,7 @@ has_stream_at n part = some_stream (or_else (slice_get part.feeds n) [])
 
 -- ======== what holds of the streams ========
 -- each of these is the number of a stream
-abbrev pub AreNumbers : List Held → List ℕ → Type 0
+abbrev pub AreNumbers : List StreamContents → List ℕ → Type 0
 AreNumbers streams ns = All (λ n. n < length streams) ns
 
 -- no number occurs twice among these, so that no stream is fed twice
@@ -99,7 +99,7 @@ AreFedOnce [] = Unit {0}
 AreFedOnce (n ∷ ns) = (has_number n ns ≡ false) × AreFedOnce ns
 
 -- the streams reset as the reader's answers say
-abbrev pub AreAnswered : ReaderAnswers → List Held → Type 0
+abbrev pub AreAnswered : ReaderAnswers → List StreamContents → Type 0
 AreAnswered answers streams = AllByRecursion (λ h. h.resets ≡ is_delta answers h.stream.demand) streams
 
 -- no two streams have the same identity, and the instruments feed only streams that are there, each once
@@ -125,7 +125,7 @@ demands_in dropped views answers None about = []
 demands_in dropped views answers (Some scope) about = demands_with dropped views answers scope about
 
 -- which identities drop at a reader with these streams, once these demands are made
-abbrev pub dropped_with : List Held → List Demand → Identity → Bool
+abbrev pub dropped_with : List StreamContents → List Demand → Identity → Bool
 dropped_with made demands = is_dropped (fold enter (fates_of made) demands)
 
 -- the number of the stream with this identity, if there is one
@@ -133,19 +133,19 @@ abbrev pub stream_number : Identity → List Identity → Option ℕ
 stream_number x keys = position (identity_eq x) keys
 
 -- whether the stream with this number, if there is one, drops
-abbrev pub drops_at : List Held → ℕ → Bool
+abbrev pub drops_at : List StreamContents → ℕ → Bool
 drops_at streams n = by (slice_get streams n)
   where
-    by : Option Held → Bool
+    by : Option StreamContents → Bool
     by None = false
     by (Some h) = is_drop h.stream.demand.aggregation
 
 -- a number, and whether its stream drops
-abbrev pub with_drop : List Held → ℕ → ℕ × Bool
+abbrev pub with_drop : List StreamContents → ℕ → ℕ × Bool
 with_drop streams n = (n, drops_at streams n)
 
 -- the number of the stream with this identity, and whether it drops, if there is one
-abbrev pub found_at : Identity → List Held → Option (ℕ × Bool)
+abbrev pub found_at : Identity → List StreamContents → Option (ℕ × Bool)
 found_at x streams = option_map (with_drop streams) (stream_number x (stream_identities streams))
 
 -- the same, with the numbers counted from `first` on
@@ -157,7 +157,7 @@ abbrev pub fed_once : Bool → ℕ → List ℕ → List ℕ
 fed_once drops n ns = cond (drops || has_number n ns) ns (ns ++ n ∷ [])
 
 -- the plan makes these demands, at a reader with these answers and streams
-pub record IsPlanOf (answers : ReaderAnswers) (made : List Held) (now : ℕ) (demands : List Demand) (plan : Planned) : Type 0 where
+pub record IsPlanOf (answers : ReaderAnswers) (made : List StreamContents) (now : ℕ) (demands : List Demand) (plan : Planned) : Type 0 where
   pub apart : IsDistinct identity_eq (stream_identities (made ++ plan.added))
   pub numbers : AreNumbers (made ++ plan.added) plan.feeds
   pub answered : AreAnswered answers plan.added
@@ -204,12 +204,12 @@ abbrev pub fed_by : ℕ → Piped → List ℕ
 fed_by instrument p = or_else (slice_get p.feeds instrument) []
 
 -- the stream, if there is one, is ready for a record of these attributes
-abbrev pub IsPrepared : List KeyValue → Option Held → Type 0
+abbrev pub IsPrepared : List KeyValue → Option StreamContents → Type 0
 IsPrepared l None = Unit {0}
 IsPrepared l (Some h) = h.pending ≡ Some (set_for h.stream.demand l)
 
 -- the same of the streams with these numbers
-abbrev pub ArePrepared : List KeyValue → List Held → List ℕ → Type 0
+abbrev pub ArePrepared : List KeyValue → List StreamContents → List ℕ → Type 0
 ArePrepared l streams ns = All (λ n. IsPrepared l (slice_get streams n)) ns
 
 -- the instrument feeds only streams with this number type
@@ -222,18 +222,18 @@ pub record IsPreparedFor (instrument : ℕ) (attributes : List KeyValue) (p : Pi
   pub prepared : ArePrepared attributes p.streams (fed_by instrument p)
 
 -- the streams, with nothing prepared and no room made
-abbrev pub all_without_pending : List Held → List Held
+abbrev pub all_without_pending : List StreamContents → List StreamContents
 all_without_pending streams = map without_pending streams
 
 -- the reader's part, once f is done to each stream that the instrument feeds
-abbrev pub part_changed_by : (Held → Held) → ℕ → Piped → ReaderPart
+abbrev pub part_changed_by : (StreamContents → StreamContents) → ℕ → Piped → ReaderPart
 part_changed_by f instrument p = part_by p.answers (changed_each f (fed_by instrument p) p.streams) p.feeds
 
 -- the same, once the prepared record is made
 abbrev pub part_after_record : ℕ → NumberValue → Piped → ReaderPart
-part_after_record instrument value p = part_changed_by (held_after_commit value) instrument p
+part_after_record instrument value p = part_changed_by (contents_after_commit value) instrument p
 
 -- ======== collections ========
 -- the streams after a collection at a moment
-abbrev pub all_after_collection : ℕ → List Held → List Held
-all_after_collection now streams = map (held_after_collection now) streams
+abbrev pub all_after_collection : ℕ → List StreamContents → List StreamContents
+all_after_collection now streams = map (contents_after_collection now) streams

@@ -11,8 +11,8 @@ use Rattle.otel_model_stream.specs.Events.{Kind, held_by}
 use Rattle.otel_model_stream.specs.Machine.{points, machine_after_collection, bind_handle, through, let_go}
 use Rattle.otel_model_stream.specs.Observed.{difference}
 use Rattle.otel_model_stream.specs.Totals.{size, points_total}
-use Rattle.otel_aggregate.specs.Any.{HeldAny, is_signed_value, amount_of}
-use Rattle.otel_aggregate.specs.Streams.{StreamState}
+use Rattle.otel_aggregate.specs.Any.{AnyContents, is_signed_value, amount_of}
+use Rattle.otel_aggregate.specs.Streams.{AggregateState}
 use Rattle.otel_model.specs.Calls.{is_observable}
 use Rattle.otel_model.specs.Demands.{Aggregation, Drop, Default, Sum, LastValue, ExplicitBucketHistogram, Demand, is_valid}
 use Rattle.otel_model.specs.Collections.{aggregated_metrics, has_points}
@@ -22,7 +22,7 @@ use Rattle.otel_model.specs.Streams.{aggregate_of, is_drained, is_monotonic_kind
 
 -- a stream, whether each collection resets it, the set of the prepared record or bind, if any, and whether room is made
 -- for a handle
-pub record Held : Type 0 where
+pub record StreamContents : Type 0 where
   pub stream : Stream
   pub resets : Bool
   pub pending : Option AttributeSet
@@ -41,7 +41,7 @@ asks_monotonic d = by d.aggregation
     by (ExplicitBucketHistogram bounds m) = false
 
 -- the aggregate that a demand asks for, with these entries and this start, which collections reset or not
-abbrev pub asked_aggregate : Demand → Bool → Table → ℕ → StreamState
+abbrev pub asked_aggregate : Demand → Bool → Table → ℕ → AggregateState
 asked_aggregate d resets table start = record {
   map_state = record { limit = d.limit; empty = empty_of (aggregate_of d); table = table };
   aggregate = aggregate_of d;
@@ -56,15 +56,15 @@ pub record IsMakeable (d : Demand) : Type 0 where
   pub valid : is_valid d.aggregation ≡ true
 
 -- the aggregate is the one that the demand asks for; if the instrument is observable, it has no live handles
-pub record IsAsked (d : Demand) (a : HeldAny) : Type 0 where
+pub record IsAsked (d : Demand) (a : AnyContents) : Type 0 where
   pub state : a.state ≡ asked_aggregate d a.state.resets a.state.map_state.table a.state.start
   pub signed : a.is_signed ≡ d.identity.signed
   pub drains : a.drains ≡ is_drained d
   pub unheld : is_observable d.identity.kind ≡ true → a.live ≡ []
 
 -- the stream of this demand with this aggregate, and these totals of what it recorded and exported
-abbrev pub held_of : Demand → HeldAny → ℕ → ℕ → Held
-held_of d a recorded exported = record {
+abbrev pub contents_of : Demand → AnyContents → ℕ → ℕ → StreamContents
+contents_of d a recorded exported = record {
   stream = record {
     demand = d;
     machine = record { table = a.state.map_state.table; live = a.live };
@@ -79,12 +79,12 @@ held_of d a recorded exported = record {
 }
 
 -- a stream without records, made at a moment
-abbrev pub new_held : Bool → Demand → ℕ → Held
-new_held resets d now = record { stream = new_stream now d; resets = resets; pending = None; room = false }
+abbrev pub new_contents : Bool → Demand → ℕ → StreamContents
+new_contents resets d now = record { stream = new_stream now d; resets = resets; pending = None; room = false }
 
 -- ======== records ========
 -- after a record of the set; nothing is prepared any more
-abbrev pub with_record : AttributeSet → Amount → Held → Held
+abbrev pub with_record : AttributeSet → Amount → StreamContents → StreamContents
 with_record s v h = record {
   stream = record {
     demand = h.stream.demand;
@@ -103,25 +103,25 @@ with_record s v h = record {
 }
 
 -- the same, if there is a set
-abbrev pub committed_by : Option AttributeSet → Amount → Held → Held
+abbrev pub committed_by : Option AttributeSet → Amount → StreamContents → StreamContents
 committed_by None v h = h
 committed_by (Some s) v h = with_record s v h
 
 -- after the prepared record, if there is one, of a value; a stream of the other number type doesn't change
-abbrev pub held_after_commit : NumberValue → Held → Held
-held_after_commit value h = cond (beq (is_signed_value value) h.stream.demand.identity.signed) (committed_by h.pending (amount_of value) h) h
+abbrev pub contents_after_commit : NumberValue → StreamContents → StreamContents
+contents_after_commit value h = cond (beq (is_signed_value value) h.stream.demand.identity.signed) (committed_by h.pending (amount_of value) h) h
 
 -- after a record of a value without attributes; a stream of the other number type doesn't change
-abbrev pub held_after_none : NumberValue → Held → Held
-held_after_none value h = cond (beq (is_signed_value value) h.stream.demand.identity.signed) (with_record none_set (amount_of value) h) h
+abbrev pub contents_after_none : NumberValue → StreamContents → StreamContents
+contents_after_none value h = cond (beq (is_signed_value value) h.stream.demand.identity.signed) (with_record none_set (amount_of value) h) h
 
 -- the stream, with nothing prepared and no room made
-abbrev pub without_pending : Held → Held
+abbrev pub without_pending : StreamContents → StreamContents
 without_pending h = record { stream = h.stream; resets = h.resets; pending = None; room = false }
 
 -- ======== handles ========
 -- after a bind of the set as this handle; it uses the room
-abbrev pub with_bind : ℕ → AttributeSet → Held → Held
+abbrev pub with_bind : ℕ → AttributeSet → StreamContents → StreamContents
 with_bind h s k = record {
   stream = record {
     demand = k.stream.demand;
@@ -137,17 +137,17 @@ with_bind h s k = record {
 }
 
 -- the same, if there is a set
-abbrev pub bound_by : Option AttributeSet → ℕ → Held → Held
+abbrev pub bound_by : Option AttributeSet → ℕ → StreamContents → StreamContents
 bound_by None h k = k
 bound_by (Some s) h k = with_bind h s k
 
 -- after the prepared bind as this handle, if room is made and no such handle is live. A stream of an observable
 -- instrument has no handles
-abbrev pub held_after_bind : ℕ → Held → Held
-held_after_bind h k = cond (not (is_observable k.stream.demand.identity.kind) && (k.room && is_none (held_by h k.stream.machine.live))) (bound_by k.pending h k) k
+abbrev pub contents_after_bind : ℕ → StreamContents → StreamContents
+contents_after_bind h k = cond (not (is_observable k.stream.demand.identity.kind) && (k.room && is_none (held_by h k.stream.machine.live))) (bound_by k.pending h k) k
 
 -- after a record through a handle of this set's entry, if there is a set; what was prepared is given up
-abbrev pub with_update : Option AttributeSet → Amount → Held → Held
+abbrev pub with_update : Option AttributeSet → Amount → StreamContents → StreamContents
 with_update o v k = record {
   stream = record {
     demand = k.stream.demand;
@@ -164,11 +164,11 @@ with_update o v k = record {
 
 -- after a record of a value through the handle with this number, if it is live. A drained stream has no handles, and a
 -- stream of the other number type doesn't change
-abbrev pub held_after_update : ℕ → NumberValue → Held → Held
-held_after_update h value k = cond (not (is_drained k.stream.demand) && beq (is_signed_value value) k.stream.demand.identity.signed) (with_update (held_by h k.stream.machine.live) (amount_of value) k) k
+abbrev pub contents_after_update : ℕ → NumberValue → StreamContents → StreamContents
+contents_after_update h value k = cond (not (is_drained k.stream.demand) && beq (is_signed_value value) k.stream.demand.identity.signed) (with_update (held_by h k.stream.machine.live) (amount_of value) k) k
 
 -- after the end of the handle with this number, if it is live; what was prepared is given up
-abbrev pub without_handle : ℕ → Held → Held
+abbrev pub without_handle : ℕ → StreamContents → StreamContents
 without_handle h k = record {
   stream = record {
     demand = k.stream.demand;
@@ -184,29 +184,29 @@ without_handle h k = record {
 }
 
 -- the same; a drained stream has no handles
-abbrev pub held_after_unbind : ℕ → Held → Held
-held_after_unbind h k = cond (is_drained k.stream.demand) k (without_handle h k)
+abbrev pub contents_after_unbind : ℕ → StreamContents → StreamContents
+contents_after_unbind h k = cond (is_drained k.stream.demand) k (without_handle h k)
 
 -- ======== collections ========
 -- how collections cut the stream's history into windows
-abbrev pub window_of : Held → Kind
+abbrev pub window_of : StreamContents → Kind
 window_of h = cond (is_drained h.stream.demand) Kind.Drained (cond h.resets Kind.Delta Kind.Cumulative)
 
 -- the points of a collection, before differences are taken
-abbrev pub shown_points : Held → List Point
+abbrev pub shown_points : StreamContents → List Point
 shown_points h = points (window_of h) h.stream.machine
 
 -- whether a collection shows what was added since the collection before it
-abbrev pub shows_added : Held → Bool
+abbrev pub shows_added : StreamContents → Bool
 shows_added h = is_drained h.stream.demand && h.resets
 
 -- the points that a collection shows: what was added to each, or the points as they are
-abbrev pub shown_values : Held → List Point
+abbrev pub shown_values : StreamContents → List Point
 shown_values h = cond (shows_added h) (map (difference h.stream.reported) (shown_points h)) (shown_points h)
 
 -- the stream after a collection at a moment
-abbrev pub held_after_collection : ℕ → Held → Held
-held_after_collection now h = record {
+abbrev pub contents_after_collection : ℕ → StreamContents → StreamContents
+contents_after_collection now h = record {
   stream = record {
     demand = h.stream.demand;
     machine = machine_after_collection (window_of h) h.stream.machine;
@@ -221,7 +221,7 @@ held_after_collection now h = record {
 }
 
 -- the metric that a collection at a moment gives of the stream, with or without points
-abbrev pub shown_metric : ℕ → Held → Metric
+abbrev pub shown_metric : ℕ → StreamContents → Metric
 shown_metric now h = record {
   name = h.stream.demand.spelling;
   description = h.stream.demand.identity.description;

@@ -5,7 +5,7 @@ ghost use Rattle.otel_model.specs.Calls.{or_else};
 ghost use Rattle.otel_pipeline.specs.Handles.{AreReadyToBind};
 ghost use Rattle.otel_pipeline.specs.Known.{IsKnownIfThere};
 ghost use Rattle.otel_pipeline.specs.Pipelines.{AreNumbers, ArePrepared, all_without_pending, changed_each, all_after_collection};
-ghost use Rattle.otel_pipeline.specs.Streams.{held_after_bind, held_after_commit, held_after_none, held_after_unbind, held_after_update};
+ghost use Rattle.otel_pipeline.specs.Streams.{contents_after_bind, contents_after_commit, contents_after_none, contents_after_unbind, contents_after_update};
 
 use crate::metric_stream::MetricStream;
 use otel_common::faults::Fault;
@@ -69,7 +69,7 @@ pub(crate) fn commit_bind_each(
     handle: u64,
 ) -> usize
     requires { AreNumbers streams.old.items feeds.now }
-    ensures { streams.new.items ≡ changed_each (held_after_bind handle) feeds.now streams.old.items }
+    ensures { streams.new.items ≡ changed_each (contents_after_bind handle) feeds.now streams.old.items }
 {
     let mut place = 0;
     for k in feeds {
@@ -88,7 +88,7 @@ pub(crate) fn record_held_each(
     value: NumberValue,
 )
     requires { AreNumbers streams.old.items feeds.now }
-    ensures { streams.new.items ≡ changed_each (held_after_update handle value) feeds.now streams.old.items }
+    ensures { streams.new.items ≡ changed_each (contents_after_update handle value) feeds.now streams.old.items }
 {
     for k in feeds {
         streams[*k].record_held(handle, place, value);
@@ -98,7 +98,7 @@ pub(crate) fn record_held_each(
 /// Ends this handle in each of these streams.
 pub(crate) fn unbind_each(streams: &mut Vec<MetricStream>, feeds: &[usize], handle: u64)
     requires { AreNumbers streams.old.items feeds.now }
-    ensures { streams.new.items ≡ changed_each (held_after_unbind handle) feeds.now streams.old.items }
+    ensures { streams.new.items ≡ changed_each (contents_after_unbind handle) feeds.now streams.old.items }
 {
     for k in feeds {
         streams[*k].unbind(handle);
@@ -118,7 +118,7 @@ pub(crate) fn finish_each(streams: &mut Vec<MetricStream>, now: u64)
 #[inline(always)]
 pub(crate) fn commit_each(streams: &mut Vec<MetricStream>, feeds: &[usize], value: NumberValue)
     requires { AreNumbers streams.old.items feeds.now }
-    ensures { streams.new.items ≡ changed_each (held_after_commit value) feeds.now streams.old.items }
+    ensures { streams.new.items ≡ changed_each (contents_after_commit value) feeds.now streams.old.items }
 {
     for k in feeds {
         streams[*k].commit(value);
@@ -129,7 +129,7 @@ pub(crate) fn commit_each(streams: &mut Vec<MetricStream>, feeds: &[usize], valu
 #[inline(always)]
 pub(crate) fn record_none_each(streams: &mut Vec<MetricStream>, feeds: &[usize], value: NumberValue)
     requires { AreNumbers streams.old.items feeds.now }
-    ensures { streams.new.items ≡ changed_each (held_after_none value) feeds.now streams.old.items }
+    ensures { streams.new.items ≡ changed_each (contents_after_none value) feeds.now streams.old.items }
 {
     for k in feeds {
         streams[*k].record_none(value);

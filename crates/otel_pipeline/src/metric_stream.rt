@@ -7,8 +7,8 @@ ghost use Rattle.otel_model.specs.Collections.{number_of_points};
 ghost use Rattle.otel_model.specs.Sent.{set_for};
 ghost use Rattle.otel_pipeline.specs.Known.{is_known_to};
 ghost use Rattle.otel_pipeline.specs.Handles.{IsReadyToBind};
-ghost use Rattle.otel_pipeline.specs.Observations.{IsSavedOf, held_after_restore, saved_by};
-ghost use Rattle.otel_pipeline.specs.Streams.{IsAsked, IsMakeable, held_of, new_held, without_pending, held_after_commit, held_after_none, held_after_bind, held_after_update, held_after_unbind, held_after_collection, shown_metric, if_points};
+ghost use Rattle.otel_pipeline.specs.Observations.{IsSavedOf, contents_after_restore, saved_by};
+ghost use Rattle.otel_pipeline.specs.Streams.{IsAsked, IsMakeable, contents_of, new_contents, without_pending, contents_after_commit, contents_after_none, contents_after_bind, contents_after_update, contents_after_unbind, contents_after_collection, shown_metric, if_points};
 
 use crate::aggregations::settings_of;
 use crate::saved::SavedStream;
@@ -37,11 +37,11 @@ pub(crate) struct MetricStream {
 }
 
 impl Model for MetricStream {
-    ghost use Rattle.otel_pipeline.specs.Streams.{Held, IsAsked, held_of};
+    ghost use Rattle.otel_pipeline.specs.Streams.{StreamContents, IsAsked, contents_of};
 
-    ghost Value = { Held };
+    ghost Value = { StreamContents };
 
-    ghost view = { λ s. held_of s.demand s.aggregate s.recorded s.exported };
+    ghost view = { λ s. contents_of s.demand s.aggregate s.recorded s.exported };
 
     ghost invariant = { λ s. IsAsked s.demand s.aggregate };
 }
@@ -100,7 +100,7 @@ fn new_aggregate(
 ) -> Result<AnyAggregate, Fault>
     requires { IsMakeable demand.now }
     ensures asked { IfOk result (λ made. IsAsked demand.now made) }
-    ensures made { IfOk result (λ made. held_of demand.now made 0 0 ≡ new_held (resets temporality) demand.now now) }
+    ensures made { IfOk result (λ made. contents_of demand.now made 0 0 ≡ new_contents (resets temporality) demand.now now) }
     ensures only_memory { IsOkUnless result Fault.OutOfMemory }
 {
     copied_attributes();
@@ -130,7 +130,7 @@ impl MetricStream {
         now: u64,
     ) -> Result<MetricStream, Fault>
         requires { IsMakeable demand }
-        ensures made { IfOk result (λ s. s ≡ new_held (resets temporality) demand now) }
+        ensures made { IfOk result (λ s. s ≡ new_contents (resets temporality) demand now) }
         ensures only_memory { IsOkUnless result Fault.OutOfMemory }
     {
         let aggregate = new_aggregate(alloc, hasher, temporality, &demand, now)?;
@@ -163,7 +163,7 @@ impl MetricStream {
     /// Takes in the prepared record, if there is one and the value has the stream's number type.
     #[inline(always)]
     pub(crate) fn commit(&mut self, value: NumberValue)
-        ensures { self.new ≡ held_after_commit value self.old }
+        ensures { self.new ≡ contents_after_commit value self.old }
     {
         if self.aggregate.commit(value) {
             self.recorded = self.recorded.wrapping_add(self.aggregate.size(value));
@@ -173,7 +173,7 @@ impl MetricStream {
     /// Takes in a record without attributes, if the value has the stream's number type. Takes no memory.
     #[inline(always)]
     pub(crate) fn record_none(&mut self, value: NumberValue)
-        ensures { self.new ≡ held_after_none value self.old }
+        ensures { self.new ≡ contents_after_none value self.old }
     {
         if self.aggregate.measure_none(value) {
             self.recorded = self.recorded.wrapping_add(self.aggregate.size(value));
@@ -193,7 +193,7 @@ impl MetricStream {
     /// Carries out the prepared bind, if there is one, for a handle with this number, unless the handle is live
     /// already, and returns the handle's place, for `record_held`.
     pub(crate) fn commit_bind(&mut self, handle: u64) -> usize
-        ensures { self.new ≡ held_after_bind handle self.old }
+        ensures { self.new ≡ contents_after_bind handle self.old }
     {
         if is_observable(self.demand.identity.kind) {
             return 0;
@@ -205,7 +205,7 @@ impl MetricStream {
     /// Looks for the handle at this place first. Takes no memory.
     #[inline(always)]
     pub(crate) fn record_held(&mut self, handle: u64, place: usize, value: NumberValue)
-        ensures { self.new ≡ held_after_update handle value self.old }
+        ensures { self.new ≡ contents_after_update handle value self.old }
     {
         if self.aggregate.update_bound(handle, place, value) {
             self.recorded = self.recorded.wrapping_add(self.aggregate.size(value));
@@ -214,17 +214,17 @@ impl MetricStream {
 
     /// Ends the handle, if the stream has it. Takes no memory.
     pub(crate) fn unbind(&mut self, handle: u64)
-        ensures { self.new ≡ held_after_unbind handle self.old }
+        ensures { self.new ≡ contents_after_unbind handle self.old }
     {
         self.aggregate.unbind(handle);
     }
 
     /// Ends a collection, which gave the stream's points, at the moment `now`, in nanoseconds since 1970.
     pub(crate) fn finish(&mut self, now: u64)
-        ensures { without_pending self.new ≡ without_pending (held_after_collection now self.old) }
+        ensures { without_pending self.new ≡ without_pending (contents_after_collection now self.old) }
     {
         // Tells the prover that observed sums have no handles.
-        self.aggregate.told_unheld();
+        self.aggregate.law_of_handles();
         if self.aggregate.resets() {
             self.exported = self.exported.wrapping_add(self.aggregate.total());
         }
@@ -240,7 +240,7 @@ impl MetricStream {
         ensures only_memory { IsOkUnless result Fault.OutOfMemory }
     {
         // Tells the prover that no entry is held.
-        self.aggregate.told_unheld();
+        self.aggregate.law_of_handles();
         let aggregate = self.aggregate.save(alloc)?;
         Ok(SavedStream {
             aggregate,
@@ -251,7 +251,7 @@ impl MetricStream {
     /// Puts back what was saved of it. Takes no memory.
     pub(crate) fn restore(&mut self, saved: SavedStream)
         requires { IsSavedOf saved self.old }
-        ensures { self.new ≡ held_after_restore saved self.old }
+        ensures { self.new ≡ contents_after_restore saved self.old }
     {
         let SavedStream {
             aggregate,

@@ -4,7 +4,7 @@ ghost use Rattle.std.specs.Prelude.{◌≡◌, ◌≤◌, ℕ, true, All, List, 
 ghost use Rattle.std.specs.List.{AllByRecursion};
 ghost use Rattle.otel_model.specs.Calls.{is_observable};
 ghost use Rattle.otel_pipeline.specs.Collections.{scopes_shown};
-ghost use Rattle.otel_pipeline.specs.Observations.{AreObservable, AreObservableIn, AreSavedOf, CanUndo, IsSaved, SavedHeld, kept_or, saved_by, observed_all, observed_one, restored_all};
+ghost use Rattle.otel_pipeline.specs.Observations.{AreObservable, AreObservableIn, AreSavedOf, CanUndo, IsSaved, SavedStreamContents, kept_or, saved_by, observed_all, observed_one, restored_all};
 ghost use Rattle.otel_pipeline.specs.Pipelines.{AreFedOnce, AreNumbers, all_without_pending, all_after_collection, changed_each, fates_of};
 
 use crate::collecting::scopes_of;
@@ -107,7 +107,7 @@ fn observe_in(
     requires numbers { AreNumbers (all_without_pending streams.old.items) numbers.now }
     requires once { AreFedOnce numbers.now }
     ensures observed { OnOk result (all_without_pending streams.new.items ≡ all_without_pending (changed_each (observed_one observation.now) numbers.now streams.old.items)) }
-    ensures undone { (saved : List (Option SavedHeld)) → All (IsSaved saved) numbers.now → restored_all saved streams.new.items ≡ restored_all saved streams.old.items }
+    ensures undone { (saved : List (Option SavedStreamContents)) → All (IsSaved saved) numbers.now → restored_all saved streams.new.items ≡ restored_all saved streams.old.items }
     ensures demands { fates_of streams.new.items ≡ fates_of streams.old.items }
     ensures only_memory { IsOkUnless result Fault.OutOfMemory }
 {
@@ -126,7 +126,7 @@ fn observe_each(
     requires numbers { All (AreNumbers streams.old.items) feeds.now }
     requires once { AllByRecursion AreFedOnce feeds.now }
     ensures observed { OnOk result (all_without_pending streams.new.items ≡ all_without_pending (observed_all feeds.now observations.now streams.old.items)) }
-    ensures undone { (saved : List (Option SavedHeld)) → CanUndo feeds.now observations.now streams.old.items saved → restored_all saved streams.new.items ≡ restored_all saved streams.old.items }
+    ensures undone { (saved : List (Option SavedStreamContents)) → CanUndo feeds.now observations.now streams.old.items saved → restored_all saved streams.new.items ≡ restored_all saved streams.old.items }
     ensures demands { fates_of streams.new.items ≡ fates_of streams.old.items }
     ensures only_memory { IsOkUnless result Fault.OutOfMemory }
 {
@@ -167,7 +167,7 @@ fn observe_and_collect(
     ensures resource { IfOk result (λ c. c.resource ≡ resource.now) }
     ensures scopes { IfOk result (λ c. c.scope_metrics ≡ scopes_shown now (observed_all feeds.now observations.now streams.old.items) meters.now.keys) }
     ensures streams { OnOk result (all_without_pending streams.new.items ≡ all_without_pending (all_after_collection now (observed_all feeds.now observations.now streams.old.items))) }
-    ensures undone { OnErr result ((saved : List (Option SavedHeld)) → CanUndo feeds.now observations.now streams.old.items saved → restored_all saved streams.new.items ≡ restored_all saved streams.old.items) }
+    ensures undone { OnErr result ((saved : List (Option SavedStreamContents)) → CanUndo feeds.now observations.now streams.old.items saved → restored_all saved streams.new.items ≡ restored_all saved streams.old.items) }
     ensures demands { OnErr result (fates_of streams.new.items ≡ fates_of streams.old.items) }
     ensures only_memory { IsOkUnless result Fault.OutOfMemory }
 {

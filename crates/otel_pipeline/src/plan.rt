@@ -5,7 +5,7 @@ ghost use Rattle.std.specs.Option.{option_map};
 ghost use Rattle.otel_model.specs.Demands as demands;
 ghost use Rattle.otel_model.specs.Streams.{is_delta};
 ghost use Rattle.otel_pipeline.specs.Pipelines.{IsPlanOf, stream_identities, counted_from, fed_once, found_at};
-ghost use Rattle.otel_pipeline.specs.Streams.{IsMakeable, new_held};
+ghost use Rattle.otel_pipeline.specs.Streams.{IsMakeable, new_contents};
 
 use crate::aggregations::{is_drop, temporality_of};
 use crate::metric_stream::MetricStream;
@@ -116,7 +116,7 @@ impl Plan {
         now: u64,
     ) -> Result<(), Fault>
         requires { IsMakeable demand }
-        ensures added { OnOk result (self.new ≡ record { feeds = self.old.feeds; added = self.old.added ++ new_held (is_delta answers.now demand) demand now ∷ [] }) }
+        ensures added { OnOk result (self.new ≡ record { feeds = self.old.feeds; added = self.old.added ++ new_contents (is_delta answers.now demand) demand now ∷ [] }) }
         ensures only_memory { IsOkUnless result Fault.OutOfMemory }
     {
         kind_laws();

@@ -11,9 +11,9 @@ pub(crate) struct SavedStream {
 }
 
 impl Model for SavedStream {
-    ghost use Rattle.otel_pipeline.specs.Observations.{SavedHeld};
+    ghost use Rattle.otel_pipeline.specs.Observations.{SavedStreamContents};
 
-    ghost Value = { SavedHeld };
+    ghost Value = { SavedStreamContents };
 
     ghost view = { λ s. record {
       is_signed = s.aggregate.is_signed;

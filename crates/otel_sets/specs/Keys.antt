@@ -9,8 +9,8 @@ use Rattle.otel_common.specs.Equality.{bytes_eq}
 use Rattle.otel_common.specs.declared.attributes.KeyValue.{KeyValue}
 use Rattle.otel_model_stream.specs.Sets.{AttributeSet, AllowList, allowed_part}
 use Rattle.otel_sets.specs.declared.set_attributes.SetAttributes.{SetAttributes}
-use Rattle.otel_sets.specs.declared.set_key.Form.{Form}
-use Rattle.otel_sets.specs.declared.set_key.Form.TheVariants.{Owned, Given, Referenced, Held}
+use Rattle.otel_sets.specs.declared.set_key.SetStorage.{SetStorage}
+use Rattle.otel_sets.specs.declared.set_key.SetStorage.TheVariants.{Owned, Borrowed, Referenced, Iterated}
 
 -- the attributes that references lead to
 abbrev pub shown : List (Bor KeyValue) → List KeyValue
@@ -45,15 +45,15 @@ list_part true last l = canon (above_part last l)
 list_part false last l = l
 
 -- the attributes that are left
-abbrev pub held_in : SetAttributes → AttributeSet
-held_in s = shown s.references.now ++ list_part s.by_key (option_copied s.last) (allowed_part (option_copied s.allow) s.list.now)
+abbrev pub attributes_left : SetAttributes → AttributeSet
+attributes_left s = shown s.references.now ++ list_part s.by_key (option_copied s.last) (allowed_part (option_copied s.allow) s.list.now)
 
 -- the attributes of a key: its own set, or those that it borrows
-abbrev pub set_in : Form → AttributeSet
+abbrev pub set_in : SetStorage → AttributeSet
 set_in (Owned set) = set
-set_in (Given attributes) = attributes.now
+set_in (Borrowed attributes) = attributes.now
 set_in (Referenced references) = shown references.now.slice.now
-set_in (Held attributes) = held_in attributes.now
+set_in (Iterated attributes) = attributes_left attributes.now
 
 -- the first attribute, if there is one
 abbrev pub first_in : List KeyValue → Option KeyValue

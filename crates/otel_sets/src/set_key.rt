@@ -8,7 +8,7 @@ ghost use Rattle.std.specs.Hash.{same_Alike};
 ghost use Rattle.otel_common.specs.Canonical.{canon};
 ghost use Rattle.otel_common.specs.Equality.{set_eq, set_eq-Decides, key_value_eq_equiv};
 ghost use Rattle.otel_common.specs.Hashes.{key_value_writes};
-ghost use Rattle.otel_sets.specs.Keys.{held_in, is_below, shown};
+ghost use Rattle.otel_sets.specs.Keys.{attributes_left, is_below, shown};
 
 use crate::references::References;
 use crate::set_attributes::{
@@ -23,27 +23,27 @@ use std::marker::Model;
 
 /// Where a key has its set.
 #[derive(Drop)]
-pub enum Form<'a> {
+pub enum SetStorage<'a> {
     /// The key is an owner of the set, which may have other owners.
     Owned(SharedItems<KeyValue>),
     /// The key borrows a list, and its set is exactly this list.
-    Given(&'a [KeyValue]),
+    Borrowed(&'a [KeyValue]),
     /// The key borrows references, and its set is the attributes that they lead to.
     Referenced(&'a References<'a>),
     /// The key borrows attributes that are read one after another.
-    Held(&'a SetAttributes<'a>),
+    Iterated(&'a SetAttributes<'a>),
 }
 
 /// A key of a table of sets. A key that stands in a table owns its set. A key that is only looked up borrows the
 /// attributes, so a look-up copies nothing.
 pub struct SetKey<'a> {
-    form: Form<'a>,
+    storage: SetStorage<'a>,
 }
 
 impl<'a> Drop for SetKey<'a> {
     /// A function of its own, so that no proof about who lets one go looks into it.
     fn drop(self) {
-        let SetKey { form: _form } = self;
+        let SetKey { storage: _storage } = self;
     }
 }
 
@@ -53,7 +53,7 @@ impl<'a> Model for SetKey<'a> {
 
     ghost Value = { AttributeSet };
 
-    ghost view = { λ k. set_in k.form };
+    ghost view = { λ k. set_in k.storage };
 }
 
 /// Tells whether two lists have the same attributes in the same order.
@@ -102,18 +102,18 @@ impl<'a> SetKey<'a> {
         ensures { result ≡ set }
     {
         SetKey {
-            form: Form::Owned(set),
+            storage: SetStorage::Owned(set),
         }
     }
 
     /// Makes a key whose set is this list as it is given: it is neither sorted nor freed of doubled keys. The key
     /// borrows the list.
     #[inline]
-    pub fn given(attributes: &'a [KeyValue]) -> SetKey<'a>
+    pub fn borrowed(attributes: &'a [KeyValue]) -> SetKey<'a>
         ensures { result ≡ attributes.now }
     {
         SetKey {
-            form: Form::Given(attributes),
+            storage: SetStorage::Borrowed(attributes),
         }
     }
 
@@ -123,16 +123,16 @@ impl<'a> SetKey<'a> {
         ensures { result ≡ shown references.now.slice.now }
     {
         SetKey {
-            form: Form::Referenced(references),
+            storage: SetStorage::Referenced(references),
         }
     }
 
     /// Makes a key whose set is these attributes, which are read anew at each use. The key borrows them.
-    pub fn held(attributes: &'a SetAttributes<'a>) -> SetKey<'a>
-        ensures { result ≡ held_in attributes.now }
+    pub fn iterated(attributes: &'a SetAttributes<'a>) -> SetKey<'a>
+        ensures { result ≡ attributes_left attributes.now }
     {
         SetKey {
-            form: Form::Held(attributes),
+            storage: SetStorage::Iterated(attributes),
         }
     }
 
@@ -141,13 +141,13 @@ impl<'a> SetKey<'a> {
     pub fn lent(&self) -> SetKey<'_>
         ensures { result ≡ self.now }
     {
-        let form = match &self.form {
-            Form::Owned(set) => Form::Given(set.as_slice()),
-            Form::Given(attributes) => Form::Given(*attributes),
-            Form::Referenced(references) => Form::Referenced(*references),
-            Form::Held(attributes) => Form::Held(*attributes),
+        let storage = match &self.storage {
+            SetStorage::Owned(set) => SetStorage::Borrowed(set.as_slice()),
+            SetStorage::Borrowed(attributes) => SetStorage::Borrowed(*attributes),
+            SetStorage::Referenced(references) => SetStorage::Referenced(*references),
+            SetStorage::Iterated(attributes) => SetStorage::Iterated(*attributes),
         };
-        SetKey { form }
+        SetKey { storage }
     }
 
     /// Returns the set as one list, or `None` if the key has its attributes in another way.
@@ -155,23 +155,23 @@ impl<'a> SetKey<'a> {
     fn whole(&self) -> Option<&[KeyValue]>
         ensures { IfSome result (λ set. set.now ≡ self.now) }
     {
-        match &self.form {
-            Form::Owned(set) => Some(set.as_slice()),
-            Form::Given(attributes) => Some(*attributes),
-            Form::Referenced(_) => None,
-            Form::Held(_) => None,
+        match &self.storage {
+            SetStorage::Owned(set) => Some(set.as_slice()),
+            SetStorage::Borrowed(attributes) => Some(*attributes),
+            SetStorage::Referenced(_) => None,
+            SetStorage::Iterated(_) => None,
         }
     }
 
     /// Returns the attributes of the set, to be read one after another.
     fn attributes(&self) -> SetAttributes<'_>
-        ensures { held_in result ≡ self.now }
+        ensures { attributes_left result ≡ self.now }
     {
-        match &self.form {
-            Form::Owned(set) => SetAttributes::kept(None, set.as_slice()),
-            Form::Given(attributes) => SetAttributes::kept(None, *attributes),
-            Form::Referenced(references) => SetAttributes::referenced(references.slice),
-            Form::Held(attributes) => **attributes,
+        match &self.storage {
+            SetStorage::Owned(set) => SetAttributes::kept(None, set.as_slice()),
+            SetStorage::Borrowed(attributes) => SetAttributes::kept(None, *attributes),
+            SetStorage::Referenced(references) => SetAttributes::referenced(references.slice),
+            SetStorage::Iterated(attributes) => **attributes,
         }
     }
 
@@ -181,16 +181,16 @@ impl<'a> SetKey<'a> {
     fn is_list(&self, list: &[KeyValue]) -> bool
         ensures { result ≡ set_eq self.now list.now }
     {
-        match &self.form {
-            Form::Referenced(references) => same_referenced(references.slice, list),
-            _ => self.is_same_held(&SetKey::given(list)),
+        match &self.storage {
+            SetStorage::Referenced(references) => same_referenced(references.slice, list),
+            _ => self.has_same_attributes(&SetKey::borrowed(list)),
         }
     }
 
     /// Tells whether another key has the same set, by comparing one attribute after another. It is kept out of line,
     /// since few look-ups need it.
     #[inline(never)]
-    fn is_same_held(&self, other: &SetKey) -> bool
+    fn has_same_attributes(&self, other: &SetKey) -> bool
         ensures { result ≡ set_eq self.now other.now }
     {
         same_attributes(self.attributes(), other.attributes())
@@ -202,8 +202,8 @@ impl<'a> SetKey<'a> {
     fn hash_apart<H: Hasher>(&self, state: &mut H)
         ensures { state.new ≡ fold H.write state.old (flat_map key_value_writes self.now) }
     {
-        match &self.form {
-            Form::Referenced(references) => hash_references(references.slice, state),
+        match &self.storage {
+            SetStorage::Referenced(references) => hash_references(references.slice, state),
             _ => hash_attributes(self.attributes(), state),
         }
     }
@@ -213,11 +213,11 @@ impl<'a> SetKey<'a> {
     pub fn is_empty(&self) -> bool
         ensures { result ≡ (length self.now == 0) }
     {
-        match &self.form {
-            Form::Owned(set) => set.as_slice().is_empty(),
-            Form::Given(attributes) => attributes.is_empty(),
-            Form::Referenced(references) => references.slice.is_empty(),
-            Form::Held(attributes) => attributes.is_empty(),
+        match &self.storage {
+            SetStorage::Owned(set) => set.as_slice().is_empty(),
+            SetStorage::Borrowed(attributes) => attributes.is_empty(),
+            SetStorage::Referenced(references) => references.slice.is_empty(),
+            SetStorage::Iterated(attributes) => attributes.is_empty(),
         }
     }
 
@@ -242,8 +242,8 @@ impl<'a> SetKey<'a> {
         ensures set { IfOk result (λ set. set ≡ self.now) }
         ensures only_memory { IsOkUnless result Fault.OutOfMemory }
     {
-        match &self.form {
-            Form::Given(attributes) => {
+        match &self.storage {
+            SetStorage::Borrowed(attributes) => {
                 Ok(SharedItems::new(Vec::from_clones(alloc, *attributes)?)?)
             }
             _ => Ok(SharedItems::new(copies_of(alloc, self.attributes())?)?),
@@ -257,8 +257,8 @@ impl<'a> SetKey<'a> {
         ensures set { IfOk result (λ set. set ≡ self.now) }
         ensures only_memory { IsOkUnless result Fault.OutOfMemory }
     {
-        match &self.form {
-            Form::Owned(set) => Ok(set.share()?),
+        match &self.storage {
+            SetStorage::Owned(set) => Ok(set.share()?),
             _ => self.copied(alloc),
         }
     }
@@ -275,7 +275,7 @@ impl<'a> PartialEq for SetKey<'a> {
             (Some(attributes), Some(others)) => same_lists(attributes, others),
             (Some(attributes), None) => other.is_list(attributes),
             (None, Some(others)) => self.is_list(others),
-            (None, None) => self.is_same_held(other),
+            (None, None) => self.has_same_attributes(other),
         }
     }
 }

@@ -11,7 +11,7 @@ use Rattle.otel_common.specs.Canonical.{canon}
 use Rattle.otel_common.specs.Equality.{set_eq}
 use Rattle.otel_model_stream.specs.Sets.{AttributeSet, none_set, over_set}
 use Rattle.otel_value_map.specs.Slots.{Kept, Look, SameLook, Keyed, with_slot, entry_of, entry_at, table_at}
-use Rattle.otel_value_map.specs.Keyed.{Fits, Links, IsKept, IsNew, IsSpelling, is_lasting, is_counted, with_spelling}
+use Rattle.otel_value_map.specs.Keyed.{Fits, Links, IsConsistent, IsNew, IsSpelling, is_lasting, is_counted, with_spelling}
 use Rattle.otel_value_map.specs.Numbers.{number_of, KeepNumbers}
 use Rattle.otel_value_map.proofs.KeyedLemmas.{set_eq-self, set_eq_equiv, same_number, entries-same, fits-as, linked-set}
 use Rattle.otel_value_map.proofs.SlotLemmas.{any_none}
@@ -65,7 +65,7 @@ numbers-pushed none es y s m e = by (set_eq s none_set) e
     by false r = lookup-push s es y m r
 
 module _ (look other : Look) (none : ℕ) (es gs : List Keyed) (set : AttributeSet) (n : ℕ) (k : Kept)
-    (laws : IsKept look none es gs) (vacant : look n ≡ None) (w : SameLook other (with_slot n k look)) (lasts : k.lasting ≡ set_eq set over_set) (new : IsNew es set) where
+    (laws : IsConsistent look none es gs) (vacant : look n ≡ None) (w : SameLook other (with_slot n k look)) (lasts : k.lasting ≡ set_eq set over_set) (new : IsNew es set) where
   rest_same : (m : ℕ) → nat_eq n m ≡ false → other m ≡ look m
   rest_same m q = w m ∙ ap (λ b. cond b (Some k) (look m)) q
 
@@ -84,7 +84,7 @@ module _ (look other : Look) (none : ℕ) (es gs : List Keyed) (set : AttributeS
     entries = (map-append (entry_at other) es ((set, n) ∷ []) ∙ (λ j. entries-same look other n es away rest_same j ++ entry_of set (at_new j) ∷ [])) i;
   }
 
-  kept-keyed : IsKept other none (es ++ (set, n) ∷ []) gs
+  kept-keyed : IsConsistent other none (es ++ (set, n) ∷ []) gs
   kept-keyed = record {
     none_filled = ap is_some (rest_same none none_away) ∙ laws.none_filled;
     none_lasts = ap is_lasting (rest_same none none_away) ∙ laws.none_lasts;
@@ -107,7 +107,7 @@ module _ (look other : Look) (none : ℕ) (es gs : List Keyed) (set : AttributeS
       by true h = absurd (true≢false (sym (linked-set es gs set laws.linked h) ∙ ap is_some new.absent))
       by false h = refl
 
-  pub kept-added : (list : Option AttributeSet) → IsSpelling gs set list → IsKept other none (es ++ (set, n) ∷ []) (with_spelling list n gs)
+  pub kept-added : (list : Option AttributeSet) → IsSpelling gs set list → IsConsistent other none (es ++ (set, n) ∷ []) (with_spelling list n gs)
   kept-added None can = kept-keyed
   kept-added (Some l) can = record {
     none_filled = kept-keyed.none_filled;

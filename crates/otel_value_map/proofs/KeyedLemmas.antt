@@ -20,7 +20,7 @@ use Rattle.slab.specs.Slab.{Slab, get}
 use Rattle.otel_model_stream.specs.Folds.{Fold}
 use Rattle.otel_value_map.specs.declared.slots.Slot.{Slot}
 use Rattle.otel_value_map.specs.Slots.{Kept, Look, Keyed, kept_of, look_in, entry_of, entry_at, table_at, HasForm}
-use Rattle.otel_value_map.specs.Keyed.{Fits, Links, IsKept, found, first_of, is_lasting, is_counted}
+use Rattle.otel_value_map.specs.Keyed.{Fits, Links, IsConsistent, found, first_of, is_lasting, is_counted}
 use Rattle.otel_value_map.specs.Numbers.{named_in, set_named, AreNamed, AreNumbered, IsNumberOf}
 
 pub same_set : (s t : AttributeSet) → set_eq s t ≡ true → s ≡ t
@@ -91,7 +91,7 @@ lookup-links es s (x ∷ gs) n e h = by (set_eq s x.0) refl e (λ r. lookup-link
     by false q r ih = ih r
 
 -- what is found under a list stands under its canonical form
-pub found-canon : (look : Look) (none : ℕ) (es gs : List Keyed) (l : List KeyValue) (n : ℕ) → IsKept look none es gs → found l es gs ≡ Some n → lookup (set_eq (canon l)) es ≡ Some n
+pub found-canon : (look : Look) (none : ℕ) (es gs : List Keyed) (l : List KeyValue) (n : ℕ) → IsConsistent look none es gs → found l es gs ≡ Some n → lookup (set_eq (canon l)) es ≡ Some n
 found-canon look none es gs l n laws e = by (lookup (set_eq l) es) refl e
   where
     by : (o : Option ℕ) → lookup (set_eq l) es ≡ o → first_of o (lookup (set_eq l) gs) ≡ Some n → lookup (set_eq (canon l)) es ≡ Some n
@@ -117,7 +117,7 @@ pub fits-as : (look other : Look) (x : Keyed) → is_some (other x.1) ≡ is_som
 fits-as look other x f l fit = record { filled = f ∙ fit.filled; lasting = l ∙ fit.lasting; canonical = fit.canonical; some = fit.some }
 
 -- an empty table is kept
-pub kept-new : (look : Look) (none : ℕ) → is_some (look none) ≡ true → is_lasting (look none) ≡ true → is_counted (look none) ≡ false → IsKept look none [] []
+pub kept-new : (look : Look) (none : ℕ) → is_some (look none) ≡ true → is_lasting (look none) ≡ true → is_counted (look none) ≡ false → IsConsistent look none [] []
 unfolding IsDistinct
 kept-new look none filled lasts uncounted = record { none_filled = filled; none_lasts = lasts; none_uncounted = uncounted; apart = (tt, tt); unique = tt; fits = tt; linked = tt; single = tt }
 
@@ -139,7 +139,7 @@ named_in-lookup s (x ∷ es) n e d = by (set_eq s x.0) refl e (λ r. named_in-lo
         ap (λ b. cond b x.0 (named_in n es)) away ∙ ih r
 
 -- a set that is found has that number
-pub number-found : (look : Look) (none : ℕ) (es gs : List Keyed) (s : AttributeSet) (n : ℕ) → IsKept look none es gs → lookup (set_eq s) es ≡ Some n → IsNumberOf s n (record { none = none; sets = es })
+pub number-found : (look : Look) (none : ℕ) (es gs : List Keyed) (s : AttributeSet) (n : ℕ) → IsConsistent look none es gs → lookup (set_eq s) es ≡ Some n → IsNumberOf s n (record { none = none; sets = es })
 number-found look none es gs s n laws e =
     let apart : nat_eq none n ≡ false = lookup-away s es none n e (IsDistinct-head nat_eq none (values_of es) laws.apart) in
     let away : nat_eq n none ≡ false = grind (arith, nat_tests) in
@@ -150,7 +150,7 @@ number-found look none es gs s n laws e =
     }
 
 -- a set that has a number is named by it
-pub numbers-name : (look : Look) (none : ℕ) (es gs : List Keyed) → IsKept look none es gs → AreNamed (record { none = none; sets = es })
+pub numbers-name : (look : Look) (none : ℕ) (es gs : List Keyed) → IsConsistent look none es gs → AreNamed (record { none = none; sets = es })
 numbers-name look none es gs laws s n e = by (set_eq s none_set) refl e
   where
     by : (b : Bool) → set_eq s none_set ≡ b → cond b (Some none) (lookup (set_eq s) es) ≡ Some n → set_named n (record { none = none; sets = es }) ≡ s
@@ -169,7 +169,7 @@ numbers-placed look none es s = by (set_eq s none_set) ∙ ap (λ b. set_eq s no
     by false = refl
 
 -- the same of what is found, if anything
-pub if_found : (look : Look) (none : ℕ) (es gs : List Keyed) (s : AttributeSet) (o : Option ℕ) → IsKept look none es gs → (is_some o ≡ true → o ≡ lookup (set_eq s) es) → IfSome o (λ n. IsNumberOf s n (record { none = none; sets = es }))
+pub if_found : (look : Look) (none : ℕ) (es gs : List Keyed) (s : AttributeSet) (o : Option ℕ) → IsConsistent look none es gs → (is_some o ≡ true → o ≡ lookup (set_eq s) es) → IfSome o (λ n. IsNumberOf s n (record { none = none; sets = es }))
 if_found look none es gs s None laws e = tt
 if_found look none es gs s (Some n) laws e = number-found look none es gs s n laws (sym (e refl))
 
@@ -187,7 +187,7 @@ found-known look es gs l =
     or-flip false false = refl
 
 -- what a list leads to is the entry of its set
-pub found-placed : (look : Look) (none : ℕ) (es gs : List Keyed) (l : List KeyValue) (o : Option ℕ) → IsKept look none es gs → o ≡ found l es gs
+pub found-placed : (look : Look) (none : ℕ) (es gs : List Keyed) (l : List KeyValue) (o : Option ℕ) → IsConsistent look none es gs → o ≡ found l es gs
     → IfSome o (λ _. has (canon l) (map (entry_at look) es) ≡ true) × IfSome o (λ n. IsNumberOf (canon l) n (record { none = none; sets = es }))
 found-placed look none es gs l None laws e = (tt, tt)
 found-placed look none es gs l (Some n) laws e =
@@ -195,7 +195,7 @@ found-placed look none es gs l (Some n) laws e =
     (has-lookup (canon l) look es ∙ ap is_some there, number-found look none es gs (canon l) n laws there)
 
 -- what the empty set's slot has
-pub form-kept : {A : Type 0} (meaning : A → Fold) (slots : Slab (Slot A)) (none : ℕ) (es gs : List Keyed) → IsKept (look_in meaning slots) none es gs → HasForm meaning (table_at (look_in meaning slots) none es)
+pub form-kept : {A : Type 0} (meaning : A → Fold) (slots : Slab (Slot A)) (none : ℕ) (es gs : List Keyed) → IsConsistent (look_in meaning slots) none es gs → HasForm meaning (table_at (look_in meaning slots) none es)
 form-kept meaning slots none es gs laws = by (get slots none) laws.none_filled laws.none_uncounted
   where
     by : (o : Option (Slot _)) → is_some (option_map (kept_of meaning) o) ≡ true → is_counted (option_map (kept_of meaning) o) ≡ false
@@ -215,7 +215,7 @@ linked-set es (g ∷ gs) s linked h = by (set_eq s (canon g.0)) refl h (linked-s
     by false q h ih = ih h
 
 -- there are at most as many lists as sets
-pub lists-few : (look : Look) (none : ℕ) (es gs : List Keyed) → IsKept look none es gs → length gs ≤ length es
+pub lists-few : (look : Look) (none : ℕ) (es gs : List Keyed) → IsConsistent look none es gs → length gs ≤ length es
 lists-few look none es gs laws = omega (arith, few, length-map (keys_of gs) canon, length-map gs (λ (e : Keyed). e.0), length-map es (λ (e : Keyed). e.0))
   where
     few : length (map canon (keys_of gs)) ≤ length (keys_of es)

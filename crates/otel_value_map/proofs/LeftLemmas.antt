@@ -11,7 +11,7 @@ use Rattle.otel_common.specs.declared.attributes.KeyValue.{KeyValue}
 use Rattle.otel_model_stream.specs.Sets.{AttributeSet, none_set, over_set}
 use Rattle.otel_model_stream.specs.Entries.{Entry, has, stays, reset, evicted_table, drained_table}
 use Rattle.otel_value_map.specs.Slots.{Kept, Look, Keyed, remains, forgotten, left_of, entry_of, entry_at, table_at}
-use Rattle.otel_value_map.specs.Keyed.{Fits, Links, IsKept, is_lasting, is_counted}
+use Rattle.otel_value_map.specs.Keyed.{Fits, Links, IsConsistent, is_lasting, is_counted}
 use Rattle.otel_value_map.specs.Numbers.{KeepLeft}
 use Rattle.otel_value_map.proofs.KeyedLemmas.{set_eq_equiv, has-lookup, fits-as}
 
@@ -136,7 +136,7 @@ module _ (look other : Look) (w : (n : ℕ) → other n ≡ left_of (look n)) wh
           let new : other none ≡ Some (forgotten k) = w none ∙ ap left_of q ∙ ap (λ b. cond b (Some (forgotten k)) None) keep in
           (ap is_some new, ap (entry_of none_set) new)
 
-  module _ (none : ℕ) (es gs : List Keyed) (laws : IsKept look none es gs) where
+  module _ (none : ℕ) (es gs : List Keyed) (laws : IsConsistent look none es gs) where
     abbrev left_keys : List Keyed
     left_keys = filter (is_left other) es
 
@@ -155,7 +155,7 @@ module _ (look other : Look) (w : (n : ℕ) → other n ≡ left_of (look n)) wh
     pub table-left : table_at other none (filter (is_left other) es) ≡ evicted_table (table_at look none es)
     table-left = λ i. record { none = (none-left none laws.none_filled laws.none_lasts).1 i; entries = entries-left es laws.fits i }
 
-    pub kept-left : IsKept other none (filter (is_left other) es) (filter (is_left other) gs)
+    pub kept-left : IsConsistent other none (filter (is_left other) es) (filter (is_left other) gs)
     unfolding IsDistinct
     kept-left =
         let n = none-left none laws.none_filled laws.none_lasts in
@@ -202,8 +202,8 @@ module _ (look other : Look) (w : (n : ℕ) → other n ≡ left_of (look n)) wh
         by false q ih = ih ∙ ap (λ b. cond b (g.0 ∷ those) those) (sym (entry ∙ ap (λ b. is_some (cond b (Some g.1) None)) q))
 
 -- where all are forgotten but the empty set's
-module _ (look other : Look) (none : ℕ) (es gs : List Keyed) (laws : IsKept look none es gs) (w : other none ≡ option_map forgotten (look none)) where
-  pub kept-drained : IsKept other none [] []
+module _ (look other : Look) (none : ℕ) (es gs : List Keyed) (laws : IsConsistent look none es gs) (w : other none ≡ option_map forgotten (look none)) where
+  pub kept-drained : IsConsistent other none [] []
   unfolding IsDistinct
   kept-drained = record {
     none_filled = ap is_some w ∙ (by (look none)).0 ∙ laws.none_filled;

@@ -14,7 +14,7 @@ use Rattle.otel_model_stream.specs.Maps.{MapState, with_place, bound_to}
 use Rattle.otel_value_map.specs.Slots.{Keyed}
 use Rattle.otel_value_map.specs.Keyed.{Slotted, IsNew, with_spelling}
 use Rattle.otel_value_map.specs.Numbers.{Numbers, number_of, KeepNumbers, is_placed, set_named, handles_in, handles_at}
-use Rattle.otel_value_map.specs.Held.{IsSound, IsReady, list_of, pending_in, is_new, is_pending}
+use Rattle.otel_value_map.specs.Contents.{IsSound, IsReady, list_of, pending_in, is_new, is_pending}
 use Rattle.otel_value_map.specs.declared.pending.Pending.{Pending}
 use Rattle.otel_value_map.specs.declared.pending.Pending.TheVariants.{Nothing, At, New}
 use Rattle.otel_value_map.proofs.KeyedLemmas.{same_set, set_eq-self, set_eq-flip}

@@ -12,7 +12,7 @@ use Rattle.otel_model_stream.specs.Entries.{Entry, has}
 use Rattle.otel_model_stream.specs.Maps.{KnownMap, knows}
 use Rattle.otel_value_map.specs.Keyed.{Slotted, IsNew, IsSpelling}
 use Rattle.otel_value_map.specs.Numbers.{number_of, set_named, named_in, is_placed, AreNumbered}
-use Rattle.otel_value_map.specs.Held.{IsPlan, IsSound, IsReady, leads, list_of}
+use Rattle.otel_value_map.specs.Contents.{IsPlan, IsSound, IsReady, leads, list_of}
 use Rattle.otel_value_map.specs.declared.pending.Pending.{Pending}
 use Rattle.otel_value_map.specs.declared.pending.Pending.TheVariants.{Nothing, At, New}
 use Rattle.otel_value_map.proofs.CanonicalSets.{canon-nil, some-canon}
@@ -43,12 +43,12 @@ lacking (Some n) e = absurd (true≢false e)
 
 -- a list that leads to no entry is not the set of one
 pub unlisted : (t : Slotted) (l : List KeyValue) → leads l t ≡ false → has l t.table.entries ≡ false
-unlisted t l unled = (or-none (set_eq l none_set) (is_member set_eq (keys_of t.given) l) (has l t.table.entries) unled).2
+unlisted t l unled = (or-none (set_eq l none_set) (is_member set_eq (keys_of t.aliases) l) (has l t.table.entries) unled).2
 
 -- and has no number
 pub unnumbered : (t : Slotted) (l : List KeyValue) → leads l t ≡ false → AreNumbered t.table.entries t.numbers → lookup (set_eq l) t.numbers.sets ≡ None
 unnumbered t l unled numbered =
-    let apart = or-none (set_eq l none_set) (is_member set_eq (keys_of t.given) l) (has l t.table.entries) unled in
+    let apart = or-none (set_eq l none_set) (is_member set_eq (keys_of t.aliases) l) (has l t.table.entries) unled in
     lacking (lookup (set_eq l) t.numbers.sets)
     (ap (λ b. is_some (cond b (Some t.numbers.none) (lookup (set_eq l) t.numbers.sets))) (sym apart.0)
     ∙ numbered l
@@ -56,14 +56,14 @@ unnumbered t l unled numbered =
     ∙ apart.2)
 
 module _ (t : Slotted) (l : List KeyValue) (unled : leads l t ≡ false) (absent : lookup (set_eq (canon l)) t.numbers.sets ≡ None) (away : has (canon l) t.table.entries ≡ false) where
-  apart : (set_eq l none_set ≡ false) × (is_member set_eq (keys_of t.given) l ≡ false) × (has l t.table.entries ≡ false)
-  apart = or-none (set_eq l none_set) (is_member set_eq (keys_of t.given) l) (has l t.table.entries) unled
+  apart : (set_eq l none_set ≡ false) × (is_member set_eq (keys_of t.aliases) l ≡ false) × (has l t.table.entries ≡ false)
+  apart = or-none (set_eq l none_set) (is_member set_eq (keys_of t.aliases) l) (has l t.table.entries) unled
 
   bare : set_eq (canon l) none_set ≡ false
   bare = some-canon l apart.0
 
-  ungiven : lookup (set_eq l) t.given ≡ None
-  ungiven = lacking (lookup (set_eq l) t.given) (is_some-lookup (set_eq l) t.given ∙ apart.1)
+  unaliased : lookup (set_eq l) t.aliases ≡ None
+  unaliased = lacking (lookup (set_eq l) t.aliases) (is_some-lookup (set_eq l) t.aliases ∙ apart.1)
 
   new : IsNew t.numbers.sets (canon l)
   new = record { absent = absent; canonical = canon-canon l; some = bare }
@@ -93,9 +93,9 @@ module _ (t : Slotted) (l : List KeyValue) (unled : leads l t ≡ false) (absent
       none_few true false = refl
       none_few false b = refl
 
-  spelled : (b : Bool) → set_eq (canon l) l ≡ b → (o : Option (List KeyValue)) → o ≡ cond b None (Some l) → IsSpelling t.given (canon l) o
-  spelled true q o e = subst (IsSpelling t.given (canon l)) (sym e) tt
-  spelled false q o e = subst (IsSpelling t.given (canon l)) (sym e) (refl, ungiven)
+  spelled : (b : Bool) → set_eq (canon l) l ≡ b → (o : Option (List KeyValue)) → o ≡ cond b None (Some l) → IsSpelling t.aliases (canon l) o
+  spelled true q o e = subst (IsSpelling t.aliases (canon l)) (sym e) tt
+  spelled false q o e = subst (IsSpelling t.aliases (canon l)) (sym e) (refl, unaliased)
 
   listed : (b : Bool) (o : Option (List KeyValue)) → o ≡ cond b None (Some l) → list_of o ≡ cond (not b) (l ∷ []) []
   listed true o e = ap list_of e
@@ -115,9 +115,9 @@ pub all-true : (a b c : Bool) → a ≡ true → b ≡ true → c ≡ true → (
 all-true a b c p q r = ap (λ x. x && (b && c)) p ∙ ap (λ x. true && (x && c)) q ∙ r
 
 -- it doesn't depend on the room of the table itself
-pub sound-same : (t n : Slotted) (few room : Bool) (p : Pending) → n.table ≡ t.table → n.numbers ≡ t.numbers → n.given ≡ t.given → IsSound t few room p → IsSound n few room p
-sound-same t n few room p table numbers given sound =
-    anew p (subst (λ (x : Slotted). IsSound x few room p) (λ i. record { table = sym table i; numbers = sym numbers i; given = sym given i; room = t.room }) sound)
+pub sound-same : (t n : Slotted) (few room : Bool) (p : Pending) → n.table ≡ t.table → n.numbers ≡ t.numbers → n.aliases ≡ t.aliases → IsSound t few room p → IsSound n few room p
+sound-same t n few room p table numbers aliases sound =
+    anew p (subst (λ (x : Slotted). IsSound x few room p) (λ i. record { table = sym table i; numbers = sym numbers i; aliases = sym aliases i; room = t.room }) sound)
   where
     anew : (p : Pending) → IsSound (record n { room = t.room }) few room p → IsSound n few room p
     anew Nothing s = tt

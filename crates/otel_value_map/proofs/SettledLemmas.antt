@@ -9,7 +9,7 @@ use Rattle.otel_common.specs.Equality.{set_eq}
 use Rattle.otel_model_stream.specs.Sets.{AttributeSet, none_set}
 use Rattle.otel_model_stream.specs.Entries.{Entry, has, evicted_table}
 use Rattle.otel_value_map.specs.Slots.{Kept, Look, SameLook, Keyed, forgotten, left_of, at_slot, changed_at, changed_each, entry_of, entry_at, table_at}
-use Rattle.otel_value_map.specs.Keyed.{Fits, Links, IsKept, is_lasting, is_counted}
+use Rattle.otel_value_map.specs.Keyed.{Fits, Links, IsConsistent, is_lasting, is_counted}
 use Rattle.otel_value_map.specs.Numbers.{KeepLeft}
 use Rattle.otel_value_map.proofs.KeyedLemmas.{fits-as, same_number}
 use Rattle.otel_value_map.proofs.LeftLemmas.{is_left, table-left, kept-left, numbers-left, lists-left}
@@ -41,7 +41,7 @@ or_true : (b : Bool) → (b || true) ≡ true
 or_true true = refl
 or_true false = refl
 
-module _ (look mid other : Look) (none : ℕ) (es gs : List Keyed) (laws : IsKept look none es gs) (first : SameLook mid (changed_at left_of none look)) (w : SameLook other (changed_each left_of es mid)) where
+module _ (look mid other : Look) (none : ℕ) (es gs : List Keyed) (laws : IsConsistent look none es gs) (first : SameLook mid (changed_at left_of none look)) (w : SameLook other (changed_each left_of es mid)) where
   none-settled : other none ≡ left_in look none
   none-settled = none-apart left_of look mid other none es laws.apart w ∙ first none ∙ ap (λ b. cond b (left_of (look none)) (look none)) (same_number none)
 
@@ -104,10 +104,10 @@ module _ (look mid other : Look) (none : ℕ) (es gs : List Keyed) (laws : IsKep
   pub table-settled : table_at other none (filter (is_left other) es) ≡ evicted_table (table_at look none es)
   table-settled = (λ i. record { none = entry_of none_set (none-settled i); entries = left_entries i }) ∙ table-left look (left_in look) (λ n. refl) none es gs laws
 
-  pub kept-settled : IsKept other none (filter (is_left other) es) (filter (is_left other) gs)
+  pub kept-settled : IsConsistent other none (filter (is_left other) es) (filter (is_left other) gs)
   kept-settled =
-      let k : IsKept (left_in look) none (filter (is_left other) es) (filter (is_left other) gs) =
-      subst (λ xs. IsKept (left_in look) none xs (filter (is_left other) gs)) (sym left_sets) (subst (IsKept (left_in look) none (filter (is_left (left_in look)) es)) (sym left_lists) (kept-left look (left_in look) (λ n. refl) none es gs laws)) in
+      let k : IsConsistent (left_in look) none (filter (is_left other) es) (filter (is_left other) gs) =
+      subst (λ xs. IsConsistent (left_in look) none xs (filter (is_left other) gs)) (sym left_sets) (subst (IsConsistent (left_in look) none (filter (is_left (left_in look)) es)) (sym left_lists) (kept-left look (left_in look) (λ n. refl) none es gs laws)) in
       record {
         none_filled = ap is_some none-settled ∙ k.none_filled;
         none_lasts = ap is_lasting none-settled ∙ k.none_lasts;
@@ -132,7 +132,7 @@ module _ (look mid other : Look) (none : ℕ) (es gs : List Keyed) (laws : IsKep
       ∙ ap (λ (rs : List Entry). filter (λ l. has (canon l) rs) (keys_of gs)) (sym left_entries)
 
 -- a slot whose sets are freed, and whose records are forgotten then
-pub none-drained : (look mid other : Look) (none : ℕ) (es gs : List Keyed) → IsKept look none es gs → SameLook mid (changed_each (λ _. None) es look) → SameLook other (at_slot none forgotten mid) → other none ≡ option_map forgotten (look none)
+pub none-drained : (look mid other : Look) (none : ℕ) (es gs : List Keyed) → IsConsistent look none es gs → SameLook mid (changed_each (λ _. None) es look) → SameLook other (at_slot none forgotten mid) → other none ≡ option_map forgotten (look none)
 none-drained look mid other none es gs laws freed forgot =
     forgot none ∙ ap (λ b. cond b (option_map forgotten (mid none)) (mid none)) (same_number none)
     ∙ ap (option_map forgotten) (none-apart (λ _. None) look look mid none es laws.apart freed)

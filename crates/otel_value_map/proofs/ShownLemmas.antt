@@ -9,7 +9,7 @@ use Rattle.otel_model_stream.specs.Sets.{AttributeSet, none_set}
 use Rattle.otel_model_stream.specs.Entries.{Entry, point_of_entry, points}
 use Rattle.otel_model_stream.specs.Observed.{fold_in}
 use Rattle.otel_value_map.specs.Slots.{Kept, Look, Keyed, entry_of, entry_at, table_at}
-use Rattle.otel_value_map.specs.Keyed.{Fits, IsKept}
+use Rattle.otel_value_map.specs.Keyed.{Fits, IsConsistent}
 use Rattle.otel_value_map.specs.Numbers.{number_of, handles_in, handles_at}
 use Rattle.otel_value_map.proofs.TableLemmas.{shown_of}
 use Rattle.otel_value_map.proofs.KeyedLemmas.{same_set, set_eq-flip, entry-set}
@@ -50,7 +50,7 @@ none-absent look s (x ∷ es) h e =
     let is : s ≡ none_set = same_set s none_set e in
     ap (λ b. cond b (Some x.1) (lookup (set_eq s) es)) (ap (λ t. set_eq t x.0) is ∙ set_eq-flip none_set x.0 ∙ h.0.some) ∙ none-absent look s es h.1 e
 
-module _ (look : Look) (none : ℕ) (es gs : List Keyed) (laws : IsKept look none es gs) (s : AttributeSet) where
+module _ (look : Look) (none : ℕ) (es gs : List Keyed) (laws : IsConsistent look none es gs) (s : AttributeSet) where
   after_none : (b : Bool) (e : Entry) (rest : List Entry) (c : Bool) → set_eq e.set s ≡ c → fold_in (map point_of_entry (cond b (e ∷ []) [] ++ rest)) s ≡ cond (b && c) (Some e.fold) (fold_in (map point_of_entry rest) s)
   after_none true e rest true q = ap (λ c. cond c (Some e.fold) (fold_in (map point_of_entry rest) s)) q
   after_none true e rest false q = ap (λ c. cond c (Some e.fold) (fold_in (map point_of_entry rest) s)) q
@@ -90,7 +90,7 @@ handles-among s look (x ∷ es) n e h = by (set_eq s x.0) refl e (λ r. handles-
         ap (λ m. option_map (λ (k : Kept). k.handles) (look m)) (sym k) ∙ filled (look x.1) h.0.filled ∙ ap (λ b. Some (cond b (entry_at look x).handles (handles_in s (map (entry_at look) es)))) (sym (hit s look x ∙ q))
     by false q r ih = ih r ∙ ap (λ b. Some (cond b (entry_at look x).handles (handles_in s (map (entry_at look) es)))) (sym (hit s look x ∙ q))
 
-pub handles-kept : (look : Look) (none : ℕ) (es gs : List Keyed) (s : AttributeSet) (n : ℕ) → IsKept look none es gs → number_of s (record { none = none; sets = es }) ≡ Some n → option_map (λ (k : Kept). k.handles) (look n) ≡ Some (handles_at s (table_at look none es))
+pub handles-kept : (look : Look) (none : ℕ) (es gs : List Keyed) (s : AttributeSet) (n : ℕ) → IsConsistent look none es gs → number_of s (record { none = none; sets = es }) ≡ Some n → option_map (λ (k : Kept). k.handles) (look n) ≡ Some (handles_at s (table_at look none es))
 handles-kept look none es gs s n laws e = by (set_eq s none_set) refl e
   where
     filled : (o : Option Kept) → is_some o ≡ true → option_map (λ (k : Kept). k.handles) o ≡ Some (entry_of none_set o).handles

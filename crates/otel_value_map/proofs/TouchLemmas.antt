@@ -10,7 +10,7 @@ use Rattle.otel_common.specs.Equality.{set_eq}
 use Rattle.otel_model_stream.specs.Sets.{AttributeSet, none_set}
 use Rattle.otel_model_stream.specs.Entries.{Entry, on, is_of, at_entry, number_counted}
 use Rattle.otel_value_map.specs.Slots.{Kept, Look, SameLook, Keyed, at_slot, entry_of, entry_at, table_at}
-use Rattle.otel_value_map.specs.Keyed.{Fits, IsKept, is_lasting, is_counted}
+use Rattle.otel_value_map.specs.Keyed.{Fits, IsConsistent, is_lasting, is_counted}
 use Rattle.otel_value_map.specs.Numbers.{number_of, is_number}
 use Rattle.otel_value_map.proofs.TableLemmas.{counted_cons}
 use Rattle.otel_value_map.proofs.KeyedLemmas.{same_set, set_eq-flip, same_number, entry-set, lookup-away, entries-same, fits-as}
@@ -47,7 +47,7 @@ module _ (f : Kept → Kept) (g : Entry → Entry) (as_entry : (s : AttributeSet
   fits-touched [] h = tt
   fits-touched (x ∷ es) h = (fits-as look other x (fit-touched x.1).0 (fit-touched x.1).1 h.0, fits-touched es h.1)
 
-  pub kept-touched : (none : ℕ) (es gs : List Keyed) → IsKept look none es gs → IsKept other none es gs
+  pub kept-touched : (none : ℕ) (es gs : List Keyed) → IsConsistent look none es gs → IsConsistent other none es gs
   kept-touched none es gs laws = record {
     none_filled = (fit-touched none).0 ∙ laws.none_filled;
     none_lasts = (fit-touched none).1 ∙ laws.none_lasts;
@@ -94,7 +94,7 @@ module _ (f : Kept → Kept) (g : Entry → Entry) (as_entry : (s : AttributeSet
           λ i. (ap (entry_of x.0) (elsewhere x.1 back) ∙ ap (λ b. cond b (g (entry_at look x)) (entry_at look x)) (sym (hit false q))) i ∷ ih r i
 
   -- the change is one at the entry of the set whose number it is
-  pub table-touched : (none : ℕ) (es gs : List Keyed) (s : AttributeSet) → IsKept look none es gs → number_of s (record { none = none; sets = es }) ≡ Some n → table_at other none es ≡ at_entry s g (table_at look none es)
+  pub table-touched : (none : ℕ) (es gs : List Keyed) (s : AttributeSet) → IsConsistent look none es gs → number_of s (record { none = none; sets = es }) ≡ Some n → table_at other none es ≡ at_entry s g (table_at look none es)
   table-touched none es gs s laws e = by (set_eq s none_set) refl e
     where
       by : (b : Bool) → set_eq s none_set ≡ b → cond b (Some none) (lookup (set_eq s) es) ≡ Some n → table_at other none es ≡ at_entry s g (table_at look none es)

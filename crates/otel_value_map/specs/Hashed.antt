@@ -39,5 +39,5 @@ plain e = (e.0.key, e.1)
 -- memory
 pub record Led : Type 0 where
   pub sets : List Keyed
-  pub given : List Keyed
+  pub aliases : List Keyed
   pub room : Bool

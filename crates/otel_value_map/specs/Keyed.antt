@@ -15,11 +15,11 @@ use Rattle.otel_value_map.specs.Numbers.{Numbers}
 pub record Slotted : Type 0 where
   pub table : Table
   pub numbers : Numbers
-  pub given : List Keyed
+  pub aliases : List Keyed
   pub room : Bool
 
 abbrev pub slotted : Look → ℕ → List Keyed → List Keyed → Bool → Slotted
-slotted look none es gs room = record { table = table_at look none es; numbers = record { none = none; sets = es }; given = gs; room = room }
+slotted look none es gs room = record { table = table_at look none es; numbers = record { none = none; sets = es }; aliases = gs; room = room }
 
 -- the first number, if it is there, or else the second
 abbrev pub first_of : Option ℕ → Option ℕ → Option ℕ
@@ -53,7 +53,7 @@ Links es g = lookup (set_eq (canon g.0)) es ≡ Some g.1
 
 -- the empty set's slot is filled, lasts and isn't counted; no two sets share a slot, and no set has two; each key fits;
 -- each list leads where its set does, and no two lists have the same set
-pub record IsKept (look : Look) (none : ℕ) (es gs : List Keyed) : Type 0 where
+pub record IsConsistent (look : Look) (none : ℕ) (es gs : List Keyed) : Type 0 where
   pub none_filled : is_some (look none) ≡ true
   pub none_lasts : is_lasting (look none) ≡ true
   pub none_uncounted : is_counted (look none) ≡ false

@@ -1,6 +1,6 @@
 pub mod Hashed
 pub mod Hashing
-pub mod Held
+pub mod Contents
 pub mod Keyed
 pub mod Numbers
 pub mod Slots

@@ -161,7 +161,7 @@ impl<'a> GivenAttributes<'a> {
     pub fn hashed(hasher: SetHashBuilder, attributes: &'a [KeyValue]) -> GivenAttributes<'a>
         ensures { result ≡ attributes.now }
     {
-        let hash = hasher.hash_one(&SetKey::given(attributes));
+        let hash = hasher.hash_one(&SetKey::borrowed(attributes));
         GivenAttributes {
             attributes,
             hashed: Some((hasher, hash)),
@@ -181,7 +181,7 @@ impl<'a> GivenAttributes<'a> {
     pub fn list(&self, hasher: SetHashBuilder) -> HashedSet<'a>
         ensures { result ≡ self.now }
     {
-        let set = SetKey::given(self.attributes);
+        let set = SetKey::borrowed(self.attributes);
         match self.hashed {
             Some((hasher, hash)) => HashedSet { hasher, hash, set },
             None => HashedSet::new(hasher, set),

@@ -29,8 +29,8 @@ pub struct KeyTable {
     hasher: SetHashBuilder,
     /// By canonical set, so that a list that is canonical as given is found without a copy.
     sets: Numbered,
-    /// By list as given, for lists that admitted a set in another form.
-    given: Numbered,
+    /// By other lists, as given, that admitted a set: those that are not its canonical form.
+    aliases: Numbered,
 }
 
 impl Model for KeyTable {
@@ -43,11 +43,11 @@ impl Model for KeyTable {
 
     ghost view = { λ t. record {
       sets = map plain t.sets.entries;
-      given = map plain t.given.entries;
-      room = nat_lt 0 (spare t.sets) && nat_lt 0 (spare t.given);
+      aliases = map plain t.aliases.entries;
+      room = nat_lt 0 (spare t.sets) && nat_lt 0 (spare t.aliases);
     } };
 
-    ghost invariant = { λ t. AllByRecursion (λ e. IsHashedBy t.hasher e.0) t.sets.entries × AllByRecursion (λ e. IsHashedBy t.hasher e.0) t.given.entries };
+    ghost invariant = { λ t. AllByRecursion (λ e. IsHashedBy t.hasher e.0) t.sets.entries × AllByRecursion (λ e. IsHashedBy t.hasher e.0) t.aliases.entries };
 }
 
 impl Drop for KeyTable {
@@ -56,7 +56,7 @@ impl Drop for KeyTable {
         let KeyTable {
             hasher: _,
             sets: _sets,
-            given: _given,
+            aliases: _aliases,
         } = self;
     }
 }
@@ -109,12 +109,12 @@ impl KeyTable {
     #[inline(always)]
     pub fn new(alloc: Global, hasher: SetHashBuilder) -> KeyTable
         ensures sets { result.sets ≡ [] }
-        ensures given { result.given ≡ [] }
+        ensures aliases { result.aliases ≡ [] }
     {
         KeyTable {
             hasher,
             sets: IndexMap::with_hasher(alloc, hasher),
-            given: IndexMap::with_hasher(alloc, hasher),
+            aliases: IndexMap::with_hasher(alloc, hasher),
         }
     }
 
@@ -133,21 +133,21 @@ impl KeyTable {
     /// The number that a list leads to, as a set or else as given.
     #[inline(always)]
     pub fn find(&self, list: &HashedSet) -> Option<usize>
-        ensures { result ≡ found list.now self.now.sets self.now.given }
+        ensures { result ≡ found list.now self.now.sets self.now.aliases }
     {
         let key = list.lent(self.hasher);
         match number_in(&self.sets, &key) {
             Some(number) => Some(number),
-            None if self.given.is_empty() => None,
-            None => number_in(&self.given, &key),
+            None if self.aliases.is_empty() => None,
+            None => number_in(&self.aliases, &key),
         }
     }
 
     /// How many keys there are.
     pub fn keys(&self) -> usize
-        ensures { result ≡ length self.now.sets + length self.now.given }
+        ensures { result ≡ length self.now.sets + length self.now.aliases }
     {
-        self.sets.len() + self.given.len()
+        self.sets.len() + self.aliases.len()
     }
 
     /// The sets with their numbers, in order of making.
@@ -168,45 +168,45 @@ impl KeyTable {
     /// Makes room for one more set and one more list.
     pub fn reserve_one(&mut self) -> Result<(), AllocError>
         ensures sets { self.new.sets ≡ self.old.sets }
-        ensures given { self.new.given ≡ self.old.given }
+        ensures aliases { self.new.aliases ≡ self.old.aliases }
         ensures room { OnOk result (self.new.room ≡ true) }
     {
         self.sets.reserve(1)?;
-        self.given.reserve(1)?;
+        self.aliases.reserve(1)?;
         Ok(())
     }
 
     /// Adds a set, and the list that admitted it if that is another, as keys of this number.
     pub fn add(&mut self, set: HashedSet<'static>, list: Option<HashedSet<'static>>, number: usize)
         requires new { IsNew self.old.sets set }
-        requires spelling { IsSpelling self.old.given set list }
+        requires spelling { IsSpelling self.old.aliases set list }
         requires room { self.old.room ≡ true }
         ensures sets { self.new.sets ≡ self.old.sets ++ (set.entry, number) ∷ [] }
-        ensures given { self.new.given ≡ with_spelling list.entry number self.old.given }
+        ensures aliases { self.new.aliases ≡ with_spelling list.entry number self.old.aliases }
     {
         add_key(&mut self.sets, set.into_key(self.hasher), number);
         if let Some(list) = list {
-            add_key(&mut self.given, list.into_key(self.hasher), number);
+            add_key(&mut self.aliases, list.into_key(self.hasher), number);
         }
     }
 
     /// Removes the keys that lead to free slots.
     pub fn keep_filled<A: Aggregator>(&mut self, slots: &Slab<Slot<A>>)
         ensures sets { self.new.sets ≡ filter (λ e. is_some (look_in A.meaning slots.now e.1)) self.old.sets }
-        ensures given { self.new.given ≡ filter (λ e. is_some (look_in A.meaning slots.now e.1)) self.old.given }
+        ensures aliases { self.new.aliases ≡ filter (λ e. is_some (look_in A.meaning slots.now e.1)) self.old.aliases }
     {
         keep_filled(&mut self.sets, slots);
-        keep_filled(&mut self.given, slots);
+        keep_filled(&mut self.aliases, slots);
     }
 
     /// Removes all keys. Keeps memory for about as many as there were, for later ones.
     pub fn clear(&mut self)
         ensures sets { self.new.sets ≡ [] }
-        ensures given { self.new.given ≡ [] }
+        ensures aliases { self.new.aliases ≡ [] }
     {
         trim(&mut self.sets);
-        trim(&mut self.given);
+        trim(&mut self.aliases);
         self.sets.clear();
-        self.given.clear();
+        self.aliases.clear();
     }
 }

@@ -7,7 +7,7 @@ ghost use Rattle.otel_common.specs.Equality.{set_eq};
 ghost use Rattle.otel_model_stream.specs.Entries.{has};
 ghost use Rattle.otel_model_stream.specs.Sets.{allowed_part, over_set};
 ghost use Rattle.otel_value_map.specs.Slots.{kept_of, new_kept};
-ghost use Rattle.otel_value_map.specs.Held.{IsPlan, IsPlanAt, is_new, is_pending, leads};
+ghost use Rattle.otel_value_map.specs.Contents.{IsPlan, IsPlanAt, is_new, is_pending, leads};
 ghost use Rattle.otel_value_map.specs.declared.pending.Pending.TheVariants.{Nothing, At};
 
 use crate::hashed_key::HashedSet;
@@ -67,7 +67,7 @@ impl Drop for Prepared {
 
 impl Model for Prepared {
     ghost use Rattle.std.specs.Prelude.{◌≡◌, is_some, IsTrue, false};
-    ghost use Rattle.otel_value_map.specs.Held.{prepared};
+    ghost use Rattle.otel_value_map.specs.Contents.{prepared};
     ghost use Rattle.otel_value_map.specs.declared.pending.Pending.{Pending};
 
     ghost Value = { Pending };
@@ -239,7 +239,7 @@ fn plan_many<A: Aggregator>(
         }
         Err(fault) => {
             let sorted = SetAttributes::canonical(allow, attributes);
-            match table.find_set(&HashedSet::new(table.hasher(), SetKey::held(&sorted))) {
+            match table.find_set(&HashedSet::new(table.hasher(), SetKey::iterated(&sorted))) {
                 Some(number) => Ok(Pending::At(number)),
                 None => Err(fault),
             }
@@ -269,7 +269,7 @@ pub fn plan<A: Aggregator>(
 {
     if list.set().is_canonical() {
         // Tells the prover that the set has no number.
-        table.told_numbers();
+        table.law_of_numbers();
         let own = list.share(alloc)?;
         return Ok(Pending::New(own, None));
     }
@@ -334,7 +334,7 @@ pub fn make_ready<A: Aggregator>(
     requires key { IfSome key.old (λ made. made ≡ over_set) }
     ensures table { table.new.table ≡ table.old.table }
     ensures numbers { table.new.numbers ≡ table.old.numbers }
-    ensures given { table.new.given ≡ table.old.given }
+    ensures aliases { table.new.aliases ≡ table.old.aliases }
     ensures empty { IfSome unused.new (λ made. A.meaning made ≡ A.empty config.now) }
     ensures over { IfSome key.new (λ made. made ≡ over_set) }
     ensures ready { OnOk result ((is_some unused.new && (is_some key.new && table.new.room)) ≡ true) }

@@ -45,8 +45,8 @@ impl<A: Aggregator> Saved<A> {
     {
         let Saved { entries: mut saved } = self;
         // These tell the prover what is kept of the empty set.
-        entries.told_form();
-        saved.told_form();
+        entries.law_of_empty_set();
+        saved.law_of_empty_set();
         swap(entries, &mut saved);
     }
 }

@@ -44,13 +44,13 @@ impl<A: Aggregator> Model for Table<A> {
     ghost use Rattle.std.specs.Prelude.{◌+◌, ◌&&◌, nat_le};
     ghost use Rattle.slab.specs.Slab.{slab_len};
     ghost use Rattle.otel_value_map.specs.Slots.{look_in};
-    ghost use Rattle.otel_value_map.specs.Keyed.{Slotted, slotted, IsKept};
+    ghost use Rattle.otel_value_map.specs.Keyed.{Slotted, slotted, IsConsistent};
 
     ghost Value = { Slotted };
 
-    ghost view = { λ t. slotted (look_in A.meaning t.slots) t.none t.keys.sets t.keys.given (nat_le (slab_len t.slots + 1) t.slots.capacity && t.keys.room) };
+    ghost view = { λ t. slotted (look_in A.meaning t.slots) t.none t.keys.sets t.keys.aliases (nat_le (slab_len t.slots + 1) t.slots.capacity && t.keys.room) };
 
-    ghost invariant = { λ t. IsKept (look_in A.meaning t.slots) t.none t.keys.sets t.keys.given };
+    ghost invariant = { λ t. IsConsistent (look_in A.meaning t.slots) t.none t.keys.sets t.keys.aliases };
 }
 
 impl<A: Aggregator> Drop for Table<A> {
@@ -71,7 +71,7 @@ fn reserve_one<A: Aggregator>(
 ) -> Result<(), AllocError>
     ensures look { look_in A.meaning slots.new ≡ look_in A.meaning slots.old }
     ensures sets { keys.new.sets ≡ keys.old.sets }
-    ensures given { keys.new.given ≡ keys.old.given }
+    ensures aliases { keys.new.aliases ≡ keys.old.aliases }
     ensures room { OnOk result ((nat_le (slab_len slots.new + 1) slots.new.capacity && keys.new.room) ≡ true) }
 {
     slots.reserve(1)?;
@@ -265,7 +265,7 @@ impl<A: Aggregator> Table<A> {
     pub fn new(alloc: Global, hasher: SetHashBuilder, aggregator: A) -> Result<Table<A>, Fault>
         ensures table { IfOk result (λ made. made.table ≡ new_table (A.meaning aggregator)) }
         ensures sets { IfOk result (λ made. made.numbers.sets ≡ []) }
-        ensures given { IfOk result (λ made. made.given ≡ []) }
+        ensures aliases { IfOk result (λ made. made.aliases ≡ []) }
         ensures only_memory { IsOkUnless result Fault.OutOfMemory }
     {
         Table::with_none(alloc, hasher, Slot::new(aggregator, false, true))
@@ -278,7 +278,7 @@ impl<A: Aggregator> Table<A> {
         requires uncounted { slot.counted ≡ false }
         ensures table { IfOk result (λ made. made.table ≡ record { none = entry_of none_set (Some (kept_of A.meaning slot)); entries = [] }) }
         ensures sets { IfOk result (λ made. made.numbers.sets ≡ []) }
-        ensures given { IfOk result (λ made. made.given ≡ []) }
+        ensures aliases { IfOk result (λ made. made.aliases ≡ []) }
         ensures only_memory { IsOkUnless result Fault.OutOfMemory }
     {
         let mut slots = Slab::new(alloc);
@@ -291,15 +291,15 @@ impl<A: Aggregator> Table<A> {
         })
     }
 
-    /// Tells the prover what the empty set's entry is.
-    pub fn told_form(&self)
+    /// The law that the empty set's entry isn't counted, and that some aggregator has its records.
+    pub fn law_of_empty_set(&self)
         ensures { HasForm A.meaning self.now.table }
     {
         let _none = self.none;
     }
 
-    /// Tells the prover that numbers and sets lead to each other.
-    pub fn told_numbers(&self)
+    /// The law that numbers and sets lead to each other.
+    pub fn law_of_numbers(&self)
         ensures named { AreNamed self.now.numbers }
         ensures placed { AreNumbered self.now.table.entries self.now.numbers }
     {
@@ -330,8 +330,8 @@ impl<A: Aggregator> Table<A> {
     /// The number that a list leads to as given: as a set, or as the list that admitted one.
     #[inline(always)]
     pub fn find(&self, list: &HashedSet) -> Option<usize>
-        ensures number { result ≡ found list.now self.now.numbers.sets self.now.given }
-        ensures known { is_some result ≡ (is_member set_eq (keys_of self.now.given) list.now || has list.now self.now.table.entries) }
+        ensures number { result ≡ found list.now self.now.numbers.sets self.now.aliases }
+        ensures known { is_some result ≡ (is_member set_eq (keys_of self.now.aliases) list.now || has list.now self.now.table.entries) }
         ensures placed { IfSome result (λ _. has (canon list.now) self.now.table.entries ≡ true) }
         ensures named { IfSome result (λ n. IsNumberOf (canon list.now) n self.now.numbers) }
     {
@@ -340,7 +340,7 @@ impl<A: Aggregator> Table<A> {
 
     /// How many keys lead to entries: those of sets, and those of lists as given.
     pub fn keys(&self) -> usize
-        ensures number { result ≡ length self.now.table.entries + length self.now.given }
+        ensures number { result ≡ length self.now.table.entries + length self.now.aliases }
         ensures few { result ≤ 2 * length self.now.table.entries }
     {
         self.keys.keys()
@@ -350,7 +350,7 @@ impl<A: Aggregator> Table<A> {
     pub fn make_room(&mut self) -> Result<(), AllocError>
         ensures table { self.new.table ≡ self.old.table }
         ensures numbers { self.new.numbers ≡ self.old.numbers }
-        ensures given { self.new.given ≡ self.old.given }
+        ensures aliases { self.new.aliases ≡ self.old.aliases }
         ensures room { OnOk result (self.new.room ≡ true) }
     {
         reserve_one(&mut self.slots, &mut self.keys)
@@ -363,7 +363,7 @@ impl<A: Aggregator> Table<A> {
         ensures unknown { is_number number self.old.numbers ≡ false → self.new.table ≡ self.old.table }
         ensures counted { number_counted self.new.table.entries ≡ number_counted self.old.table.entries }
         ensures numbers { self.new.numbers ≡ self.old.numbers }
-        ensures given { self.new.given ≡ self.old.given }
+        ensures aliases { self.new.aliases ≡ self.old.aliases }
     {
         touch(&mut self.slots, number, value);
     }
@@ -374,7 +374,7 @@ impl<A: Aggregator> Table<A> {
         ensures unknown { is_number number self.old.numbers ≡ false → self.new.table ≡ self.old.table }
         ensures counted { number_counted self.new.table.entries ≡ number_counted self.old.table.entries }
         ensures numbers { self.new.numbers ≡ self.old.numbers }
-        ensures given { self.new.given ≡ self.old.given }
+        ensures aliases { self.new.aliases ≡ self.old.aliases }
     {
         release(&mut self.slots, number);
     }
@@ -384,7 +384,7 @@ impl<A: Aggregator> Table<A> {
     pub fn evict(&mut self)
         ensures table { self.new.table ≡ evicted_table self.old.table }
         ensures numbers { KeepLeft (evicted_table self.old.table).entries self.old.numbers self.new.numbers }
-        ensures given { keys_of self.new.given ≡ filter (λ l. has (canon l) (evicted_table self.old.table).entries) (keys_of self.old.given) }
+        ensures aliases { keys_of self.new.aliases ≡ filter (λ l. has (canon l) (evicted_table self.old.table).entries) (keys_of self.old.aliases) }
     {
         settle(&mut self.slots, self.none);
         settle_each(&mut self.slots, &self.keys);
@@ -400,13 +400,13 @@ impl<A: Aggregator> Table<A> {
         slot: Slot<A>,
     ) -> usize
         requires new { IsNew self.old.numbers.sets set }
-        requires spelling { IsSpelling self.old.given set list }
+        requires spelling { IsSpelling self.old.aliases set list }
         requires lasting { slot.lasting ≡ set_eq set over_set }
         requires room { self.old.room ≡ true }
         ensures table { self.new.table ≡ record self.old.table { entries = self.old.table.entries ++ entry_of set.entry (Some (kept_of A.meaning slot)) ∷ [] } }
         ensures none { self.new.numbers.none ≡ self.old.numbers.none }
         ensures sets { self.new.numbers.sets ≡ self.old.numbers.sets ++ (set.entry, result) ∷ [] }
-        ensures given { self.new.given ≡ with_spelling list.entry result self.old.given }
+        ensures aliases { self.new.aliases ≡ with_spelling list.entry result self.old.aliases }
     {
         let number = fill(&mut self.slots, slot);
         self.keys.add(set, list, number);
@@ -429,7 +429,7 @@ impl<A: Aggregator> Table<A> {
         ensures table { (s : AttributeSet) → number_of s self.old.numbers ≡ Some number → self.new.table ≡ at_entry s take_handle self.old.table }
         ensures counted { number_counted self.new.table.entries ≡ number_counted self.old.table.entries }
         ensures numbers { self.new.numbers ≡ self.old.numbers }
-        ensures given { self.new.given ≡ self.old.given }
+        ensures aliases { self.new.aliases ≡ self.old.aliases }
     {
         hold(&mut self.slots, number);
     }
@@ -440,7 +440,7 @@ impl<A: Aggregator> Table<A> {
         ensures table { self.new.table ≡ drained_table self.old.table }
         ensures none { self.new.numbers.none ≡ self.old.numbers.none }
         ensures sets { self.new.numbers.sets ≡ [] }
-        ensures given { self.new.given ≡ [] }
+        ensures aliases { self.new.aliases ≡ [] }
     {
         free_each(&mut self.slots, &self.keys);
         forget(&mut self.slots, self.none);

@@ -11,7 +11,7 @@ ghost use Rattle.otel_model_stream.specs.Observed.{fold_in};
 ghost use Rattle.otel_model_stream.specs.Folds.{wrap};
 ghost use Rattle.otel_model_stream.specs.Sets.{AttributeSet, allowed_part, none_set, set_of};
 ghost use Rattle.otel_model_stream.specs.Totals.{points_total};
-ghost use Rattle.otel_value_map.specs.Held.{known_of};
+ghost use Rattle.otel_value_map.specs.Contents.{known_of};
 ghost use Rattle.otel_value_map.specs.Faults.{IsBindFault};
 ghost use Rattle.otel_value_map.specs.Numbers.{number_of, is_number, without_handles, handles_at, AreNamed, AreNumbered, spelling_of, is_placed, KeepNumbers, KeepLeft};
 ghost use Rattle.otel_value_map.specs.Slots.{HasForm, copies};
@@ -63,14 +63,14 @@ impl<A: Aggregator> Model for ValueMap<A> {
     ghost use Rattle.std.specs.Map.{keys_of};
     ghost use Rattle.otel_model_stream.specs.Sets.{over_set};
     ghost use Rattle.otel_model_stream.specs.Entries.{number_counted};
-    ghost use Rattle.otel_value_map.specs.Held.{Held, pending_in, spelling_in, IsSound};
+    ghost use Rattle.otel_value_map.specs.Contents.{MapContents, pending_in, spelling_in, IsSound};
 
-    ghost Value = { Held };
+    ghost Value = { MapContents };
 
     ghost view = { λ m. record {
       state = record { limit = m.limit; empty = A.empty m.config; table = m.table.table };
       numbers = m.table.numbers;
-      given = keys_of m.table.given;
+      given = keys_of m.table.aliases;
       pending = pending_in m.table.numbers m.pending;
       spelling = spelling_in m.pending;
     } };
@@ -329,7 +329,7 @@ impl<A: Aggregator> ValueMap<A> {
         ensures only_memory { IsOkUnless result Fault.OutOfMemory }
     {
         let kept = SetAttributes::kept(Some(allow), attributes);
-        let list = HashedSet::new(self.table.hasher(), SetKey::held(&kept));
+        let list = HashedSet::new(self.table.hasher(), SetKey::iterated(&kept));
         self.prepare_list(&list, Some(allow), attributes)?;
         Ok(())
     }
@@ -423,7 +423,7 @@ impl<A: Aggregator> ValueMap<A> {
             return self.table.handles(number);
         }
         // Tells the prover that the first entry is the empty set's.
-        self.table.told_form();
+        self.table.law_of_empty_set();
         if self.limit > self.count {
             return 0;
         }
@@ -493,7 +493,7 @@ impl<A: Aggregator> ValueMap<A> {
     pub fn knows(&self, attributes: &[KeyValue]) -> bool
         ensures { result ≡ knows attributes.now (known_of self.now) }
     {
-        let list = HashedSet::new(self.table.hasher(), SetKey::given(attributes));
+        let list = HashedSet::new(self.table.hasher(), SetKey::borrowed(attributes));
         if list.is_empty() {
             return true;
         }
@@ -510,11 +510,11 @@ impl<A: Aggregator> ValueMap<A> {
     }
 
     /// The law that numbers and sets lead to each other.
-    pub fn told_numbers(&self)
+    pub fn law_of_numbers(&self)
         ensures named { AreNamed self.now.numbers }
         ensures placed { AreNumbered self.now.state.table.entries self.now.numbers }
     {
-        self.table.told_numbers();
+        self.table.law_of_numbers();
     }
 
     /// How many entries the limit counts.
@@ -613,7 +613,7 @@ impl<A: Aggregator> ValueMap<A> {
     pub fn get(&self, attributes: &[KeyValue]) -> Option<&A>
         ensures { option_map (λ found. A.meaning found.now) result ≡ fold_in (draining_points self.now.state) attributes.now }
     {
-        let set = HashedSet::new(self.table.hasher(), SetKey::given(attributes));
+        let set = HashedSet::new(self.table.hasher(), SetKey::borrowed(attributes));
         self.table.get(&set)
     }
 

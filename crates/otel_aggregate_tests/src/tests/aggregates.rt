@@ -4,10 +4,10 @@
 use super::bounds;
 use super::scripts::Made;
 use super::steps::{Readable, Step, Stepped, assert_steps, show, show_set};
+use otel_aggregate::aggregate_stream::AggregateStream;
 use otel_aggregate::internal::GivenAttributes;
 use otel_aggregate::settings::HistogramSettings;
 use otel_aggregate::shows::Shows;
-use otel_aggregate::stream::Stream;
 use otel_common::faults::Fault;
 use otel_common::keys::Key;
 use otel_common::lists::Items;
@@ -106,7 +106,7 @@ fn tell(text: &mut String, given: Result<impl Told + Drop, Fault>) -> Result<(),
     given?.tell(text)
 }
 
-impl<A: Shows> Stepped for Stream<A>
+impl<A: Shows> Stepped for AggregateStream<A>
 where
     A::Value: Readable,
     A::Data: Told,
@@ -153,7 +153,7 @@ where
     A::Value: Readable,
     A::Data: Told,
 {
-    let mut stream: Stream<A> = Stream::new(
+    let mut stream: AggregateStream<A> = AggregateStream::new(
         alloc,
         SetHashBuilder::default(),
         settings,

@@ -12,8 +12,8 @@ fn numbers_wrap(rt: HostRuntime) {
     assert!(rt; !2u64.is_less(2));
     assert!(rt; 7u64.bits() == 7);
     assert!(rt; u64::MAX.wide() > 18446744073709551614);
-    7u64.told_by_bits();
-    Number::told_by_wide(1u64);
+    7u64.law_of_bits();
+    Number::law_of_wide(1u64);
 }
 
 #[test]
@@ -27,6 +27,6 @@ fn signed_numbers_wrap(rt: HostRuntime) {
     assert!(rt; !Number::is_less(0i64, -1));
     assert!(rt; Number::bits(-1i64) == u64::MAX);
     assert!(rt; Number::wide(-7i64) == -7);
-    Number::told_by_bits(-1i64);
-    Number::told_by_wide(-1i64);
+    Number::law_of_bits(-1i64);
+    Number::law_of_wide(-1i64);
 }

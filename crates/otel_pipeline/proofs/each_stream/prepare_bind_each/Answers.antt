@@ -2,12 +2,12 @@ use Rattle.std.proofs.Common.{◌∙◌, ap, arith, get_or, length, slice_get}
 use Rattle.std.proofs.lemmas.List.{length-map}
 use Rattle.std.proofs.lemmas.List.Elements.{All-from_get_or}
 use Rattle.otel_pipeline.specs.Handles.{IsReadyIfThere}
-use Rattle.otel_pipeline.specs.Streams.{Held, without_pending}
+use Rattle.otel_pipeline.specs.Streams.{StreamContents, without_pending}
 use Rattle.otel_pipeline.proofs.Writes.{ready-more, seen_same}
 use Rattle.otel_pipeline.proofs.each_stream.prepare_bind_each.Goals as goal
 
 pub index_mut-requires : goal.index_mut-requires
-index_mut-requires c = omega (arith, c.requires c.loop-k.k-index 0 c.loop-k-test.true, ap length c.loop-k.invariant.same, length-map {A = Held} {B = Held})
+index_mut-requires c = omega (arith, c.requires c.loop-k.k-index 0 c.loop-k-test.true, ap length c.loop-k.invariant.same, length-map {A = StreamContents} {B = StreamContents})
 
 pub returns-in_err-prepare_bind-clause-same : goal.returns-in_err-prepare_bind-clause-same
 returns-in_err-prepare_bind-clause-same c =
@@ -16,7 +16,7 @@ returns-in_err-prepare_bind-clause-same c =
 
 pub loop-k-preserved : goal.loop-k-preserved
 loop-k-preserved c = ready-more without_pending (IsReadyIfThere c.args.attributes.now) c.args.feeds.now c.args.streams.now.items c.loop-k.streams.items c.loop-k.k-index c.index_mut.result.now c.prepare_bind.new.self
-    (omega (arith, c.requires c.loop-k.k-index 0 c.loop-k-test.true, ap length c.loop-k.invariant.same, length-map {A = Held} {B = Held}))
+    (omega (arith, c.requires c.loop-k.k-index 0 c.loop-k-test.true, ap length c.loop-k.invariant.same, length-map {A = StreamContents} {B = StreamContents}))
     c.index_mut.ensures.value c.prepare_bind.ensures.same c.in_ok-prepare_bind.ensures.ready c.loop-k.invariant
 
 pub returns-clause-ready : goal.returns-clause-ready

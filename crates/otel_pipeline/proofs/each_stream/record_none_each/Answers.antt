@@ -1,10 +1,10 @@
 use Rattle.std.proofs.Common.{arith}
-use Rattle.otel_pipeline.specs.Streams.{held_after_none}
+use Rattle.otel_pipeline.specs.Streams.{contents_after_none}
 use Rattle.otel_pipeline.proofs.Writes.{changed-more, number-inside}
 use Rattle.otel_pipeline.proofs.each_stream.record_none_each.Goals as goal
 
 pub index_mut-requires : goal.index_mut-requires
-index_mut-requires c = omega (arith, number-inside (held_after_none c.args.value) c.args.feeds.now c.args.streams.now.items c.loop-k.streams.items c.loop-k.k-index c.requires c.loop-k-test.true c.loop-k.invariant)
+index_mut-requires c = omega (arith, number-inside (contents_after_none c.args.value) c.args.feeds.now c.args.streams.now.items c.loop-k.streams.items c.loop-k.k-index c.requires c.loop-k-test.true c.loop-k.invariant)
 
 pub loop-k-preserved : goal.loop-k-preserved
-loop-k-preserved c = changed-more (held_after_none c.args.value) c.args.feeds.now c.args.streams.now.items c.loop-k.streams.items c.loop-k.k-index c.index_mut.result.now c.record_none.new.self c.requires c.loop-k-test.true c.index_mut.ensures.value c.record_none.ensures c.loop-k.invariant
+loop-k-preserved c = changed-more (contents_after_none c.args.value) c.args.feeds.now c.args.streams.now.items c.loop-k.streams.items c.loop-k.k-index c.index_mut.result.now c.record_none.new.self c.requires c.loop-k-test.true c.index_mut.ensures.value c.record_none.ensures c.loop-k.invariant

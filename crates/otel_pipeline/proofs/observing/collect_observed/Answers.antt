@@ -1,6 +1,6 @@
 use Rattle.std.proofs.Common.{◌∙◌, sym, ap, arith, length}
 use Rattle.otel_pipeline.specs.Pipelines.{fates_of}
-use Rattle.otel_pipeline.specs.Streams.{Held}
+use Rattle.otel_pipeline.specs.Streams.{StreamContents}
 use Rattle.otel_pipeline.proofs.Outcomes.{refused}
 use Rattle.otel_pipeline.proofs.Undone.{kept-same}
 use Rattle.otel_pipeline.proofs.Writes.{length-seen}
@@ -9,7 +9,7 @@ use Rattle.otel_pipeline.proofs.observing.collect_observed.Goals as goal
 pub restore_each-requires-clause-many : goal.restore_each-requires-clause-many
 restore_each-requires-clause-many c =
     let same = refused c.observe_and_collect-collected.result (sym c.is_err.ensures.value ∙ c.if-is_err.true) c.observe_and_collect-collected.ensures.demands in
-    omega (arith, c.in_ok-saved.ensures.saved.many, ap length c.deref.ensures.value, length-seen (λ (k : Held). k.stream.demand) c.observe_and_collect-collected.new.streams.items c.args.streams.now.items same)
+    omega (arith, c.in_ok-saved.ensures.saved.many, ap length c.deref.ensures.value, length-seen (λ (k : StreamContents). k.stream.demand) c.observe_and_collect-collected.new.streams.items c.args.streams.now.items same)
 
 pub restore_each-requires-clause-kept : goal.restore_each-requires-clause-kept
 restore_each-requires-clause-kept c =

@@ -2,9 +2,9 @@ use Rattle.std.proofs.Common.{◌≡◌, ◌∙◌, ℕ, ◌<◌, List, Option, 
 use Rattle.std.proofs.lemmas.List.{length-map}
 use Rattle.std.specs.Prelude.{All}
 use Rattle.otel_stream.specs.declared.observation.Observed.{Observed}
-use Rattle.otel_pipeline.specs.Observations.{CanUndo, IsSaved, SavedHeld, observing_numbers, restored_all}
+use Rattle.otel_pipeline.specs.Observations.{CanUndo, IsSaved, SavedStreamContents, observing_numbers, restored_all}
 use Rattle.otel_pipeline.specs.Pipelines.{AreFedOnce, AreNumbers, all_without_pending}
-use Rattle.otel_pipeline.specs.Streams.{Held, without_pending}
+use Rattle.otel_pipeline.specs.Streams.{StreamContents, without_pending}
 use Rattle.otel_pipeline.proofs.Once.{fed-once}
 use Rattle.otel_pipeline.proofs.Records.{fed-numbers}
 use Rattle.otel_pipeline.proofs.Taken.{numbers-longer, observed-more}
@@ -19,15 +19,15 @@ observe_in-requires-clause-numbers c =
     let old = c.args.streams.now.items in
     let now = c.loop-observation.streams.items in
     let fed = subst (AreNumbers old) (sym c.streams_fed-numbers.ensures) (fed-numbers old c.args.feeds.now c.observation-item.result.instrument c.requires.numbers) in
-    numbers-longer old (all_without_pending now) c.streams_fed-numbers.result.now (sym (length-map now without_pending ∙ length-seen (λ (k : Held). k.stream.demand) now old c.loop-observation.invariant.demands)) fed
+    numbers-longer old (all_without_pending now) c.streams_fed-numbers.result.now (sym (length-map now without_pending ∙ length-seen (λ (k : StreamContents). k.stream.demand) now old c.loop-observation.invariant.demands)) fed
 
 pub observe_in-requires-clause-once : goal.observe_in-requires-clause-once
 observe_in-requires-clause-once c = subst AreFedOnce (sym c.streams_fed-numbers.ensures) (fed-once c.args.feeds.now c.observation-item.result.instrument c.requires.once)
 
-undone-more : (feeds : List (List ℕ)) (os : List Observed) (i : ℕ) (o : Observed) (ns : List ℕ) (old mid new : List Held) → i < length os → o ≡ get_or os i o → ns ≡ observing_numbers feeds o
-    → ((saved : List (Option SavedHeld)) → All (IsSaved saved) ns → restored_all saved new ≡ restored_all saved mid)
-    → ((saved : List (Option SavedHeld)) → CanUndo feeds os old saved → restored_all saved mid ≡ restored_all saved old)
-    → (saved : List (Option SavedHeld)) → CanUndo feeds os old saved → restored_all saved new ≡ restored_all saved old
+undone-more : (feeds : List (List ℕ)) (os : List Observed) (i : ℕ) (o : Observed) (ns : List ℕ) (old mid new : List StreamContents) → i < length os → o ≡ get_or os i o → ns ≡ observing_numbers feeds o
+    → ((saved : List (Option SavedStreamContents)) → All (IsSaved saved) ns → restored_all saved new ≡ restored_all saved mid)
+    → ((saved : List (Option SavedStreamContents)) → CanUndo feeds os old saved → restored_all saved mid ≡ restored_all saved old)
+    → (saved : List (Option SavedStreamContents)) → CanUndo feeds os old saved → restored_all saved new ≡ restored_all saved old
 undone-more feeds os i o ns old mid new h at fed one before saved can =
     one saved (subst (All (IsSaved saved)) (sym fed) (subst (λ p. All (IsSaved saved) (observing_numbers feeds p)) (sym at) (can.all i o h))) ∙ before saved can
 

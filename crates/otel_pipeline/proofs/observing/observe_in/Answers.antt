@@ -1,7 +1,7 @@
 use Rattle.std.proofs.Common.{◌∙◌, ap}
 use Rattle.otel_pipeline.specs.Observations.{restored_all}
 use Rattle.otel_pipeline.specs.Pipelines.{fates_of}
-use Rattle.otel_pipeline.specs.Streams.{held_after_commit}
+use Rattle.otel_pipeline.specs.Streams.{contents_after_commit}
 use Rattle.otel_pipeline.proofs.Answered.{answers-settled, commits}
 use Rattle.otel_pipeline.proofs.PipelineLemmas.{fates-changed, fates-same}
 use Rattle.otel_pipeline.proofs.Taken.{taken-in}
@@ -27,5 +27,5 @@ returns-clause-undone c = λ saved all.
 pub returns-clause-demands : goal.returns-clause-demands
 returns-clause-demands c =
     ap fates_of c.commit_each.ensures
-    ∙ (fates-changed (held_after_commit c.args.observation.now.value) (commits c.args.observation.now.value) c.args.numbers.now c.prepare_each.new.streams.items
+    ∙ (fates-changed (contents_after_commit c.args.observation.now.value) (commits c.args.observation.now.value) c.args.numbers.now c.prepare_each.new.streams.items
     ∙ fates-same _ _ (answers-settled c.prepare_each.new.streams.items c.args.streams.now.items c.prepare_each.ensures.same))

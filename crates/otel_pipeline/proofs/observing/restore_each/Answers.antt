@@ -1,7 +1,7 @@
 use Rattle.std.proofs.Common.{◌≡◌, ◌∙◌, ◌+◌, ◌∷◌, List, sym, ap, subst, arith, length, Option}
 use Rattle.std.specs.Vec.Iter.{into_iter_items}
-use Rattle.otel_pipeline.specs.Observations.{SavedHeld, restored_if}
-use Rattle.otel_pipeline.specs.Streams.{Held, without_pending}
+use Rattle.otel_pipeline.specs.Observations.{SavedStreamContents, restored_if}
+use Rattle.otel_pipeline.specs.Streams.{StreamContents, without_pending}
 use Rattle.otel_pipeline.proofs.Undone.{IsRestoredTo, kept-next, restored-end, restored-skip, restored-start, restored-step}
 use Rattle.otel_pipeline.proofs.observing.restore_each.Goals as goal
 use Rattle.otel_pipeline.proofs.observing.restore_each.Goals.{in-Some-kept, in_default}
@@ -20,8 +20,8 @@ index_mut-requires c = omega (arith, c.loop-kept.invariant.is.many, ap length c.
 
 pub restore-requires : goal.restore-requires
 restore-requires c =
-    let left : List (Option SavedHeld) = into_iter_items c.next.new.self in
-    let is = subst (λ (l : List (Option SavedHeld)). IsRestoredTo c.args.saved.items c.args.streams.now.items l c.loop-kept.streams.items c.loop-kept.number) (c.in-Some.ensures.steps.0 ∙ ap (λ o. o ∷ left) c.in-Some-kept.is) c.loop-kept.invariant.is in
+    let left : List (Option SavedStreamContents) = into_iter_items c.next.new.self in
+    let is = subst (λ (l : List (Option SavedStreamContents)). IsRestoredTo c.args.saved.items c.args.streams.now.items l c.loop-kept.streams.items c.loop-kept.number) (c.in-Some.ensures.steps.0 ∙ ap (λ o. o ∷ left) c.in-Some-kept.is) c.loop-kept.invariant.is in
     kept-next c.in-Some-kept.kept left c.loop-kept.streams.items c.loop-kept.number c.index_mut.result.now (omega (arith, is.many)) c.index_mut.ensures.value is.kept
 
 pub overflow_add-number : goal.overflow_add-number
@@ -29,9 +29,9 @@ overflow_add-number c = omega (arith, c.loop-kept.invariant.is.many, ap length c
 
 pub loop-kept-preserved : goal.loop-kept-preserved
 loop-kept-preserved c =
-    let left : List (Option SavedHeld) = into_iter_items c.next.new.self in
+    let left : List (Option SavedStreamContents) = into_iter_items c.next.new.self in
     let old = c.loop-kept.streams.items in
-    let is = subst (λ (l : List (Option SavedHeld)). IsRestoredTo c.args.saved.items c.args.streams.now.items l old c.loop-kept.number) c.in-Some.ensures.steps.0 c.loop-kept.invariant.is in
+    let is = subst (λ (l : List (Option SavedStreamContents)). IsRestoredTo c.args.saved.items c.args.streams.now.items l old c.loop-kept.number) c.in-Some.ensures.steps.0 c.loop-kept.invariant.is in
     record {
       is = elim c.match-kept.branch [
         | in-Some-kept w ↦ put (c.match-kept.streams.items) (ap (λ z. z.items) w.streams-is)
@@ -44,7 +44,7 @@ loop-kept-preserved c =
       long = omega (arith, c.in-Some.ensures.steps.1, ap length c.in-Some.ensures.steps.0, c.loop-kept.invariant.long);
     }
   where
-    put : {ks : List Held} (ms : List Held) → ms ≡ ks → IsRestoredTo c.args.saved.items c.args.streams.now.items (into_iter_items c.next.new.self) ks (c.loop-kept.number + 1)
+    put : {ks : List StreamContents} (ms : List StreamContents) → ms ≡ ks → IsRestoredTo c.args.saved.items c.args.streams.now.items (into_iter_items c.next.new.self) ks (c.loop-kept.number + 1)
         → IsRestoredTo c.args.saved.items c.args.streams.now.items (into_iter_items c.next.new.self) ms (c.loop-kept.number + 1)
     put ms e is = subst (λ ks. IsRestoredTo c.args.saved.items c.args.streams.now.items (into_iter_items c.next.new.self) ks (c.loop-kept.number + 1)) (sym e) is
 

@@ -2,7 +2,7 @@ use Rattle.std.proofs.Common.{◌<◌, arith, refl, length, get_or, below_more, 
 use Rattle.std.specs.Prelude.{Option}
 use Rattle.std.proofs.lemmas.Option.{slice_get_read}
 use Rattle.std.proofs.lemmas.List.Elements.{All-from_get_or}
-use Rattle.otel_pipeline.specs.Observations.{IsSaved, SavedHeld, saved_by}
+use Rattle.otel_pipeline.specs.Observations.{IsSaved, SavedStreamContents, saved_by}
 use Rattle.otel_pipeline.proofs.Undone.{set-same, set-kept, set-saved, set-before}
 use Rattle.otel_pipeline.proofs.observing.save_each.Goals as goal
 
@@ -17,7 +17,7 @@ loop-k-preserved c =
     let made = c.in_ok-save_once.ensures.kept in
     let inside : k < length ss = omega (arith, c.requires.numbers c.loop-k.k-index 0 c.loop-k-test.true, c.loop-k.invariant.long) in
     record {
-      long = omega (arith, length-set {A = Option SavedHeld}, c.loop-k.invariant.long);
+      long = omega (arith, length-set {A = Option SavedStreamContents}, c.loop-k.invariant.long);
       same = set-same ss ks k h was is c.index-streams-k.is c.index_mut.ensures.value made c.loop-k.invariant.same;
       kept = set-kept ss ks k h was is c.index-streams-k.is (c.requires.observable c.loop-k.k-index 0 c.loop-k-test.true h (slice_get_read ks (length ks) k h refl (omega (arith, inside, c.loop-k.invariant.long)) c.index-streams-k.is)) c.index_mut.ensures.value made c.loop-k.invariant.kept;
       all = below_more _ _ (λ j l. set-before ss k (get_or c.args.numbers.now j 0) was is (saved_by h) made (c.loop-k.invariant.all j l)) (set-saved ss k was is (saved_by h) inside made);

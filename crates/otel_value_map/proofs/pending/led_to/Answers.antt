@@ -1,5 +1,5 @@
 use Rattle.std.proofs.Common.{◌∙◌, sym, subst}
-use Rattle.otel_value_map.specs.Held.{IsPlan}
+use Rattle.otel_value_map.specs.Contents.{IsPlan}
 use Rattle.otel_value_map.specs.declared.pending.Pending.TheVariants.{At}
 use Rattle.otel_value_map.proofs.CanonicalSets.{is_nil}
 use Rattle.otel_value_map.proofs.PlanLemmas.{plan-empty}

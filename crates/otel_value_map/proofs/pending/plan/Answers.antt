@@ -15,7 +15,7 @@ returns-then-is_canonical-clause-plan g c =
     let own : set_eq (canon l) l ≡ true = ap (λ (s : AttributeSet). set_eq (canon s) s) (sym c.set.ensures) ∙ sym c.is_canonical.ensures ∙ c.if-is_canonical.true in
     let same : canon l ≡ l = same_set (canon l) l own in
     let set : c.in_ok-own.own ≡ canon l = c.in_ok-own.ensures.copy ∙ sym same in
-    let absent : lookup (set_eq (canon l)) t.numbers.sets ≡ None = ap (λ (s : AttributeSet). lookup (set_eq s) t.numbers.sets) same ∙ unnumbered t l c.requires.unled c.told_numbers.ensures.placed in
+    let absent : lookup (set_eq (canon l)) t.numbers.sets ≡ None = ap (λ (s : AttributeSet). lookup (set_eq s) t.numbers.sets) same ∙ unnumbered t l c.requires.unled c.law_of_numbers.ensures.placed in
     let away : has (canon l) t.table.entries ≡ false = ap (λ (s : AttributeSet). has s t.table.entries) same ∙ unlisted t l c.requires.unled in
     plan-own t l c.requires.unled absent away c.args.few c.in_ok-own.own set own
 

@@ -4,7 +4,7 @@ use Rattle.otel_common.specs.Canonical.{canon}
 use Rattle.otel_common.specs.Equality.{set_eq}
 use Rattle.otel_model_stream.specs.Sets.{AttributeSet}
 use Rattle.otel_model_stream.specs.Entries.{has}
-use Rattle.otel_value_map.specs.Held.{IsPlan}
+use Rattle.otel_value_map.specs.Contents.{IsPlan}
 use Rattle.otel_value_map.specs.declared.pending.Pending.TheVariants.{New}
 use Rattle.otel_value_map.proofs.PlanLemmas.{plan-past, plan-admitted}
 use Rattle.otel_value_map.proofs.pending.plan_sorted.Goals as goal

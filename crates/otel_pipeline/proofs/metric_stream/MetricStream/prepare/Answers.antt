@@ -1,5 +1,5 @@
 use Rattle.std.proofs.Common.{◌≡◌, true, sym, subst}
-use Rattle.otel_aggregate.specs.Streams.{StreamState, is_known}
+use Rattle.otel_aggregate.specs.Streams.{AggregateState, is_known}
 use Rattle.otel_pipeline.proofs.NoAttributes.{none-known}
 use Rattle.otel_pipeline.proofs.metric_stream.MetricStream.prepare.Goals as goal
 
@@ -9,4 +9,4 @@ returns-clause-free c = λ empty. c.prepare.ensures.known (none-known c.self.ins
 
 -- the aggregate is the one that the demand asks for
 pub returns-clause-known : goal.returns-clause-known
-returns-clause-known c = rw (← c.self.view_is) (λ known. c.prepare.ensures.known (subst (λ (s : StreamState). is_known s.allow c.args.attributes.now s.map_state ≡ true) (sym c.self.invariant.state) known))
+returns-clause-known c = rw (← c.self.view_is) (λ known. c.prepare.ensures.known (subst (λ (s : AggregateState). is_known s.allow c.args.attributes.now s.map_state ≡ true) (sym c.self.invariant.state) known))

@@ -6,7 +6,7 @@ use Rattle.std.proofs.lemmas.List.{length-map}
 use Rattle.indexmap.specs.IndexSet.{spare}
 use Rattle.otel_model.specs.Streams.{is_delta}
 use Rattle.otel_pipeline.specs.Pipelines.{Planned, IsPlanOf, identity_of, many_added, stream_identities}
-use Rattle.otel_pipeline.specs.Streams.{Held}
+use Rattle.otel_pipeline.specs.Streams.{StreamContents}
 use Rattle.otel_pipeline.proofs.Once.{fed-push}
 use Rattle.otel_pipeline.proofs.PipelineLemmas.{part-same}
 use Rattle.otel_pipeline.proofs.Plans.{appended-keys, numbers-built, each-append, room-parts, built-is, some_plan}
@@ -36,8 +36,8 @@ unwrap-requires c =
 pub invariant_of-self-2 : goal.invariant_of-self-2
 invariant_of-self-2 c =
     let answers = c.self.inside.answers in
-    let ks : List Held = c.self.inside.streams.items in
-    let ms : List Held = c.plan.inside.added.items in
+    let ks : List StreamContents = c.self.inside.streams.items in
+    let ms : List StreamContents = c.plan.inside.added.items in
     let is : c.requires.planned ≡ c.in-Some.plan = some_plan c.requires.planned c.in-Some.plan (sym (rw (← c.self.view_is) at c.requires.plan) ∙ sym c.in-Some.ensures.value) in
     let seen : c.requires.planned ≡ record { feeds = c.plan.inside.feeds.items; added = ms } = is ∙ sym c.plan.view_is in
     let meets : IsPlanOf answers ks c.requires.now c.requires.demands (record { feeds = c.plan.inside.feeds.items; added = ms }) = subst (IsPlanOf answers ks c.requires.now c.requires.demands) seen (rw (← c.self.view_is) at c.requires.meets) in

@@ -2,7 +2,7 @@ use Rattle.std.proofs.Common.{◌≡◌, ◌∙◌, sym, subst, List, ℕ}
 use Rattle.std.proofs.lemmas.Simd.{map-map}
 use Rattle.otel_pipeline.specs.Observations.{AreObservableIn, observed_all}
 use Rattle.otel_pipeline.specs.Pipelines.{Piped, all_without_pending, all_after_collection}
-use Rattle.otel_pipeline.specs.Streams.{Held, held_after_collection}
+use Rattle.otel_pipeline.specs.Streams.{StreamContents, contents_after_collection}
 use Rattle.otel_pipeline.proofs.Answered.{answer_of, answers-observed, answers-settled}
 use Rattle.otel_pipeline.proofs.Handles.{observable-in}
 use Rattle.otel_pipeline.proofs.Observes.{observed-finished, observed-is}
@@ -13,13 +13,13 @@ use Rattle.otel_pipeline.proofs.pipeline.Pipeline.collect.Goals as goal
 -- a collection keeps the demands of the streams, and one that is refused does
 pub invariant_of-self : goal.invariant_of-self
 invariant_of-self c =
-    let old : List Held = c.self.inside.streams.items in
-    let new : List Held = c.collect_observed.new.streams.items in
-    let observed : List Held = observed_all c.deref.result.now c.args.observations.now old in
+    let old : List StreamContents = c.self.inside.streams.items in
+    let new : List StreamContents = c.collect_observed.new.streams.items in
+    let observed : List StreamContents = observed_all c.deref.result.now c.args.observations.now old in
     sound-same c.self.inside.answers c.self.inside.identities.keys c.self.inside.feeds.items old new
     (either c.collect_observed.result
     (λ (e : all_without_pending new ≡ all_without_pending (all_after_collection c.args.now observed)).
-    answers-settled new (all_after_collection c.args.now observed) e ∙ map-map answer_of (held_after_collection c.args.now) observed ∙ answers-observed c.deref.result.now c.args.observations.now old)
+    answers-settled new (all_after_collection c.args.now observed) e ∙ map-map answer_of (contents_after_collection c.args.now) observed ∙ answers-observed c.deref.result.now c.args.observations.now old)
     (λ (e : all_without_pending new ≡ all_without_pending old). answers-settled new old e)
     c.collect_observed.ensures.streams c.collect_observed.ensures.undone)
     c.self.invariant

@@ -17,11 +17,11 @@ add_key-requires-clause-absent c =
 
 pub add_key-requires-in-Some-clause-absent : goal.add_key-requires-in-Some-clause-absent
 add_key-requires-in-Some-clause-absent c =
-    let es = c.self.inside.given.entries in
-    let can : IsSpelling c.args.self.now.given c.args.set (Some c.in-Some.list) = subst (IsSpelling c.args.self.now.given c.args.set) c.in-Some.is c.requires.spelling in
+    let es = c.self.inside.aliases.entries in
+    let can : IsSpelling c.args.self.now.aliases c.args.set (Some c.in-Some.list) = subst (IsSpelling c.args.self.now.aliases c.args.set) c.in-Some.is c.requires.spelling in
     lookup-hashed c.self.inside.hasher c.into_key-in-Some.result c.into_key-in-Some.ensures.hashed es c.self.invariant.1
     ∙ ap (λ (s : AttributeSet). lookup (set_eq s) (map plain es)) c.into_key-in-Some.ensures.key
-    ∙ ap (λ (t : Led). lookup (set_eq c.in-Some.list) t.given) c.self.view_is
+    ∙ ap (λ (t : Led). lookup (set_eq c.in-Some.list) t.aliases) c.self.view_is
     ∙ can.1
 
 pub invariant_of-self : goal.invariant_of-self

@@ -11,6 +11,6 @@ pub returns-clause-sets : goal.returns-clause-sets
 returns-clause-sets g c =
     rw (← c.self.view_is) (ap (map plain) c.keep_filled.ensures ∙ plain-filter (λ n. is_some (look_in g.A.Aggregator.meaning c.args.slots.now n)) c.self.inside.sets.entries)
 
-pub returns-clause-given : goal.returns-clause-given
-returns-clause-given g c =
-    rw (← c.self.view_is) (ap (map plain) c.keep_filled-2.ensures ∙ plain-filter (λ n. is_some (look_in g.A.Aggregator.meaning c.args.slots.now n)) c.self.inside.given.entries)
+pub returns-clause-aliases : goal.returns-clause-aliases
+returns-clause-aliases g c =
+    rw (← c.self.view_is) (ap (map plain) c.keep_filled-2.ensures ∙ plain-filter (λ n. is_some (look_in g.A.Aggregator.meaning c.args.slots.now n)) c.self.inside.aliases.entries)

@@ -17,9 +17,9 @@ invariant_of-self g c =
     let look = look_in meaning c.self.inside.slots in
     let other = look_in meaning c.forget.new.slots in
     let none = c.self.inside.none in
-    let left = none-drained look (look_in meaning c.free_each.new.slots) other none c.self.inside.keys.sets c.self.inside.keys.given c.self.invariant c.free_each.ensures.look c.forget.ensures.look in
-    let laws = kept-drained look other none c.self.inside.keys.sets c.self.inside.keys.given c.self.invariant left in
-    rw (c.clear.ensures.sets, c.clear.ensures.given) laws
+    let left = none-drained look (look_in meaning c.free_each.new.slots) other none c.self.inside.keys.sets c.self.inside.keys.aliases c.self.invariant c.free_each.ensures.look c.forget.ensures.look in
+    let laws = kept-drained look other none c.self.inside.keys.sets c.self.inside.keys.aliases c.self.invariant left in
+    rw (c.clear.ensures.sets, c.clear.ensures.aliases) laws
 
 pub returns-clause-table : goal.returns-clause-table
 returns-clause-table g c =
@@ -27,7 +27,7 @@ returns-clause-table g c =
     let look = look_in meaning c.self.inside.slots in
     let other = look_in meaning c.forget.new.slots in
     let none = c.self.inside.none in
-    let left = none-drained look (look_in meaning c.free_each.new.slots) other none c.self.inside.keys.sets c.self.inside.keys.given c.self.invariant c.free_each.ensures.look c.forget.ensures.look in
+    let left = none-drained look (look_in meaning c.free_each.new.slots) other none c.self.inside.keys.sets c.self.inside.keys.aliases c.self.invariant c.free_each.ensures.look c.forget.ensures.look in
     ap (λ (es : List Keyed). table_at other none es) c.clear.ensures.sets
-    ∙ table-drained look other none c.self.inside.keys.sets c.self.inside.keys.given c.self.invariant left
+    ∙ table-drained look other none c.self.inside.keys.sets c.self.inside.keys.aliases c.self.invariant left
     ∙ ap (λ (t : Slotted). drained_table t.table) c.self.view_is

@@ -1,12 +1,12 @@
 use Rattle.std.proofs.Common.{◌∙◌, ap, sym, subst, List}
-use Rattle.otel_value_map.specs.Keyed.{Slotted, IsKept}
+use Rattle.otel_value_map.specs.Keyed.{Slotted, IsConsistent}
 use Rattle.otel_value_map.specs.Slots.{Look, Keyed, look_in, table_at}
 use Rattle.otel_value_map.proofs.table.Table.make_room.Goals as goal
 
 pub invariant_of-self : goal.invariant_of-self
 invariant_of-self g c =
-    let laws = subst (λ (look : Look). IsKept look c.self.inside.none c.self.inside.keys.sets c.self.inside.keys.given) (sym c.reserve_one.ensures.look) c.self.invariant in
-    rw (c.reserve_one.ensures.sets, c.reserve_one.ensures.given) laws
+    let laws = subst (λ (look : Look). IsConsistent look c.self.inside.none c.self.inside.keys.sets c.self.inside.keys.aliases) (sym c.reserve_one.ensures.look) c.self.invariant in
+    rw (c.reserve_one.ensures.sets, c.reserve_one.ensures.aliases) laws
 
 pub returns-clause-table : goal.returns-clause-table
 returns-clause-table g c =

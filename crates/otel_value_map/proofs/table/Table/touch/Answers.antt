@@ -9,12 +9,12 @@ use Rattle.otel_value_map.proofs.table.Table.touch.Goals as goal
 pub invariant_of-self : goal.invariant_of-self
 invariant_of-self g c =
     let v = g.A.Aggregator.sample c.args.value in
-    kept-touched (written v) (write v) (λ s k. refl) (λ k. refl) (λ k. refl) _ _ c.args.number c.touch.ensures.look c.self.inside.none c.self.inside.keys.sets c.self.inside.keys.given c.self.invariant
+    kept-touched (written v) (write v) (λ s k. refl) (λ k. refl) (λ k. refl) _ _ c.args.number c.touch.ensures.look c.self.inside.none c.self.inside.keys.sets c.self.inside.keys.aliases c.self.invariant
 
 pub returns-clause-table : goal.returns-clause-table
 returns-clause-table g c = λ s e.
     let v = g.A.Aggregator.sample c.args.value in
-    table-touched (written v) (write v) (λ s k. refl) (λ k. refl) (λ k. refl) _ _ c.args.number c.touch.ensures.look c.self.inside.none c.self.inside.keys.sets c.self.inside.keys.given s c.self.invariant
+    table-touched (written v) (write v) (λ s k. refl) (λ k. refl) (λ k. refl) _ _ c.args.number c.touch.ensures.look c.self.inside.none c.self.inside.keys.sets c.self.inside.keys.aliases s c.self.invariant
     (ap (λ (t : Slotted). number_of s t.numbers) c.self.view_is ∙ e)
     ∙ ap (λ (t : Slotted). at_entry s (write v) t.table) c.self.view_is
 

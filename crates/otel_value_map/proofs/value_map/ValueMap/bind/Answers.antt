@@ -3,7 +3,7 @@ use Rattle.otel_common.specs.Canonical.{canon}
 use Rattle.otel_model_stream.specs.Maps.{bound_map, bound_list}
 use Rattle.otel_model_stream.specs.Laws.{AreKnown}
 use Rattle.otel_model_stream.proofs.KnownLists.{known_bound}
-use Rattle.otel_value_map.specs.Held.{known_of}
+use Rattle.otel_value_map.specs.Contents.{known_of}
 use Rattle.otel_value_map.proofs.value_map.ValueMap.bind.Goals as goal
 
 pub returns-clause-learned : goal.returns-clause-learned

@@ -10,7 +10,7 @@ use Rattle.otel_model_stream.specs.Entries.{Entry, Table, new_entry, has, entry_
 use Rattle.otel_value_map.specs.Slots.{Kept, entry_of}
 use Rattle.otel_value_map.specs.Keyed.{IsNew}
 use Rattle.otel_value_map.specs.Numbers.{number_of}
-use Rattle.otel_value_map.specs.Held.{Held, IsReady}
+use Rattle.otel_value_map.specs.Contents.{MapContents, IsReady}
 use Rattle.otel_value_map.proofs.CanonicalSets.{canon-over}
 use Rattle.otel_model_stream.specs.Maps.{MapState, with_place}
 use Rattle.otel_value_map.proofs.PlaceLemmas.{Placing, made_key, place-admitted, place-over_made, as_state, new-prepared, new-set, numbers-added}
@@ -31,14 +31,14 @@ returns-then-self-clause-state g c = λ s e.
     let entries : List Entry = t.table.entries in
     let before : MapState = record { limit = c.self.inside.limit; empty = empty; table = t.table } in
     let ready : IsReady t _ _ set c.in-New.list = new-prepared t _ _ c.self.inside.pending set c.in-New.list c.self.invariant.3 c.in-New.ensures.taken in
-    let same : set ≡ s = new-set t.numbers c.self.inside.pending set s c.in-New.list c.in-New.ensures.taken (ap (λ (h : Held). h.pending) c.self.view_is ∙ e) in
+    let same : set ≡ s = new-set t.numbers c.self.inside.pending set s c.in-New.list c.in-New.ensures.taken (ap (λ (h : MapContents). h.pending) c.self.view_is ∙ e) in
     let few : nat_lt (number_counted entries) c.self.inside.limit ≡ true = rw (← c.self.invariant.0) (lt-ltb _ _ c.if-self.true) in
     let place : Placing c.self.inside.limit empty set entries _ set = place-admitted c.self.inside.limit empty set entries ready.new.some ready.absent few in
     let after : c.add.new.self.table.entries ≡ entries ++ new_entry empty set true ∷ [] =
     ap (λ (x : Table). x.entries) c.add.ensures.table ∙ ap (λ (k : Kept). entries ++ entry_of set (Some k) ∷ []) c.take_slot-slot.ensures.slot in
     as_state before set c.add.new.self.table set (ap (λ (x : Table). x.none) c.add.ensures.table) (record { state = after ∙ place.state; goal = ap (entry_for set) after ∙ place.goal })
     ∙ ap (λ (x : AttributeSet). with_place x before) same
-    ∙ ap (λ (h : Held). with_place s h.state) c.self.view_is
+    ∙ ap (λ (h : MapContents). with_place s h.state) c.self.view_is
 
 pub returns-then-self-clause-number : goal.returns-then-self-clause-number
 returns-then-self-clause-number g c = λ s e.
@@ -47,7 +47,7 @@ returns-then-self-clause-number g c = λ s e.
     let empty : Fold = g.A.Aggregator.empty c.self.inside.config in
     let entries : List Entry = t.table.entries in
     let ready : IsReady t _ _ set c.in-New.list = new-prepared t _ _ c.self.inside.pending set c.in-New.list c.self.invariant.3 c.in-New.ensures.taken in
-    let same : set ≡ s = new-set t.numbers c.self.inside.pending set s c.in-New.list c.in-New.ensures.taken (ap (λ (h : Held). h.pending) c.self.view_is ∙ e) in
+    let same : set ≡ s = new-set t.numbers c.self.inside.pending set s c.in-New.list c.in-New.ensures.taken (ap (λ (h : MapContents). h.pending) c.self.view_is ∙ e) in
     let few : nat_lt (number_counted entries) c.self.inside.limit ≡ true = rw (← c.self.invariant.0) (lt-ltb _ _ c.if-self.true) in
     let place : Placing c.self.inside.limit empty set entries _ set = place-admitted c.self.inside.limit empty set entries ready.new.some ready.absent few in
     let after : c.add.new.self.table.entries ≡ entries ++ new_entry empty set true ∷ [] =
@@ -78,7 +78,7 @@ returns-clause-state g c = λ s e.
     let entries : List Entry = t.table.entries in
     let before : MapState = record { limit = c.self.inside.limit; empty = empty; table = t.table } in
     let ready : IsReady t _ _ set c.in-New.list = new-prepared t _ _ c.self.inside.pending set c.in-New.list c.self.invariant.3 c.in-New.ensures.taken in
-    let same : set ≡ s = new-set t.numbers c.self.inside.pending set s c.in-New.list c.in-New.ensures.taken (ap (λ (h : Held). h.pending) c.self.view_is ∙ e) in
+    let same : set ≡ s = new-set t.numbers c.self.inside.pending set s c.in-New.list c.in-New.ensures.taken (ap (λ (h : MapContents). h.pending) c.self.view_is ∙ e) in
     let full : nat_lt (number_counted entries) c.self.inside.limit ≡ false = rw (← c.self.invariant.0) (not_below _ _ (omega (arith, c.if-self.false))) in
     let over : c.unwrap-overflow.result.now ≡ over_set = made_key c.self.inside.spare_key c.unwrap-overflow.result.now c.self.invariant.2 (sym c.as_ref.ensures.value ∙ ap option_copied c.unwrap-overflow.ensures) in
     let key : c.unwrap-key.result ≡ over_set = made_key c.self.inside.spare_key c.unwrap-key.result c.self.invariant.2 (sym c.take-2.ensures.value ∙ c.unwrap-key.ensures) in
@@ -88,7 +88,7 @@ returns-clause-state g c = λ s e.
     ap (λ (x : Table). x.entries) c.add-2.ensures.table ∙ ap (λ (k : Kept). entries ++ entry_of c.unwrap-key.result (Some k) ∷ []) c.take_slot-slot-2.ensures.slot ∙ ap (λ (x : AttributeSet). entries ++ new_entry empty x false ∷ []) key in
     as_state before set c.add-2.new.self.table over_set (ap (λ (x : Table). x.none) c.add-2.ensures.table) (record { state = after ∙ place.state; goal = ap (entry_for set) after ∙ place.goal })
     ∙ ap (λ (x : AttributeSet). with_place x before) same
-    ∙ ap (λ (h : Held). with_place s h.state) c.self.view_is
+    ∙ ap (λ (h : MapContents). with_place s h.state) c.self.view_is
 
 pub returns-clause-number : goal.returns-clause-number
 returns-clause-number g c = λ s e.
@@ -97,7 +97,7 @@ returns-clause-number g c = λ s e.
     let empty : Fold = g.A.Aggregator.empty c.self.inside.config in
     let entries : List Entry = t.table.entries in
     let ready : IsReady t _ _ set c.in-New.list = new-prepared t _ _ c.self.inside.pending set c.in-New.list c.self.invariant.3 c.in-New.ensures.taken in
-    let same : set ≡ s = new-set t.numbers c.self.inside.pending set s c.in-New.list c.in-New.ensures.taken (ap (λ (h : Held). h.pending) c.self.view_is ∙ e) in
+    let same : set ≡ s = new-set t.numbers c.self.inside.pending set s c.in-New.list c.in-New.ensures.taken (ap (λ (h : MapContents). h.pending) c.self.view_is ∙ e) in
     let full : nat_lt (number_counted entries) c.self.inside.limit ≡ false = rw (← c.self.invariant.0) (not_below _ _ (omega (arith, c.if-self.false))) in
     let over : c.unwrap-overflow.result.now ≡ over_set = made_key c.self.inside.spare_key c.unwrap-overflow.result.now c.self.invariant.2 (sym c.as_ref.ensures.value ∙ ap option_copied c.unwrap-overflow.ensures) in
     let key : c.unwrap-key.result ≡ over_set = made_key c.self.inside.spare_key c.unwrap-key.result c.self.invariant.2 (sym c.take-2.ensures.value ∙ c.unwrap-key.ensures) in

@@ -1,5 +1,5 @@
 use Rattle.std.proofs.Common.{◌∙◌, ap, true, refl, Bool, nat_lt}
-use Rattle.otel_value_map.specs.Held.{pending_in}
+use Rattle.otel_value_map.specs.Contents.{pending_in}
 use Rattle.otel_value_map.proofs.PlaceLemmas.{sound-at}
 use Rattle.otel_value_map.proofs.value_map.ValueMap.prepare_list.Goals as goal
 

@@ -6,7 +6,7 @@ use Rattle.otel_model_stream.specs.Entries.{Entry, Table, has, number_counted}
 use Rattle.otel_model_stream.specs.Sets.{AttributeSet, none_set}
 use Rattle.otel_value_map.specs.Keyed.{Slotted}
 use Rattle.otel_value_map.specs.Numbers.{Numbers, is_placed, spelling_of}
-use Rattle.otel_value_map.specs.Held.{Held, IsPlan, IsReady, IsSound, is_new, known_of, pending_in, spelling_in}
+use Rattle.otel_value_map.specs.Contents.{MapContents, IsPlan, IsReady, IsSound, is_new, known_of, pending_in, spelling_in}
 use Rattle.otel_value_map.specs.declared.pending.Pending.{Pending}
 use Rattle.otel_value_map.specs.declared.pending.Pending.TheVariants.{Nothing, At, New}
 use Rattle.otel_value_map.proofs.PlanLemmas.{sound-same, unknown-some, placed-has}
@@ -31,7 +31,7 @@ invariant_of-self-2 g c =
       c.self.invariant.0 ∙ ap (λ (x : Table). number_counted x.entries) (sym c.make_ready.ensures.table),
       c.make_ready.ensures.empty,
       c.make_ready.ensures.over,
-      subst (IsSound n few room) (sym c.put-2.ensures) (sound-same t n few room c.in_ok-plan.plan c.make_ready.ensures.table c.make_ready.ensures.numbers c.make_ready.ensures.given (c.in_ok-plan.ensures.plan.sound room c.in_ok-make_ready.ensures.ready)),
+      subst (IsSound n few room) (sym c.put-2.ensures) (sound-same t n few room c.in_ok-plan.plan c.make_ready.ensures.table c.make_ready.ensures.numbers c.make_ready.ensures.aliases (c.in_ok-plan.ensures.plan.sound room c.in_ok-make_ready.ensures.ready)),
     )
 
 pub returns-clause-ready : goal.returns-clause-ready
@@ -47,7 +47,7 @@ returns-clause-spelling g c =
     ap spelling_in c.put-2.ensures
     ∙ c.in_ok-plan.ensures.plan.spelling
     ∙ ap (λ (k : ℕ). cond ((not (set_eq (canon l) none_set) && (not (has (canon l) entries) && nat_lt k c.self.inside.limit)) && not (set_eq (canon l) l)) (l ∷ []) []) c.self.invariant.0
-    ∙ ap (λ (h : Held). spelling_of l h.state) c.self.view_is
+    ∙ ap (λ (h : MapContents). spelling_of l h.state) c.self.view_is
 
 pub returns-then-not-is_new-clause-spelling : goal.returns-then-not-is_new-clause-spelling
 returns-then-not-is_new-clause-spelling g c =
@@ -56,7 +56,7 @@ returns-then-not-is_new-clause-spelling g c =
     ap spelling_in c.put.ensures
     ∙ c.in_ok-plan.ensures.plan.spelling
     ∙ ap (λ (k : ℕ). cond ((not (set_eq (canon l) none_set) && (not (has (canon l) entries) && nat_lt k c.self.inside.limit)) && not (set_eq (canon l) l)) (l ∷ []) []) c.self.invariant.0
-    ∙ ap (λ (h : Held). spelling_of l h.state) c.self.view_is
+    ∙ ap (λ (h : MapContents). spelling_of l h.state) c.self.view_is
 
 pub returns-in_err-make_ready-clause-placed : goal.returns-in_err-make_ready-clause-placed
 returns-in_err-make_ready-clause-placed g c =

@@ -8,7 +8,7 @@ use Rattle.otel_aggregate.specs.Links.{Link, handles_of, IsLinked, AreHeld}
 use Rattle.otel_aggregate.proofs.LinkLemmas.{found-linked, linked-without, handles-without}
 use Rattle.otel_aggregate.proofs.HandleLemmas.{held-dropped}
 use Rattle.otel_aggregate.proofs.StepLemmas.{held-found, unbind-made, unbind-none}
-use Rattle.otel_aggregate.proofs.stream.Stream.unbind.Goals as goal
+use Rattle.otel_aggregate.proofs.aggregate_stream.AggregateStream.unbind.Goals as goal
 
 pub invariant_of-self : goal.invariant_of-self
 invariant_of-self g c =

@@ -1,7 +1,7 @@
 use Rattle.std.proofs.Common.{subst}
 use Rattle.otel_aggregate.specs.Links.{AreHeld}
 use Rattle.otel_aggregate.proofs.HandleLemmas.{held-without}
-use Rattle.otel_aggregate.proofs.stream.Stream.told_unheld.Goals as goal
+use Rattle.otel_aggregate.proofs.aggregate_stream.AggregateStream.law_of_handles.Goals as goal
 
 pub returns : goal.returns
 returns g c = rw (← c.self.view_is) (λ none. held-without c.self.inside.map.state.table (subst (AreHeld c.self.inside.map.state.table) none c.self.invariant.1))

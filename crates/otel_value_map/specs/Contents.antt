@@ -15,7 +15,7 @@ use Rattle.otel_value_map.specs.declared.pending.Pending.TheVariants.{Nothing, A
 
 -- a map's state; the numbers of its entries; the lists, as given, that it knows besides the sets of its entries; the
 -- set of the prepared record or bind, if any; and the list that this adds to those, if any
-pub record Held : Type 0 where
+pub record MapContents : Type 0 where
   pub state : MapState
   pub numbers : Numbers
   pub given : List (List KeyValue)
@@ -23,7 +23,7 @@ pub record Held : Type 0 where
   pub spelling : List (List KeyValue)
 
 -- a map with the lists that it knows
-abbrev pub known_of : Held → KnownMap
+abbrev pub known_of : MapContents → KnownMap
 known_of h = record { map_state = h.state; given = h.given }
 
 -- the set of the prepared record or bind, if any
@@ -48,7 +48,7 @@ spelling_in (New s list) = list_of list
 pub record IsReady (t : Slotted) (few : Bool) (room : Bool) (s : AttributeSet) (list : Option (List KeyValue)) : Type 0 where
   pub new : IsNew t.numbers.sets s
   pub absent : has s t.table.entries ≡ false
-  pub spelling : IsSpelling t.given s list
+  pub spelling : IsSpelling t.aliases s list
   pub admitted : IsTrue (is_some list) → IsTrue few
   pub ready : IsTrue room
 
@@ -79,7 +79,7 @@ prepared None None = Nothing
 
 -- whether a list, as given, leads to an entry
 abbrev pub leads : List KeyValue → Slotted → Bool
-leads l t = set_eq l none_set || (is_member set_eq (keys_of t.given) l || has l t.table.entries)
+leads l t = set_eq l none_set || (is_member set_eq (keys_of t.aliases) l || has l t.table.entries)
 
 -- the plan is what a record or bind of the list is to do. `few` says whether the limit allows one more counted entry
 pub record IsPlan (t : Slotted) (few : Bool) (l : List KeyValue) (plan : Pending) : Type 0 where

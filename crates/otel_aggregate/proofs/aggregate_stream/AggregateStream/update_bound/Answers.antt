@@ -8,7 +8,7 @@ use Rattle.otel_aggregate.specs.Links.{Link, handles_of, IsLinked, AreHeld}
 use Rattle.otel_aggregate.proofs.LinkLemmas.{found-linked}
 use Rattle.otel_aggregate.proofs.HandleLemmas.{held-written}
 use Rattle.otel_aggregate.proofs.StepLemmas.{held-found, update-made, update-none}
-use Rattle.otel_aggregate.proofs.stream.Stream.update_bound.Goals as goal
+use Rattle.otel_aggregate.proofs.aggregate_stream.AggregateStream.update_bound.Goals as goal
 
 pub invariant_of-self : goal.invariant_of-self
 invariant_of-self g c =

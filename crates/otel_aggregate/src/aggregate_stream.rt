@@ -12,7 +12,7 @@ ghost use Rattle.otel_model_stream.specs.Maps.{draining_points, drained_map};
 ghost use Rattle.otel_value_map.specs.Numbers.{without_handles};
 ghost use Rattle.otel_value_map.specs.Slots.{HasForm, copies};
 ghost use Rattle.otel_aggregate.specs.Data.{temporality_of};
-ghost use Rattle.otel_aggregate.specs.Streams.{new_stream, is_known, recorded_set, recorded_attributes, ready_to_bind, stream_after_bind, stream_after_update, stream_after_unbind, stream_after_commit, stream_after_collection, points_now};
+ghost use Rattle.otel_aggregate.specs.Streams.{new_aggregate, is_known, recorded_set, recorded_attributes, ready_to_bind, stream_after_bind, stream_after_update, stream_after_unbind, stream_after_commit, stream_after_collection, points_now};
 
 use crate::links::{Links, add, make_room, number_in, number_near, take_out};
 use crate::measures::Measures;
@@ -70,7 +70,7 @@ fn allow_list(alloc: Global, keys: Option<Items<Key>>) -> Result<Option<AllowedK
 ///
 /// An entry that a live handle holds stays at a resetting collection. A handle stays with its entry for good, even
 /// with the overflow entry once its set could have an entry of its own.
-pub struct Stream<A: Measures> {
+pub struct AggregateStream<A: Measures> {
     settings: A::Settings,
     map: ValueMap<A>,
     live: Links,
@@ -82,13 +82,13 @@ pub struct Stream<A: Measures> {
     start: u64,
 }
 
-impl<A: Measures> Model for Stream<A> {
+impl<A: Measures> Model for AggregateStream<A> {
     ghost use Rattle.std.specs.Prelude.{◌<◌, IsTrue};
     ghost use Rattle.std.specs.List.{AllByRecursion};
     ghost use Rattle.otel_aggregate.specs.Links.{spare, handles_of, IsLinked, AreHeld};
-    ghost use Rattle.otel_aggregate.specs.Streams.{HeldStream};
+    ghost use Rattle.otel_aggregate.specs.Streams.{AggregateContents};
 
-    ghost Value = { HeldStream };
+    ghost Value = { AggregateContents };
 
     ghost view = { λ s. record {
       state = record {
@@ -109,10 +109,10 @@ impl<A: Measures> Model for Stream<A> {
         × (IsTrue s.room → 0 < spare s.live) };
 }
 
-impl<A: Measures> Drop for Stream<A> {
+impl<A: Measures> Drop for AggregateStream<A> {
     /// A function of its own, so that no proof about who lets one go looks into it.
     fn drop(self) {
-        let Stream {
+        let AggregateStream {
             settings: _settings,
             map: _map,
             live: _live,
@@ -124,7 +124,7 @@ impl<A: Measures> Drop for Stream<A> {
     }
 }
 
-impl<A: Measures> Stream<A> {
+impl<A: Measures> AggregateStream<A> {
     /// Makes a stream without records at the moment `start`, in nanoseconds since 1970. `temporality` is the reader's
     /// answer: with `Delta` the stream starts again at each collection; with any other it goes on from `start`. Any
     /// limit is accepted; with 0, every set but the empty one goes to the overflow point.
@@ -141,7 +141,7 @@ impl<A: Measures> Stream<A> {
         limit: usize,
         start: u64,
     ) -> Result<Self, Fault>
-        ensures made { IfOk result (λ made. made.state ≡ new_stream (A.aggregate settings) (A.is_monotonic settings) allow (resets temporality) limit start) }
+        ensures made { IfOk result (λ made. made.state ≡ new_aggregate (A.aggregate settings) (A.is_monotonic settings) allow (resets temporality) limit start) }
         ensures handles { IfOk result (λ made. made.live ≡ []) }
         ensures unprepared { IfOk result (λ made. made.pending ≡ None) }
         ensures room { IfOk result (λ made. made.room ≡ false) }
@@ -149,7 +149,7 @@ impl<A: Measures> Stream<A> {
     {
         let allow = allow_list(alloc, allow)?;
         let map = ValueMap::new(alloc, hasher, A::config(&settings), limit)?;
-        Ok(Stream {
+        Ok(AggregateStream {
             settings,
             map,
             live: Links::new(alloc, hasher),
@@ -204,7 +204,7 @@ impl<A: Measures> Stream<A> {
         let record = A::record(&self.settings, value);
         self.map.commit(record);
         // Tells the prover that the entries that kept their numbers are still named by them.
-        self.map.told_numbers();
+        self.map.law_of_numbers();
     }
 
     /// Takes in the prepared record, if there is one, and returns whether there was.
@@ -267,7 +267,7 @@ impl<A: Measures> Stream<A> {
         // Tells the prover that there are fewer than 2^63 handles.
         let _ = self.live.len();
         let number = self.map.commit_bind();
-        self.map.told_numbers();
+        self.map.law_of_numbers();
         let place = add(&mut self.live, handle, number);
         self.room = false;
         place
@@ -399,7 +399,7 @@ impl<A: Measures> Stream<A> {
     {
         if self.resets {
             self.map.reset_and_evict();
-            self.map.told_numbers();
+            self.map.law_of_numbers();
             self.start = now;
         }
     }
@@ -447,7 +447,7 @@ impl<A: Measures> Stream<A> {
     }
 
     /// The law that no entry is held if no handle is live.
-    pub fn told_unheld(&self)
+    pub fn law_of_handles(&self)
         ensures { self.now.live ≡ [] → without_handles self.now.state.map_state.table ≡ self.now.state.map_state.table }
     {
         let _room = self.room;
@@ -471,7 +471,7 @@ impl<A: Measures> Stream<A> {
     }
 }
 
-impl<A: Shows> Stream<A> {
+impl<A: Shows> AggregateStream<A> {
     /// What a collection at the moment `now`, in nanoseconds since 1970, gives: the start, the points and `now`. The
     /// stream stays unchanged. Shares the sets that it shows, and copies none.
     pub fn points(&self, alloc: Global, now: u64) -> Result<A::Data, Fault>

@@ -6,7 +6,7 @@ use Rattle.otel_value_map.specs.Numbers.{Numbers}
 use Rattle.otel_aggregate.specs.Links.{Link, handles_of, IsLinked, AreHeld}
 use Rattle.otel_aggregate.proofs.HandleLemmas.{held-written}
 use Rattle.otel_aggregate.proofs.StepLemmas.{none-made}
-use Rattle.otel_aggregate.proofs.stream.Stream.measure_none.Goals as goal
+use Rattle.otel_aggregate.proofs.aggregate_stream.AggregateStream.measure_none.Goals as goal
 
 -- all entries keep their numbers
 pub invariant_of-self : goal.invariant_of-self

@@ -5,10 +5,10 @@ use Rattle.otel_model_stream.specs.Entries.{evicted_table}
 use Rattle.otel_model_stream.specs.Maps.{MapState}
 use Rattle.otel_value_map.specs.Numbers.{Numbers}
 use Rattle.otel_aggregate.specs.Links.{Link, handles_of, AreHeld}
-use Rattle.otel_aggregate.specs.Streams.{HeldStream}
+use Rattle.otel_aggregate.specs.Streams.{AggregateContents}
 use Rattle.otel_aggregate.proofs.LinkLemmas.{IsLinkedStill, still-left, handles-still, linked-still}
 use Rattle.otel_aggregate.proofs.HandleLemmas.{placed-evicted, held-evicted}
-use Rattle.otel_aggregate.proofs.stream.Stream.finish.Goals as goal
+use Rattle.otel_aggregate.proofs.aggregate_stream.AggregateStream.finish.Goals as goal
 
 pub invariant_of-self : goal.invariant_of-self
 invariant_of-self g c =
@@ -16,7 +16,7 @@ invariant_of-self g c =
     let new : Numbers = c.reset_and_evict.new.self.numbers in
     let links : List Link = c.self.inside.live.entries in
     let live : Handles = handles_of old links in
-    let named = c.told_numbers.ensures.named in
+    let named = c.law_of_numbers.ensures.named in
     let table = c.self.inside.map.state.table in
     let still : AllByRecursion (IsLinkedStill old new) links = still-left (evicted_table table).entries old new c.reset_and_evict.ensures.numbers links c.self.invariant.0 (placed-evicted table live c.self.invariant.1) in (
       linked-still old new named links still,
@@ -32,4 +32,4 @@ returns-then-self-clause-live g c =
     let links : List Link = c.self.inside.live.entries in
     let table = c.self.inside.map.state.table in
     let still : AllByRecursion (IsLinkedStill old new) links = still-left (evicted_table table).entries old new c.reset_and_evict.ensures.numbers links c.self.invariant.0 (placed-evicted table (handles_of old links) c.self.invariant.1) in
-    handles-still old new c.told_numbers.ensures.named links still ∙ ap (λ (h : HeldStream). h.live) c.self.view_is
+    handles-still old new c.law_of_numbers.ensures.named links still ∙ ap (λ (h : AggregateContents). h.live) c.self.view_is
