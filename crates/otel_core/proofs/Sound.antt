@@ -1,5 +1,5 @@
 -- What calls keep of a provider's state.
-use Rattle.std.proofs.Common.{◌≡◌, ◌∙◌, ⊎_elim, ℕ, zero, suc, List, [], ◌∷◌, map, length, Option, Some, None, refl, sym, ap, subst}
+use Rattle.std.proofs.Common.{⊎_elim, ℕ, zero, suc, List, [], ◌∷◌, map, length, Option, Some, None, refl, sym, subst}
 use Rattle.otel_model_stream.specs.Folds.{Amount}
 use Rattle.otel_model.specs.Calls.{Call, Meter, Build, Record, Bind, RecordBound, Unbind, Collect, Flush, Shutdown, Fault, Reply}
 use Rattle.otel_model.specs.Demands.{ReaderAnswers, Views}

@@ -1,12 +1,12 @@
 -- What an instrument feeds has its number type, whatever is called.
-use Rattle.std.proofs.Common.{◌≡◌, ◌⊎◌, inl, inr, ⊎_elim, ℕ, zero, suc, Bool, true, false, cond, List, [], ◌∷◌, ◌++◌, map, length, set, get_or, ◌<◌, Option, Some, None, slice_get, refl, sym, ◌∙◌, ap, subst, arith}
-use Rattle.std.specs.Prelude.{All, filter, fold, Result, Ok, Err, OnOk, OnErr}
+use Rattle.std.proofs.Common.{◌≡◌, ◌⊎◌, inl, inr, ⊎_elim, ℕ, zero, suc, Bool, true, false, cond, List, [], ◌∷◌, ◌++◌, map, length, get_or, ◌<◌, Option, Some, None, slice_get, refl, sym, ◌∙◌, ap, subst, arith}
+use Rattle.std.specs.Prelude.{All, filter, fold}
 use Rattle.std.proofs.lemmas.Bool.{false≢true}
 use Rattle.std.proofs.lemmas.List.{length-append}
 use Rattle.otel_stream.specs.declared.observation.Observed.{Observed as Observation}
 use Rattle.otel_common.specs.declared.scopes.InstrumentationScope.{InstrumentationScope}
 use Rattle.otel_model_stream.specs.Folds.{Amount}
-use Rattle.otel_model.specs.Calls.{is_observable, Fault, WrongKind, About, Call, Collect, Number, Observed}
+use Rattle.otel_model.specs.Calls.{is_observable, Fault, WrongKind, About, Call, Number}
 use Rattle.otel_model.specs.Demands.{Identity, Demand, ReaderAnswers, StreamSpec, Views, has_identity, instrument_of, add_answer, view_demands, demands_with, is_compatible, is_known, is_dropped, is_good, fed_identities, own_demand, identity_eq}
 use Rattle.otel_model.specs.Machine.{changed_at, instrument_after_record, enter, new_instrument, part_after_demand, build_demands, part_after_build, part_after_call}
 use Rattle.otel_model.specs.Refusals.{first_fault, number_refusal, observation_refusal, observations_refusal}

@@ -1,5 +1,5 @@
 -- The state of a provider in the words of the model, and what a call does to it.
-use Rattle.std.specs.Prelude.{◌≡◌, ℕ, Bool, true, false, List, map, length, slice_get, Option, None, Some}
+use Rattle.std.specs.Prelude.{◌≡◌, ℕ, true, false, List, map, length, slice_get, Option, None, Some}
 use Rattle.std.specs.List.{AllByRecursion as EachOf}
 use Rattle.otel_stream.specs.declared.observation.Observed.{Observed}
 use Rattle.otel_common.specs.declared.faults.Fault.{Fault}

@@ -1,11 +1,9 @@
-use Rattle.std.proofs.Common.{◌≡◌, ◌==◌, ◌∙◌, List, [], ◌∷◌, length, true, refl, ap, sym, subst, map, arith, ne_eqb, true≢false}
+use Rattle.std.proofs.Common.{◌≡◌, ◌==◌, ◌∙◌, List, [], ◌∷◌, length, true, refl, ap, sym, map, arith, ne_eqb, true≢false}
 use Rattle.otel_common.specs.declared.attributes.KeyValue.{KeyValue}
 use Rattle.otel_model.specs.Calls as model
 use Rattle.otel_model.specs.Machine.{part_after_call}
 use Rattle.otel_pipeline.specs.Pipelines.{part_of}
 use Rattle.otel_core.specs.Correspondence.{number_of}
-use Rattle.otel_core.specs.States.{FeedType}
-use Rattle.otel_core.proofs.StepLemmas.{all_recorded}
 use Rattle.otel_core.proofs.each_pipeline.record_or_none.Goals as goal
 
 nothing-there : (l : List KeyValue) → (length l == 0) ≡ true → l ≡ []

@@ -1,5 +1,5 @@
-use Rattle.std.proofs.Common.{◌≡◌, false, subst, sym, [], map}
-use Rattle.otel_model.specs.Machine.{new_part, new_state}
+use Rattle.std.proofs.Common.{◌≡◌, false, subst, sym, map}
+use Rattle.otel_model.specs.Machine.{new_state}
 use Rattle.otel_model.specs.State.{State}
 use Rattle.otel_pipeline.specs.Pipelines.{part_of}
 use Rattle.otel_core.specs.States.{IsSound}

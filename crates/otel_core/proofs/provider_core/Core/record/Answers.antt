@@ -1,4 +1,4 @@
-use Rattle.std.proofs.Common.{◌≡◌, ◌<◌, ◌∙◌, rules, refl, true≢false, ap, sym, subst, List, [], map, length, slice_get, set, None, arith}
+use Rattle.std.proofs.Common.{◌≡◌, ◌<◌, ◌∙◌, rules, refl, true≢false, ap, sym, subst, [], map, length, slice_get, set, None, arith}
 use Rattle.otel_model.specs.Calls as model
 use Rattle.otel_model.specs.Laws.{answers_in}
 use Rattle.otel_model.specs.Machine.{instrument_after_record, changed_at, part_after_call}

@@ -1,4 +1,4 @@
-use Rattle.std.proofs.Common.{◌≡◌, ◌<◌, ◌∙◌, refl, ap, sym, subst, List, [], map, length, slice_get, set, Some, None, arith}
+use Rattle.std.proofs.Common.{◌≡◌, ◌<◌, ◌∙◌, refl, ap, sym, subst, [], map, length, slice_get, set, Some, None, arith}
 use Rattle.std.specs.List.{AllByRecursion as EachOf}
 use Rattle.otel_model.specs.Calls as model
 use Rattle.otel_model.specs.Machine.{instrument_after_record, changed_at, part_after_call}

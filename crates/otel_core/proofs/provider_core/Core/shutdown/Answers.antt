@@ -1,4 +1,4 @@
-use Rattle.std.proofs.Common.{refl, subst, true, [], Err}
+use Rattle.std.proofs.Common.{refl, subst, [], Err}
 use Rattle.otel_common.specs.declared.faults.Fault.TheVariants as fault
 use Rattle.otel_model.specs.Calls as model
 use Rattle.otel_model.specs.Machine.{accepted_after}

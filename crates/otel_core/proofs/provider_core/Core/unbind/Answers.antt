@@ -1,4 +1,4 @@
-use Rattle.std.proofs.Common.{◌≡◌, ◌∙◌, ap, sym, subst, refl, List, [], map, length, Some, None, arith}
+use Rattle.std.proofs.Common.{◌≡◌, ◌∙◌, ap, sym, subst, refl, [], map, Some, None, arith}
 use Rattle.std.specs.List.{AllByRecursion as EachOf}
 use Rattle.otel_model.specs.Calls as model
 use Rattle.otel_model.specs.Machine.{part_after_call, without_handle}
