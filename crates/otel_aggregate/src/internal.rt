@@ -16,5 +16,6 @@ pub use otel_aggregators::buckets::{Buckets, BucketsConfig, counted_once};
 pub use otel_aggregators::number::Number;
 pub use otel_value_map::hashed_key::GivenAttributes;
 pub use otel_value_map::hashing::SetHashBuilder;
+pub use otel_value_map::maker::{Copies, PointMaker};
 pub use otel_value_map::saved::Saved;
 pub use otel_value_map::value_map::ValueMap;
