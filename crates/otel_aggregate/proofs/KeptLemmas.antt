@@ -4,7 +4,8 @@ use Rattle.std.specs.Prelude.{ℤ, ◌&&◌, ◌||◌, nat_lt, OnOk, OnErr, IfOk
 use Rattle.std.proofs.lemmas.List.{map-id}
 use Rattle.std.specs.List.{AllByRecursion}
 use Rattle.otel_common.specs.Equality.{set_eq}
-use Rattle.otel_model_stream.specs.Sets.{AttributeSet, AllowList, none_set, over_set}
+use Rattle.otel_common.specs.declared.attributes.KeyValue.{KeyValue}
+use Rattle.otel_model_stream.specs.Sets.{AttributeSet, AllowList, none_set, over_set, set_of}
 use Rattle.otel_model_stream.specs.Folds.{Amount, Sample, Fold, Total, Last, Spreads, record_fold, clear_fold, empty_of, sample_of, lesser, greater}
 use Rattle.otel_model_stream.specs.Entries.{Entry, Table, new_entry, is_of, has, number_counted, entries_with_place, entry_for, on, write, take_handle, drop_handle, reset, stays, points, point_of_entry}
 use Rattle.otel_model_stream.specs.Events.{held_by}
@@ -14,7 +15,7 @@ use Rattle.otel_aggregate.specs.declared.settings.AnySettings.{AnySettings}
 use Rattle.otel_aggregate.specs.declared.settings.AnySettings.TheVariants as kinds
 use Rattle.otel_aggregate.specs.Any.{Form, form_of, aggregate_of, is_monotonic_of, drains_of}
 use Rattle.otel_aggregate.specs.Kept.{form_of_fold, IsWithin, IsWithinIfSome, IsKept, AreKept, IsKeptMap, IsKeptStream, IsReportedOf, AreShowable}
-use Rattle.otel_aggregate.specs.Streams.{AggregateState, AggregateContents, new_aggregate, recorded_set, taken_from, stream_after_commit, bind_of, stream_after_bind, update_at, stream_after_update, unbind_at, stream_after_unbind, stream_after_collection}
+use Rattle.otel_aggregate.specs.Streams.{AggregateState, AggregateContents, new_aggregate, recorded_set, recorded_attributes, taken_from, stream_after_commit, bind_of, stream_after_bind, update_at, stream_after_update, unbind_at, stream_after_unbind, stream_after_collection}
 use Rattle.otel_aggregate.proofs.ObservedLemmas.{drained-measured, drained-drained}
 
 -- ======== folds ========
@@ -120,6 +121,12 @@ kept-taken s v h w kept = by h.pending
     by None = kept
     by (Some set) = kept-measured s (form_of h.state.aggregate) set (sample_of h.state.aggregate v) h.state.map_state w kept
 
+-- a record of attributes, unless it is refused
+pub kept-listed : {T E : Type 0} (s : Bool) (v : Amount) (l : List KeyValue) (old new : AggregateContents) (r : Result T E) → OnOk r (new.state ≡ recorded_attributes l v old.state) → OnErr r (new.state ≡ old.state) → IsWithin s v.wide → IsKeptStream s old → IsKeptStream s new
+kept-listed s v l old new (Ok t) is same w h =
+    subst (λ (a : AggregateState). IsKeptMap s (form_of a.aggregate) a.map_state) (sym is) (kept-measured s (form_of old.state.aggregate) (set_of old.state.allow l) (sample_of old.state.aggregate v) old.state.map_state w h)
+kept-listed s v l old new (Err e) is same w h = subst (λ (a : AggregateState). IsKeptMap s (form_of a.aggregate) a.map_state) (sym same) h
+
 pub kept-none : (s : Bool) (v : Amount) (h : AggregateContents) → IsWithin s v.wide → IsKeptStream s h → IsKeptStream s (record h { state = recorded_set none_set v h.state; pending = None })
 kept-none s v h w kept = kept-measured s (form_of h.state.aggregate) none_set (sample_of h.state.aggregate v) h.state.map_state w kept
 
@@ -190,6 +197,11 @@ reported-same old new (Some m) state live room is =
 pub reported-set : (set : AttributeSet) (v : Sample) (h : AggregateContents) (p : Option AttributeSet) (o : Option MapState) → IsReportedOf h o → IsReportedOf (record h { state = record h.state { map_state = measured_map set v h.state.map_state }; pending = p }) o
 reported-set set v h p None is = tt
 reported-set set v h p (Some m) is = (is.0 ∙ sym (drained-measured set v h.state.map_state), is.1, is.2, is.3)
+
+pub reported-listed : {T E : Type 0} (v : Amount) (l : List KeyValue) (old new : AggregateContents) (o : Option MapState) (r : Result T E) → OnOk r (new.state ≡ recorded_attributes l v old.state) → OnErr r (new.state ≡ old.state) → new.live ≡ old.live → new.room ≡ old.room → IsReportedOf old o → IsReportedOf new o
+reported-listed v l old new o (Ok t) is same live room h =
+    reported-same (record old { state = recorded_attributes l v old.state }) new o is live room (reported-set (set_of old.state.allow l) (sample_of old.state.aggregate v) old old.pending o h)
+reported-listed v l old new o (Err e) is same live room h = reported-same old new o same live room h
 
 pub reported-taken : (v : Amount) (h : AggregateContents) (o : Option MapState) → IsReportedOf h o → IsReportedOf (stream_after_commit v h) o
 reported-taken v h o is = by h.pending

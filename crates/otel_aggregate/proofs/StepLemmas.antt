@@ -1,16 +1,19 @@
 -- What a map's steps leave of what is known of its handles.
-use Rattle.std.proofs.Common.{◌≡◌, ℕ, Bool, true, false, cond, ◌&&◌, ◌||◌, List, [], ◌∷◌, ◌++◌, Option, Some, None, is_some, refl, sym, ap, subst, ◌∙◌, nat_eq, true≢false}
-use Rattle.std.specs.Prelude.{IsSome, is_none, ◌==◌}
+use Rattle.std.proofs.Common.{◌≡◌, ℕ, Bool, true, false, cond, ◌&&◌, ◌||◌, List, [], ◌∷◌, ◌++◌, Option, Some, None, Result, Ok, Err, is_some, refl, sym, ap, subst, ◌∙◌, nat_eq, true≢false}
+use Rattle.std.specs.Prelude.{IsSome, OnOk, OnErr, is_none, ◌==◌}
 use Rattle.std.specs.List.{AllByRecursion}
 use Rattle.std.specs.Map.{lookup}
 use Rattle.std.specs.Option.{option_map}
 use Rattle.std.proofs.lemmas.List.{map-append}
+use Rattle.otel_common.specs.Canonical.{canon}
 use Rattle.otel_common.specs.Equality.{set_eq}
+use Rattle.otel_common.specs.declared.attributes.KeyValue.{KeyValue}
 use Rattle.otel_model_stream.specs.Sets.{AttributeSet, none_set}
 use Rattle.otel_model_stream.specs.Folds.{Amount, Sample, sample_of}
 use Rattle.otel_model_stream.specs.Events.{Handles, held_by, without}
 use Rattle.otel_model_stream.specs.Entries.{Table, entry_for, place, take_handle}
-use Rattle.otel_model_stream.specs.Maps.{MapState, measured_map, bound_map, bound_to, updated_bound, unbound_map}
+use Rattle.otel_model_stream.specs.Maps.{MapState, KnownMap, measured_map, measured_list, bound_map, bound_to, updated_bound, unbound_map}
+use Rattle.otel_value_map.specs.Contents.{MapContents, known_of}
 use Rattle.otel_value_map.specs.Numbers.{Numbers, number_of, set_named, is_placed, KeepNumbers, AreNamed, AreNumbered}
 use Rattle.otel_aggregate.specs.Links.{Link, handle_of, handles_of, IsLinked, AreHeld}
 use Rattle.otel_aggregate.specs.Streams.{AggregateContents, recorded_set, bind_of, stream_after_bind, update_at, stream_after_update, unbind_at, stream_after_unbind}
@@ -23,6 +26,12 @@ held-measured old new hs None v some is held = absurd (true≢false (sym some))
 held-measured old new hs (Some s) v some is held =
     let placed : Table = place old.limit old.empty s old.table in
     subst (λ (m : MapState). AreHeld m.table hs) (sym (is s refl)) (held-written placed hs (entry_for s placed.entries) v (held-placed old.limit old.empty s old.table hs held))
+
+-- a record of a list of attributes, unless it is refused
+pub held-listed : {T E : Type 0} (old new : MapContents) (l : List KeyValue) (v : Sample) (hs : Handles) (r : Result T E) → OnOk r (known_of new ≡ measured_list l v (known_of old)) → OnErr r (known_of new ≡ known_of old) → AreHeld old.state.table hs → AreHeld new.state.table hs
+held-listed old new l v hs (Ok t) is same held =
+    held-measured old.state new.state hs (Some (canon l)) v refl (λ s e. (let one : canon l ≡ s = cc in ap (λ (k : KnownMap). k.map_state) is ∙ ap (λ (x : AttributeSet). measured_map x v old.state) one)) held
+held-listed old new l v hs (Err e) is same held = subst (λ (k : KnownMap). AreHeld k.map_state.table hs) (sym same) held
 
 -- no handles, no links
 pub no-links : (ns : Numbers) (ps : List Link) → handles_of ns ps ≡ [] → ps ≡ []

@@ -2,6 +2,7 @@
 use Rattle.std.specs.Prelude.{ℕ, ℤ, pos, ◌≡◌, Bool, true, false, not, cond, ◌&&◌, ◌||◌, is_some, List, [], Option, None}
 use Rattle.std.specs.Bool.{beq}
 use Rattle.std.specs.Int.{cast_unsigned, w64}
+use Rattle.otel_common.specs.declared.attributes.KeyValue.{KeyValue}
 use Rattle.otel_data.specs.declared.aggregated.AggregatedMetrics.{AggregatedMetrics}
 use Rattle.otel_data.specs.declared.aggregated.AggregatedMetrics.TheVariants as metrics
 use Rattle.otel_data.specs.declared.aggregated.MetricData.{MetricData}
@@ -18,7 +19,7 @@ use Rattle.otel_value_map.specs.Numbers.{without_handles}
 use Rattle.otel_aggregate.specs.declared.settings.AnySettings.{AnySettings}
 use Rattle.otel_aggregate.specs.declared.settings.AnySettings.TheVariants as settings
 use Rattle.otel_aggregate.specs.Data.{sum_data, gauge_data, histogram_data}
-use Rattle.otel_aggregate.specs.Streams.{AggregateState, AggregateContents, recorded_set, points_now, stream_after_collection, stream_after_commit, stream_after_bind, stream_after_update, stream_after_unbind}
+use Rattle.otel_aggregate.specs.Streams.{AggregateState, AggregateContents, recorded_set, recorded_attributes, points_now, stream_after_collection, stream_after_commit, stream_after_bind, stream_after_update, stream_after_unbind}
 use Rattle.otel_aggregate.specs.Observed.{ObservedState, drained_at, observed_data}
 
 -- whether its numbers are signed; the stream; its live handles; the set of the prepared record or bind, if any; whether
@@ -81,6 +82,10 @@ any_after_commit value a = cond (beq (is_signed_value value) a.is_signed) (with_
 -- after a record of a value without attributes; a stream of the other number type doesn't change
 abbrev pub any_after_none : NumberValue → AnyContents → AnyContents
 any_after_none value a = cond (beq (is_signed_value value) a.is_signed) (record a { state = recorded_set none_set (amount_of value) a.state; pending = None }) a
+
+-- after a record of a value with attributes; a stream of the other number type doesn't change
+abbrev pub any_after_record : NumberValue → List KeyValue → AnyContents → AnyContents
+any_after_record value l a = cond (beq (is_signed_value value) a.is_signed) (record a { state = recorded_attributes l (amount_of value) a.state; pending = None }) a
 
 -- whether the prepared record is made
 abbrev pub is_taken : NumberValue → AnyContents → Bool

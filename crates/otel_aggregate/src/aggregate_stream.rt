@@ -220,7 +220,9 @@ impl<A: Measures> AggregateStream<A> {
         true
     }
 
-    /// Takes in a record with these attributes. Takes no memory where `prepare` takes none.
+    /// Takes in a record with these attributes, in one pass if there is no allow-list. Takes no memory where `prepare`
+    /// takes none.
+    #[inline(always)]
     pub fn measure(&mut self, value: A::Value, attributes: &[KeyValue]) -> Result<(), Fault>
         ensures ok { OnOk result (self.new.state ≡ recorded_attributes attributes.now (A.amount value) self.old.state) }
         ensures err { OnErr result (self.new.state ≡ self.old.state) }
@@ -230,9 +232,16 @@ impl<A: Measures> AggregateStream<A> {
         ensures known { IsTrue (is_known self.old.state.allow attributes.now self.old.state.map_state) → IsOk result }
         ensures only_memory { IsOkUnless result Fault.OutOfMemory }
     {
-        self.prepare(&GivenAttributes::new(attributes))?;
-        self.take_in(value);
-        Ok(())
+        if self.allow.is_some() {
+            self.prepare(&GivenAttributes::new(attributes))?;
+            self.take_in(value);
+            return Ok(());
+        }
+        let record = A::record(&self.settings, value);
+        let measured = self.map.measure(record, attributes);
+        // Tells the prover that the entries that kept their numbers are still named by them.
+        self.map.law_of_numbers();
+        measured
     }
 
     /// Takes in a record without attributes. Looks nothing up, takes no memory, and gives up what was prepared.

@@ -8,7 +8,7 @@ ghost use Rattle.otel_model_stream.specs.Folds.{Last, wrap};
 ghost use Rattle.otel_model_stream.specs.Maps.{new_map};
 ghost use Rattle.otel_model_stream.specs.Totals.{points_total, size};
 ghost use Rattle.otel_value_map.specs.Numbers.{without_handles};
-ghost use Rattle.otel_aggregate.specs.Any.{aggregate_of, is_monotonic_of, drains_of, amount_of, any_after_commit, any_after_none, is_taken, is_signed_value, any_with_room, any_after_bind, any_after_update, is_updated, any_after_unbind, metrics_now, any_points, any_after_collection, saved_of, IsLike, with_saved};
+ghost use Rattle.otel_aggregate.specs.Any.{aggregate_of, is_monotonic_of, drains_of, amount_of, any_after_commit, any_after_none, any_after_record, is_taken, is_signed_value, any_with_room, any_after_bind, any_after_update, is_updated, any_after_unbind, metrics_now, any_points, any_after_collection, saved_of, IsLike, with_saved};
 ghost use Rattle.otel_aggregate.specs.Kept.{IsWithin, any_data, state_of};
 ghost use Rattle.otel_aggregate.specs.Streams.{new_aggregate, is_known};
 
@@ -18,6 +18,7 @@ use crate::saved::SavedAggregate;
 use crate::settings::AnySettings;
 use crate::shown::{Shown, shown_observed, shown_stream};
 use crate::values::{bits_of, is_signed, law_of_range};
+use otel_common::attributes::KeyValue;
 use otel_common::faults::Fault;
 use otel_common::keys::Key;
 use otel_common::lists::Items;
@@ -183,6 +184,28 @@ impl AnyAggregate {
             return false;
         }
         self.stream.commit(value)
+    }
+
+    /// Takes in a record with these attributes, in place of one that was prepared, and returns whether the value has the
+    /// stream's number type; if not, nothing changes. Takes no memory where `prepare` takes none.
+    #[inline(always)]
+    pub fn measure(
+        &mut self,
+        value: NumberValue,
+        attributes: &[KeyValue],
+    ) -> Result<bool, AllocError>
+        ensures taken { OnOk result (self.new ≡ any_after_record value attributes.now self.old) }
+        ensures told { IfOk result (λ taken. taken ≡ beq (is_signed_value value) self.old.is_signed) }
+        ensures refused { OnErr result (self.new ≡ record self.old { pending = None }) }
+        ensures known { IsTrue (is_known self.old.state.allow attributes.now self.old.state.map_state) → IsOk result }
+    {
+        if !self.takes(value) {
+            return Ok(false);
+        }
+        match self.stream.measure(value, attributes) {
+            Ok(()) => Ok(true),
+            Err(_) => Err(AllocError),
+        }
     }
 
     /// Takes in a record without attributes, if the value has the stream's number type, and returns whether it does;

@@ -101,12 +101,11 @@ impl AnyBuckets {
 
     /// Takes in one more record. Out of line, so that a sum's records are short.
     #[inline(never)]
-    fn update(&mut self, recorded: AnyRecord)
-        ensures { spread_in self.new ≡ record_spread (spread_in self.old) (sample_in recorded) }
+    fn update(&mut self, value: NumberValue, bucket: usize)
+        ensures { spread_in self.new ≡ record_spread (spread_in self.old) (sample_in (record { value = value; bucket = bucket })) }
     {
-        let wide = wide_of(recorded.value);
-        self.buckets
-            .update((bits_of(recorded.value), recorded.bucket));
+        let wide = wide_of(value);
+        self.buckets.update((bits_of(value), bucket));
         self.least = least_with(self.has_min_max, self.least, wide);
         self.greatest = greatest_with(self.has_min_max, self.greatest, wide);
     }
@@ -176,7 +175,7 @@ impl Aggregator for AnyAggregator {
         match self {
             AnyAggregator::Sum(sum) => *sum = sum.wrapping_add(bits_of(recorded.value)),
             AnyAggregator::LastValue(last) => *last = bits_of(recorded.value),
-            AnyAggregator::Histogram(buckets) => buckets.update(recorded),
+            AnyAggregator::Histogram(buckets) => buckets.update(recorded.value, recorded.bucket),
         }
     }
 
@@ -230,6 +229,7 @@ impl Measures for AnyAggregator {
         }
     }
 
+    #[inline(always)]
     fn record(settings: &AnySettings, value: NumberValue) -> AnyRecord {
         let bucket = match settings {
             AnySettings::Histogram(settings) => settings.bounds.bucket_of(wide_of(value)),

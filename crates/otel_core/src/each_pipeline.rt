@@ -82,7 +82,7 @@ fn commit_all(pipelines: &mut [Pipeline], instrument: usize, value: NumberValue)
 }
 
 /// Makes a record without attributes in the streams that an instrument feeds, at all readers.
-#[inline(always)]
+#[inline(never)]
 fn record_none_all(pipelines: &mut [Pipeline], instrument: usize, value: NumberValue)
     requires { FeedType instrument (number_of value) (map part_of pipelines.old) }
     ensures { map part_of pipelines.new ≡ map (part_after_call 0 (model.Call.Record instrument (number_of value) [])) (map part_of pipelines.old) }
@@ -202,6 +202,14 @@ pub(crate) fn record_or_none(
     ensures known { list_all (is_known_at instrument attributes.now) (map part_of pipelines.old) ≡ true → IsOk result }
     ensures only_memory { IsOkUnless result Fault.OutOfMemory }
 {
+    if pipelines.len() == 1 {
+        if attributes.is_empty() {
+            pipelines[0].record_none(instrument, value);
+            return Ok(());
+        }
+        pipelines[0].record(instrument, value, attributes)?;
+        return Ok(());
+    }
     if attributes.is_empty() {
         record_none_all(pipelines, instrument, value);
         return Ok(());
@@ -244,6 +252,10 @@ pub(crate) fn record_held(
     requires held { EachOf (IsHeldByFed instrument handle) (map part_of pipelines.old) }
     ensures { map part_of pipelines.new ≡ map (part_after_call 0 (model.Call.RecordBound handle (number_of value))) (map part_of pipelines.old) }
 {
+    if pipelines.len() == 1 {
+        pipelines[0].record_held(instrument, handle, place, value);
+        return;
+    }
     for i in 0..pipelines.len() {
         pipelines[i].record_held(instrument, handle, place, value);
     }

@@ -79,7 +79,7 @@ pub(crate) fn commit_bind_each(
 }
 
 /// Takes in a record through this handle in each of these streams. Looks for the handle at this place first.
-#[inline(always)]
+#[inline(never)]
 pub(crate) fn record_held_each(
     streams: &mut Vec<MetricStream>,
     feeds: &[usize],
@@ -126,7 +126,7 @@ pub(crate) fn commit_each(streams: &mut Vec<MetricStream>, feeds: &[usize], valu
 }
 
 /// Takes in a record without attributes in each of these streams.
-#[inline(always)]
+#[inline(never)]
 pub(crate) fn record_none_each(streams: &mut Vec<MetricStream>, feeds: &[usize], value: NumberValue)
     requires { AreNumbers streams.old.items feeds.now }
     ensures { streams.new.items ≡ changed_each (contents_after_none value) feeds.now streams.old.items }

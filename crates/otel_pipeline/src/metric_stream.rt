@@ -13,6 +13,7 @@ ghost use Rattle.otel_pipeline.specs.Streams.{IsAsked, IsMakeable, contents_of, 
 use crate::aggregations::settings_of;
 use crate::saved::SavedStream;
 use otel_aggregate::any::AnyAggregate;
+use otel_common::attributes::KeyValue;
 use otel_common::faults::Fault;
 use otel_common::laws::copied_attributes;
 use otel_common::metrics::Temporality;
@@ -168,6 +169,15 @@ impl MetricStream {
         if self.aggregate.commit(value) {
             self.recorded = self.recorded.wrapping_add(self.aggregate.size(value));
         }
+    }
+
+    /// one pass
+    #[inline(always)]
+    pub(crate) fn record(&mut self, value: NumberValue, attributes: &[KeyValue]) -> Result<(), AllocError> {
+        if self.aggregate.measure(value, attributes)? {
+            self.recorded = self.recorded.wrapping_add(self.aggregate.size(value));
+        }
+        Ok(())
     }
 
     /// Takes in a record without attributes, if the value has the stream's number type. Takes no memory.

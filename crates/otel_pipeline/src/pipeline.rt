@@ -22,6 +22,7 @@ use crate::observing::collect_observed;
 use crate::plan::Plan;
 use crate::vectors::insert_each;
 use indexmap::IndexSet;
+use otel_common::attributes::KeyValue;
 use otel_common::faults::Fault;
 use otel_common::lists::Items;
 use otel_common::resource::Resource;
@@ -207,6 +208,23 @@ impl Pipeline {
         );
     }
 
+    /// one pass
+    #[inline(never)]
+    pub fn record(&mut self, instrument: usize, value: NumberValue, attributes: &[KeyValue]) -> Result<(), AllocError> {
+        let feeds = streams_fed(&self.feeds, instrument);
+        if feeds.len() == 1 {
+            return self.streams[feeds[0]].record(value, attributes);
+        }
+        self.record_each(instrument, value, attributes)
+    }
+
+    #[inline(never)]
+    fn record_each(&mut self, instrument: usize, value: NumberValue, attributes: &[KeyValue]) -> Result<(), AllocError> {
+        self.prepare(instrument, &GivenAttributes::new(attributes))?;
+        self.commit(instrument, value);
+        Ok(())
+    }
+
     /// Makes a record without attributes in the streams that the instrument feeds. Looks nothing up, and takes no
     /// memory.
     #[inline(always)]
@@ -217,11 +235,12 @@ impl Pipeline {
         // These two tell the prover that no identity occurs twice.
         kind_laws();
         let _ = self.identities.len();
-        record_none_each(
-            &mut self.streams,
-            streams_fed(&self.feeds, instrument),
-            value,
-        );
+        let feeds = streams_fed(&self.feeds, instrument);
+        if feeds.len() == 1 {
+            self.streams[feeds[0]].record_none(value);
+            return;
+        }
+        record_none_each(&mut self.streams, feeds, value);
     }
 
     /// Prepares a bind to these attributes in the streams that the instrument feeds, and makes room for its handle
@@ -271,13 +290,12 @@ impl Pipeline {
         // These two tell the prover that no identity occurs twice.
         kind_laws();
         let _ = self.identities.len();
-        record_held_each(
-            &mut self.streams,
-            streams_fed(&self.feeds, instrument),
-            handle,
-            place,
-            value,
-        );
+        let feeds = streams_fed(&self.feeds, instrument);
+        if feeds.len() == 1 {
+            self.streams[feeds[0]].record_held(handle, place, value);
+            return;
+        }
+        record_held_each(&mut self.streams, feeds, handle, place, value);
     }
 
     /// Ends a handle in the streams that its instrument feeds. Takes no memory.

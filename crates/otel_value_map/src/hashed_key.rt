@@ -198,6 +198,7 @@ pub(crate) struct HashedKey<'a> {
 
 impl<'a> Drop for HashedKey<'a> {
     /// A function of its own, so that no proof about who lets one go looks into it.
+    #[inline(always)]
     fn drop(self) {
         let HashedKey { hash: _, key: _key } = self;
     }

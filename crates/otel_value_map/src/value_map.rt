@@ -378,8 +378,10 @@ impl<A: Aggregator> ValueMap<A> {
         self.table.touch(none, value);
     }
 
-    /// Takes in a record for the canonical form of the attributes. Takes memory where `prepare` does. If it admits their
-    /// set, the attributes and their canonical form lead to that set's entry from then on.
+    /// Takes in a record for the canonical form of the attributes, in one pass if they lead to an entry as given. Takes
+    /// memory where `prepare` does. If it admits their set, the attributes and their canonical form lead to that set's
+    /// entry from then on.
+    #[inline(always)]
     pub fn measure(
         &mut self,
         value: A::PreComputedValue,
@@ -394,9 +396,39 @@ impl<A: Aggregator> ValueMap<A> {
         ensures placed { IsTrue (is_placed (canon attributes.now) self.old.state.table.entries) → IsOk result }
         ensures only_memory { IsOkUnless result Fault.OutOfMemory }
     {
-        self.prepare(attributes)?;
-        self.commit(value);
+        let list = HashedSet::new(self.table.hasher(), SetKey::borrowed(attributes));
+        if let Some(number) = led_to(&self.table, &list) {
+            self.pending.give_up();
+            self.table.touch(number, value);
+            return Ok(());
+        }
+        self.measure_unknown(value, &list, attributes)?;
         Ok(())
+    }
+
+    /// Does what `measure` does with attributes that, as given, lead to no entry. Out of line, as few records need it.
+    #[inline(never)]
+    fn measure_unknown(
+        &mut self,
+        value: A::PreComputedValue,
+        list: &HashedSet,
+        attributes: &[KeyValue],
+    ) -> Result<(), AllocError>
+        requires list { list.now ≡ attributes.now }
+        requires unknown { knows attributes.now (known_of self.old) ≡ false }
+        ensures ok { OnOk result (known_of self.new ≡ measured_list attributes.now (A.sample value) (known_of self.old)) }
+        ensures numbers { KeepNumbers self.old.numbers self.new.numbers }
+        ensures err { OnErr result (known_of self.new ≡ known_of self.old) }
+        ensures spent { self.new.pending ≡ None }
+        ensures placed { IsTrue (is_placed (canon attributes.now) self.old.state.table.entries) → IsOk result }
+    {
+        match self.prepare_unknown(list, None, attributes) {
+            Ok(()) => {
+                self.commit(value);
+                Ok(())
+            }
+            Err(_) => Err(AllocError),
+        }
     }
 
     /// Carries out the prepared bind, and returns the number of the entry: that of the set, or the overflow entry.
