@@ -1,8 +1,10 @@
 -- Whether a stream resets, and by which demand it was made, whatever is done to it.
-use Rattle.std.proofs.Common.{◌≡◌, ℕ, Bool, true, false, cond, not, ◌&&◌, List, [], ◌∷◌, ◌++◌, map, Option, Some, None, is_none, refl, sym, ◌∙◌, ap, subst}
+use Rattle.std.proofs.Common.{◌≡◌, ℕ, Bool, true, false, cond, not, ◌&&◌, List, [], ◌∷◌, ◌++◌, map, Option, Some, None, Result, Ok, Err, is_none, refl, sym, ◌∙◌, ap, subst}
 use Rattle.std.specs.Bool.{beq}
 use Rattle.std.specs.List.{AllByRecursion}
+use Rattle.std.specs.Prelude.{OnOk, OnErr}
 use Rattle.std.proofs.lemmas.Simd.{map-map}
+use Rattle.otel_common.specs.declared.attributes.KeyValue.{KeyValue}
 use Rattle.otel_data.specs.declared.numbers.NumberValue.{NumberValue}
 use Rattle.otel_stream.specs.declared.observation.Observed.{Observed}
 use Rattle.otel_model_stream.specs.Events.{held_by}
@@ -14,7 +16,7 @@ use Rattle.otel_model.specs.Sent.{set_for}
 use Rattle.otel_model.specs.Streams.{is_drained}
 use Rattle.otel_pipeline.specs.Observations.{observed_all, observed_in, observed_one, observing_numbers}
 use Rattle.otel_pipeline.specs.Pipelines.{all_without_pending}
-use Rattle.otel_pipeline.specs.Streams.{StreamContents, contents_after_bind, bound_by, contents_after_commit, committed_by, contents_after_none, contents_after_unbind, without_handle, contents_after_update, with_update, with_record, without_pending}
+use Rattle.otel_pipeline.specs.Streams.{StreamContents, contents_after_bind, bound_by, contents_after_commit, committed_by, contents_after_none, contents_after_record, contents_after_unbind, without_handle, contents_after_update, with_update, with_record, without_pending}
 use Rattle.otel_pipeline.proofs.Writes.{unseen-each}
 
 abbrev pub answer_of : StreamContents → Bool × Demand
@@ -38,6 +40,14 @@ commits value k = kept-if (beq (is_signed_value value) k.stream.demand.identity.
 
 pub measures : (value : NumberValue) → KeepsAnswer (contents_after_none value)
 measures value k = kept-if (beq (is_signed_value value) k.stream.demand.identity.signed) (with_record none_set (amount_of value) k) k k refl refl
+
+pub records : (value : NumberValue) (l : List KeyValue) → KeepsAnswer (contents_after_record value l)
+records value l k = kept-if (beq (is_signed_value value) k.stream.demand.identity.signed) (with_record (set_for k.stream.demand l) (amount_of value) k) k k refl refl
+
+-- also if it is refused
+pub records-either : {T E : Type 0} (value : NumberValue) (l : List KeyValue) (k m : StreamContents) (r : Result T E) → OnOk r (m ≡ contents_after_record value l k) → OnErr r (without_pending m ≡ without_pending k) → answer_of m ≡ answer_of k
+records-either value l k m (Ok t) is same = ap answer_of is ∙ records value l k
+records-either value l k m (Err e) is same = ap answer_of same
 
 pub observes : (o : Observed) → KeepsAnswer (observed_one o)
 observes o k = kept-if (beq (is_signed_value o.value) k.stream.demand.identity.signed) (with_record (set_for k.stream.demand o.attributes) (amount_of o.value) k) k k refl refl

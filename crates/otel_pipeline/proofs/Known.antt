@@ -3,7 +3,7 @@ use Rattle.std.proofs.Common.{◌≡◌, ◌⊎◌, inl, inr, ⊎_elim, ℕ, zer
 use Rattle.std.specs.List.{list_all}
 use Rattle.std.specs.Prelude.{All}
 use Rattle.std.proofs.lemmas.Bool.{and_parts}
-use Rattle.std.proofs.lemmas.Option.{slice_get-map}
+use Rattle.std.proofs.lemmas.Option.{slice_get-map, slice_get_read}
 use Rattle.otel_common.specs.declared.attributes.KeyValue.{KeyValue}
 use Rattle.otel_model.specs.Demands.{Identity, identity_eq}
 use Rattle.otel_pipeline.specs.Known.{is_known_to, is_known_by, is_known_at, IsKnownIfThere}
@@ -64,3 +64,10 @@ pub known-at : (l : List KeyValue) (p : Piped) → IsLawful p → (n : ℕ) → 
 known-at l p lawful n known =
     known-numbers l p.streams (are_apart p.streams lawful.apart) (fed_by n p) (numbers-named p.streams (fed_by n p) (fed-numbers p.streams p.feeds n lawful.numbers))
     (ap (list_all (is_known_by l (model_streams p.streams))) (sym (fed-named p.streams p.feeds n)) ∙ known)
+
+-- the one stream that is fed
+pub known-alone : (l : List KeyValue) (ks : List StreamContents) (ns : List ℕ) (k : StreamContents) → length ns ≡ 1 → All (λ n. n < length ks) ns → k ≡ get_or ks (get_or ns 0 0) k → All (λ n. IsKnownIfThere l (slice_get (all_without_pending ks) n)) ns → is_known_to l k.stream ≡ true
+known-alone l ks ns k one inside at known =
+    let n : ℕ = get_or ns 0 0 in
+    let there : slice_get (all_without_pending ks) n ≡ Some (without_pending k) = slice_get-map without_pending ks n ∙ ap (option_map without_pending) (slice_get_read ks (length ks) n k refl (inside 0 0 (omega (arith, one))) at) in
+    subst (IsKnownIfThere l) there (known 0 0 (omega (arith, one)))

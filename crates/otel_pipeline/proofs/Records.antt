@@ -20,8 +20,8 @@ use Rattle.otel_model.specs.Sent.{is_fed, set_for}
 use Rattle.otel_model.specs.State.{ReaderPart, Stream}
 use Rattle.otel_model.proofs.Gather.{identity_eq_self}
 use Rattle.otel_pipeline.specs.Pipelines.{fates_of, named_identities, identity_at, identity_of, is_streamed, model_streams, part_of, Piped, AreNumbers, IsLawful, IsPrepared, IsPreparedFor, changed_each, fed_by, number_of, part_after_record, part_changed_by, FeedsType}
-use Rattle.otel_pipeline.specs.Streams.{StreamContents, with_record, contents_after_commit, contents_after_none, committed_by}
-use Rattle.otel_pipeline.proofs.Answered.{KeepsAnswer, commits, measures}
+use Rattle.otel_pipeline.specs.Streams.{StreamContents, with_record, contents_after_commit, contents_after_none, contents_after_record, committed_by}
+use Rattle.otel_pipeline.proofs.Answered.{KeepsAnswer, commits, measures, records}
 use Rattle.otel_pipeline.proofs.Identities.{AreApart, are_apart}
 use Rattle.otel_pipeline.proofs.NoAttributes.{set_of-nil}
 use Rattle.otel_pipeline.proofs.Once.{changed_in, fed-once, fold-once}
@@ -159,6 +159,11 @@ recorded-sent next n value l p ready typed = record-sent p ready.lawful next n v
     (λ i k at h fit.
     ap (λ o. (committed_by o (amount_of value) k).stream) (sym (there-at (IsPrepared l) p.streams (fed_by n p) ready.prepared i k at h))
     ∙ ap (λ b. (cond b (committed_by k.pending (amount_of value) k) k).stream) (sym fit))
+
+-- a record in one pass
+pub taken-sent : (n : ℕ) (value : NumberValue) (l : List KeyValue) (p : Piped) → IsLawful p → FeedsType n (is_signed_value value) (part_of p) → part_changed_by (contents_after_record value l) n p ≡ part_after_call 0 (RecordCall n (number_of value) l) (part_of p)
+taken-sent n value l p lawful typed = record-sent p lawful 0 n value l typed (contents_after_record value l) (records value l)
+    (λ i k at h fit. ap (λ b. (cond b (with_record (set_for k.stream.demand l) (amount_of value) k) k).stream) (sym fit))
 
 -- a record without attributes
 pub none-sent : (n : ℕ) (value : NumberValue) (p : Piped) → IsLawful p → FeedsType n (is_signed_value value) (part_of p) → part_changed_by (contents_after_none value) n p ≡ part_after_call 0 (RecordCall n (number_of value) []) (part_of p)

@@ -2,6 +2,7 @@
 use Rattle.std.specs.Prelude.{ℕ, ◌+◌, Bool, true, false, cond, ◌&&◌, not, List, [], map, Option, None, Some, is_none, ◌≡◌}
 use Rattle.std.specs.Bool.{beq}
 use Rattle.otel_common.specs.declared.metrics.Temporality.TheVariants.{Cumulative, Delta}
+use Rattle.otel_common.specs.declared.attributes.KeyValue.{KeyValue}
 use Rattle.otel_data.specs.declared.collections.Metric.{Metric}
 use Rattle.otel_data.specs.declared.numbers.NumberValue.{NumberValue}
 use Rattle.otel_model_stream.specs.Sets.{AttributeSet, none_set}
@@ -17,6 +18,7 @@ use Rattle.otel_model.specs.Calls.{is_observable}
 use Rattle.otel_model.specs.Demands.{Aggregation, Drop, Default, Sum, LastValue, ExplicitBucketHistogram, Demand, is_valid}
 use Rattle.otel_model.specs.Collections.{aggregated_metrics, has_points}
 use Rattle.otel_model.specs.Machine.{if_held, new_stream}
+use Rattle.otel_model.specs.Sent.{set_for}
 use Rattle.otel_model.specs.State.{Stream}
 use Rattle.otel_model.specs.Streams.{aggregate_of, is_drained, is_monotonic_kind}
 
@@ -110,6 +112,10 @@ committed_by (Some s) v h = with_record s v h
 -- after the prepared record, if there is one, of a value; a stream of the other number type doesn't change
 abbrev pub contents_after_commit : NumberValue → StreamContents → StreamContents
 contents_after_commit value h = cond (beq (is_signed_value value) h.stream.demand.identity.signed) (committed_by h.pending (amount_of value) h) h
+
+-- after a record of a value with attributes; a stream of the other number type doesn't change
+abbrev pub contents_after_record : NumberValue → List KeyValue → StreamContents → StreamContents
+contents_after_record value l h = cond (beq (is_signed_value value) h.stream.demand.identity.signed) (with_record (set_for h.stream.demand l) (amount_of value) h) h
 
 -- after a record of a value without attributes; a stream of the other number type doesn't change
 abbrev pub contents_after_none : NumberValue → StreamContents → StreamContents

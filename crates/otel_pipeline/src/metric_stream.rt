@@ -1,6 +1,6 @@
 //! One stream of one reader.
 
-ghost use Rattle.std.specs.Prelude.{◌≡◌, nat_lt, true, [], Some, IfOk, IsOk, OnOk, IsOkUnless};
+ghost use Rattle.std.specs.Prelude.{◌≡◌, nat_lt, true, [], Some, IfOk, IsOk, OnOk, OnErr, IsOkUnless};
 ghost use Rattle.otel_common.specs.Temporalities.{resets};
 ghost use Rattle.otel_model.specs.Calls.{is_observable};
 ghost use Rattle.otel_model.specs.Collections.{number_of_points};
@@ -8,7 +8,7 @@ ghost use Rattle.otel_model.specs.Sent.{set_for};
 ghost use Rattle.otel_pipeline.specs.Known.{is_known_to};
 ghost use Rattle.otel_pipeline.specs.Handles.{IsReadyToBind};
 ghost use Rattle.otel_pipeline.specs.Observations.{IsSavedOf, contents_after_restore, saved_by};
-ghost use Rattle.otel_pipeline.specs.Streams.{IsAsked, IsMakeable, contents_of, new_contents, without_pending, contents_after_commit, contents_after_none, contents_after_bind, contents_after_update, contents_after_unbind, contents_after_collection, shown_metric, if_points};
+ghost use Rattle.otel_pipeline.specs.Streams.{IsAsked, IsMakeable, contents_of, new_contents, without_pending, contents_after_commit, contents_after_none, contents_after_record, contents_after_bind, contents_after_update, contents_after_unbind, contents_after_collection, shown_metric, if_points};
 
 use crate::aggregations::settings_of;
 use crate::saved::SavedStream;
@@ -171,9 +171,17 @@ impl MetricStream {
         }
     }
 
-    /// one pass
+    /// Takes in a record with these attributes, if the value has the stream's number type.
     #[inline(always)]
-    pub(crate) fn record(&mut self, value: NumberValue, attributes: &[KeyValue]) -> Result<(), AllocError> {
+    pub(crate) fn record(
+        &mut self,
+        value: NumberValue,
+        attributes: &[KeyValue],
+    ) -> Result<(), AllocError>
+        ensures ok { OnOk result (self.new ≡ contents_after_record value attributes.now self.old) }
+        ensures err { OnErr result (without_pending self.new ≡ without_pending self.old) }
+        ensures known { is_known_to attributes.now self.old.stream ≡ true → IsOk result }
+    {
         if self.aggregate.measure(value, attributes)? {
             self.recorded = self.recorded.wrapping_add(self.aggregate.size(value));
         }

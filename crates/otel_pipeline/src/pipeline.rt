@@ -208,9 +208,23 @@ impl Pipeline {
         );
     }
 
-    /// one pass
+    /// Makes a record with these attributes in all streams that the instrument feeds or in none, in one pass if it feeds
+    /// one stream. Out of line, so that a record without attributes is short.
     #[inline(never)]
-    pub fn record(&mut self, instrument: usize, value: NumberValue, attributes: &[KeyValue]) -> Result<(), AllocError> {
+    pub fn record(
+        &mut self,
+        instrument: usize,
+        value: NumberValue,
+        attributes: &[KeyValue],
+    ) -> Result<(), AllocError>
+        requires { FeedsType instrument (is_signed_value value) (part_of self.old) }
+        ensures ok { OnOk result (part_of self.new ≡ part_after_call 0 (model.Call.Record instrument (number_of value) attributes.now) (part_of self.old)) }
+        ensures err { OnErr result (part_of self.new ≡ part_of self.old) }
+        ensures known { is_known_at instrument attributes.now (part_of self.old) ≡ true → IsOk result }
+    {
+        // These two tell the prover that no identity occurs twice.
+        kind_laws();
+        let _ = self.identities.len();
         let feeds = streams_fed(&self.feeds, instrument);
         if feeds.len() == 1 {
             return self.streams[feeds[0]].record(value, attributes);
@@ -218,8 +232,19 @@ impl Pipeline {
         self.record_each(instrument, value, attributes)
     }
 
+    /// Makes a record with these attributes in all streams that the instrument feeds or in none, in two passes.
     #[inline(never)]
-    fn record_each(&mut self, instrument: usize, value: NumberValue, attributes: &[KeyValue]) -> Result<(), AllocError> {
+    fn record_each(
+        &mut self,
+        instrument: usize,
+        value: NumberValue,
+        attributes: &[KeyValue],
+    ) -> Result<(), AllocError>
+        requires { FeedsType instrument (is_signed_value value) (part_of self.old) }
+        ensures ok { OnOk result (part_of self.new ≡ part_after_call 0 (model.Call.Record instrument (number_of value) attributes.now) (part_of self.old)) }
+        ensures err { OnErr result (part_of self.new ≡ part_of self.old) }
+        ensures known { is_known_at instrument attributes.now (part_of self.old) ≡ true → IsOk result }
+    {
         self.prepare(instrument, &GivenAttributes::new(attributes))?;
         self.commit(instrument, value);
         Ok(())
