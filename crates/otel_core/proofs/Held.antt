@@ -1,5 +1,5 @@
 -- Handles at all readers, and the calls on them as the machine makes them.
-use Rattle.std.proofs.Common.{◌≡◌, ℕ, ◌+◌, ◌<◌, ◌==◌, Bool, true, false, cond, List, [], ◌∷◌, ◌++◌, map, length, get_or, Option, Some, None, slice_get, nat_eq, refl, sym, ◌∙◌, ap, subst, arith, zero, suc, ne_eqb}
+use Rattle.std.proofs.Common.{◌≡◌, ℕ, ◌+◌, ◌<◌, ◌==◌, Bool, true, false, cond, List, [], ◌∷◌, ◌++◌, map, length, get_or, set, Option, Some, None, slice_get, nat_eq, refl, sym, ◌∙◌, ap, subst, arith, zero, suc, ne_eqb}
 use Rattle.std.proofs.lemmas.Bool.Decides.{nat_tests}
 use Rattle.std.specs.List.{AllByRecursion as EachOf}
 use Rattle.std.specs.Map.{lookup, remove_entry}
@@ -28,7 +28,7 @@ all_bound h n l [] all sync new = refl
 all_bound h n l (p ∷ ps) all sync new = λ i. bound-sent h n l p (all 0 p (omega arith)) sync.0 new.0 i ∷ all_bound h n l ps (λ j d g. all (suc j) d (omega arith)) sync.1 new.1 i
 
 -- what holds at each reader holds at one
-each-at : (P : ReaderPart → Type 0) (ps : List Piped) (i : ℕ) (d : Piped) → i < length ps → EachOf P (map part_of ps) → P (part_of (get_or ps i d))
+pub each-at : (P : ReaderPart → Type 0) (ps : List Piped) (i : ℕ) (d : Piped) → i < length ps → EachOf P (map part_of ps) → P (part_of (get_or ps i d))
 each-at P [] i d h all = absurd (omega arith)
 each-at P (p ∷ ps) zero d h all = all.0
 each-at P (p ∷ ps) (suc i) d h all = each-at P ps i d (omega arith) all.1
@@ -36,6 +36,12 @@ each-at P (p ∷ ps) (suc i) d h all = each-at P ps i d (omega arith) all.1
 -- and at the first of those that are left
 pub each-left : (P : ReaderPart → Type 0) (g : ReaderPart → ReaderPart) (old new : List Piped) (i : ℕ) (d : Piped) → i < length new → IsDoneUpto part_of (λ (p : Piped). g (part_of p)) old new i → EachOf P (map part_of old) → P (part_of (get_or new i d))
 each-left P g old new i d h so_far all = subst (λ (p : Piped). P (part_of p)) (sym (so_far.rest i (omega arith) d)) (each-at P old i d (omega (arith, so_far.long)) all)
+
+-- what is done at the only reader is done at all
+pub done-alone : (g : ReaderPart → ReaderPart) (ps : List Piped) (d y : Piped) → length ps ≡ 1 → part_of y ≡ g (part_of (get_or ps 0 d)) → map part_of (set ps 0 y) ≡ map g (map part_of ps)
+done-alone g [] d y one is = absurd (omega (arith, one))
+done-alone g (p ∷ []) d y one is = ap (λ q. q ∷ []) is
+done-alone g (p ∷ q ∷ ps) d y one is = absurd (omega (arith, one))
 
 -- ======== what is known of handles ========
 -- an instrument that takes in records feeds no observable stream

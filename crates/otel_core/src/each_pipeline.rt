@@ -187,7 +187,8 @@ fn record_given(
     Ok(())
 }
 
-/// Makes a record in the streams that an instrument feeds, at all readers or at none.
+/// Makes a record in the streams that an instrument feeds, at all readers or at none. At the only reader there is nothing
+/// to undo, so it is made in one pass.
 #[inline(always)]
 pub(crate) fn record_or_none(
     pipelines: &mut [Pipeline],

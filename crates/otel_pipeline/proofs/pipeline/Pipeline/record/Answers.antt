@@ -1,4 +1,4 @@
-use Rattle.std.proofs.Common.{◌≡◌, ◌<◌, ◌∙◌, ap, sym, subst, [], List, ℕ, length, get_or, set, slice_get}
+use Rattle.std.proofs.Common.{◌∙◌, ap, sym, subst, [], List, ℕ, get_or, set, slice_get}
 use Rattle.std.specs.Prelude.{All}
 use Rattle.otel_model.specs.Calls.{or_else}
 use Rattle.otel_pipeline.specs.Known.{IsKnownIfThere}
