@@ -20,13 +20,15 @@ pub fn write_resource(rt: &impl Abort, text: &mut String, resource: &Resource) {
     text.push_str(url).expect(rt, "memory");
 }
 
-/// Writes the temporality and the moments of a sum, and how many exemplars each point has.
+/// Writes the temporality and the moments of a sum, and how many exemplars each point has, which is looked up by its
+/// attributes.
 fn write_sum<T>(rt: &impl Abort, text: &mut String, sum: &Sum<T>) {
     let temporality = sum.temporality();
     let monotonic = sum.is_monotonic();
     write!(text, "sum {temporality:?} monotonic={monotonic}").expect(rt, "memory");
     write!(text, " {} {}", sum.start_time(), sum.time()).expect(rt, "memory");
     for point in sum.data_points() {
+        let point = sum.point(point.attributes().as_slice()).expect(rt, "its point");
         write!(text, " exemplars={}", point.exemplars().len()).expect(rt, "memory");
     }
 }
@@ -39,12 +41,13 @@ fn write_optional<T: Copy + Display>(rt: &impl Abort, text: &mut String, value: 
     }
 }
 
-/// Writes the moments of a gauge, and how many exemplars each point has.
+/// Writes the moments of a gauge, and how many exemplars each point has, which is looked up by its attributes.
 fn write_gauge<T>(rt: &impl Abort, text: &mut String, gauge: &Gauge<T>) {
     text.push_str("gauge").expect(rt, "memory");
     write_optional(rt, text, gauge.start_time());
     write!(text, " {}", gauge.time()).expect(rt, "memory");
     for point in gauge.data_points() {
+        let point = gauge.point(point.attributes().as_slice()).expect(rt, "its point");
         write!(text, " exemplars={}", point.exemplars().len()).expect(rt, "memory");
     }
 }
@@ -63,7 +66,8 @@ fn write_spread<T: Copy + Display>(
     write!(text, " exemplars={}", point.exemplars().len()).expect(rt, "memory");
 }
 
-/// Writes the temporality and the moments of a histogram, and what isn't printed of each point.
+/// Writes the temporality and the moments of a histogram, and what isn't printed of each point, which is looked up by its
+/// attributes.
 fn write_histogram<T: Copy + Display>(
     rt: &impl Abort,
     text: &mut String,
@@ -73,6 +77,7 @@ fn write_histogram<T: Copy + Display>(
     write!(text, "histogram {temporality:?}").expect(rt, "memory");
     write!(text, " {} {}", histogram.start_time(), histogram.time()).expect(rt, "memory");
     for point in histogram.data_points() {
+        let point = histogram.point(point.attributes().as_slice()).expect(rt, "its point");
         write_spread(rt, text, point);
     }
 }
