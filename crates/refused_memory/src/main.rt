@@ -1,8 +1,8 @@
 //! Makes calls for which memory may be refused, and tells whether a refused call changed anything.
 //!
-//! A scenario is a provider with a cumulative, a delta and a `LowMemory` reader and with views, among them one with a
-//! limit of 1 and one with an allow-list, and one call under test: of the provider, of what it gave, of the provider
-//! once it is shared, or of a worker. If the call is refused for want of memory, all later replies and collections of
+//! A scenario is a provider with a cumulative, a delta and a `LowMemory` reader or with one reader, and with views, among
+//! them one with a limit of 1 and one with an allow-list, and one call under test: of the provider, of what it gave, of
+//! the provider once it is shared, or of a worker. If the call is refused for want of memory, all later replies and collections of
 //! every reader are compared with those of a twin that never had the call; at the twin of a refused collection as many
 //! callbacks have run, and the twin of a refused submission has had the records before the refused one. If it is not
 //! refused, the twin has the call too.

@@ -3,7 +3,7 @@
 use crate::calls::write_call;
 use crate::later::write_later;
 use crate::scenarios::scenario_of;
-use crate::set_up::{CALLBACKS, SETTINGS, build, fill, resource};
+use crate::set_up::{CALLBACKS, build, fill, resource, settings};
 use crate::shared::share;
 use crate::trials::Trial;
 use crate::values::write_value;
@@ -16,7 +16,8 @@ use std::mem::replace;
 /// answers, and what the provider answers later. If the provider was refused, nothing is written.
 fn write_at<R: Print>(trial: &mut Trial<R>, ahead: u64) -> Result<(), Error> {
     let resource = resource(trial.alloc)?;
-    let script = script_of(trial.alloc, SETTINGS.as_bytes())?;
+    let settings = settings(trial.alloc, trial.scenario.place)?;
+    let script = script_of(trial.alloc, settings.as_str().as_bytes())?;
     trial.begin("build")?;
     let built = build(trial.alloc, resource, script);
     trial.end("build")?;
@@ -24,7 +25,7 @@ fn write_at<R: Print>(trial: &mut Trial<R>, ahead: u64) -> Result<(), Error> {
         Ok(provider) => provider,
         Err(fault) => return trial.refuse(fault),
     };
-    let instruments = fill(trial.alloc, &mut provider, ahead)?;
+    let instruments = fill(trial.alloc, &mut provider, trial.scenario.place, ahead)?;
     if trial.scenario.place == "shared" {
         return share(provider, trial, &instruments);
     }

@@ -9,10 +9,10 @@ use anyhow::{Error, bail};
 /// call of the lines by a method, at instruments as values: a build with all that can be set, a record, or a handle that is
 /// bound, records and ends; `timeout` shuts down with a time limit; and `build` is the builder of a provider.
 ///
-/// At the place `shared`, which is a shared provider with a worker: `line` and `collect`; `open` opens the worker; `add`
-/// adds a record in some way to the records that wait; `submit`, of which every second, from the first, must not be
-/// refused, `submit_all` again and again until it is not refused, and `take_first` are of the records that wait; and
-/// `settle` leaves them. A value, at the place `value`, needs no provider.
+/// The place `alone` is such a provider with one reader. At the place `shared`, which is a shared provider with a worker: `line`
+/// and `collect`; `open` opens the worker; `add` adds a record in some way to the records that wait; `submit`, of which
+/// every second, from the first, must not be refused, `submit_all` again and again until it is not refused, and `take_first`
+/// are of the records that wait; and `settle` leaves them. A value, at the place `value`, needs no provider.
 #[derive(Drop)]
 pub struct Scenario<'a> {
     /// Whether the call must not be refused for want of memory.
@@ -92,6 +92,14 @@ maybe provider collect | collect 0 200
 maybe provider collect | collect 1 200
 maybe provider collect | collect 2 200
 maybe provider build
+maybe alone line | record 0 u:8 z=i:9
+maybe alone line | record 1 i:8 d=i:4,b=s:new,a=i:9
+maybe alone line | record 2 u:8 z=i:9,y=s:x
+maybe alone line | record 3 u:8 z=i:9
+maybe alone line | record 4 i:8 z=b:true
+maybe alone line | record 5 u:8 z=i:9
+maybe alone line | record 3 u:8 q=i:1,p=i:1,o=i:1,n=i:1,m=i:1,l=i:1,k=i:1,j=i:1,i=i:1,h=i:1,g=i:1,f=i:1,e=i:1,d=i:1,c=i:1,b=i:1,a=i:1,z=i:1
+maybe alone typed | record 0 u:8 z=i:9
 maybe value got
 maybe value merged
 maybe value built
@@ -159,6 +167,14 @@ sure provider typed | record 2 u:8 -
 sure provider typed | flush
 sure provider typed | shutdown
 sure provider timeout | shutdown
+sure alone line | record 0 u:8 -
+sure alone line | record 5 u:8 -
+sure alone line | record 0 u:8 a=i:1
+sure alone line | record 1 i:8 b=i:1,c=i:7,a=s:x,a=i:4
+sure alone line | record 2 u:8 b=i:1
+sure alone line | record 3 u:8 a=i:1
+sure alone line | recordbound 0 u:8
+sure alone line | recordbound 2 u:8
 sure value stream
 sure value reader
 sure shared line | meter app

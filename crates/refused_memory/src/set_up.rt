@@ -15,11 +15,20 @@ pub type Swept = Plain<Counting, Counting>;
 /// How many callbacks the provider has.
 pub const CALLBACKS: u64 = 3;
 
-/// A reader of each temporality; views with a limit of 1, with an allow-list, with bounds, and two for one instrument.
-pub const SETTINGS: &str = "\
+/// A reader of each temporality.
+const READERS: &str = "\
 reader cumulative
 reader delta limit:histogram=2
 reader lowmemory agg:updowncounter=hist:0,10
+";
+
+/// The only reader at the place `alone`.
+const ALONE: &str = "\
+reader delta limit:histogram=2
+";
+
+/// Views with a limit of 1, with an allow-list, with bounds, and two for one instrument.
+const VIEWS: &str = "\
 view limited limit=1
 view allowed keys=a,b
 view spread agg=hist:1,5 description=d
@@ -78,6 +87,21 @@ record 3 u:7 a=i:1
 record 5 u:8 d=i:1
 recordbound 2 u:9";
 
+/// The readers and views of the provider at a place, as a script.
+pub fn settings(alloc: Global, place: &str) -> Result<String, Error> {
+    let readers = if place == "alone" { ALONE } else { READERS };
+    Ok(format!(in alloc; "{readers}{VIEWS}")?)
+}
+
+/// The calls before the call under test. At the place `alone` its only reader collects in place of the others.
+fn first(alloc: Global, place: &str) -> Result<String, Error> {
+    if place == "alone" {
+        let calls = FIRST.replace(alloc, "collect 1", "collect 0")?;
+        return Ok(calls.replace(alloc, "collect 2", "collect 0")?);
+    }
+    Ok(String::from_str(alloc, FIRST)?)
+}
+
 /// Reads the calls of these lines, which are separated by semicolons or stand on lines of their own.
 pub fn calls_of(alloc: Global, lines: &str) -> Result<Vec<Call>, Error> {
     let lines = lines.replace(alloc, ';', "\n")?;
@@ -116,16 +140,19 @@ fn make_all<P: Parts>(alloc: Global, provider: &mut Provider<P>, lines: &str) ->
     Ok(())
 }
 
-/// Makes the calls that come first, registers the callbacks, of which this many skip a run later, and runs each once.
-/// Returns instruments as values.
+/// Makes the calls that come first at a place, registers the callbacks, of which this many skip a run later, and runs each
+/// once. Returns instruments as values.
 pub fn fill<P: Parts<ObserveU64 = Counting, ObserveI64 = Counting>>(
     alloc: Global,
     provider: &mut Provider<P>,
+    place: &str,
     ahead: u64,
 ) -> Result<Instruments, Error> {
-    make_all(alloc, provider, FIRST)?;
+    let calls = first(alloc, place)?;
+    make_all(alloc, provider, calls.as_str())?;
     watch(alloc, provider, ahead)?;
-    let _ = provider.collected(1, 175)?;
+    let reader = if place == "alone" { 0 } else { 1 };
+    let _ = provider.collected(reader, 175)?;
     make_all(alloc, provider, SINCE)?;
     Ok(instruments_at(alloc, provider)?)
 }
