@@ -28,7 +28,9 @@ fn write_sum<T>(rt: &impl Abort, text: &mut String, sum: &Sum<T>) {
     write!(text, "sum {temporality:?} monotonic={monotonic}").expect(rt, "memory");
     write!(text, " {} {}", sum.start_time(), sum.time()).expect(rt, "memory");
     for point in sum.data_points() {
-        let point = sum.point(point.attributes().as_slice()).expect(rt, "its point");
+        let point = sum
+            .point(point.attributes().as_slice())
+            .expect(rt, "its point");
         write!(text, " exemplars={}", point.exemplars().len()).expect(rt, "memory");
     }
 }
@@ -47,7 +49,9 @@ fn write_gauge<T>(rt: &impl Abort, text: &mut String, gauge: &Gauge<T>) {
     write_optional(rt, text, gauge.start_time());
     write!(text, " {}", gauge.time()).expect(rt, "memory");
     for point in gauge.data_points() {
-        let point = gauge.point(point.attributes().as_slice()).expect(rt, "its point");
+        let point = gauge
+            .point(point.attributes().as_slice())
+            .expect(rt, "its point");
         write!(text, " exemplars={}", point.exemplars().len()).expect(rt, "memory");
     }
 }
@@ -77,7 +81,9 @@ fn write_histogram<T: Copy + Display>(
     write!(text, "histogram {temporality:?}").expect(rt, "memory");
     write!(text, " {} {}", histogram.start_time(), histogram.time()).expect(rt, "memory");
     for point in histogram.data_points() {
-        let point = histogram.point(point.attributes().as_slice()).expect(rt, "its point");
+        let point = histogram
+            .point(point.attributes().as_slice())
+            .expect(rt, "its point");
         write_spread(rt, text, point);
     }
 }
