@@ -1,22 +1,24 @@
 -- Where a record's entry is, once its set has a place.
-use Rattle.std.proofs.Common.{ℕ, ◌+◌, ◌-◌, ◌^◌, ◌<◌, ◌≡◌, List, [], ◌∷◌, ◌++◌, nat_lt, Bool, true, false, cond, ◌||◌, Option, Some, None, refl, ap, arith, subst, sym, ◌∙◌}
+use Rattle.std.proofs.Common.{ℕ, ◌+◌, ◌-◌, ◌^◌, ◌<◌, ◌≡◌, List, [], ◌∷◌, ◌++◌, nat_lt, Bool, true, false, cond, not, ◌||◌, Option, Some, None, refl, ap, arith, subst, sym, ◌∙◌}
 use Rattle.std.specs.Map.{lookup, keys_of}
 use Rattle.std.specs.Option.{IfSome}
 use Rattle.std.proofs.lemmas.Bool.{or_parts}
 use Rattle.std.proofs.lemmas.List.Folds.{list_any-append}
 use Rattle.std.proofs.lemmas.List.{map-append}
+use Rattle.otel_common.specs.Canonical.{canon}
 use Rattle.otel_common.specs.Equality.{set_eq}
 use Rattle.otel_common.specs.declared.attributes.KeyValue.{KeyValue}
-use Rattle.otel_model_stream.specs.Folds.{Fold}
+use Rattle.otel_model_stream.specs.Folds.{Fold, Sample}
 use Rattle.otel_model_stream.specs.Sets.{AttributeSet, none_set, over_set}
-use Rattle.otel_model_stream.specs.Entries.{Entry, Table, new_entry, is_of, has, number_counted, entries_with_place, entry_for, place}
-use Rattle.otel_model_stream.specs.Maps.{MapState, with_place, bound_to}
+use Rattle.otel_model_stream.specs.Entries.{Entry, Table, new_entry, is_of, has, number_counted, entries_with_place, entry_for, place, at_entry, write}
+use Rattle.otel_model_stream.specs.Maps.{MapState, with_place, measured_map, bound_to}
 use Rattle.otel_value_map.specs.Slots.{Keyed}
 use Rattle.otel_value_map.specs.Keyed.{Slotted, IsNew, with_spelling}
 use Rattle.otel_value_map.specs.Numbers.{Numbers, number_of, KeepNumbers, is_placed, set_named, handles_in, handles_at}
-use Rattle.otel_value_map.specs.Contents.{IsSound, IsReady, list_of, pending_in, is_new, is_pending}
+use Rattle.otel_value_map.specs.Contents.{MapContents, IsOverflowAt, IsSound, IsReady, list_of, pending_in, is_new, is_pending, target_of}
 use Rattle.otel_value_map.specs.declared.pending.Pending.{Pending}
 use Rattle.otel_value_map.specs.declared.pending.Pending.TheVariants.{Nothing, At, New}
+use Rattle.otel_value_map.proofs.CanonicalSets.{some-canon}
 use Rattle.otel_value_map.proofs.KeyedLemmas.{same_set, set_eq-self, set_eq-flip}
 use Rattle.otel_value_map.proofs.AddLemmas.{lookup-pushed, numbers-pushed}
 use Rattle.otel_value_map.proofs.TableLemmas.{counted_cons}
@@ -67,6 +69,27 @@ module _ (limit : ℕ) (empty : Fold) (s : AttributeSet) (entries : List Entry) 
 -- what a placing says of the whole state
 pub as_state : (st : MapState) (s : AttributeSet) (t : Table) (goal : AttributeSet) → t.none ≡ st.table.none → Placing st.limit st.empty s st.table.entries t.entries goal → record st { table = t } ≡ with_place s st
 as_state st s t goal none p = λ i. record st { table = record { none = none i; entries = p.state i } }
+
+-- a record of a set that uses an entry that is there
+measured-by : (m : MapState) (s : AttributeSet) (v : Sample) (used : AttributeSet) → Placing m.limit m.empty s m.table.entries m.table.entries used → measured_map s v m ≡ record m { table = at_entry used (write v) m.table }
+measured-by m s v used p =
+    ap (λ (es : List Entry). record m { table = at_entry (entry_for s es) (write v) (record { none = m.table.none; entries = es }) }) (sym p.state)
+    ∙ ap (λ (u : AttributeSet). record m { table = at_entry u (write v) m.table }) p.goal
+
+-- a record of the overflow set is one of the list, where the list uses the overflow entry
+pub target-measured : (over : Option ℕ) (l : List KeyValue) (v : Sample) (h : MapContents) → set_eq l none_set ≡ false → IfSome over (IsOverflowAt h) → measured_map (target_of over l h.state.table.entries) v h.state ≡ measured_map (canon l) v h.state
+target-measured None l v h some over = refl
+target-measured (Some n) l v h some over = by (has (canon l) h.state.table.entries) refl
+  where
+    m : MapState
+    m = h.state
+
+    by : (b : Bool) → has (canon l) m.table.entries ≡ b → measured_map (cond (not (has (canon l) m.table.entries)) over_set (canon l)) v m ≡ measured_map (canon l) v m
+    by true e = ap (λ b. measured_map (cond (not b) over_set (canon l)) v m) e
+    by false e =
+        ap (λ b. measured_map (cond (not b) over_set (canon l)) v m) e
+        ∙ measured-by m over_set v over_set (place-there m.limit m.empty over_set m.table.entries over.1)
+        ∙ sym (measured-by m (canon l) v over_set (place-over m.limit m.empty (canon l) m.table.entries (some-canon l some) e over.0 over.1))
 
 -- an entry more counts one more
 pub counted-push : (entries : List Entry) (e : Entry) → number_counted (entries ++ e ∷ []) ≡ cond e.counted 1 0 + number_counted entries

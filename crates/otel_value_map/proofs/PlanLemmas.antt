@@ -1,22 +1,47 @@
 -- What a record is to do, in a map.
 use Rattle.std.proofs.Common.{◌≡◌, Bool, true, false, cond, not, ◌||◌, ◌&&◌, List, [], ◌∷◌, Option, Some, None, is_some, ℕ, refl, sym, ap, subst, ◌∙◌, true≢false}
 use Rattle.std.specs.Map.{lookup, keys_of}
+use Rattle.std.specs.Option.{IfSome}
 use Rattle.std.specs.Set.{is_member}
 use Rattle.std.proofs.lemmas.Map.Made.{is_some-lookup}
 use Rattle.otel_common.specs.Canonical.{canon}
 use Rattle.otel_common.specs.Equality.{set_eq}
 use Rattle.otel_common.specs.declared.attributes.KeyValue.{KeyValue}
 use Rattle.otel_common.proofs.CanonLaws.{canon-canon}
-use Rattle.otel_model_stream.specs.Sets.{AttributeSet, none_set}
+use Rattle.otel_model_stream.specs.Sets.{AttributeSet, none_set, over_set}
 use Rattle.otel_model_stream.specs.Entries.{Entry, has}
 use Rattle.otel_model_stream.specs.Maps.{KnownMap, knows}
 use Rattle.otel_value_map.specs.Keyed.{Slotted, IsNew, IsSpelling}
 use Rattle.otel_value_map.specs.Numbers.{number_of, set_named, named_in, is_placed, AreNumbered}
-use Rattle.otel_value_map.specs.Contents.{IsPlan, IsSound, IsReady, leads, list_of}
+use Rattle.otel_value_map.specs.Contents.{IsPlan, IsPlanFor, IsOverflow, IsSound, IsReady, leads, list_of, target_of}
 use Rattle.otel_value_map.specs.declared.pending.Pending.{Pending}
 use Rattle.otel_value_map.specs.declared.pending.Pending.TheVariants.{Nothing, At, New}
 use Rattle.otel_value_map.proofs.CanonicalSets.{canon-nil, some-canon}
 use Rattle.otel_value_map.proofs.KeyedLemmas.{same_set, same_number}
+
+-- the overflow entry, where that is used for sets without entries
+plan-over : (t : Slotted) (few : Bool) (l : List KeyValue) (n : ℕ) → IsOverflow t few n → has (canon l) t.table.entries ≡ false → IsPlanFor t few l (target_of (Some n) l t.table.entries) (At n)
+plan-over t few l n over away =
+    let at : target_of (Some n) l t.table.entries ≡ over_set = ap (λ b. cond (not b) over_set (canon l)) away in
+    record {
+      pending = ap Some (over.number.named ∙ sym at);
+      spelling = sym (ap (λ b. cond ((not (set_eq (canon l) none_set) && (not (has (canon l) t.table.entries) && b)) && not (set_eq (canon l) l)) (l ∷ []) []) over.full ∙ none (not (set_eq (canon l) none_set)) (not (has (canon l) t.table.entries)));
+      sound = λ room ready. (ap (λ s. number_of s t.numbers) over.number.named ∙ over.number.number, ap (λ s. is_placed s t.table.entries) over.number.named ∙ over.there);
+    }
+  where
+    none : (a b : Bool) → cond ((a && (b && false)) && not (set_eq (canon l) l)) (l ∷ []) [] ≡ []
+    none true true = refl
+    none true false = refl
+    none false b = refl
+
+pub plan-past_over : (t : Slotted) (few : Bool) (l : List KeyValue) (over : Option ℕ) (n : ℕ) → over ≡ Some n → IfSome over (IsOverflow t few) → has (canon l) t.table.entries ≡ false → IsPlanFor t few l (target_of over l t.table.entries) (At n)
+plan-past_over t few l over n is h away =
+    let at : IfSome (Some n) (IsOverflow t few) = subst (λ (o : Option ℕ). IfSome o (IsOverflow t few)) is h in
+    subst (λ (o : Option ℕ). IsPlanFor t few l (target_of o l t.table.entries) (At n)) (sym is) (plan-over t few l n at away)
+
+-- where that isn't so, it is a plan for the list's own set
+pub plan-without : (t : Slotted) (few : Bool) (l : List KeyValue) (over : Option ℕ) (plan : Pending) → over ≡ None → IsPlan t few l plan → IsPlanFor t few l (target_of over l t.table.entries) plan
+plan-without t few l over plan e p = subst (λ o. IsPlanFor t few l (target_of o l t.table.entries) plan) (sym e) p
 
 -- one without attributes
 pub plan-empty : (t : Slotted) (few : Bool) (l : List KeyValue) → set_eq l none_set ≡ true → IsPlan t few l (At t.numbers.none)

@@ -1,15 +1,15 @@
 -- What contracts see of a map.
-use Rattle.std.specs.Prelude.{◌≡◌, ◌&&◌, ◌||◌, not, ℕ, Bool, true, false, cond, List, [], ◌∷◌, Option, Some, None, IsTrue, is_some}
+use Rattle.std.specs.Prelude.{◌≡◌, ◌&&◌, ◌||◌, not, nat_lt, ℕ, Bool, true, false, cond, List, [], ◌∷◌, Option, Some, None, IsTrue, is_some}
 use Rattle.std.specs.Map.{keys_of}
 use Rattle.std.specs.Set.{is_member}
 use Rattle.otel_common.specs.Canonical.{canon}
 use Rattle.otel_common.specs.Equality.{set_eq}
 use Rattle.otel_common.specs.declared.attributes.KeyValue.{KeyValue}
-use Rattle.otel_model_stream.specs.Sets.{AttributeSet, none_set}
-use Rattle.otel_model_stream.specs.Entries.{has}
+use Rattle.otel_model_stream.specs.Sets.{AttributeSet, none_set, over_set}
+use Rattle.otel_model_stream.specs.Entries.{Entry, has, number_counted}
 use Rattle.otel_model_stream.specs.Maps.{MapState, KnownMap}
 use Rattle.otel_value_map.specs.Keyed.{Slotted, IsNew, IsSpelling}
-use Rattle.otel_value_map.specs.Numbers.{Numbers, number_of, set_named, is_placed}
+use Rattle.otel_value_map.specs.Numbers.{Numbers, number_of, set_named, is_placed, IsNumberOf}
 use Rattle.otel_value_map.specs.declared.pending.Pending.{Pending}
 use Rattle.otel_value_map.specs.declared.pending.Pending.TheVariants.{Nothing, At, New}
 
@@ -81,11 +81,31 @@ prepared None None = Nothing
 abbrev pub leads : List KeyValue → Slotted → Bool
 leads l t = set_eq l none_set || (is_member set_eq (keys_of t.aliases) l || has l t.table.entries)
 
--- the plan is what a record or bind of the list is to do. `few` says whether the limit allows one more counted entry
-pub record IsPlan (t : Slotted) (few : Bool) (l : List KeyValue) (plan : Pending) : Type 0 where
-  pub pending : pending_in t.numbers plan ≡ Some (canon l)
+-- the set whose entry a record or bind of the list uses: its own, or the overflow set, if that is to be used at once for
+-- sets without entries, since its entry has this number
+abbrev pub target_of : Option ℕ → List KeyValue → List Entry → AttributeSet
+target_of over l es = cond (is_some over && not (has (canon l) es)) over_set (canon l)
+
+-- the overflow entry has this number, and sets without entries go to it, since the limit allows no more
+pub record IsOverflow (t : Slotted) (few : Bool) (n : ℕ) : Type 0 where
+  pub full : few ≡ false
+  pub there : has over_set t.table.entries ≡ true
+  pub number : IsNumberOf over_set n t.numbers
+
+-- the same of a map
+abbrev pub IsOverflowAt : MapContents → ℕ → Type 0
+IsOverflowAt h n = (nat_lt (number_counted h.state.table.entries) h.state.limit ≡ false) × (has over_set h.state.table.entries ≡ true) × IsNumberOf over_set n h.numbers
+
+-- the plan is what a record or bind of the list is to do that uses the entry of the set s. `few` says whether the limit
+-- allows one more counted entry
+pub record IsPlanFor (t : Slotted) (few : Bool) (l : List KeyValue) (s : AttributeSet) (plan : Pending) : Type 0 where
+  pub pending : pending_in t.numbers plan ≡ Some s
   pub spelling : spelling_in plan ≡ cond ((not (set_eq (canon l) none_set) && (not (has (canon l) t.table.entries) && few)) && not (set_eq (canon l) l)) (l ∷ []) []
   pub sound : (room : Bool) → IsTrue room → IsSound t few room plan
+
+-- the plan is what a record or bind of the list is to do that uses the list's own set
+abbrev pub IsPlan : Slotted → Bool → List KeyValue → Pending → Type 0
+IsPlan t few l plan = IsPlanFor t few l (canon l) plan
 
 -- a record or bind of the list is to use the entry with this number, whether or not the limit allows one more
 abbrev pub IsPlanAt : Slotted → List KeyValue → ℕ → Type 0

@@ -7,7 +7,7 @@ ghost use Rattle.otel_common.specs.Equality.{set_eq};
 ghost use Rattle.otel_model_stream.specs.Entries.{has};
 ghost use Rattle.otel_model_stream.specs.Sets.{allowed_part, over_set};
 ghost use Rattle.otel_value_map.specs.Slots.{kept_of, new_kept};
-ghost use Rattle.otel_value_map.specs.Contents.{IsPlan, IsPlanAt, is_new, is_pending, leads};
+ghost use Rattle.otel_value_map.specs.Contents.{IsOverflow, IsPlanAt, IsPlanFor, target_of, is_new, is_pending, leads};
 ghost use Rattle.otel_value_map.specs.declared.pending.Pending.TheVariants.{Nothing, At};
 
 use crate::hashed_key::HashedSet;
@@ -186,22 +186,28 @@ pub fn led_to<A: Aggregator>(table: &Table<A>, list: &HashedSet) -> Option<usize
 }
 
 /// What a record is to do with a list that, as given, leads to no entry and isn't canonical. `few` says whether the
-/// number of counted entries is below the limit. Looks the canonical form up, which is handed in too.
+/// number of counted entries is below the limit, and `over` is the number of the overflow entry, if that is to be used
+/// for a set without an entry. Looks the canonical form up, which is handed in too.
 fn plan_sorted<A: Aggregator>(
     alloc: Global,
     table: &Table<A>,
     few: bool,
+    over: Option<usize>,
     list: &HashedSet,
     sorted: &HashedSet,
 ) -> Result<Pending, Fault>
+    requires over { IfSome over (IsOverflow table.now few) }
     requires unled { leads list.now table.now ≡ false }
     requires other { set_eq (canon list.now) list.now ≡ false }
     requires sorted { sorted.now ≡ canon list.now }
-    ensures plan { IfOk result (λ plan. IsPlan table.now few list.now plan) }
+    ensures plan { IfOk result (λ plan. IsPlanFor table.now few list.now (target_of over list.now table.now.table.entries) plan) }
     ensures placed { IsTrue (has (canon list.now) table.now.table.entries) → IsOk result }
     ensures only_memory { IsOkUnless result Fault.OutOfMemory }
 {
     if let Some(number) = table.find_set(sorted) {
+        return Ok(Pending::At(number));
+    }
+    if let Some(number) = over {
         return Ok(Pending::At(number));
     }
     let set = sorted.share(alloc)?;
@@ -218,14 +224,16 @@ fn plan_many<A: Aggregator>(
     alloc: Global,
     table: &Table<A>,
     few: bool,
+    over: Option<usize>,
     list: &HashedSet,
     allow: Option<&AllowedKeys>,
     attributes: &[KeyValue],
 ) -> Result<Pending, Fault>
+    requires over { IfSome over (IsOverflow table.now few) }
     requires list { list.now ≡ allowed_part (option_copied allow) attributes.now }
     requires unled { leads list.now table.now ≡ false }
     requires other { set_eq (canon list.now) list.now ≡ false }
-    ensures plan { IfOk result (λ plan. IsPlan table.now few list.now plan) }
+    ensures plan { IfOk result (λ plan. IsPlanFor table.now few list.now (target_of over list.now table.now.table.entries) plan) }
     ensures placed { IsTrue (has (canon list.now) table.now.table.entries) → IsOk result }
     ensures only_memory { IsOkUnless result Fault.OutOfMemory }
 {
@@ -235,20 +243,24 @@ fn plan_many<A: Aggregator>(
                 slice: references.as_slice(),
             };
             let sorted = HashedSet::new(table.hasher(), SetKey::referenced(&sorted));
-            plan_sorted(alloc, table, few, list, &sorted)
+            plan_sorted(alloc, table, few, over, list, &sorted)
         }
         Err(fault) => {
             let sorted = SetAttributes::canonical(allow, attributes);
             match table.find_set(&HashedSet::new(table.hasher(), SetKey::iterated(&sorted))) {
                 Some(number) => Ok(Pending::At(number)),
-                None => Err(fault),
+                None => match over {
+                    Some(number) => Ok(Pending::At(number)),
+                    None => Err(fault),
+                },
             }
         }
     }
 }
 
 /// What a record is to do with a list that, as given, leads to no entry: with what is kept of these attributes. `few`
-/// says whether the number of counted entries is below the limit.
+/// says whether the number of counted entries is below the limit, and `over` is the number of the overflow entry, if that
+/// is to be used for a set without an entry, which then isn't copied.
 ///
 /// Looks the canonical form up if that is another list, by references that are sorted. For up to 16 keys this takes no
 /// memory.
@@ -257,17 +269,22 @@ pub fn plan<A: Aggregator>(
     alloc: Global,
     table: &Table<A>,
     few: bool,
+    over: Option<usize>,
     list: &HashedSet,
     allow: Option<&AllowedKeys>,
     attributes: &[KeyValue],
 ) -> Result<Pending, Fault>
+    requires over { IfSome over (IsOverflow table.now few) }
     requires list { list.now ≡ allowed_part (option_copied allow) attributes.now }
     requires unled { leads list.now table.now ≡ false }
-    ensures plan { IfOk result (λ plan. IsPlan table.now few list.now plan) }
+    ensures plan { IfOk result (λ plan. IsPlanFor table.now few list.now (target_of over list.now table.now.table.entries) plan) }
     ensures placed { IsTrue (has (canon list.now) table.now.table.entries) → IsOk result }
     ensures only_memory { IsOkUnless result Fault.OutOfMemory }
 {
     if list.set().is_canonical() {
+        if let Some(number) = over {
+            return Ok(Pending::At(number));
+        }
         // Tells the prover that the set has no number.
         table.law_of_numbers();
         let own = list.share(alloc)?;
@@ -279,9 +296,9 @@ pub fn plan<A: Aggregator>(
                 slice: references.as_slice(),
             };
             let sorted = HashedSet::new(table.hasher(), SetKey::referenced(&sorted));
-            plan_sorted(alloc, table, few, list, &sorted)
+            plan_sorted(alloc, table, few, over, list, &sorted)
         }
-        None => plan_many(alloc, table, few, list, allow, attributes),
+        None => plan_many(alloc, table, few, over, list, allow, attributes),
     }
 }
 

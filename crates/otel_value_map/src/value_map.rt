@@ -1,6 +1,6 @@
 //! A bounded map from sets of attributes to aggregators.
 
-ghost use Rattle.std.specs.Prelude.{◌≡◌, ◌<◌, ◌-◌, ◌+◌, ◌*◌, ◌≤◌, ◌^◌, ◌++◌, [], true, false, is_some, length, map, None, Some, IsSome, OnOk, OnErr, IfOk, IsOk, IfErr, IsOkUnless, IsTrue, ℕ};
+ghost use Rattle.std.specs.Prelude.{◌≡◌, ◌<◌, ◌-◌, ◌+◌, ◌*◌, ◌≤◌, ◌^◌, ◌++◌, [], true, false, is_some, length, map, None, Some, IsSome, IfSome, OnOk, OnErr, IfOk, IsOk, IfErr, IsOkUnless, IsTrue, ℕ};
 ghost use Rattle.std.specs.List.{AllByRecursion};
 ghost use Rattle.std.specs.Option.{option_copied, option_map};
 ghost use Rattle.otel_common.specs.Canonical.{canon};
@@ -11,7 +11,7 @@ ghost use Rattle.otel_model_stream.specs.Observed.{fold_in};
 ghost use Rattle.otel_model_stream.specs.Folds.{wrap};
 ghost use Rattle.otel_model_stream.specs.Sets.{AttributeSet, allowed_part, none_set, set_of};
 ghost use Rattle.otel_model_stream.specs.Totals.{points_total};
-ghost use Rattle.otel_value_map.specs.Contents.{known_of};
+ghost use Rattle.otel_value_map.specs.Contents.{known_of, target_of, IsOverflowAt};
 ghost use Rattle.otel_value_map.specs.Faults.{IsBindFault};
 ghost use Rattle.otel_value_map.specs.Numbers.{number_of, is_number, without_handles, handles_at, AreNamed, AreNumbered, spelling_of, is_placed, KeepNumbers, KeepLeft};
 ghost use Rattle.otel_value_map.specs.Slots.{HasForm, copies};
@@ -149,26 +149,30 @@ impl<A: Aggregator> ValueMap<A> {
             self.pending.put_at(number);
             return Ok(());
         }
-        match self.prepare_unknown(list, allow, attributes) {
+        match self.prepare_unknown(list, allow, attributes, None) {
             Ok(()) => Ok(()),
             Err(_) => Err(AllocError),
         }
     }
 
-    /// Does what `prepare_list` does with a list that, as given, leads to no entry.
+    /// Does what `prepare_list` does with a list that, as given, leads to no entry. If `over` is the number of the overflow
+    /// entry, and the set has no entry, the record or bind is prepared for the overflow entry itself, and the set isn't
+    /// copied.
     #[inline(never)]
     fn prepare_unknown(
         &mut self,
         list: &HashedSet,
         allow: Option<&AllowedKeys>,
         attributes: &[KeyValue],
+        over: Option<usize>,
     ) -> Result<(), Fault>
         requires list { list.now ≡ allowed_part (option_copied allow) attributes.now }
         requires unknown { knows list.now (known_of self.old) ≡ false }
+        requires over { IfSome over (IsOverflowAt self.old) }
         ensures same { self.new.state ≡ self.old.state }
         ensures numbers { self.new.numbers ≡ self.old.numbers }
         ensures given { self.new.given ≡ self.old.given }
-        ensures ready { OnOk result (self.new.pending ≡ Some (canon list.now)) }
+        ensures ready { OnOk result (self.new.pending ≡ Some (target_of over list.now self.old.state.table.entries)) }
         ensures spelling { OnOk result (self.new.spelling ≡ spelling_of list.now self.old.state) }
         ensures refused { OnErr result (self.new.pending ≡ None) }
         ensures placed { IsTrue (is_placed (canon list.now) self.old.state.table.entries) → IsOk result }
@@ -176,7 +180,15 @@ impl<A: Aggregator> ValueMap<A> {
     {
         self.pending.give_up();
         let is_few = self.count < self.limit;
-        let plan = plan(self.alloc, &self.table, is_few, list, allow, attributes)?;
+        let plan = plan(
+            self.alloc,
+            &self.table,
+            is_few,
+            over,
+            list,
+            allow,
+            attributes,
+        )?;
         if !plan.is_new() {
             self.pending.put(plan);
             return Ok(());
@@ -422,13 +434,26 @@ impl<A: Aggregator> ValueMap<A> {
         ensures spent { self.new.pending ≡ None }
         ensures placed { IsTrue (is_placed (canon attributes.now) self.old.state.table.entries) → IsOk result }
     {
-        match self.prepare_unknown(list, None, attributes) {
+        let over = self.overflow();
+        match self.prepare_unknown(list, None, attributes, over) {
             Ok(()) => {
                 self.commit(value);
                 Ok(())
             }
             Err(_) => Err(AllocError),
         }
+    }
+
+    /// The number of the overflow entry, if it is there and the limit is reached, and if the set that it is looked up by
+    /// is there too. Without it a record past the limit is prepared, with a copy of its set, as any new set is.
+    fn overflow(&self) -> Option<usize>
+        ensures { IfSome result (IsOverflowAt self.now) }
+    {
+        if self.count < self.limit {
+            return None;
+        }
+        let overflow = self.spare_key.as_ref()?;
+        self.table.find_set(overflow)
     }
 
     /// Carries out the prepared bind, and returns the number of the entry: that of the set, or the overflow entry.

@@ -1,26 +1,34 @@
-use Rattle.std.proofs.Common.{◌≡◌, ◌∙◌, ◌&&◌, ◌||◌, not, cond, ap, sym, subst, refl, true, false, true≢false, Bool, ℕ, Some, List, [], ◌∷◌, is_some, nat_lt, arith}
+use Rattle.std.proofs.Common.{◌≡◌, ◌∙◌, ◌&&◌, ◌||◌, not, cond, ap, sym, subst, refl, true, false, true≢false, Bool, ℕ, Option, Some, None, List, [], ◌∷◌, is_some, nat_lt, arith}
 use Rattle.otel_common.specs.Canonical.{canon}
 use Rattle.otel_common.specs.Equality.{set_eq}
 use Rattle.otel_common.specs.declared.attributes.KeyValue.{KeyValue}
 use Rattle.otel_model_stream.specs.Entries.{Entry, Table, has, number_counted}
-use Rattle.otel_model_stream.specs.Sets.{AttributeSet, none_set}
+use Rattle.otel_model_stream.specs.Sets.{AttributeSet, none_set, over_set}
 use Rattle.otel_value_map.specs.Keyed.{Slotted}
 use Rattle.otel_value_map.specs.Numbers.{Numbers, is_placed, spelling_of}
-use Rattle.otel_value_map.specs.Contents.{MapContents, IsPlan, IsReady, IsSound, is_new, known_of, pending_in, spelling_in}
+use Rattle.otel_value_map.specs.Contents.{MapContents, IsPlan, IsPlanFor, IsSound, is_new, known_of, pending_in, spelling_in, target_of}
 use Rattle.otel_value_map.specs.declared.pending.Pending.{Pending}
 use Rattle.otel_value_map.specs.declared.pending.Pending.TheVariants.{Nothing, At, New}
+use Rattle.otel_value_map.proofs.CanonicalSets.{some-canon}
 use Rattle.otel_value_map.proofs.PlanLemmas.{sound-same, unknown-some, placed-has}
 use Rattle.otel_value_map.proofs.value_map.ValueMap.prepare_unknown.Goals as goal
 
--- a list that is planned as a new set has no place
-new-unplaced : (t : Slotted) (few : Bool) (l : List KeyValue) (plan : Pending) → IsPlan t few l plan → is_new plan ≡ true → is_placed (canon l) t.table.entries ≡ false
-new-unplaced t few l Nothing p e = absurd (true≢false (sym e))
-new-unplaced t few l (At n) p e = absurd (true≢false (sym e))
-new-unplaced t few l (New set list) p e =
-    let ready : IsReady t few true set list = p.sound true refl in
-    let both : Some set ≡ Some (canon l) = p.pending in
-    let same : set ≡ canon l = cc in
-    subst (λ (s : AttributeSet). is_placed s t.table.entries ≡ false) same (ap (λ (b : Bool). b || has set t.table.entries) ready.new.some ∙ ready.absent)
+-- a list for which a new set is planned has no place
+new-unplaced : (t : Slotted) (few : Bool) (l : List KeyValue) (over : Option ℕ) (plan : Pending) → set_eq l none_set ≡ false → IsPlanFor t few l (target_of over l t.table.entries) plan → is_new plan ≡ true → is_placed (canon l) t.table.entries ≡ false
+new-unplaced t few l over plan some p new = ap (λ b. b || has (canon l) t.table.entries) (some-canon l some) ∙ by over plan p new (has (canon l) t.table.entries) refl
+  where
+    away : (set : AttributeSet) (list : Option (List KeyValue)) → IsPlan t few l (New set list) → has (canon l) t.table.entries ≡ false
+    away set list q =
+        let both : Some set ≡ Some (canon l) = q.pending in
+        let same : set ≡ canon l = cc in
+        ap (λ (s : AttributeSet). has s t.table.entries) (sym same) ∙ (q.sound true refl).absent
+
+    by : (over : Option ℕ) (plan : Pending) → IsPlanFor t few l (target_of over l t.table.entries) plan → is_new plan ≡ true → (b : Bool) → has (canon l) t.table.entries ≡ b → has (canon l) t.table.entries ≡ false
+    by over Nothing q e b h = absurd (true≢false (sym e))
+    by over (At n) q e b h = absurd (true≢false (sym e))
+    by None (New set list) q e b h = away set list q
+    by (Some n) (New set list) q e false h = h
+    by (Some n) (New set list) q e true h = away set list (subst (λ (s : AttributeSet). IsPlanFor t few l s (New set list)) (ap (λ b. cond (not b) over_set (canon l)) h) q)
 
 pub invariant_of-self-2 : goal.invariant_of-self-2
 invariant_of-self-2 g c =
@@ -39,6 +47,7 @@ returns-clause-ready g c =
     ap (pending_in c.make_ready.new.table.numbers) c.put-2.ensures
     ∙ ap (λ (ns : Numbers). pending_in ns c.in_ok-plan.plan) c.make_ready.ensures.numbers
     ∙ c.in_ok-plan.ensures.plan.pending
+    ∙ ap (λ (h : MapContents). Some (target_of c.args.over c.args.list.now h.state.table.entries)) c.self.view_is
 
 pub returns-clause-spelling : goal.returns-clause-spelling
 returns-clause-spelling g c =
@@ -62,7 +71,8 @@ pub returns-in_err-make_ready-clause-placed : goal.returns-in_err-make_ready-cla
 returns-in_err-make_ready-clause-placed g c =
     let few : Bool = nat_lt c.self.inside.count c.self.inside.limit in
     let new : is_new c.in_ok-plan.plan ≡ true = grind arith in
-    let away = new-unplaced c.self.inside.table few c.args.list.now c.in_ok-plan.plan c.in_ok-plan.ensures.plan new in
+    let some : set_eq c.args.list.now none_set ≡ false = unknown-some c.args.list.now (known_of c.args.self.now) c.requires.unknown in
+    let away = new-unplaced c.self.inside.table few c.args.list.now c.args.over c.in_ok-plan.plan some c.in_ok-plan.ensures.plan new in
     rw (← c.self.view_is) (λ placed. absurd (true≢false (sym placed ∙ away)))
 
 pub returns-in_err-plan-clause-placed : goal.returns-in_err-plan-clause-placed
