@@ -14,7 +14,7 @@ use Rattle.otel_model.specs.Calls.{is_observable}
 use Rattle.otel_model.specs.Demands.{Demand}
 use Rattle.otel_model.specs.Sent.{set_for}
 use Rattle.otel_model.specs.Streams.{is_drained}
-use Rattle.otel_pipeline.specs.Observations.{observed_all, observed_in, observed_one, observing_numbers}
+use Rattle.otel_pipeline.specs.Observations.{observed_all, observed_in, observing_numbers}
 use Rattle.otel_pipeline.specs.Pipelines.{all_without_pending}
 use Rattle.otel_pipeline.specs.Streams.{StreamContents, contents_after_bind, bound_by, contents_after_commit, committed_by, contents_after_none, contents_after_record, contents_after_unbind, without_handle, contents_after_update, with_update, with_record, without_pending}
 use Rattle.otel_pipeline.proofs.Writes.{unseen-each}
@@ -49,9 +49,6 @@ pub records-either : {T E : Type 0} (value : NumberValue) (l : List KeyValue) (k
 records-either value l k m (Ok t) is same = ap answer_of is ∙ records value l k
 records-either value l k m (Err e) is same = ap answer_of same
 
-pub observes : (o : Observed) → KeepsAnswer (observed_one o)
-observes o k = kept-if (beq (is_signed_value o.value) k.stream.demand.identity.signed) (with_record (set_for k.stream.demand o.attributes) (amount_of o.value) k) k k refl refl
-
 pub binds : (h : ℕ) → KeepsAnswer (contents_after_bind h)
 binds h k = kept-if (not (is_observable k.stream.demand.identity.kind) && (k.room && is_none (held_by h k.stream.machine.live))) (bound_by k.pending h k) k k (by k.pending) refl
   where
@@ -71,7 +68,7 @@ answers-settled a b e = sym (map-map answer_of without_pending a) ∙ (ap (map a
 
 pub answers-observed : (feeds : List (List ℕ)) (os : List Observed) (ks : List StreamContents) → map answer_of (observed_all feeds os ks) ≡ map answer_of ks
 answers-observed feeds [] ks = refl
-answers-observed feeds (o ∷ os) ks = answers-observed feeds os (observed_in feeds ks o) ∙ unseen-each answer_of (observed_one o) (observes o) (observing_numbers feeds o) ks
+answers-observed feeds (o ∷ os) ks = answers-observed feeds os (observed_in feeds ks o) ∙ unseen-each answer_of (contents_after_record o.value o.attributes) (records o.value o.attributes) (observing_numbers feeds o) ks
 
 -- ======== what is read off both ========
 abbrev pub OfAnswer : (Bool → Demand → Type 0) → List StreamContents → Type 0

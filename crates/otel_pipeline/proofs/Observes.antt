@@ -1,5 +1,5 @@
 -- Observations that are taken in stream by stream, and a collection after them, are the model's collection.
-use Rattle.std.proofs.Common.{◌≡◌, ℕ, Bool, true, false, cond, List, [], ◌∷◌, map, fold, refl, sym, ◌∙◌, ap, subst, arith}
+use Rattle.std.proofs.Common.{◌≡◌, ℕ, Bool, true, false, List, [], ◌∷◌, map, fold, refl, sym, ◌∙◌, ap, subst, arith}
 use Rattle.std.specs.List.{IsDistinct}
 use Rattle.std.specs.Prelude.{All}
 use Rattle.std.proofs.lemmas.List.Elements.{All-tail}
@@ -7,25 +7,25 @@ use Rattle.otel_stream.specs.declared.observation.Observed.{Observed}
 use Rattle.otel_common.specs.declared.resource.Resource.{Resource}
 use Rattle.otel_common.specs.declared.scopes.InstrumentationScope.{InstrumentationScope}
 use Rattle.otel_data.specs.declared.collections.ResourceMetrics.{ResourceMetrics}
-use Rattle.otel_aggregate.specs.Any.{is_signed_value, amount_of}
+use Rattle.otel_aggregate.specs.Any.{is_signed_value}
 use Rattle.otel_model_stream.specs.Events.{Event}
 use Rattle.otel_model.specs.Calls as model
 use Rattle.otel_model.specs.Demands.{Demand, Identity, ReaderAnswers, identity_eq}
 use Rattle.otel_model.specs.Collections.{metric, collection, ScopedMetric}
 use Rattle.otel_model.specs.Machine.{machine_after, part_after_call, points_at, recorded_over, stream_after}
-use Rattle.otel_model.specs.Sent.{is_fed, observed_events, set_for}
+use Rattle.otel_model.specs.Sent.{is_fed, observed_events}
 use Rattle.otel_model.specs.State.{ReaderPart, Shared, Stream}
 use Rattle.otel_model.specs.Steps.{collect_from}
 use Rattle.otel_model.specs.Streams.{aggregate_of, is_delta, kind_of}
 use Rattle.otel_model.proofs.Follow.{run_append, recorded_append}
 use Rattle.otel_pipeline.specs.Collections.{IsCollectedFrom, scopes_shown}
-use Rattle.otel_pipeline.specs.Observations.{observed_of, AreTypedFor, observed_one, observed_in, observed_all}
+use Rattle.otel_pipeline.specs.Observations.{observed_of, AreTypedFor, observed_in, observed_all}
 use Rattle.otel_pipeline.specs.Pipelines.{AreAnswered, FeedsType, IsLawful, Piped, all_without_pending, fates_of, fed_by, all_after_collection, part_by, part_changed_by, part_of}
-use Rattle.otel_pipeline.specs.Streams.{StreamContents, with_record}
-use Rattle.otel_pipeline.proofs.Answered.{answered-same, answers-observed, observes}
+use Rattle.otel_pipeline.specs.Streams.{StreamContents, contents_after_record}
+use Rattle.otel_pipeline.proofs.Answered.{answered-same, answers-observed, records}
 use Rattle.otel_pipeline.proofs.Collects.{collected-is, part-finished}
 use Rattle.otel_pipeline.proofs.PipelineLemmas.{fates-changed, feeds-same, identities-same, numbers-kept}
-use Rattle.otel_pipeline.proofs.Records.{record-sent}
+use Rattle.otel_pipeline.proofs.Records.{taken-sent}
 use Rattle.otel_pipeline.proofs.Writes.{length-seen}
 
 -- ======== the model: records of observations, and a collection without ========
@@ -113,9 +113,8 @@ collected-from s now os p =
 
 -- ======== the code: observations taken in stream by stream ========
 -- one observation is a record
-one-observed : (o : Observed) (p : Piped) → IsLawful p → FeedsType o.instrument (is_signed_value o.value) (part_of p) → part_changed_by (observed_one o) o.instrument p ≡ part_after_call 0 (record_of (observed_of o)) (part_of p)
-one-observed o p lawful typed = record-sent p lawful 0 o.instrument o.value o.attributes typed (observed_one o) (observes o)
-    (λ i k at h fit. ap (λ b. (cond b (with_record (set_for k.stream.demand o.attributes) (amount_of o.value) k) k).stream) (sym fit))
+one-observed : (o : Observed) (p : Piped) → IsLawful p → FeedsType o.instrument (is_signed_value o.value) (part_of p) → part_changed_by (contents_after_record o.value o.attributes) o.instrument p ≡ part_after_call 0 (record_of (observed_of o)) (part_of p)
+one-observed o p lawful typed = taken-sent o.instrument o.value o.attributes p lawful typed
 
 answered-observed : (os : List Observed) (p : Piped) → AreAnswered p.answers p.streams → AreAnswered p.answers (observed_all p.feeds os p.streams)
 answered-observed os p all = answered-same (λ resets d. resets ≡ is_delta p.answers d) (observed_all p.feeds os p.streams) p.streams (answers-observed p.feeds os p.streams) all
@@ -128,7 +127,7 @@ observed-sent : (os : List Observed) (p : Piped) → IsLawful p → AreTypedFor 
 observed-sent [] p lawful typed = refl
 observed-sent (o ∷ os) p lawful typed =
     let next : List StreamContents = observed_in p.feeds p.streams o in
-    let same : fates_of next ≡ fates_of p.streams = fates-changed (observed_one o) (observes o) (fed_by o.instrument p) p.streams in
+    let same : fates_of next ≡ fates_of p.streams = fates-changed (contents_after_record o.value o.attributes) (records o.value o.attributes) (fed_by o.instrument p) p.streams in
     observed-sent os (with_streams next p)
     (record { apart = subst (IsDistinct identity_eq) (sym (identities-same next p.streams same)) lawful.apart; numbers = numbers-kept p.streams next p.feeds (length-seen (λ (k : StreamContents). k.stream.demand) p.streams next (sym same)) lawful.numbers; once = lawful.once })
     (subst (λ (fs : List (List Identity)). All (λ (q : Observed). (x : Identity) → is_fed fs q.instrument x ≡ true → x.signed ≡ is_signed_value q.value) os) (sym (feeds-same next p.streams same p.feeds))

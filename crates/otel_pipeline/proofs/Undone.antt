@@ -1,20 +1,19 @@
 -- What was kept of streams is enough to undo what was done to them since.
 use Rattle.std.proofs.Common.{◌≡◌, ℕ, zero, suc, ◌+◌, ◌<◌, ◌≤◌, Bool, true, false, cond, List, [], ◌∷◌, ◌++◌, length, take, drop, set, get_or, replicate, Option, Some, None, refl, sym, ◌∙◌, ap, subst, arith, length-set}
 use Rattle.std.specs.Bool.{beq}
-use Rattle.std.specs.Prelude.{All}
 use Rattle.std.proofs.lemmas.List.{get_or_default, set-get_or}
-use Rattle.std.proofs.lemmas.List.Elements.{All-tail}
 use Rattle.std.proofs.lemmas.Simd.{map-map}
+use Rattle.otel_common.specs.declared.attributes.KeyValue.{KeyValue}
 use Rattle.otel_data.specs.declared.numbers.NumberValue.{NumberValue}
 use Rattle.otel_model.specs.Calls.{is_observable}
 use Rattle.otel_model.specs.Machine.{changed_at}
 use Rattle.otel_model.specs.Demands.{Demand}
+use Rattle.otel_model.specs.Sent.{set_for}
 use Rattle.otel_model.specs.Streams.{aggregate_of}
-use Rattle.otel_model_stream.specs.Sets.{AttributeSet}
 use Rattle.otel_aggregate.specs.Any.{is_signed_value, amount_of, form_of}
 use Rattle.otel_pipeline.specs.Observations.{AreSavedOf, IsSaved, IsSavedOf, SavedStreamContents, kept_or, contents_after_restore, restored_all, restored_if, saved_by}
-use Rattle.otel_pipeline.specs.Pipelines.{all_without_pending, changed_each, fates_of}
-use Rattle.otel_pipeline.specs.Streams.{StreamContents, contents_after_commit, committed_by, without_pending}
+use Rattle.otel_pipeline.specs.Pipelines.{all_without_pending, fates_of}
+use Rattle.otel_pipeline.specs.Streams.{StreamContents, contents_after_record, with_record, without_pending}
 
 abbrev Kept : Type 0
 Kept = List (Option SavedStreamContents)
@@ -103,28 +102,23 @@ kept-same (s ∷ ss) (k ∷ a) (m ∷ b) e all =
     kept-more s k m ss ss a b (kept-same ss a b parts.1) parts.0 all
 
 -- ======== records of streams that are kept ========
-module _ (value : NumberValue) where
-  undone-one : (s : SavedStreamContents) (k : StreamContents) → contents_after_restore s (contents_after_commit value k) ≡ contents_after_restore s k
-  undone-one s k = by (beq (is_signed_value value) k.stream.demand.identity.signed) k.pending
+module _ (value : NumberValue) (l : List KeyValue) where
+  undone-one : (s : SavedStreamContents) (k : StreamContents) → contents_after_restore s (contents_after_record value l k) ≡ contents_after_restore s k
+  undone-one s k = by (beq (is_signed_value value) k.stream.demand.identity.signed)
     where
-      by : (b : Bool) (o : Option AttributeSet) → contents_after_restore s (cond b (committed_by o (amount_of value) k) k) ≡ contents_after_restore s k
-      by true None = refl
-      by true (Some g) = refl
-      by false o = refl
+      by : (b : Bool) → contents_after_restore s (cond b (with_record (set_for k.stream.demand l) (amount_of value) k) k) ≡ contents_after_restore s k
+      by true = refl
+      by false = refl
 
-  some-in : (o : Option SavedStreamContents) (s : SavedStreamContents) (k : StreamContents) → Some o ≡ Some (Some s) → restored_if o (contents_after_commit value k) ≡ restored_if o k
+  some-in : (o : Option SavedStreamContents) (s : SavedStreamContents) (k : StreamContents) → Some o ≡ Some (Some s) → restored_if o (contents_after_record value l k) ≡ restored_if o k
   some-in None s k e = absurd (cc)
   some-in (Some t) s k e = ap without_pending (undone-one t k)
 
-  changed-same : (ss : Kept) (n : ℕ) (ks : List StreamContents) → IsSaved ss n → restored_all ss (changed_at n (contents_after_commit value) ks) ≡ restored_all ss ks
-  changed-same [] n ks is = absurd (cc)
-  changed-same (o ∷ ss) n [] is = refl
-  changed-same (o ∷ ss) zero (k ∷ ks) is = ap (λ x. x ∷ restored_all ss ks) (some-in o is.0 k is.1)
-  changed-same (o ∷ ss) (suc n) (k ∷ ks) is = ap (λ l. restored_if o k ∷ l) (changed-same ss n ks is)
-
-  pub undone-committed : (ss : Kept) (ns : List ℕ) (ks : List StreamContents) → All (IsSaved ss) ns → restored_all ss (changed_each (contents_after_commit value) ns ks) ≡ restored_all ss ks
-  undone-committed ss [] ks all = refl
-  undone-committed ss (n ∷ ns) ks all = undone-committed ss ns (changed_at n (contents_after_commit value) ks) (All-tail (IsSaved ss) n ns all) ∙ changed-same ss n ks (all 0 n (omega arith))
+  pub undone-at : (ss : Kept) (n : ℕ) (ks : List StreamContents) → IsSaved ss n → restored_all ss (changed_at n (contents_after_record value l) ks) ≡ restored_all ss ks
+  undone-at [] n ks is = absurd (cc)
+  undone-at (o ∷ ss) n [] is = refl
+  undone-at (o ∷ ss) zero (k ∷ ks) is = ap (λ x. x ∷ restored_all ss ks) (some-in o is.0 k is.1)
+  undone-at (o ∷ ss) (suc n) (k ∷ ks) is = ap (λ r. restored_if o k ∷ r) (undone-at ss n ks is)
 
 -- ======== what was kept is put back, one stream after another ========
 -- the first streams are restored, and what is left of what was kept is for the others

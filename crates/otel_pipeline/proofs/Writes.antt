@@ -36,11 +36,6 @@ module _ {X : Type 0} (f : X → X) (ns : List ℕ) where
   }
 
 -- one number alone
-pub alone : (ns : List ℕ) → length ns ≡ 1 → ns ≡ get_or ns 0 0 ∷ []
-alone [] e = absurd (omega (arith, e))
-alone (n ∷ []) e = refl
-alone (n ∷ m ∷ ns) e = absurd (omega (arith, e))
-
 pub changed-alone : {X : Type 0} (f : X → X) (ns : List ℕ) (xs : List X) (x y : X) → length ns ≡ 1 → All (λ n. n < length xs) ns → x ≡ get_or xs (get_or ns 0 0) x → y ≡ f x → set xs (get_or ns 0 0) y ≡ changed_each f ns xs
 changed-alone f [] xs x y e all at is = absurd (omega (arith, e))
 changed-alone f (n ∷ []) xs x y e all at is = set-changed f xs n x y (all 0 n (omega arith)) at is

@@ -1,17 +1,15 @@
 -- How a collection takes observations in, and what is saved to undo that (Metrics SDK, "Observations inside
 -- asynchronous callbacks").
-use Rattle.std.specs.Prelude.{◌≡◌, ◌≤◌, ℕ, Bool, true, cond, List, [], ◌∷◌, fold, length, All, Option, None, Some, slice_get}
-use Rattle.std.specs.Bool.{beq}
+use Rattle.std.specs.Prelude.{◌≡◌, ◌≤◌, ℕ, Bool, true, List, [], ◌∷◌, fold, length, All, Option, None, Some, slice_get}
 use Rattle.otel_stream.specs.declared.observation.Observed.{Observed}
 use Rattle.otel_model_stream.specs.Entries.{Table}
 use Rattle.otel_aggregate.specs.Any.{Form, form_of, is_signed_value, amount_of}
 use Rattle.otel_model.specs.Calls as model
 use Rattle.otel_model.specs.Calls.{or_else, is_observable}
-use Rattle.otel_model.specs.Sent.{set_for}
 use Rattle.otel_model.specs.State.{ReaderPart}
 use Rattle.otel_model.specs.Streams.{aggregate_of}
 use Rattle.otel_pipeline.specs.Pipelines.{FeedsType, all_without_pending, changed_each}
-use Rattle.otel_pipeline.specs.Streams.{StreamContents, with_record, without_pending}
+use Rattle.otel_pipeline.specs.Streams.{StreamContents, contents_after_record, without_pending}
 
 -- an observation in the words of the model
 abbrev pub observed_of : Observed → model.Observed
@@ -22,17 +20,13 @@ abbrev pub AreTypedFor : List Observed → ReaderPart → Type 0
 AreTypedFor os p = All (λ o. FeedsType o.instrument (is_signed_value o.value) p) os
 
 -- ======== taken in ========
--- the stream, once it takes the observation in; only one with its number type does
-abbrev pub observed_one : Observed → StreamContents → StreamContents
-observed_one o h = cond (beq (is_signed_value o.value) h.stream.demand.identity.signed) (with_record (set_for h.stream.demand o.attributes) (amount_of o.value) h) h
-
 -- the numbers of the streams that take an observation in
 abbrev pub observing_numbers : List (List ℕ) → Observed → List ℕ
 observing_numbers feeds o = or_else (slice_get feeds o.instrument) []
 
--- the streams, once those that its instrument feeds take an observation in
+-- the streams, once those that its instrument feeds take an observation in, as a record
 abbrev pub observed_in : List (List ℕ) → List StreamContents → Observed → List StreamContents
-observed_in feeds streams o = changed_each (observed_one o) (observing_numbers feeds o) streams
+observed_in feeds streams o = changed_each (contents_after_record o.value o.attributes) (observing_numbers feeds o) streams
 
 -- the streams, once these observations are taken in, one after another
 abbrev pub observed_all : List (List ℕ) → List Observed → List StreamContents → List StreamContents

@@ -4,11 +4,12 @@ ghost use Rattle.std.specs.Prelude.{◌≡◌, ◌≤◌, ℕ, true, All, List, 
 ghost use Rattle.std.specs.List.{AllByRecursion};
 ghost use Rattle.otel_model.specs.Calls.{is_observable};
 ghost use Rattle.otel_pipeline.specs.Collections.{scopes_shown};
-ghost use Rattle.otel_pipeline.specs.Observations.{AreObservable, AreObservableIn, AreSavedOf, CanUndo, IsSaved, SavedStreamContents, kept_or, saved_by, observed_all, observed_one, restored_all};
+ghost use Rattle.otel_pipeline.specs.Observations.{AreObservable, AreObservableIn, AreSavedOf, CanUndo, IsSaved, SavedStreamContents, kept_or, saved_by, observed_all, restored_all};
 ghost use Rattle.otel_pipeline.specs.Pipelines.{AreFedOnce, AreNumbers, all_without_pending, all_after_collection, changed_each, fates_of};
+ghost use Rattle.otel_pipeline.specs.Streams.{contents_after_record};
 
 use crate::collecting::scopes_of;
-use crate::each_stream::{commit_each, finish_each, prepare_each, streams_fed};
+use crate::each_stream::{finish_each, streams_fed};
 use crate::metric_stream::MetricStream;
 use crate::saved::SavedStream;
 use indexmap::IndexSet;
@@ -19,8 +20,7 @@ use otel_common::resource::Resource;
 use otel_common::scopes::InstrumentationScope;
 use otel_data::collections::ResourceMetrics;
 use otel_stream::observation::Observed;
-use otel_value_map::hashed_key::GivenAttributes;
-use std::alloc::Global;
+use std::alloc::{AllocError, Global};
 
 /// Makes room to save this many streams, of which none is saved yet.
 fn nothing_saved(alloc: Global, many: usize) -> Result<Vec<Option<SavedStream>>, Fault>
@@ -98,22 +98,21 @@ fn save_observing(
     Ok(saved)
 }
 
-/// Takes an observation in at the streams with these numbers.
+/// Takes an observation in at the streams with these numbers, as a record.
 fn observe_in(
     streams: &mut Vec<MetricStream>,
     numbers: &[usize],
     observation: &Observed,
-) -> Result<(), Fault>
-    requires numbers { AreNumbers (all_without_pending streams.old.items) numbers.now }
-    requires once { AreFedOnce numbers.now }
-    ensures observed { OnOk result (all_without_pending streams.new.items ≡ all_without_pending (changed_each (observed_one observation.now) numbers.now streams.old.items)) }
+) -> Result<(), AllocError>
+    requires { AreNumbers streams.old.items numbers.now }
+    ensures observed { OnOk result (streams.new.items ≡ changed_each (contents_after_record observation.now.value observation.now.attributes) numbers.now streams.old.items) }
     ensures undone { (saved : List (Option SavedStreamContents)) → All (IsSaved saved) numbers.now → restored_all saved streams.new.items ≡ restored_all saved streams.old.items }
     ensures demands { fates_of streams.new.items ≡ fates_of streams.old.items }
-    ensures only_memory { IsOkUnless result Fault.OutOfMemory }
 {
-    let attributes = GivenAttributes::new(observation.attributes.as_slice());
-    prepare_each(streams, numbers, &attributes)?;
-    commit_each(streams, numbers, observation.value);
+    let attributes = observation.attributes.as_slice();
+    for k in numbers {
+        streams[*k].record(observation.value, attributes)?;
+    }
     Ok(())
 }
 
@@ -122,13 +121,12 @@ fn observe_each(
     streams: &mut Vec<MetricStream>,
     feeds: &[Items<usize>],
     observations: &[Observed],
-) -> Result<(), Fault>
+) -> Result<(), AllocError>
     requires numbers { All (AreNumbers streams.old.items) feeds.now }
     requires once { AllByRecursion AreFedOnce feeds.now }
     ensures observed { OnOk result (all_without_pending streams.new.items ≡ all_without_pending (observed_all feeds.now observations.now streams.old.items)) }
     ensures undone { (saved : List (Option SavedStreamContents)) → CanUndo feeds.now observations.now streams.old.items saved → restored_all saved streams.new.items ≡ restored_all saved streams.old.items }
     ensures demands { fates_of streams.new.items ≡ fates_of streams.old.items }
-    ensures only_memory { IsOkUnless result Fault.OutOfMemory }
 {
     for observation in observations {
         let numbers = streams_fed(feeds, observation.instrument);

@@ -449,7 +449,7 @@ impl<A: Aggregator> ValueMap<A> {
     fn overflow(&self) -> Option<usize>
         ensures { IfSome result (IsOverflowAt self.now) }
     {
-        if self.count < self.limit {
+        if self.limit > self.count {
             return None;
         }
         let overflow = self.spare_key.as_ref()?;
