@@ -6,6 +6,7 @@ mod calls;
 mod counted;
 mod first;
 mod parts;
+mod service;
 mod shop;
 mod stand;
 mod views;
@@ -21,6 +22,7 @@ use opentelemetry_sdk::metrics::provider::{Boxed, Parts, Provider};
 use opentelemetry_sdk::metrics::reader::MetricReader;
 use opentelemetry_sdk::metrics::{ManualReader, Temporality};
 use parts::{OnlyManual, provider_with};
+use service::with_service;
 use shop::Shop;
 use stand::with_views;
 use std::alloc::Global;
@@ -82,5 +84,6 @@ fn main(rt: HostRuntime) -> Result<(), Error> {
     without_boxes(&rt, rt.alloc())?;
     with_views(&rt, rt.alloc())?;
     in_batches::<OnlyManual>(&rt, rt.alloc(), ManualReader::default())?;
-    in_threads::<OnlyManual, HostRuntime>(&rt, rt.alloc(), ManualReader::default())
+    in_threads::<OnlyManual, HostRuntime>(&rt, rt.alloc(), ManualReader::default())?;
+    with_service(&rt, rt.alloc())
 }

@@ -8,6 +8,7 @@ mod readers;
 mod refusing;
 mod resources;
 mod seeds;
+mod shared;
 mod shown;
 mod shutdowns;
 mod support;

@@ -20,13 +20,13 @@ use Rattle.otel_value_map.proofs.CanonicalSets.{canon-nil, some-canon}
 use Rattle.otel_value_map.proofs.KeyedLemmas.{same_set, same_number}
 
 -- the overflow entry, where that is used for sets without entries
-plan-over : (t : Slotted) (few : Bool) (l : List KeyValue) (n : ℕ) → IsOverflow t few n → has (canon l) t.table.entries ≡ false → IsPlanFor t few l (target_of (Some n) l t.table.entries) (At n)
+plan-over : (t : Slotted) (few : Bool) (l : List KeyValue) (n : ℕ) → IsOverflow few t.table.entries t.numbers n → has (canon l) t.table.entries ≡ false → IsPlanFor t few l (target_of (Some n) l t.table.entries) (At n)
 plan-over t few l n over away =
     let at : target_of (Some n) l t.table.entries ≡ over_set = ap (λ b. cond (not b) over_set (canon l)) away in
     record {
-      pending = ap Some (over.number.named ∙ sym at);
-      spelling = sym (ap (λ b. cond ((not (set_eq (canon l) none_set) && (not (has (canon l) t.table.entries) && b)) && not (set_eq (canon l) l)) (l ∷ []) []) over.full ∙ none (not (set_eq (canon l) none_set)) (not (has (canon l) t.table.entries)));
-      sound = λ room ready. (ap (λ s. number_of s t.numbers) over.number.named ∙ over.number.number, ap (λ s. is_placed s t.table.entries) over.number.named ∙ over.there);
+      pending = ap Some (over.2.named ∙ sym at);
+      spelling = sym (ap (λ b. cond ((not (set_eq (canon l) none_set) && (not (has (canon l) t.table.entries) && b)) && not (set_eq (canon l) l)) (l ∷ []) []) over.0 ∙ none (not (set_eq (canon l) none_set)) (not (has (canon l) t.table.entries)));
+      sound = λ room ready. (ap (λ s. number_of s t.numbers) over.2.named ∙ over.2.number, ap (λ s. is_placed s t.table.entries) over.2.named ∙ over.1);
     }
   where
     none : (a b : Bool) → cond ((a && (b && false)) && not (set_eq (canon l) l)) (l ∷ []) [] ≡ []
@@ -34,9 +34,9 @@ plan-over t few l n over away =
     none true false = refl
     none false b = refl
 
-pub plan-past_over : (t : Slotted) (few : Bool) (l : List KeyValue) (over : Option ℕ) (n : ℕ) → over ≡ Some n → IfSome over (IsOverflow t few) → has (canon l) t.table.entries ≡ false → IsPlanFor t few l (target_of over l t.table.entries) (At n)
+pub plan-past_over : (t : Slotted) (few : Bool) (l : List KeyValue) (over : Option ℕ) (n : ℕ) → over ≡ Some n → IfSome over (IsOverflow few t.table.entries t.numbers) → has (canon l) t.table.entries ≡ false → IsPlanFor t few l (target_of over l t.table.entries) (At n)
 plan-past_over t few l over n is h away =
-    let at : IfSome (Some n) (IsOverflow t few) = subst (λ (o : Option ℕ). IfSome o (IsOverflow t few)) is h in
+    let at : IfSome (Some n) (IsOverflow few t.table.entries t.numbers) = subst (λ (o : Option ℕ). IfSome o (IsOverflow few t.table.entries t.numbers)) is h in
     subst (λ (o : Option ℕ). IsPlanFor t few l (target_of o l t.table.entries) (At n)) (sym is) (plan-over t few l n at away)
 
 -- where that isn't so, it is a plan for the list's own set

@@ -84,17 +84,15 @@ leads l t = set_eq l none_set || (is_member set_eq (keys_of t.aliases) l || has 
 -- the set whose entry a record or bind of the list uses: its own, or the overflow set, if that is to be used at once for
 -- sets without entries, since its entry has this number
 abbrev pub target_of : Option ℕ → List KeyValue → List Entry → AttributeSet
-target_of over l es = cond (is_some over && not (has (canon l) es)) over_set (canon l)
+target_of overflow l es = cond (is_some overflow && not (has (canon l) es)) over_set (canon l)
 
 -- the overflow entry has this number, and sets without entries go to it, since the limit allows no more
-pub record IsOverflow (t : Slotted) (few : Bool) (n : ℕ) : Type 0 where
-  pub full : few ≡ false
-  pub there : has over_set t.table.entries ≡ true
-  pub number : IsNumberOf over_set n t.numbers
+abbrev pub IsOverflow : Bool → List Entry → Numbers → ℕ → Type 0
+IsOverflow few es ns n = (few ≡ false) × (has over_set es ≡ true) × IsNumberOf over_set n ns
 
 -- the same of a map
 abbrev pub IsOverflowAt : MapContents → ℕ → Type 0
-IsOverflowAt h n = (nat_lt (number_counted h.state.table.entries) h.state.limit ≡ false) × (has over_set h.state.table.entries ≡ true) × IsNumberOf over_set n h.numbers
+IsOverflowAt h = IsOverflow (nat_lt (number_counted h.state.table.entries) h.state.limit) h.state.table.entries h.numbers
 
 -- the plan is what a record or bind of the list is to do that uses the entry of the set s. `few` says whether the limit
 -- allows one more counted entry

@@ -186,28 +186,28 @@ pub fn led_to<A: Aggregator>(table: &Table<A>, list: &HashedSet) -> Option<usize
 }
 
 /// What a record is to do with a list that, as given, leads to no entry and isn't canonical. `few` says whether the
-/// number of counted entries is below the limit, and `over` is the number of the overflow entry, if that is to be used
+/// number of counted entries is below the limit, and `overflow` is the number of the overflow entry, if that is to be used
 /// for a set without an entry. Looks the canonical form up, which is handed in too.
 fn plan_sorted<A: Aggregator>(
     alloc: Global,
     table: &Table<A>,
     few: bool,
-    over: Option<usize>,
+    overflow: Option<usize>,
     list: &HashedSet,
     sorted: &HashedSet,
 ) -> Result<Pending, Fault>
-    requires over { IfSome over (IsOverflow table.now few) }
+    requires overflow { IfSome overflow (IsOverflow few table.now.table.entries table.now.numbers) }
     requires unled { leads list.now table.now ≡ false }
     requires other { set_eq (canon list.now) list.now ≡ false }
     requires sorted { sorted.now ≡ canon list.now }
-    ensures plan { IfOk result (λ plan. IsPlanFor table.now few list.now (target_of over list.now table.now.table.entries) plan) }
+    ensures plan { IfOk result (λ plan. IsPlanFor table.now few list.now (target_of overflow list.now table.now.table.entries) plan) }
     ensures placed { IsTrue (has (canon list.now) table.now.table.entries) → IsOk result }
     ensures only_memory { IsOkUnless result Fault.OutOfMemory }
 {
     if let Some(number) = table.find_set(sorted) {
         return Ok(Pending::At(number));
     }
-    if let Some(number) = over {
+    if let Some(number) = overflow {
         return Ok(Pending::At(number));
     }
     let set = sorted.share(alloc)?;
@@ -224,16 +224,16 @@ fn plan_many<A: Aggregator>(
     alloc: Global,
     table: &Table<A>,
     few: bool,
-    over: Option<usize>,
+    overflow: Option<usize>,
     list: &HashedSet,
     allow: Option<&AllowedKeys>,
     attributes: &[KeyValue],
 ) -> Result<Pending, Fault>
-    requires over { IfSome over (IsOverflow table.now few) }
+    requires overflow { IfSome overflow (IsOverflow few table.now.table.entries table.now.numbers) }
     requires list { list.now ≡ allowed_part (option_copied allow) attributes.now }
     requires unled { leads list.now table.now ≡ false }
     requires other { set_eq (canon list.now) list.now ≡ false }
-    ensures plan { IfOk result (λ plan. IsPlanFor table.now few list.now (target_of over list.now table.now.table.entries) plan) }
+    ensures plan { IfOk result (λ plan. IsPlanFor table.now few list.now (target_of overflow list.now table.now.table.entries) plan) }
     ensures placed { IsTrue (has (canon list.now) table.now.table.entries) → IsOk result }
     ensures only_memory { IsOkUnless result Fault.OutOfMemory }
 {
@@ -243,13 +243,13 @@ fn plan_many<A: Aggregator>(
                 slice: references.as_slice(),
             };
             let sorted = HashedSet::new(table.hasher(), SetKey::referenced(&sorted));
-            plan_sorted(alloc, table, few, over, list, &sorted)
+            plan_sorted(alloc, table, few, overflow, list, &sorted)
         }
         Err(fault) => {
             let sorted = SetAttributes::canonical(allow, attributes);
             match table.find_set(&HashedSet::new(table.hasher(), SetKey::iterated(&sorted))) {
                 Some(number) => Ok(Pending::At(number)),
-                None => match over {
+                None => match overflow {
                     Some(number) => Ok(Pending::At(number)),
                     None => Err(fault),
                 },
@@ -259,7 +259,7 @@ fn plan_many<A: Aggregator>(
 }
 
 /// What a record is to do with a list that, as given, leads to no entry: with what is kept of these attributes. `few`
-/// says whether the number of counted entries is below the limit, and `over` is the number of the overflow entry, if that
+/// says whether the number of counted entries is below the limit, and `overflow` is the number of the overflow entry, if that
 /// is to be used for a set without an entry, which then isn't copied.
 ///
 /// Looks the canonical form up if that is another list, by references that are sorted. For up to 16 keys this takes no
@@ -269,20 +269,20 @@ pub fn plan<A: Aggregator>(
     alloc: Global,
     table: &Table<A>,
     few: bool,
-    over: Option<usize>,
+    overflow: Option<usize>,
     list: &HashedSet,
     allow: Option<&AllowedKeys>,
     attributes: &[KeyValue],
 ) -> Result<Pending, Fault>
-    requires over { IfSome over (IsOverflow table.now few) }
+    requires overflow { IfSome overflow (IsOverflow few table.now.table.entries table.now.numbers) }
     requires list { list.now ≡ allowed_part (option_copied allow) attributes.now }
     requires unled { leads list.now table.now ≡ false }
-    ensures plan { IfOk result (λ plan. IsPlanFor table.now few list.now (target_of over list.now table.now.table.entries) plan) }
+    ensures plan { IfOk result (λ plan. IsPlanFor table.now few list.now (target_of overflow list.now table.now.table.entries) plan) }
     ensures placed { IsTrue (has (canon list.now) table.now.table.entries) → IsOk result }
     ensures only_memory { IsOkUnless result Fault.OutOfMemory }
 {
     if list.set().is_canonical() {
-        if let Some(number) = over {
+        if let Some(number) = overflow {
             return Ok(Pending::At(number));
         }
         // Tells the prover that the set has no number.
@@ -296,9 +296,9 @@ pub fn plan<A: Aggregator>(
                 slice: references.as_slice(),
             };
             let sorted = HashedSet::new(table.hasher(), SetKey::referenced(&sorted));
-            plan_sorted(alloc, table, few, over, list, &sorted)
+            plan_sorted(alloc, table, few, overflow, list, &sorted)
         }
-        None => plan_many(alloc, table, few, over, list, allow, attributes),
+        None => plan_many(alloc, table, few, overflow, list, allow, attributes),
     }
 }
 

@@ -155,7 +155,7 @@ impl<A: Aggregator> ValueMap<A> {
         }
     }
 
-    /// Does what `prepare_list` does with a list that, as given, leads to no entry. If `over` is the number of the overflow
+    /// Does what `prepare_list` does with a list that, as given, leads to no entry. If `overflow` is the number of the overflow
     /// entry, and the set has no entry, the record or bind is prepared for the overflow entry itself, and the set isn't
     /// copied.
     #[inline(never)]
@@ -164,15 +164,15 @@ impl<A: Aggregator> ValueMap<A> {
         list: &HashedSet,
         allow: Option<&AllowedKeys>,
         attributes: &[KeyValue],
-        over: Option<usize>,
+        overflow: Option<usize>,
     ) -> Result<(), Fault>
         requires list { list.now ≡ allowed_part (option_copied allow) attributes.now }
         requires unknown { knows list.now (known_of self.old) ≡ false }
-        requires over { IfSome over (IsOverflowAt self.old) }
+        requires overflow { IfSome overflow (IsOverflowAt self.old) }
         ensures same { self.new.state ≡ self.old.state }
         ensures numbers { self.new.numbers ≡ self.old.numbers }
         ensures given { self.new.given ≡ self.old.given }
-        ensures ready { OnOk result (self.new.pending ≡ Some (target_of over list.now self.old.state.table.entries)) }
+        ensures ready { OnOk result (self.new.pending ≡ Some (target_of overflow list.now self.old.state.table.entries)) }
         ensures spelling { OnOk result (self.new.spelling ≡ spelling_of list.now self.old.state) }
         ensures refused { OnErr result (self.new.pending ≡ None) }
         ensures placed { IsTrue (is_placed (canon list.now) self.old.state.table.entries) → IsOk result }
@@ -184,7 +184,7 @@ impl<A: Aggregator> ValueMap<A> {
             self.alloc,
             &self.table,
             is_few,
-            over,
+            overflow,
             list,
             allow,
             attributes,
@@ -434,8 +434,8 @@ impl<A: Aggregator> ValueMap<A> {
         ensures spent { self.new.pending ≡ None }
         ensures placed { IsTrue (is_placed (canon attributes.now) self.old.state.table.entries) → IsOk result }
     {
-        let over = self.overflow();
-        match self.prepare_unknown(list, None, attributes, over) {
+        let overflow = self.overflow();
+        match self.prepare_unknown(list, None, attributes, overflow) {
             Ok(()) => {
                 self.commit(value);
                 Ok(())

@@ -5,7 +5,7 @@ use crate::set_up::calls_of;
 use crate::trials::Trial;
 use crate::typed::Instruments;
 use anyhow::{Error, bail};
-use opentelemetry_sdk::common::{Fault, Items, KeyValue};
+use opentelemetry_sdk::common::{Fault, KeyValue};
 use opentelemetry_sdk::metrics::meter::Bound;
 use opentelemetry_sdk::metrics::provider::{Call, NumberValue};
 use opentelemetry_sdk::metrics::shared::{Account, Worker};
@@ -55,6 +55,23 @@ pub fn make_at_worker<R: Print, C: Account, S: Account>(
     }
 }
 
+/// Adds the record of a line.
+fn give<C: Account, S: Account>(worker: &mut Worker<C, S>, call: &Call) -> Result<(), Error> {
+    match call {
+        Call::Record {
+            instrument,
+            value,
+            attributes,
+        } => {
+            let attributes = attributes.clone()?;
+            worker.add(*instrument, *value, attributes.into_vec())?;
+        }
+        Call::RecordBound { handle, value } => worker.add_bound(*handle, *value)?,
+        _ => bail!("a line is no record"),
+    }
+    Ok(())
+}
+
 /// Adds the records of these lines, without this many of the first, and at most so many.
 pub fn give_some<C: Account, S: Account>(
     alloc: Global,
@@ -65,18 +82,7 @@ pub fn give_some<C: Account, S: Account>(
 ) -> Result<(), Error> {
     let calls = calls_of(alloc, lines)?;
     for call in calls.iter().skip(without).take(most) {
-        match call {
-            Call::Record {
-                instrument,
-                value,
-                attributes,
-            } => {
-                let attributes: Items<KeyValue> = attributes.clone()?;
-                worker.add(*instrument, *value, attributes.into_vec())?;
-            }
-            Call::RecordBound { handle, value } => worker.add_bound(*handle, *value)?,
-            _ => bail!("a line is no record"),
-        }
+        give(worker, call)?;
     }
     Ok(())
 }

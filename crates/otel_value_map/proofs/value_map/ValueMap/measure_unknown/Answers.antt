@@ -16,11 +16,11 @@ returns-in-Ok-clause-ok g c =
     let l = c.args.attributes.now in
     let v = g.A.Aggregator.sample c.args.value in
     let some : set_eq l none_set ≡ false = unknown-some l (known_of h) c.requires.unknown in
-    let target : AttributeSet = target_of c.overflow-over.result l h.state.table.entries in
+    let target : AttributeSet = target_of c.overflow-overflow.result l h.state.table.entries in
     let state : c.commit.new.self.state ≡ measured_map (canon l) v h.state =
-    c.commit.ensures.measured target (c.in-Ok.ensures.ready ∙ ap (λ (x : List KeyValue). Some (target_of c.overflow-over.result x h.state.table.entries)) c.requires.list)
+    c.commit.ensures.measured target (c.in-Ok.ensures.ready ∙ ap (λ (x : List KeyValue). Some (target_of c.overflow-overflow.result x h.state.table.entries)) c.requires.list)
     ∙ ap (λ (m : MapState). measured_map target v m) c.prepare_unknown.ensures.same
-    ∙ target-measured c.overflow-over.result l v h some c.overflow-over.ensures in
+    ∙ target-measured c.overflow-overflow.result l v h some c.overflow-overflow.ensures in
     let given : c.commit.new.self.given ≡ h.given ++ spelling_of l h.state =
     c.commit.ensures.given
     ∙ ap (λ (ls : List (List KeyValue)). ls ++ c.prepare_unknown.new.self.spelling) c.prepare_unknown.ensures.given

@@ -47,7 +47,7 @@ returns-clause-ready g c =
     ap (pending_in c.make_ready.new.table.numbers) c.put-2.ensures
     ∙ ap (λ (ns : Numbers). pending_in ns c.in_ok-plan.plan) c.make_ready.ensures.numbers
     ∙ c.in_ok-plan.ensures.plan.pending
-    ∙ ap (λ (h : MapContents). Some (target_of c.args.over c.args.list.now h.state.table.entries)) c.self.view_is
+    ∙ ap (λ (h : MapContents). Some (target_of c.args.overflow c.args.list.now h.state.table.entries)) c.self.view_is
 
 pub returns-clause-spelling : goal.returns-clause-spelling
 returns-clause-spelling g c =
@@ -72,7 +72,7 @@ returns-in_err-make_ready-clause-placed g c =
     let few : Bool = nat_lt c.self.inside.count c.self.inside.limit in
     let new : is_new c.in_ok-plan.plan ≡ true = grind arith in
     let some : set_eq c.args.list.now none_set ≡ false = unknown-some c.args.list.now (known_of c.args.self.now) c.requires.unknown in
-    let away = new-unplaced c.self.inside.table few c.args.list.now c.args.over c.in_ok-plan.plan some c.in_ok-plan.ensures.plan new in
+    let away = new-unplaced c.self.inside.table few c.args.list.now c.args.overflow c.in_ok-plan.plan some c.in_ok-plan.ensures.plan new in
     rw (← c.self.view_is) (λ placed. absurd (true≢false (sym placed ∙ away)))
 
 pub returns-in_err-plan-clause-placed : goal.returns-in_err-plan-clause-placed

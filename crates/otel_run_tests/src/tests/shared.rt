@@ -1,7 +1,5 @@
-use crate::cases::{Case, share_boxes};
-use crate::counted::fault_of;
-use crate::threads::Recording;
-use crate::typed::Instruments;
+//! A provider that threads share: with threads, with one worker and no thread, and what threads may be handed.
+
 use otel_common::faults::Fault;
 use otel_provider::provider::SdkMeterProvider;
 use otel_shared::account::{check_book, check_workers};
@@ -12,6 +10,20 @@ use std::process::Abort;
 use std::sync::Wait;
 use std::test::*;
 use std::thread::Threads;
+
+mod alone;
+mod cases;
+mod counted;
+mod crossing;
+mod handed;
+mod limits;
+mod threads;
+mod typed;
+
+use cases::{Case, share_boxes};
+use counted::fault_of;
+use threads::Recording;
+use typed::Instruments;
 
 /// A provider of this identity, with one reader.
 fn provider_of(alloc: Global, identity: u64) -> Result<SdkMeterProvider, Fault> {

@@ -1,6 +1,6 @@
 //! Workers without threads: what their calls answer, one after another.
 
-use crate::counted::{add, fault_of_call, open_worker};
+use super::counted::{add, fault_of_call, open_worker};
 use otel_common::faults::Fault;
 use otel_common::lists::Items;
 use otel_core::calls::Call;

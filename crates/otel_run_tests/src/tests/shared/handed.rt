@@ -6,7 +6,7 @@ ghost use Rattle.otel_provider.specs.Providers.{state_of};
 ghost use Rattle.otel_shared.specs.Pending.{bits_in};
 ghost use Rattle.otel_shared.specs.Workers.{pending_of, records_of, values_of};
 
-use crate::counted::write_counters;
+use super::counted::write_counters;
 use otel_common::faults::Fault;
 use otel_provider::parts::Parts;
 use otel_provider::provider::Provider;

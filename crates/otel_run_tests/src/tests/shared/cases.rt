@@ -4,11 +4,11 @@ ghost use Rattle.std.specs.Prelude.{◌≡◌, ◌%◌, ◌^◌};
 ghost use Rattle.otel_model_laws.specs.Books.{count_in, sum_in};
 ghost use Rattle.otel_provider.specs.Providers.{state_of};
 
-use crate::alone::follow;
-use crate::counted::build_counters;
-use crate::handed::settle_twice;
-use crate::threads::{Recording, record};
-use crate::typed::{Instruments, record_typed};
+use super::alone::follow;
+use super::counted::build_counters;
+use super::handed::settle_twice;
+use super::threads::{Recording, record};
+use super::typed::{Instruments, record_typed};
 use otel_common::faults::Fault;
 use otel_provider::parts::{Boxed, Parts};
 use otel_provider::provider::{Provider, SdkMeterProvider};

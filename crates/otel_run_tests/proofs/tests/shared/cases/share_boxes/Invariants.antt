@@ -1,7 +1,7 @@
 use Rattle.std.specs.Prelude.{◌%◌, ◌^◌}
 use Rattle.otel_model_laws.specs.Books.{count_in, sum_in}
 use Rattle.otel_provider.specs.Providers.{state_of}
-use Rattle.otel_shared_tests.proofs.cases.share_boxes.Given as goal
+use Rattle.otel_run_tests.proofs.tests.shared.cases.share_boxes.Given as goal
 
 abbrev pub ghosts-share-C-Ledger : goal.ghosts-share-C-Ledger
 ghosts-share-C-Ledger g a = record { name = a.records.name; parts = a.records.parts }

@@ -3,7 +3,7 @@ use Rattle.std.proofs.Math.Seq.{take-length}
 use Rattle.otel_model.specs.State.{State}
 use Rattle.otel_shared.specs.Pending.{bits_in, Submits}
 use Rattle.otel_shared.specs.declared.pending.PendingRecord.{PendingRecord}
-use Rattle.otel_shared_tests.proofs.handed.hand_in.Goals as goal
+use Rattle.otel_run_tests.proofs.tests.shared.handed.hand_in.Goals as goal
 
 -- a submission that leaves none has made all
 all_made : (old : State) (before : List PendingRecord) (new : State) (after : List PendingRecord) (n v : ℕ) → Submits old before new after n v → after ≡ [] → (n ≡ length before) × (v ≡ sum_by bits_in before)

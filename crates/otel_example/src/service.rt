@@ -1,6 +1,4 @@
 //! A service: two threads serve requests of a shop, which are counted, timed and observed.
-#![tactic(auto)]
-
 ghost use Rattle.std.specs.Prelude.{⊤};
 
 use anyhow::Result;
@@ -74,13 +72,14 @@ fn serve<R: Print + Threads + Wait + Sync>(rt: &R, alloc: Global, mut shop: Shop
     Ok(print!(rt; "{}{}", shop.collected(0, 200)?, shop.collected(1, 200)?)?)
 }
 
-fn main(rt: HostRuntime) -> Result<()> {
+/// The service, with a reader of all that was counted so far and one of what is new.
+pub fn with_service<R: Print + Threads + Wait + Sync>(rt: &R, alloc: Global) -> Result<()> {
     let few = Stream::builder().with_cardinality_limit(50).build()?;
     let delta = ManualReader::builder().with_temporality(Temporality::Delta);
-    let shop = Provider::builder(rt.alloc())
-        .with_view(SelectorView::of_name(rt.alloc(), "served", few)?)?
+    let shop = Provider::builder(alloc)
+        .with_view(SelectorView::of_name(alloc, "served", few)?)?
         .with_reader(ManualReader::default())?
         .with_reader(delta.build())?
         .build()?;
-    serve(&rt, rt.alloc(), shop)
+    serve(rt, alloc, shop)
 }

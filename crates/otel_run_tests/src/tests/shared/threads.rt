@@ -1,7 +1,7 @@
 //! Threads with a worker each, and one that collects under the lock meanwhile.
 
-use crate::counted::{add, open_workers, read};
-use crate::handed::hand_in;
+use super::counted::{add, open_workers, read};
+use super::handed::hand_in;
 use otel_common::faults::Fault;
 use otel_provider::parts::Parts;
 use otel_shared::account::Account;

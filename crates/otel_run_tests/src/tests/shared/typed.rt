@@ -1,6 +1,6 @@
 //! Instruments and handles as values, of the worker's provider and of another one.
 
-use crate::counted::{fault_of, open_workers, read};
+use super::counted::{fault_of, open_workers, read};
 use otel_common::faults::Fault;
 use otel_provider::bound::Bound;
 use otel_provider::parts::Parts;

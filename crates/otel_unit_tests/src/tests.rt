@@ -1,0 +1,5 @@
+//! Worked rows, texts, and each public function called at least once.
+
+mod aggregate;
+mod prometheus;
+mod stream;
