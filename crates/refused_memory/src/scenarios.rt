@@ -9,10 +9,11 @@ use anyhow::{Error, bail};
 /// call of the lines by a method, at instruments as values: a build with all that can be set, a record, or a handle that is
 /// bound, records and ends; `timeout` shuts down with a time limit; and `build` is the builder of a provider.
 ///
-/// The place `alone` is such a provider with one reader. At the place `shared`, which is a shared provider with a worker:
-/// `line` and `collect`; `open` opens the worker; `add` adds a record in some way to the records that wait; `submit`, of
-/// which every second, from the first, must not be refused, `submit_all` again and again until it is not refused, and
-/// `take_first` are of the records that wait; and `settle` leaves them. A value, at the place `value`, needs no provider.
+/// The place `alone` is such a provider with one reader, and `full` the same with an overflow entry of the first
+/// instrument. At the place `shared`, which is a shared provider with a worker: `line` and `collect`; `open` opens the
+/// worker; `add` adds a record in some way to the records that wait; `submit`, of which every second, from the first, must
+/// not be refused, `submit_all` again and again until it is not refused, and `take_first` are of the records that wait;
+/// and `settle` leaves them. A value, at the place `value`, needs no provider.
 #[derive(Drop)]
 pub struct Scenario<'a> {
     /// Whether the call must not be refused for want of memory.
@@ -175,6 +176,8 @@ sure alone line | record 2 u:8 b=i:1
 sure alone line | record 3 u:8 a=i:1
 sure alone line | recordbound 0 u:8
 sure alone line | recordbound 2 u:8
+sure full line | record 0 u:8 z=i:9
+sure full line | record 0 u:8 z=i:9,y=s:x,a=i:1
 sure value stream
 sure value reader
 sure shared line | meter app

@@ -22,7 +22,7 @@ reader delta limit:histogram=2
 reader lowmemory agg:updowncounter=hist:0,10
 ";
 
-/// The only reader at the place `alone`.
+/// The only reader at the places `alone` and `full`.
 const ALONE: &str = "\
 reader delta limit:histogram=2
 ";
@@ -87,15 +87,23 @@ record 3 u:7 a=i:1
 record 5 u:8 d=i:1
 recordbound 2 u:9";
 
+/// The last call at the place `full`: a record past the limit, which brings the overflow entry.
+const PAST: &str = "record 0 u:2 y=i:1";
+
+/// Whether the provider at a place has one reader.
+fn is_alone(place: &str) -> bool {
+    matches!(place, "alone" | "full")
+}
+
 /// The readers and views of the provider at a place, as a script.
 pub fn settings(alloc: Global, place: &str) -> Result<String, Error> {
-    let readers = if place == "alone" { ALONE } else { READERS };
+    let readers = if is_alone(place) { ALONE } else { READERS };
     Ok(format!(in alloc; "{readers}{VIEWS}")?)
 }
 
-/// The calls before the call under test. At the place `alone` its only reader collects in place of the others.
+/// The calls before the call under test. The only reader, if there is one, collects in place of the others.
 fn first(alloc: Global, place: &str) -> Result<String, Error> {
-    if place == "alone" {
+    if is_alone(place) {
         let calls = FIRST.replace(alloc, "collect 1", "collect 0")?;
         return Ok(calls.replace(alloc, "collect 2", "collect 0")?);
     }
@@ -151,8 +159,11 @@ pub fn fill<P: Parts<ObserveU64 = Counting, ObserveI64 = Counting>>(
     let calls = first(alloc, place)?;
     make_all(alloc, provider, calls.as_str())?;
     watch(alloc, provider, ahead)?;
-    let reader = if place == "alone" { 0 } else { 1 };
+    let reader = if is_alone(place) { 0 } else { 1 };
     let _ = provider.collected(reader, 175)?;
     make_all(alloc, provider, SINCE)?;
+    if place == "full" {
+        make_all(alloc, provider, PAST)?;
+    }
     Ok(instruments_at(alloc, provider)?)
 }
