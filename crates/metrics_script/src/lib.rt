@@ -5,6 +5,7 @@ mod aggregations;
 mod attributes;
 mod boundaries;
 mod calls;
+pub mod exports;
 pub mod failures;
 mod keys;
 mod kinds;

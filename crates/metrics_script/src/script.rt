@@ -18,7 +18,13 @@ pub fn script<R: Read + Drop, W: Write + Drop, E: Write + Drop>(
     output: W,
     mut errors: E,
 ) -> u8 {
-    match run_script(alloc, input, output) {
+    let ended = run_script(alloc, input, output);
+    status_of_run(&ended, &mut errors)
+}
+
+/// The status of a run that has ended so. A failure is written, too.
+pub(crate) fn status_of_run<E: Write>(ended: &Result<(), Failure>, errors: &mut E) -> u8 {
+    match ended {
         Ok(()) => 0,
         Err(failure) => {
             // If this fails, the status stays the same.
@@ -34,8 +40,7 @@ fn run_script<R: Read + Drop, W: Write + Drop>(
     input: R,
     output: W,
 ) -> Result<(), Failure> {
-    let script = read_script(alloc, input)?;
-    let replies = replies_of(alloc, script)?;
+    let replies = replies_to_input(alloc, input)?;
     write_replies(alloc, output, replies.as_slice())
 }
 
@@ -43,6 +48,14 @@ fn run_script<R: Read + Drop, W: Write + Drop>(
 fn read_script<R: Read + Drop>(alloc: Global, input: R) -> Result<Script, Failure> {
     let bytes = read_all(alloc, input)?;
     script_of(alloc, bytes.as_slice())
+}
+
+/// Reads a script and makes its calls.
+pub(crate) fn replies_to_input<R: Read + Drop>(
+    alloc: Global,
+    input: R,
+) -> Result<Vec<Reply>, Failure> {
+    replies_of(alloc, read_script(alloc, input)?)
 }
 
 /// Makes the calls of a script on a new provider with the script's readers and views, and returns the replies. All lines

@@ -1,4 +1,7 @@
--- Words of the crates below, for the contracts of programs.
+-- What a shared provider, its workers and their records are, and words of the crates below, for the contracts of programs.
+pub mod Pending
+pub mod Shared
+pub mod Workers
 pub use Rattle.otel_stream.specs.Runs
 pub use Rattle.otel_common.specs.declared.attributes.KeyValue
 pub use Rattle.otel_common.specs.declared.faults.Fault
@@ -19,6 +22,3 @@ pub use Rattle.otel_model_laws.specs.Lawful
 pub use Rattle.otel_provider.specs.Callbacks
 pub use Rattle.otel_provider.specs.Providers
 pub use Rattle.otel_provider.specs.Typed
-pub use Rattle.otel_shared.specs.Pending
-pub use Rattle.otel_shared.specs.Shared
-pub use Rattle.otel_shared.specs.Workers

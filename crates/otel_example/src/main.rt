@@ -5,6 +5,7 @@ mod balances;
 mod calls;
 mod counted;
 mod first;
+mod hello;
 mod parts;
 mod service;
 mod shop;
@@ -17,6 +18,7 @@ use balances::count_any;
 use calls::{counter, print_collection};
 use counted::count_batch;
 use first::{Waiting, first_program};
+use hello::hello;
 use opentelemetry_sdk::metrics::callback::ObserveU64;
 use opentelemetry_sdk::metrics::provider::{Boxed, Parts, Provider};
 use opentelemetry_sdk::metrics::reader::MetricReader;
@@ -80,6 +82,7 @@ fn in_batches<P: Parts>(rt: &impl Print, alloc: Global, reader: P::Reader) -> Re
 }
 
 fn main(rt: HostRuntime) -> Result<(), Error> {
+    hello(&rt, rt.alloc())?;
     with_boxes(&rt, rt.alloc())?;
     without_boxes(&rt, rt.alloc())?;
     with_views(&rt, rt.alloc())?;

@@ -1,4 +1,5 @@
 //! A service: two threads serve requests of a shop, which are counted, timed and observed.
+
 ghost use Rattle.std.specs.Prelude.{⊤};
 
 use anyhow::Result;

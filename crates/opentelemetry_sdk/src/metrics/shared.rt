@@ -1,7 +1,16 @@
-//! A provider that threads share: one lock, a book, and workers.
+//! A provider that threads share: its core and a book under one lock, and workers that hand in lists of records.
+//!
+//! The threads and the lock are the caller's. No function here starts a thread, takes the lock or waits.
 
-pub use otel_shared::account::{Account, MOST_WORKERS};
-pub use otel_shared::booked::Receipt;
-pub use otel_shared::locked::{Locked, SharedMeterProvider, SharedProvider};
-pub use otel_shared::pending::PendingRecord;
-pub use otel_shared::worker::Worker;
+pub mod account;
+mod adding;
+mod booked;
+mod locked;
+mod pending;
+mod worker;
+
+pub use account::{Account, MOST_WORKERS};
+pub use booked::Receipt;
+pub use locked::{Locked, SharedMeterProvider, SharedProvider};
+pub use pending::PendingRecord;
+pub use worker::Worker;

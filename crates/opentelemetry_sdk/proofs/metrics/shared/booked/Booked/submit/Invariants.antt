@@ -1,0 +1,18 @@
+use Rattle.std.proofs.Common.{◌≡◌, ◌+◌, ◌-◌, ◌≤◌, length}
+use Rattle.opentelemetry_sdk.specs.Pending.{Submits}
+use Rattle.opentelemetry_sdk.specs.Workers.{pending_of, records_of, values_of, worker_identity}
+use Rattle.opentelemetry_sdk.proofs.metrics.shared.booked.Booked.submit.Given as goal
+
+abbrev pub invariant-loop : goal.invariant-loop
+invariant-loop g l = record {
+  count_grew : records_of l.fn.worker ≤ records_of l.worker;
+  value_grew : values_of l.fn.worker ≤ values_of l.worker;
+  made : Submits l.fn.self.core (pending_of l.fn.worker) l.self.core (pending_of l.worker) (records_of l.worker - records_of l.fn.worker) (values_of l.worker - values_of l.fn.worker);
+  records : l.self.records.total + records_of l.fn.worker ≡ l.fn.self.records.total + records_of l.worker;
+  values : l.self.values.total + values_of l.fn.worker ≡ l.fn.self.values.total + values_of l.worker;
+  opened : l.self.opened ≡ l.fn.self.opened;
+  identity : worker_identity l.worker ≡ worker_identity l.fn.worker;
+}
+
+abbrev pub decreases-loop : goal.decreases-loop
+decreases-loop g l = length (pending_of l.worker)

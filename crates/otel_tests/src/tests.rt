@@ -1,0 +1,7 @@
+//! Worked rows, texts, and each public function called at least once.
+
+mod aggregate;
+mod prometheus;
+mod run;
+mod scripts;
+mod stream;

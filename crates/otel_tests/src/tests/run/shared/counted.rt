@@ -1,0 +1,157 @@
+//! Counters by number, and what a collection shows of them.
+
+use opentelemetry_sdk::metrics::shared::{Account, Locked, Worker};
+use otel_common::faults::Fault;
+use otel_common::scopes::InstrumentationScope;
+use otel_common::strings::StringValue;
+use otel_core::calls::{Call, Reply};
+use otel_core::sorts::InstrumentSort;
+use otel_data::aggregated::{AggregatedMetrics, MetricData};
+use otel_data::collections::{Metric, ResourceMetrics};
+use otel_data::numbers::NumberValue;
+use otel_provider::parts::Parts;
+use otel_provider::provider::Provider;
+use std::alloc::Global;
+
+/// The number of the fault of a refusal, otherwise 0.
+pub fn fault_of<T: Drop>(answer: Result<T, Fault>) -> u64 {
+    match answer {
+        Ok(_) => 0,
+        Err(fault) => u64::from(fault.number()),
+    }
+}
+
+/// The number of the fault of a refusal, otherwise 0.
+fn refusal(reply: &Reply) -> u64 {
+    match reply {
+        Reply::Refused(fault) => u64::from(fault.number()),
+        _ => 0,
+    }
+}
+
+/// The number of the fault of a call that is refused, otherwise 0.
+pub fn fault_of_call<P: Parts, C: Account, S: Account>(
+    locked: &mut Locked<P, C, S>,
+    call: &Call,
+) -> u64 {
+    refusal(&locked.call(call))
+}
+
+/// The build of a counter of the first meter.
+fn build_of(alloc: Global, name: &str) -> Result<Call, Fault> {
+    let name = StringValue::new(alloc, name)?;
+    Ok(Call::Build {
+        meter: Some(0),
+        sort: InstrumentSort::U64Counter,
+        name,
+        description: None,
+        unit: None,
+        boundaries: None,
+        now: 100,
+    })
+}
+
+/// Builds a counter of the first meter.
+fn build_counter<P: Parts, C: Account, S: Account>(
+    alloc: Global,
+    locked: &mut Locked<P, C, S>,
+    name: &str,
+) -> Result<(), Fault> {
+    let build = build_of(alloc, name)?;
+    let _ = fault_of_call(locked, &build);
+    Ok(())
+}
+
+/// Builds the counters `a`, with the number 0, and `b`, with the number 1.
+pub fn build_counters<P: Parts, C: Account, S: Account>(
+    alloc: Global,
+    locked: &mut Locked<P, C, S>,
+) -> Result<(), Fault> {
+    let name = String::from_str(alloc, "app")?;
+    let scope = InstrumentationScope::builder(alloc, name).build()?;
+    let _ = fault_of_call(locked, &Call::Meter { scope });
+    build_counter(alloc, locked, "a")?;
+    build_counter(alloc, locked, "b")
+}
+
+/// Adds a record to a worker's list, without attributes.
+pub fn add<C: Account, S: Account>(
+    alloc: Global,
+    worker: &mut Worker<C, S>,
+    instrument: usize,
+    value: u64,
+) -> Result<(), Fault> {
+    worker.add(instrument, NumberValue::U64(value), Vec::new(alloc))
+}
+
+/// Opens one worker more.
+pub fn open_worker<P: Parts, C: Account, S: Account>(
+    locked: &mut Locked<P, C, S>,
+    workers: &mut Vec<Worker<C, S>>,
+) -> Result<(), Fault> {
+    workers.push(locked.open_worker()?)?;
+    Ok(())
+}
+
+/// Opens so many workers.
+pub fn open_workers<P: Parts, C: Account, S: Account>(
+    alloc: Global,
+    locked: &mut Locked<P, C, S>,
+    number: usize,
+) -> Result<Vec<Worker<C, S>>, Fault> {
+    let mut workers = Vec::new(alloc);
+    for _ in 0..number {
+        open_worker(locked, &mut workers)?;
+    }
+    Ok(workers)
+}
+
+/// The value of the last point of a metric that is a sum of unsigned numbers.
+fn value_of(metric: &Metric) -> u64 {
+    let mut value = 0;
+    if let AggregatedMetrics::U64(MetricData::Sum(sum)) = metric.data() {
+        for point in sum.data_points() {
+            value = point.value();
+        }
+    }
+    value
+}
+
+/// The values of the counters `a` and `b`, each 0 if it isn't shown.
+fn values_in(collected: &ResourceMetrics) -> (u64, u64) {
+    let mut values = (0, 0);
+    for scope in collected.scope_metrics() {
+        for metric in scope.metrics() {
+            match metric.name() {
+                "a" => values.0 = value_of(metric),
+                "b" => values.1 = value_of(metric),
+                _ => {}
+            }
+        }
+    }
+    values
+}
+
+/// What the first reader collects of the counters `a` and `b`.
+pub fn read<P: Parts, C: Account, S: Account>(
+    alloc: Global,
+    locked: &mut Locked<P, C, S>,
+    now: u64,
+) -> Result<(u64, u64), Fault> {
+    let mut collected = ResourceMetrics::default(alloc);
+    locked.collect(0, now, &mut collected)?;
+    Ok(values_in(&collected))
+}
+
+/// Writes what the first reader of a provider collects of the counters `a` and `b`.
+pub fn write_counters<P: Parts>(
+    alloc: Global,
+    provider: &mut Provider<P>,
+    text: &mut String,
+) -> Result<(), Fault> {
+    let mut collected = ResourceMetrics::default(alloc);
+    provider.collect(0, 1100, &mut collected)?;
+    let (a, b) = values_in(&collected);
+    write!(text, "{a} and {b}")?;
+    Ok(())
+}

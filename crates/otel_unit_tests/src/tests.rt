@@ -1,5 +1,0 @@
-//! Worked rows, texts, and each public function called at least once.
-
-mod aggregate;
-mod prometheus;
-mod stream;
