@@ -17,8 +17,8 @@ pub use Rattle.otel_model.specs.Machine
 pub use Rattle.otel_model.specs.Refusals
 pub use Rattle.otel_model.specs.State
 pub use Rattle.otel_model.specs.Steps
-pub use Rattle.otel_model_laws.specs.Books
-pub use Rattle.otel_model_laws.specs.Lawful
+pub use Rattle.otel_model.specs.Books
+pub use Rattle.otel_model.specs.Lawful
 pub use Rattle.otel_provider.specs.Callbacks
 pub use Rattle.otel_provider.specs.Providers
 pub use Rattle.otel_provider.specs.Typed

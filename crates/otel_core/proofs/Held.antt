@@ -13,8 +13,8 @@ use Rattle.otel_model.specs.Machine.{part_after_call, accepted_by, without_handl
 use Rattle.otel_model.specs.Refusals.{bind_refusal, instrument_held, held_refusal, handle_refusal, unbind_refusal}
 use Rattle.otel_model.specs.State.{InstrumentState, LiveHandle, Shared, ReaderPart, State}
 use Rattle.otel_model.specs.Steps.{Step, reply_by, after_by}
-use Rattle.otel_model_laws.specs.Lawful.{HandlesAreSound, PartIsLawful, TakesRecords}
-use Rattle.otel_model_laws.proofs.Handles.{unfed-unheld, new-unheld}
+use Rattle.otel_model.specs.Lawful.{HandlesAreSound, PartIsLawful, TakesRecords}
+use Rattle.otel_model.proofs.Handles.{unfed-unheld, new-unheld}
 use Rattle.otel_pipeline.specs.Handles.{FeedsSynchronous, IsNewAt, IsHeldByFed, IsReadyToBindAt, part_after_bind}
 use Rattle.otel_pipeline.specs.Pipelines.{Piped, part_of}
 use Rattle.otel_pipeline.proofs.Handles.{bound-sent}

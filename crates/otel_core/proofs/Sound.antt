@@ -10,8 +10,8 @@ use Rattle.otel_model.specs.Sent.{scope_of}
 use Rattle.otel_model.specs.State.{InstrumentState, ReaderPart, State}
 use Rattle.otel_model.specs.Steps.{Step, after, after_by}
 use Rattle.otel_model.proofs.Single.{step_cases}
-use Rattle.otel_model_laws.specs.Lawful.{Balances}
-use Rattle.otel_model_laws.proofs.Booked.{first_lawful, run_lawful, balances_law}
+use Rattle.otel_model.specs.Lawful.{Balances}
+use Rattle.otel_model.proofs.Booked.{first_lawful, run_lawful, balances_law}
 use Rattle.otel_core.specs.States.{AreTyped, IsSound}
 use Rattle.otel_core.proofs.Typed.{typed-built, typed-kept, typed-sent}
 

@@ -13,7 +13,7 @@ use Rattle.otel_model.specs.Refusals.{first_fault, number_refusal, observation_r
 use Rattle.otel_model.specs.Sent.{is_fed}
 use Rattle.otel_model.specs.State.{InstrumentState, ReaderPart}
 use Rattle.otel_model.proofs.Gather.{identity_eq_true}
-use Rattle.otel_model_laws.proofs.Feeding.{is_one, fed_demanded}
+use Rattle.otel_model.proofs.Feeding.{is_one, fed_demanded}
 use Rattle.otel_pipeline.specs.Handles.{AreObservableFor}
 use Rattle.otel_pipeline.specs.Observations.{AreTypedFor}
 use Rattle.otel_pipeline.specs.Pipelines.{Piped, part_of}

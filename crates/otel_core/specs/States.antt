@@ -11,7 +11,7 @@ use Rattle.otel_model.specs.Demands.{Identity, StreamSpec, View, Views, instrume
 use Rattle.otel_model.specs.State.{InstrumentState, Shared, ReaderPart, State}
 use Rattle.otel_model.specs.Refusals.{meter_refusal}
 use Rattle.otel_model.specs.Sent.{is_fed, scope_of}
-use Rattle.otel_model_laws.specs.Lawful.{IsLawful}
+use Rattle.otel_model.specs.Lawful.{IsLawful}
 use Rattle.otel_pipeline.specs.Pipelines.{FeedsType}
 use Rattle.otel_core.specs.Correspondence.{observed_of}
 

@@ -9,7 +9,7 @@ ghost use Rattle.otel_model.specs.Machine.{new_instrument, part_after_build};
 ghost use Rattle.otel_model.specs.Refusals.{meter_refusal};
 ghost use Rattle.otel_model.specs.Sent.{has_scope};
 ghost use Rattle.otel_model.specs.Steps.{Step};
-ghost use Rattle.otel_model_laws.specs.Lawful.{Balances};
+ghost use Rattle.otel_model.specs.Lawful.{Balances};
 ghost use Rattle.otel_pipeline.specs.Pipelines.{part_of};
 ghost use Rattle.otel_pipeline.specs.Views.{views_answering};
 ghost use Rattle.otel_core.specs.Checks.{has_stream};

@@ -5,7 +5,7 @@ ghost use Rattle.otel_model.specs.Calls as model;
 ghost use Rattle.otel_model.specs.Demands.{Views};
 ghost use Rattle.otel_model.specs.Laws.{KeepsReaders};
 ghost use Rattle.otel_model.specs.Steps.{Step};
-ghost use Rattle.otel_model_laws.specs.Lawful.{Balances};
+ghost use Rattle.otel_model.specs.Lawful.{Balances};
 ghost use Rattle.otel_core.specs.Checks.{collect_refusal};
 ghost use Rattle.otel_core.specs.Correspondence.{fault_of, observed_of, reply_from};
 

@@ -5,7 +5,7 @@ ghost use Rattle.otel_model.specs.Calls as model;
 ghost use Rattle.otel_model.specs.Demands.{Views};
 ghost use Rattle.otel_model.specs.Machine.{new_state};
 ghost use Rattle.otel_model.specs.Steps.{Step};
-ghost use Rattle.otel_model_laws.specs.Lawful.{Balances, IsLawful};
+ghost use Rattle.otel_model.specs.Lawful.{Balances, IsLawful};
 ghost use Rattle.otel_core.specs.Correspondence.{reply_to};
 ghost use Rattle.otel_core.specs.Readers.{AreReached, ShutsDown};
 ghost use Rattle.otel_stream.specs.Requests.{wanted_by};

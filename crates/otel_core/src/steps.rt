@@ -4,7 +4,7 @@ ghost use Rattle.std.specs.Prelude.{◌≡◌, true, map, IfOk, OnErr, IsOkUnles
 ghost use Rattle.otel_model.specs.Calls as model;
 ghost use Rattle.otel_model.specs.Demands.{Views};
 ghost use Rattle.otel_model.specs.Steps.{Step, Run};
-ghost use Rattle.otel_model_laws.specs.Lawful.{Balances};
+ghost use Rattle.otel_model.specs.Lawful.{Balances};
 ghost use Rattle.otel_core.specs.Correspondence.{kind_of, is_signed, number_of, observed_of, call_of, reply_of, reply_to};
 ghost use Rattle.otel_core.specs.Known.{is_known, IsKnown, HasMemory};
 ghost use Rattle.otel_core.specs.Readers.{AreReachedBy, ShutsDown, StepReaches, RunReaches};

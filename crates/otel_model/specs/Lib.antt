@@ -15,3 +15,10 @@ pub mod Totals
 pub mod Accepted
 pub mod Answered
 pub mod Laws
+pub mod Orders
+pub mod Builds
+pub mod Lawful
+pub mod Books
+pub mod Shares
+pub mod Showing
+pub mod Given

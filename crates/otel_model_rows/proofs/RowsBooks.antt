@@ -3,7 +3,7 @@ use Rattle.std.specs.Prelude.{◌≡◌, ℕ, ℤ, pos, negsuc, [], ◌∷◌, �
 use Rattle.std.proofs.Common.{refl}
 use Rattle.otel_model_stream.specs.Folds.{Amount}
 use Rattle.otel_model.specs.Calls.{Record, RecordBound, Unbind, Bind, UnknownInstrument, Reply}
-use Rattle.otel_model_laws.specs.Shares.{Book, empty_book, book_after_record, booked_each, booked_by, sum_of_shares}
+use Rattle.otel_model.specs.Shares.{Book, empty_book, book_after_record, booked_each, booked_by, sum_of_shares}
 use Rattle.otel_model_rows.specs.Rows.{u64}
 
 abbrev amount : ℕ → ℤ → Amount

@@ -16,7 +16,7 @@ use Rattle.otel_model.specs.Machine.{new_part, new_state}
 use Rattle.otel_model.specs.Resources.{empty_resource}
 use Rattle.otel_model.specs.State.{ReaderPart}
 use Rattle.otel_model.specs.Steps.{state_of}
-use Rattle.otel_model_laws.specs.Given.{Heading, total_given, total_recorded, streams_under, total_pending}
+use Rattle.otel_model.specs.Given.{Heading, total_given, total_recorded, streams_under, total_pending}
 use Rattle.otel_model_rows.specs.Rows.{a, b, m, scope_named, about, with_own_bounds, u64, i64, x1, y1, if_named, limited, aggregating, cumulative, delta, replies, on, add, observe}
 
 abbrev heading : Text → Heading

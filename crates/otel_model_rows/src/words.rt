@@ -13,7 +13,7 @@ ghost use Rattle.otel_model.specs.Refusals.{first_fault};
 ghost use Rattle.otel_model.specs.Resources.{empty_resource, merged_url};
 ghost use Rattle.otel_model.specs.State.{State};
 ghost use Rattle.otel_model.specs.Steps.{Step, collect_reply};
-ghost use Rattle.otel_model_laws.specs.Shares.{booked_by, empty_book};
+ghost use Rattle.otel_model.specs.Shares.{booked_by, empty_book};
 ghost use Rattle.otel_model_rows.specs.Rows.{delta, m, u64};
 
 /// Names, units, bounds, settings of streams, and their texts.

@@ -6,7 +6,7 @@ use Rattle.otel_model.specs.Laws.{OfReader, OfStream, OfEachReader, OfEachStream
 use Rattle.otel_model.specs.Resources.{Resource}
 use Rattle.otel_model.specs.State.{State}
 use Rattle.otel_model.specs.Steps.{Run}
-use Rattle.otel_model_laws.proofs.Reorder.{records_law}
+use Rattle.otel_model.proofs.Reorder.{records_law}
 use Rattle.otel_provider.specs.Headline.{OfReaders, OfStreams, OfAnswers, InAnyOrder}
 use Rattle.otel_core.specs.Correspondence.{call_of, reply_of}
 use Rattle.otel_core.specs.declared.calls.Call.{Call}

@@ -10,7 +10,7 @@ use Rattle.otel_model.specs.Machine.{new_state}
 use Rattle.otel_model.specs.Resources.{Resource}
 use Rattle.otel_model.specs.State.{ReaderPart, State, Stream}
 use Rattle.otel_model.specs.Steps.{Run}
-use Rattle.otel_model_laws.specs.Orders.{IsReordered}
+use Rattle.otel_model.specs.Orders.{IsReordered}
 use Rattle.otel_core.specs.Correspondence.{call_of, reply_of}
 use Rattle.otel_core.specs.declared.calls.Call.{Call}
 use Rattle.otel_core.specs.declared.calls.Reply.{Reply}

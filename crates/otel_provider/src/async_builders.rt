@@ -6,7 +6,7 @@ ghost use Rattle.otel_stream.specs.declared.registered.Callback.TheVariants.{U64
 ghost use Rattle.otel_model.specs.Calls as model;
 ghost use Rattle.otel_model.specs.Laws.{KeepsReaders};
 ghost use Rattle.otel_model.specs.Steps.{Step};
-ghost use Rattle.otel_model_laws.specs.Lawful.{Balances};
+ghost use Rattle.otel_model.specs.Lawful.{Balances};
 ghost use Rattle.otel_provider.specs.Callbacks.{registered_callback, added_callbacks};
 ghost use Rattle.otel_core.specs.Correspondence.{about};
 ghost use Rattle.otel_provider.specs.Providers.{state_of, views_of, provider_readers, provider_views, callbacks_of};

@@ -11,8 +11,8 @@ ghost use Rattle.otel_model.specs.Laws.{HasStreamsOfBuilds, HasFeedsOfBuilds, Ha
 ghost use Rattle.otel_model.specs.Machine.{new_state};
 ghost use Rattle.otel_model.specs.Resources.{empty_resource, merged_resource};
 ghost use Rattle.otel_model.specs.Steps.{Step, Run, asks_readers};
-ghost use Rattle.otel_model_laws.specs.Given.{IsGivenOrPending};
-ghost use Rattle.otel_model_laws.specs.Lawful.{Balances, IsLawful};
+ghost use Rattle.otel_model.specs.Given.{IsGivenOrPending};
+ghost use Rattle.otel_model.specs.Lawful.{Balances, IsLawful};
 ghost use Rattle.otel_core.specs.Checks.{collect_refusal};
 ghost use Rattle.otel_provider.specs.Callbacks.{IsCollectionOf, IsCollected};
 ghost use Rattle.otel_provider.specs.Headline.{OfReaders, OfStreams, OfAnswers, InAnyOrder};

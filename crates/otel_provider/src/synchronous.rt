@@ -4,7 +4,7 @@ ghost use Rattle.std.specs.Prelude.{◌≡◌, true, Err, IfErr};
 ghost use Rattle.otel_model.specs.Calls as model;
 ghost use Rattle.otel_model.specs.Laws.{KeepsReaders};
 ghost use Rattle.otel_model.specs.Steps.{Step};
-ghost use Rattle.otel_model_laws.specs.Lawful.{Balances};
+ghost use Rattle.otel_model.specs.Lawful.{Balances};
 ghost use Rattle.otel_core.specs.Correspondence.{number_of};
 ghost use Rattle.otel_core.specs.Known.{is_known};
 ghost use Rattle.otel_provider.specs.Providers.{state_of, views_of, provider_readers, provider_views, callbacks_of};

@@ -1,5 +1,5 @@
 use Rattle.std.proofs.Common.{subst}
-use Rattle.otel_model_laws.specs.Lawful.{Balances}
+use Rattle.otel_model.specs.Lawful.{Balances}
 use Rattle.otel_core.specs.Cores.{state_in}
 use Rattle.otel_core.proofs.Sound.{sound-balances}
 use Rattle.otel_core.proofs.provider_core.Core.check_meter.Goals as goal

@@ -1,6 +1,6 @@
 use Rattle.std.proofs.Common.{refl, subst, Err}
 use Rattle.otel_common.specs.declared.faults.Fault.TheVariants as fault
-use Rattle.otel_model_laws.specs.Lawful.{Balances}
+use Rattle.otel_model.specs.Lawful.{Balances}
 use Rattle.otel_core.specs.Cores.{state_in}
 use Rattle.otel_core.proofs.Reached.{flush-step, flush-refused, reached-open, reached-closed}
 use Rattle.otel_core.proofs.Sound.{sound-balances}

@@ -6,7 +6,7 @@ use Rattle.otel_model.specs.Calls as model
 use Rattle.otel_model.specs.Machine.{with_meter}
 use Rattle.otel_model.specs.State.{State}
 use Rattle.otel_model.proofs.Kept.{kept_at_once}
-use Rattle.otel_model_laws.specs.Lawful.{Balances}
+use Rattle.otel_model.specs.Lawful.{Balances}
 use Rattle.otel_core.specs.Cores.{state_in}
 use Rattle.otel_core.proofs.Sound.{sound-balances, sound-step, balances-step}
 use Rattle.otel_core.proofs.Stepped.{memory-result}

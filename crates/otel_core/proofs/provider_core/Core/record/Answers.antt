@@ -6,7 +6,7 @@ use Rattle.otel_model.specs.Refusals.{record_refusal}
 use Rattle.otel_model.specs.Steps.{Step}
 use Rattle.otel_model.specs.State.{State}
 use Rattle.otel_model.proofs.Kept.{kept_at_once}
-use Rattle.otel_model_laws.specs.Lawful.{Balances}
+use Rattle.otel_model.specs.Lawful.{Balances}
 use Rattle.otel_pipeline.specs.Pipelines.{part_of}
 use Rattle.otel_pipeline.proofs.Writes.{set-changed}
 use Rattle.otel_core.specs.Cores.{state_in}

@@ -3,7 +3,7 @@ use Rattle.otel_common.specs.declared.faults.Fault.TheVariants as fault
 use Rattle.otel_model.specs.Calls as model
 use Rattle.otel_model.specs.Machine.{accepted_after}
 use Rattle.otel_model.specs.State.{State}
-use Rattle.otel_model_laws.specs.Lawful.{Balances}
+use Rattle.otel_model.specs.Lawful.{Balances}
 use Rattle.otel_core.specs.Cores.{state_in}
 use Rattle.otel_core.specs.Correspondence.{reply_to}
 use Rattle.otel_core.specs.Readers.{ShutsDown}

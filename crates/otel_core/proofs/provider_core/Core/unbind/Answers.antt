@@ -5,7 +5,7 @@ use Rattle.otel_model.specs.Machine.{part_after_call, without_handle}
 use Rattle.otel_model.specs.Refusals.{unbind_refusal, instrument_held}
 use Rattle.otel_model.specs.State.{State}
 use Rattle.otel_model.proofs.Kept.{kept_at_once}
-use Rattle.otel_model_laws.specs.Lawful.{Balances}
+use Rattle.otel_model.specs.Lawful.{Balances}
 use Rattle.otel_pipeline.specs.Handles.{FeedsSynchronous, IsHeldByFed}
 use Rattle.otel_pipeline.specs.Pipelines.{part_of}
 use Rattle.otel_core.specs.Cores.{state_in}

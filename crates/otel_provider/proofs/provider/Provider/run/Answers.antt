@@ -11,11 +11,11 @@ use Rattle.otel_model.proofs.Runs.{streams_law, feeds_law, places_law, counted_l
 use Rattle.otel_model.proofs.Answered.{few_answered_law, totals_answered_law, all_answered_law}
 use Rattle.otel_model.proofs.Shown.{recorded_law, exported_law, pending_law, conserved_law}
 use Rattle.otel_model.proofs.Single.{as_only}
-use Rattle.otel_model_laws.proofs.Booked.{accepted_law}
-use Rattle.otel_model_laws.proofs.Given.{given_law}
+use Rattle.otel_model.proofs.Booked.{accepted_law}
+use Rattle.otel_model.proofs.Given.{given_law}
 use Rattle.otel_model.specs.Answered.{OfEachMetric, ShowsWindow, ShowsAll, HasFewPoints}
 use Rattle.otel_model.specs.Laws.{HasStreamsOfBuilds, HasFeedsOfBuilds, HasPlacesOfHistories, HasCountedOfHistories, IsGivenCollections, IsAnsweredAsOnly, HasRecordedTotal, HasExportedTotal, HasPendingPoints, Conserves, HasAccepted}
-use Rattle.otel_model_laws.specs.Given.{IsGivenOrPending}
+use Rattle.otel_model.specs.Given.{IsGivenOrPending}
 use Rattle.otel_core.specs.Correspondence.{call_of, reply_of}
 use Rattle.otel_provider.specs.Providers.{views_of}
 use Rattle.otel_core.specs.declared.calls.Reply.{Reply}

@@ -1,7 +1,7 @@
 //! What is done with a shared provider.
 
 ghost use Rattle.std.specs.Prelude.{◌≡◌, ◌%◌, ◌^◌};
-ghost use Rattle.otel_model_laws.specs.Books.{count_in, sum_in};
+ghost use Rattle.otel_model.specs.Books.{count_in, sum_in};
 ghost use Rattle.otel_provider.specs.Providers.{state_of};
 
 use super::alone::follow;

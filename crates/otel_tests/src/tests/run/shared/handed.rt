@@ -1,7 +1,7 @@
 //! Handing in records under the lock, and taking the provider back.
 
 ghost use Rattle.std.specs.Prelude.{◌≡◌, ◌+◌, ◌%◌, ◌^◌, ◌≤◌, [], length, sum_by, IfOk, OnOk};
-ghost use Rattle.otel_model_laws.specs.Books.{count_in, sum_in};
+ghost use Rattle.otel_model.specs.Books.{count_in, sum_in};
 ghost use Rattle.otel_provider.specs.Providers.{state_of};
 ghost use Rattle.opentelemetry_sdk.specs.Pending.{bits_in};
 ghost use Rattle.opentelemetry_sdk.specs.Workers.{pending_of, records_of, values_of};

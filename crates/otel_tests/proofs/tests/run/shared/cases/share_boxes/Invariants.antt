@@ -1,5 +1,5 @@
 use Rattle.std.specs.Prelude.{◌%◌, ◌^◌}
-use Rattle.otel_model_laws.specs.Books.{count_in, sum_in}
+use Rattle.otel_model.specs.Books.{count_in, sum_in}
 use Rattle.otel_provider.specs.Providers.{state_of}
 use Rattle.otel_tests.proofs.tests.run.shared.cases.share_boxes.Given as goal
 

@@ -1,0 +1,98 @@
+-- Which handles the streams of a lawful provider have.
+use Rattle.std.proofs.Common.{◌≡◌, ⊎_elim, ℕ, zero, suc, ◌<◌, true, false, List, [], ◌∷◌, length, refl, arith, sym, ◌∙◌, ap, Option, Some, None, subst, cond, Bool}
+use Rattle.std.specs.Prelude.{◌==◌, slice_get, is_some}
+use Rattle.std.proofs.lemmas.Bool.{cases_Bool, true≢false}
+use Rattle.otel_model_stream.specs.Events.{held_by}
+use Rattle.otel_model_stream.specs.Totals.{has_number}
+use Rattle.otel_model.specs.Calls.{is_observable, Call, Reply}
+use Rattle.otel_model.specs.Demands.{Identity, Views}
+use Rattle.otel_model.specs.State.{InstrumentState, LiveHandle, Shared, Stream, ReaderPart, State}
+use Rattle.otel_model.specs.Refusals.{instrument_held}
+use Rattle.otel_model.specs.Sent.{is_fed}
+use Rattle.otel_model.specs.Steps.{Step}
+use Rattle.otel_model.proofs.Single.{get_map, some_is}
+use Rattle.otel_model.proofs.Recorded.{held_is}
+use Rattle.otel_model.specs.Lawful.{EachOf, HandlesAreSound, held_for, IsAccounted, PartIsLawful, IsLawful, HandlesAreOfFeeds, NextIsUnheld, ObservableIsUnheld}
+use Rattle.otel_model.proofs.Amounts.{each_weaker, absent_below, absent_held, held_when_fed}
+use Rattle.otel_model.proofs.Booked.{run_lawful}
+
+-- ======== instruments ========
+-- a stream is observable exactly if an instrument that feeds it is
+pub fed-kind : (live : List LiveHandle) (is : List InstrumentState) (p : ReaderPart) (n : ℕ) (i : InstrumentState) (x : Identity) → PartIsLawful live is p → slice_get is n ≡ Some i
+    → is_fed p.feeds n x ≡ true → is_observable x.kind ≡ is_observable i.kind
+fed-kind live is p n i x a g f = sym (a.kinds n x i.kind f (get_map (λ (i : InstrumentState). i.kind) is n i g))
+
+held_each : (P : ℕ → Type 0) (h n : ℕ) (live : List LiveHandle) → EachOf (λ (q : LiveHandle). P q.1) live → instrument_held h live ≡ Some n → P n
+held_each P h n [] a e = absurd (cc)
+held_each P h n (q ∷ qs) a e = go (q.0 == h) e (held_each P h n qs a.1)
+  where
+    go : (b : Bool) → cond b (Some q.1) (instrument_held h qs) ≡ Some n → (instrument_held h qs ≡ Some n → P n) → P n
+    go true e ih = subst P (some_is q.1 n e) a.0
+    go false e ih = ih e
+
+get_there : {X : Type 0} (xs : List X) (n : ℕ) → n < length xs → (x : X) × (slice_get xs n ≡ Some x)
+get_there [] n h = absurd (omega arith)
+get_there (x ∷ xs) zero h = (x, refl)
+get_there (x ∷ xs) (suc n) h = let g : n < length xs = omega arith in get_there xs n g
+
+-- the instrument of a live handle is there
+pub held-instrument : (s : Shared) (h n : ℕ) → HandlesAreSound s → instrument_held h s.live ≡ Some n → (i : InstrumentState) × (slice_get s.instruments n ≡ Some i)
+held-instrument s h n sound e = get_there s.instruments n (held_each (λ k. k < length s.instruments) h n s.live sound.bound e)
+
+-- ======== streams ========
+none_when : {X : Type 0} (o : Option X) → is_some o ≡ false → o ≡ None
+none_when None e = refl
+none_when (Some x) e = absurd (true≢false e)
+
+-- where no handle of this number is of an instrument that feeds the stream, the stream has no such handle
+unheld_each : (live : List LiveHandle) (is : List InstrumentState) (p : ReaderPart) (h : ℕ) (P : Stream → Type 0) → PartIsLawful live is p
+    → ((q : Stream) → P q → has_number h (held_for p.feeds q.demand.identity live) ≡ false) → EachOf (λ (q : Stream). P q → held_by h q.machine.live ≡ None) p.streams
+unheld_each live is p h P a absent = go p.streams a.streams a.unheld
+  where
+    one : (q : Stream) → IsAccounted p.feeds live is q → (is_observable q.demand.identity.kind ≡ true → q.machine.live ≡ []) → P q → held_by h q.machine.live ≡ None
+    one q c u t = ⊎_elim
+        (λ o. ap (held_by h) (u o))
+        (λ o. none_when (held_by h q.machine.live) (sym (held_is h q.machine.live) ∙ (ap (has_number h) (c o).0 ∙ absent q t)))
+        (cases_Bool (is_observable q.demand.identity.kind))
+
+    go : (qs : List Stream) → EachOf (IsAccounted p.feeds live is) qs → EachOf (λ (q : Stream). is_observable q.demand.identity.kind ≡ true → q.machine.live ≡ []) qs
+        → EachOf (λ (q : Stream). P q → held_by h q.machine.live ≡ None) qs
+    go [] c u = tt
+    go (q ∷ qs) c u = (one q c.0 u.0, go qs c.1 u.1)
+
+-- a stream that a handle's instrument does not feed does not have the handle
+pub unfed-unheld : (s : Shared) (p : ReaderPart) (h n : ℕ) → HandlesAreSound s → PartIsLawful s.live s.instruments p → instrument_held h s.live ≡ Some n
+    → EachOf (λ (q : Stream). is_fed p.feeds n q.demand.identity ≡ false → held_by h q.machine.live ≡ None) p.streams
+unfed-unheld s p h n sound a e =
+    unheld_each s.live s.instruments p h (λ q. is_fed p.feeds n q.demand.identity ≡ false) a (λ q f. held_when_fed p.feeds q.demand.identity h n s.live sound.distinct e ∙ f)
+
+-- no stream has a handle of the next number
+pub new-unheld : (s : Shared) (p : ReaderPart) → HandlesAreSound s → PartIsLawful s.live s.instruments p → EachOf (λ (q : Stream). held_by s.next q.machine.live ≡ None) p.streams
+new-unheld s p sound a = each_weaker (λ (q : Stream). Unit {0} → held_by s.next q.machine.live ≡ None) (λ (q : Stream). held_by s.next q.machine.live ≡ None) p.streams (λ q f. f tt)
+    (unheld_each s.live s.instruments p s.next (λ q. Unit {0}) a (λ q t. absent_held p.feeds q.demand.identity s.next s.live (absent_below s.next s.live sound.below)))
+
+-- a stream that an observable instrument feeds has no handles
+pub observable-unheld : (live : List LiveHandle) (is : List InstrumentState) (p : ReaderPart) (n : ℕ) (i : InstrumentState) → PartIsLawful live is p → slice_get is n ≡ Some i → is_observable i.kind ≡ true
+    → EachOf (λ (q : Stream). is_fed p.feeds n q.demand.identity ≡ true → q.machine.live ≡ []) p.streams
+observable-unheld live is p n i a g o =
+    each_weaker (λ (q : Stream). is_observable q.demand.identity.kind ≡ true → q.machine.live ≡ []) (λ (q : Stream). is_fed p.feeds n q.demand.identity ≡ true → q.machine.live ≡ []) p.streams
+    (λ q u f. u (fed-kind live is p n i q.demand.identity a g f ∙ o)) a.unheld
+
+-- ======== providers ========
+-- a step keeps a provider lawful: it is a run of one call
+pub step-lawful : (views : Views) (old new : State) (call : Call) (reply : Reply) → Step views old call reply new → IsLawful old → IsLawful new
+step-lawful views old new call reply step a = run_lawful views old new (call ∷ []) (reply ∷ []) (new, step, refl) a
+
+pub feeds_law : HandlesAreOfFeeds
+feeds_law st a = each_weaker (PartIsLawful st.shared.live st.shared.instruments)
+    (λ (p : ReaderPart). (h n : ℕ) → instrument_held h st.shared.live ≡ Some n → EachOf (λ (q : Stream). is_fed p.feeds n q.demand.identity ≡ false → held_by h q.machine.live ≡ None) p.streams) st.readers
+    (λ p b h n e. unfed-unheld st.shared p h n a.handles b e) a.parts
+
+pub next_law : NextIsUnheld
+next_law st a = each_weaker (PartIsLawful st.shared.live st.shared.instruments) (λ (p : ReaderPart). EachOf (λ (q : Stream). held_by st.shared.next q.machine.live ≡ None) p.streams) st.readers
+    (λ p b. new-unheld st.shared p a.handles b) a.parts
+
+pub observable_law : ObservableIsUnheld
+observable_law st a = each_weaker (PartIsLawful st.shared.live st.shared.instruments)
+    (λ (p : ReaderPart). (n : ℕ) (i : InstrumentState) → slice_get st.shared.instruments n ≡ Some i → is_observable i.kind ≡ true → EachOf (λ (q : Stream). is_fed p.feeds n q.demand.identity ≡ true → q.machine.live ≡ []) p.streams) st.readers
+    (λ p b n i g o. observable-unheld st.shared.live st.shared.instruments p n i b g o) a.parts

@@ -1,5 +1,0 @@
-use Rattle.otel_model_laws.proofs.Differences.{differences_law}
-use Rattle.otel_model_laws.proofs.differs.Goals as goal
-
-pub returns : goal.returns
-returns c = record { only = differences_law }
