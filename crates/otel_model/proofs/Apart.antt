@@ -9,7 +9,7 @@ use Rattle.otel_model.specs.Sent.{is_fed}
 use Rattle.otel_model.specs.State.{Stream}
 use Rattle.otel_model.specs.Laws.{AreApart, AreStreamsApart, AreFeedsApart, AreFeedsStreams}
 use Rattle.otel_model.proofs.Gather.{identity_eq_true, identity_eq_self, fate_firsts, map_both}
-use Rattle.otel_model.proofs.Numbers.{ids, streams_apart}
+use Rattle.otel_model.proofs.Numbering.{ids, streams_apart}
 use Rattle.otel_model.proofs.Runs.{streams_law, feeds_law}
 use Rattle.otel_model.proofs.Single.{some_is}
 use Rattle.otel_model.proofs.Alike.{fate_stays}

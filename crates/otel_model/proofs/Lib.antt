@@ -5,7 +5,7 @@ pub mod Follow
 pub mod Runs
 pub mod Recorded
 pub mod Shown
-pub mod Numbers
+pub mod Numbering
 pub mod Kept
 pub mod Answered
 pub mod Plus

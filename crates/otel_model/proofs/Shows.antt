@@ -12,7 +12,7 @@ use Rattle.otel_model.specs.Streams.{aggregate_of}
 use Rattle.otel_model.specs.State.{Stream}
 use Rattle.otel_model.specs.Sent.{is_fed, set_for}
 use Rattle.otel_model.specs.Machine.{if_held, stream_after}
-use Rattle.otel_model.proofs.Numbers.{at_all, fed_by_numbers}
+use Rattle.otel_model.proofs.Numbering.{at_all, fed_by_numbers}
 use Rattle.otel_model.specs.Showing.{stream_with, stream_recorded, stream_bound, fed_by, RecordsByNumber, BindsByNumber, UnheldRests}
 use Rattle.otel_model_stream.specs.Totals.{points_total}
 use Rattle.otel_model.specs.Calls.{Observed, RecordBound, Unbind}

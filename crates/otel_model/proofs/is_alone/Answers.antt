@@ -1,4 +1,4 @@
-use Rattle.otel_model.proofs.Numbers.{fed_by_numbers}
+use Rattle.otel_model.proofs.Numbering.{fed_by_numbers}
 use Rattle.otel_model.proofs.Single.{as_alone, as_only}
 use Rattle.otel_model.proofs.is_alone.Goals as goal
 
