@@ -15,11 +15,13 @@
 //! provider.
 //!
 //! With the arguments `threads` and a number, it prints how many seconds 1, 2 and 4 threads take that make this many
-//! records each. Standard input has two scripts then: what is done once, and the record.
+//! records each. Standard input has two scripts then: what is done once, and the record. With the argument
+//! `refused_memory`, perhaps with the number of a scenario, it makes calls for which memory may be refused.
 #![tactic(auto)]
 
 mod counted;
 mod exports;
+mod refused_memory;
 mod scripts;
 mod subjects;
 mod targets;
@@ -29,6 +31,7 @@ mod workers;
 
 use anyhow::{Error, bail};
 use exports::count_exports;
+use refused_memory::try_scenarios;
 use scripts::{calls_of, provider_of};
 use std::alloc::Global;
 use std::rt::Clock;
@@ -111,6 +114,11 @@ fn run<R: Print + Clock + Threads + Wait + Sync>(
 
 fn main(rt: HostRuntime) -> Result<(), Error> {
     let words: Vec<String> = env::args(&rt)?.skip(1).collect(rt.alloc())?;
+    if let [name, numbers @ ..] = words.as_slice()
+        && name.as_str() == "refused_memory"
+    {
+        return try_scenarios(&rt, rt.alloc(), numbers);
+    }
     let scripts = io::read_to_string(rt.alloc(), rt.reader())?;
     run(&rt, rt.alloc(), words.as_slice(), scripts.as_str())
 }

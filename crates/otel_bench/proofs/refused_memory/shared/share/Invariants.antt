@@ -1,7 +1,7 @@
 use Rattle.std.specs.Prelude.{◌%◌, ◌^◌}
 use Rattle.opentelemetry_sdk.specs.Books.{count_in, sum_in}
 use Rattle.opentelemetry_sdk.specs.Providers.{state_of}
-use Rattle.refused_memory.proofs.shared.share.Given as goal
+use Rattle.otel_bench.proofs.refused_memory.shared.share.Given as goal
 
 abbrev pub ghosts-share_with-C-Ledger : goal.ghosts-share_with-C-Ledger
 ghosts-share_with-C-Ledger g a = record { name = a.records.name; parts = a.records.parts }

@@ -1,8 +1,8 @@
 //! Values that no provider is needed for.
 
-use crate::scenarios::unknown;
-use crate::set_up::resource;
-use crate::trials::Trial;
+use crate::refused_memory::scenarios::unknown;
+use crate::refused_memory::set_up::resource;
+use crate::refused_memory::trials::Trial;
 use anyhow::Error;
 use opentelemetry_sdk::Resource;
 use opentelemetry_sdk::common::{

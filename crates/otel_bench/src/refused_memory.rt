@@ -7,10 +7,9 @@
 //! collection as many callbacks have run, and the twin of a refused submission has had the records before the refused
 //! one. If it is not refused, the twin has the call too.
 //!
-//! The argument is the number of a scenario; without one all are tried. For each a line is printed: `scenario N: same`,
-//! or `differs`, or `refused` for a call that must never be refused for want of memory. `tools/refuse_memory` refuses
-//! each request for memory of each call under test in turn. No thread is started.
-#![tactic(auto)]
+//! For each scenario a line is printed: `scenario N: same`, or `differs`, or `refused` for a call that must never be
+//! refused for want of memory. `tools/refuse_memory` refuses each request for memory of each call under test in turn. No
+//! thread is started.
 
 mod callbacks;
 mod calls;
@@ -27,15 +26,15 @@ mod workers;
 use anyhow::Error;
 use runs::try_scenario;
 use scenarios::last_scenario;
-use std::env;
+use std::alloc::Global;
 
-fn main(rt: HostRuntime) -> Result<(), Error> {
-    let words: Vec<String> = env::args(&rt)?.skip(1).collect(rt.alloc())?;
-    if let [word] = words.as_slice() {
-        return try_scenario(&rt, rt.alloc(), word.as_str().parse::<usize>()?);
+/// Tries the scenario of a number, or all of them if no number is given.
+pub fn try_scenarios<R: Print>(rt: &R, alloc: Global, numbers: &[String]) -> Result<(), Error> {
+    if let [number] = numbers {
+        return try_scenario(rt, alloc, number.as_str().parse::<usize>()?);
     }
     for number in 1..=last_scenario() {
-        try_scenario(&rt, rt.alloc(), number)?;
+        try_scenario(rt, alloc, number)?;
     }
     Ok(())
 }

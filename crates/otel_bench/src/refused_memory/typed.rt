@@ -1,6 +1,6 @@
 //! Instruments as values.
 
-use crate::callbacks::Counting;
+use crate::refused_memory::callbacks::Counting;
 use opentelemetry_sdk::common::{Fault, KeyValue};
 use opentelemetry_sdk::metrics::data::ResourceMetrics;
 use opentelemetry_sdk::metrics::meter::{

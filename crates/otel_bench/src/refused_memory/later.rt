@@ -1,7 +1,7 @@
 //! What a provider answers after the call under test, as text.
 
-use crate::set_up::calls_of;
-use crate::trials::Trial;
+use crate::refused_memory::set_up::calls_of;
+use crate::refused_memory::trials::Trial;
 use anyhow::{Error, bail};
 use opentelemetry_sdk::common::Fault;
 use opentelemetry_sdk::metrics::data::ResourceMetrics;

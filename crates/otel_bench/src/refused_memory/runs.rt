@@ -1,12 +1,12 @@
 //! Runs of a scenario: the first with the call under test, and those at twins.
 
-use crate::calls::write_call;
-use crate::later::write_later;
-use crate::scenarios::scenario_of;
-use crate::set_up::{CALLBACKS, build, fill, resource, settings};
-use crate::shared::share;
-use crate::trials::Trial;
-use crate::values::write_value;
+use crate::refused_memory::calls::write_call;
+use crate::refused_memory::later::write_later;
+use crate::refused_memory::scenarios::scenario_of;
+use crate::refused_memory::set_up::{CALLBACKS, build, fill, resource, settings};
+use crate::refused_memory::shared::share;
+use crate::refused_memory::trials::Trial;
+use crate::refused_memory::values::write_value;
 use anyhow::{Error, bail};
 use metrics_script::script_lines::script_of;
 use std::alloc::Global;

@@ -1,9 +1,9 @@
 //! Records that wait in the list of a worker.
 
-use crate::scenarios::unknown;
-use crate::set_up::calls_of;
-use crate::trials::Trial;
-use crate::typed::Instruments;
+use crate::refused_memory::scenarios::unknown;
+use crate::refused_memory::set_up::calls_of;
+use crate::refused_memory::trials::Trial;
+use crate::refused_memory::typed::Instruments;
 use anyhow::{Error, bail};
 use opentelemetry_sdk::common::{Fault, KeyValue};
 use opentelemetry_sdk::metrics::meter::Bound;

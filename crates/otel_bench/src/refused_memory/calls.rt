@@ -1,10 +1,10 @@
 //! Makes the call under test at a provider.
 
-use crate::callbacks::Counting;
-use crate::scenarios::unknown;
-use crate::set_up::calls_of;
-use crate::trials::Trial;
-use crate::typed::{Instruments, make_typed};
+use crate::refused_memory::callbacks::Counting;
+use crate::refused_memory::scenarios::unknown;
+use crate::refused_memory::set_up::calls_of;
+use crate::refused_memory::trials::Trial;
+use crate::refused_memory::typed::{Instruments, make_typed};
 use anyhow::{Error, bail};
 use opentelemetry_sdk::common::Fault;
 use opentelemetry_sdk::metrics::data::ResourceMetrics;

@@ -1,7 +1,7 @@
 //! The provider at which a call is tried, and its twin.
 
-use crate::callbacks::Counting;
-use crate::typed::{Instruments, instruments_at, watch};
+use crate::refused_memory::callbacks::Counting;
+use crate::refused_memory::typed::{Instruments, instruments_at, watch};
 use anyhow::{Error, bail};
 use metrics_script::script_lines::{Script, script_of};
 use opentelemetry_sdk::Resource;

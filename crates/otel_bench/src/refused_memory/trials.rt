@@ -1,6 +1,6 @@
 //! A scenario on trial: its marks, what became of the call under test, and what is answered.
 
-use crate::scenarios::Scenario;
+use crate::refused_memory::scenarios::Scenario;
 use anyhow::Error;
 use opentelemetry_sdk::common::Fault;
 use std::alloc::Global;
