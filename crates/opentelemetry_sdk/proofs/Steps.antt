@@ -14,7 +14,7 @@ use Rattle.otel_model.proofs.Single.{step_cases}
 use Rattle.otel_model.specs.Books.{count_in, sum_in, one_each, bits_of, added_by, if_done}
 use Rattle.otel_model.proofs.Accepting.{call_law}
 use Rattle.otel_model.proofs.Plus.{plus_zero}
-use Rattle.otel_core.specs.Correspondence.{fault_of, number_of, reply_from}
+use Rattle.otel_provider.specs.Correspondence.{fault_of, number_of, reply_from}
 use Rattle.opentelemetry_sdk.specs.Pending.{is_record, call_in, bits_in, IsDone, IsRefused}
 use Rattle.opentelemetry_sdk.specs.declared.metrics.shared.pending.PendingRecord.{PendingRecord}
 use Rattle.opentelemetry_sdk.specs.declared.metrics.shared.pending.PendingRecord.TheVariants as pending

@@ -5,10 +5,10 @@ pub mod Workers
 pub use Rattle.otel_stream.specs.Runs
 pub use Rattle.otel_common.specs.declared.attributes.KeyValue
 pub use Rattle.otel_common.specs.declared.faults.Fault
-pub use Rattle.otel_core.specs.Checks
-pub use Rattle.otel_core.specs.Correspondence
-pub use Rattle.otel_core.specs.Known
-pub use Rattle.otel_core.specs.Readers
+pub use Rattle.otel_provider.specs.Checks
+pub use Rattle.otel_provider.specs.Correspondence
+pub use Rattle.otel_provider.specs.Known
+pub use Rattle.otel_provider.specs.Readers
 pub use Rattle.otel_data.specs.declared.numbers.NumberValue
 pub use Rattle.otel_model.specs.Calls
 pub use Rattle.otel_model.specs.Demands

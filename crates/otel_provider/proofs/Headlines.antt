@@ -8,9 +8,9 @@ use Rattle.otel_model.specs.State.{State}
 use Rattle.otel_model.specs.Steps.{Run}
 use Rattle.otel_model.proofs.Reorder.{records_law}
 use Rattle.otel_provider.specs.Headline.{OfReaders, OfStreams, OfAnswers, InAnyOrder}
-use Rattle.otel_core.specs.Correspondence.{call_of, reply_of}
-use Rattle.otel_core.specs.declared.calls.Call.{Call}
-use Rattle.otel_core.specs.declared.calls.Reply.{Reply}
+use Rattle.otel_provider.specs.Correspondence.{call_of, reply_of}
+use Rattle.otel_provider.specs.declared.calls.Call.{Call}
+use Rattle.otel_provider.specs.declared.calls.Reply.{Reply}
 
 -- the calls and replies of the code are a run
 abbrev pub IsRunOf : Views → State → List Call → List Reply → State → Type 0

@@ -1,4 +1,16 @@
+pub mod Asked
+pub mod Collects
+pub mod Fresh
 pub mod Headlines
+pub mod Held
 pub mod Identities
 pub mod KeptRuns
+pub mod Mapped
+pub mod Outcomes
+pub mod Reached
+pub mod Runs
 pub mod Scopes
+pub mod Sound
+pub mod StepLemmas
+pub mod Stepped
+pub mod Typed

@@ -10,8 +10,8 @@ use Rattle.otel_model.specs.Calls as model
 use Rattle.otel_model.specs.Demands.{Views}
 use Rattle.otel_model.specs.State.{State}
 use Rattle.otel_model.specs.Steps.{Step}
-use Rattle.otel_core.specs.Checks.{has_stream}
-use Rattle.otel_core.specs.Correspondence.{observed_of}
+use Rattle.otel_provider.specs.Checks.{has_stream}
+use Rattle.otel_provider.specs.Correspondence.{observed_of}
 use Rattle.otel_provider.specs.Typed.{collect_reply, collected_reply}
 
 -- ======== registering ========

@@ -11,9 +11,9 @@ use Rattle.otel_model.specs.Resources.{Resource}
 use Rattle.otel_model.specs.State.{ReaderPart, State, Stream}
 use Rattle.otel_model.specs.Steps.{Run}
 use Rattle.otel_model.specs.Orders.{IsReordered}
-use Rattle.otel_core.specs.Correspondence.{call_of, reply_of}
-use Rattle.otel_core.specs.declared.calls.Call.{Call}
-use Rattle.otel_core.specs.declared.calls.Reply.{Reply}
+use Rattle.otel_provider.specs.Correspondence.{call_of, reply_of}
+use Rattle.otel_provider.specs.declared.calls.Call.{Call}
+use Rattle.otel_provider.specs.declared.calls.Reply.{Reply}
 
 -- if the provider began as built with this resource, identity and readers, P holds of them
 abbrev pub FromBuilt : State → (Resource → ℕ → List ReaderAnswers → Type 0) → Type 0

@@ -1,4 +1,11 @@
 pub mod Callbacks
+pub mod Checks
+pub mod Cores
+pub mod Correspondence
 pub mod Headline
+pub mod Instruments
+pub mod Known
 pub mod Providers
+pub mod Readers
+pub mod States
 pub mod Typed

@@ -7,7 +7,7 @@ use Rattle.otel_common.specs.declared.faults.Fault.{Fault}
 use Rattle.otel_common.specs.declared.scopes.InstrumentationScope.{InstrumentationScope}
 use Rattle.otel_data.specs.declared.collections.ResourceMetrics.{ResourceMetrics}
 use Rattle.otel_model.specs.Calls as model
-use Rattle.otel_core.specs.Correspondence.{about, fault_of, reply_from}
+use Rattle.otel_provider.specs.Correspondence.{about, fault_of, reply_from}
 use Rattle.otel_provider.specs.Providers.{identity_of}
 use Rattle.otel_provider.specs.declared.async_builders.AsyncInstrumentBuilder.{AsyncInstrumentBuilder}
 use Rattle.otel_provider.specs.declared.asynchronous.Asynchronous.{Asynchronous}

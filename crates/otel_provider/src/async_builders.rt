@@ -8,7 +8,7 @@ ghost use Rattle.otel_model.specs.Laws.{KeepsReaders};
 ghost use Rattle.otel_model.specs.Steps.{Step};
 ghost use Rattle.otel_model.specs.Lawful.{Balances};
 ghost use Rattle.otel_provider.specs.Callbacks.{registered_callback, added_callbacks};
-ghost use Rattle.otel_core.specs.Correspondence.{about};
+ghost use Rattle.otel_provider.specs.Correspondence.{about};
 ghost use Rattle.otel_provider.specs.Providers.{state_of, views_of, provider_readers, provider_views, callbacks_of};
 ghost use Rattle.otel_provider.specs.Typed.{IsMeterOf, IsObservableOf, meter_number, meter_observed, about_observed, builder_callbacks, observable_number, observed_reply};
 
@@ -17,8 +17,8 @@ use crate::builders::InstrumentBuilder;
 use crate::meters::Meter;
 use crate::parts::Parts;
 use crate::provider::Provider;
+use crate::sorts::InstrumentSort;
 use otel_common::faults::Fault;
-use otel_core::sorts::InstrumentSort;
 use otel_stream::registered::{Callback, Registered};
 use std::marker::PhantomData;
 

@@ -5,16 +5,16 @@ ghost use Rattle.otel_model.specs.Calls as model;
 ghost use Rattle.otel_model.specs.Laws.{KeepsReaders};
 ghost use Rattle.otel_model.specs.Steps.{Step};
 ghost use Rattle.otel_model.specs.Lawful.{Balances};
-ghost use Rattle.otel_core.specs.Correspondence.{number_of, reply_to};
+ghost use Rattle.otel_provider.specs.Correspondence.{number_of, reply_to};
 ghost use Rattle.otel_provider.specs.Providers.{state_of, views_of, provider_readers, provider_views, callbacks_of};
 ghost use Rattle.otel_provider.specs.Typed.{IsInstrumentOf, IsBoundOf, instrument_number, handle_number, handle_identity, record_reply, bind_reply, unbind_reply};
 
+use crate::handles::BoundHandle;
 use crate::parts::Parts;
 use crate::provider::Provider;
 use crate::synchronous::Synchronous;
 use otel_common::attributes::KeyValue;
 use otel_common::faults::Fault;
-use otel_core::handles::BoundHandle;
 use otel_data::numbers::NumberType;
 use std::marker::PhantomData;
 

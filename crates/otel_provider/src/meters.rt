@@ -7,10 +7,10 @@ ghost use Rattle.otel_model.specs.Laws.{KeepsReaders};
 ghost use Rattle.otel_model.specs.Sent.{has_scope};
 ghost use Rattle.otel_model.specs.Steps.{Step};
 ghost use Rattle.otel_model.specs.Lawful.{Balances};
-ghost use Rattle.otel_core.specs.Correspondence.{about};
+ghost use Rattle.otel_provider.specs.Correspondence.{about};
 ghost use Rattle.otel_provider.specs.Providers.{state_of, views_of, provider_readers, provider_views, callbacks_of};
 ghost use Rattle.otel_provider.specs.Typed.{IsMeterOf, meter_number, named_scope, meter_of, about_of, meter_observed, about_observed, builder_callbacks, meter_reply};
-ghost use Rattle.otel_core.specs.declared.sorts.InstrumentSort.{InstrumentSort};
+ghost use Rattle.otel_provider.specs.declared.sorts.InstrumentSort.{InstrumentSort};
 
 use crate::async_builders::AsyncInstrumentBuilder;
 use crate::asynchronous::{
@@ -19,10 +19,10 @@ use crate::asynchronous::{
 use crate::builders::{HistogramBuilder, InstrumentBuilder};
 use crate::parts::Parts;
 use crate::provider::Provider;
+use crate::sorts::InstrumentSort;
 use crate::synchronous::{CounterKind, GaugeKind, UpDownCounterKind};
 use otel_common::faults::Fault;
 use otel_common::scopes::InstrumentationScope;
-use otel_core::sorts::InstrumentSort;
 use std::alloc::Global;
 
 /// A meter, which makes the instruments of a scope (Metrics API, "Meter").

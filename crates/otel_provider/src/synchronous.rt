@@ -5,10 +5,10 @@ ghost use Rattle.otel_model.specs.Calls as model;
 ghost use Rattle.otel_model.specs.Laws.{KeepsReaders};
 ghost use Rattle.otel_model.specs.Steps.{Step};
 ghost use Rattle.otel_model.specs.Lawful.{Balances};
-ghost use Rattle.otel_core.specs.Correspondence.{number_of};
-ghost use Rattle.otel_core.specs.Known.{is_known};
+ghost use Rattle.otel_provider.specs.Correspondence.{number_of};
+ghost use Rattle.otel_provider.specs.Known.{is_known};
 ghost use Rattle.otel_provider.specs.Providers.{state_of, views_of, provider_readers, provider_views, callbacks_of};
-ghost use Rattle.otel_core.specs.States.{IsNamed};
+ghost use Rattle.otel_provider.specs.States.{IsNamed};
 ghost use Rattle.otel_provider.specs.Typed.{IsInstrumentOf, instrument_number, instrument_identity, record_reply};
 
 use crate::parts::Parts;

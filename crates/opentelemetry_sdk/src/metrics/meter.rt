@@ -1,6 +1,6 @@
 //! Meters, builders of instruments, synchronous instruments, and the checks of names, units and bounds.
 
-pub use otel_core::instrument_checks::{
+pub use otel_provider::instrument_checks::{
     validate_bucket_boundaries, validate_instrument_name, validate_instrument_unit,
 };
 pub use otel_data::numbers::NumberType;

@@ -1,8 +1,8 @@
 //! The provider, its calls and their replies.
 
 pub use crate::metrics::plain::Plain;
-pub use otel_core::calls::{Call, Reply};
-pub use otel_core::sorts::InstrumentSort;
+pub use otel_provider::calls::{Call, Reply};
+pub use otel_provider::sorts::InstrumentSort;
 pub use otel_data::numbers::NumberValue;
 pub use otel_provider::laws::{copied_call, copied_numbers, copied_reply};
 pub use otel_provider::parts::{

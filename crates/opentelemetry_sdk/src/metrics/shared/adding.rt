@@ -1,7 +1,7 @@
 //! What a thread does with its worker: it adds records to the list, and looks at them.
 
 ghost use Rattle.std.specs.Prelude.{◌≡◌, ◌++◌, ◌∷◌, [], drop, length, map, Err, OnOk, OnErr, IfSome, IfNone, IsOkUnless};
-ghost use Rattle.otel_core.specs.Correspondence.{call_of};
+ghost use Rattle.otel_provider.specs.Correspondence.{call_of};
 ghost use Rattle.otel_provider.specs.Typed.{instrument_number, instrument_identity, handle_number, handle_identity};
 ghost use Rattle.opentelemetry_sdk.specs.Pending.{call_in};
 ghost use Rattle.opentelemetry_sdk.specs.Workers.{pending_of, records_of, values_of, worker_identity};
@@ -11,7 +11,7 @@ use crate::metrics::shared::pending::PendingRecord;
 use crate::metrics::shared::worker::Worker;
 use otel_common::attributes::KeyValue;
 use otel_common::faults::Fault;
-use otel_core::calls::Call;
+use otel_provider::calls::Call;
 use otel_data::numbers::{NumberType, NumberValue};
 use otel_provider::bound::Bound;
 use otel_provider::synchronous::{Adds, Records, Synchronous};

@@ -1,12 +1,12 @@
 //! Records that wait to be made.
 
 ghost use Rattle.std.specs.Prelude.{◌≡◌};
-ghost use Rattle.otel_core.specs.Correspondence.{number_of, call_of};
+ghost use Rattle.otel_provider.specs.Correspondence.{number_of, call_of};
 ghost use Rattle.opentelemetry_sdk.specs.Pending.{call_in, bits_in};
 
 use otel_common::attributes::KeyValue;
 use otel_common::lists::Items;
-use otel_core::calls::Call;
+use otel_provider::calls::Call;
 use otel_data::numbers::NumberValue;
 
 /// A record that a worker keeps until it is made.

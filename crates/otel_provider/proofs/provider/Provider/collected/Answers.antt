@@ -2,10 +2,10 @@ use Rattle.std.proofs.Common.{Ok, Err, arith, map, refl, subst, sym}
 use Rattle.otel_stream.specs.Runs.{Ran, RanAll}
 use Rattle.otel_model.specs.Calls as model
 use Rattle.otel_model.specs.Steps.{Step}
-use Rattle.otel_core.specs.Correspondence.{observed_of}
+use Rattle.otel_provider.specs.Correspondence.{observed_of}
 use Rattle.otel_provider.specs.Providers.{views_of}
 use Rattle.otel_provider.specs.Typed.{collected_reply}
-use Rattle.otel_core.proofs.StepLemmas.{lent_back}
+use Rattle.otel_provider.proofs.StepLemmas.{lent_back}
 use Rattle.otel_provider.proofs.provider.Provider.collected.Goals as goal
 
 -- the callbacks come back as they were lent. They answered a fault

@@ -3,10 +3,10 @@ use Rattle.std.proofs.Common.{◌∙◌, ap, arith, subst, sym}
 use Rattle.std.specs.Global.{Vec}
 use Rattle.std.proofs.lemmas.Result.{IfOk-weaker}
 use Rattle.otel_stream.specs.Requests.{wanted_by}
-use Rattle.otel_core.specs.Readers.{RunReaches}
-use Rattle.otel_core.proofs.Outcomes.{OnErr-weaker}
-use Rattle.otel_core.proofs.Reached.{unasked}
-use Rattle.otel_core.proofs.StepLemmas.{lent_back}
+use Rattle.otel_provider.specs.Readers.{RunReaches}
+use Rattle.otel_provider.proofs.Outcomes.{OnErr-weaker}
+use Rattle.otel_provider.proofs.Reached.{unasked}
+use Rattle.otel_provider.proofs.StepLemmas.{lent_back}
 use Rattle.otel_model.proofs.Runs.{streams_law, feeds_law, places_law, counted_law, collections_law}
 use Rattle.otel_model.proofs.Answered.{few_answered_law, totals_answered_law, all_answered_law}
 use Rattle.otel_model.proofs.Shown.{recorded_law, exported_law, pending_law, conserved_law}
@@ -16,9 +16,9 @@ use Rattle.otel_model.proofs.Given.{given_law}
 use Rattle.otel_model.specs.Answered.{OfEachMetric, ShowsWindow, ShowsAll, HasFewPoints}
 use Rattle.otel_model.specs.Laws.{HasStreamsOfBuilds, HasFeedsOfBuilds, HasPlacesOfHistories, HasCountedOfHistories, IsGivenCollections, IsAnsweredAsOnly, HasRecordedTotal, HasExportedTotal, HasPendingPoints, Conserves, HasAccepted}
 use Rattle.otel_model.specs.Given.{IsGivenOrPending}
-use Rattle.otel_core.specs.Correspondence.{call_of, reply_of}
+use Rattle.otel_provider.specs.Correspondence.{call_of, reply_of}
 use Rattle.otel_provider.specs.Providers.{views_of}
-use Rattle.otel_core.specs.declared.calls.Reply.{Reply}
+use Rattle.otel_provider.specs.declared.calls.Reply.{Reply}
 use Rattle.otel_provider.proofs.KeptRuns.{kept_run}
 use Rattle.otel_provider.proofs.Headlines.{IsRunOf, of_readers, of_streams, of_answers, in_any_order}
 use Rattle.otel_provider.proofs.provider.Provider.run.Given as given

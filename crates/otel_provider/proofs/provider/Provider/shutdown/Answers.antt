@@ -2,10 +2,10 @@ use Rattle.std.proofs.Common.{◌∙◌, ap, arith, map, subst, sym}
 use Rattle.otel_model.specs.Calls as model
 use Rattle.otel_model.proofs.Kept.{kept_at_once}
 use Rattle.otel_stream.specs.Requests.{wanted_by}
-use Rattle.otel_core.specs.Correspondence.{reply_to}
+use Rattle.otel_provider.specs.Correspondence.{reply_to}
 use Rattle.otel_provider.specs.Providers.{views_of}
-use Rattle.otel_core.specs.Readers.{AreReached, ShutsDown}
-use Rattle.otel_core.proofs.StepLemmas.{lent_back}
+use Rattle.otel_provider.specs.Readers.{AreReached, ShutsDown}
+use Rattle.otel_provider.proofs.StepLemmas.{lent_back}
 use Rattle.otel_provider.proofs.provider.Provider.shutdown.Goals as goal
 
 pub returns-clause-step : goal.returns-clause-step

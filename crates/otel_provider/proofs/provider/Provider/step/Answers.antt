@@ -1,9 +1,9 @@
 use Rattle.std.proofs.Common.{◌∙◌, ap, arith, map, subst, sym}
 use Rattle.otel_model.proofs.Kept.{kept_at_once}
 use Rattle.otel_stream.specs.Requests.{wanted_by}
-use Rattle.otel_core.specs.Correspondence.{call_of, reply_of}
-use Rattle.otel_core.specs.Readers.{StepReaches}
-use Rattle.otel_core.proofs.StepLemmas.{lent_back}
+use Rattle.otel_provider.specs.Correspondence.{call_of, reply_of}
+use Rattle.otel_provider.specs.Readers.{StepReaches}
+use Rattle.otel_provider.proofs.StepLemmas.{lent_back}
 use Rattle.otel_provider.proofs.provider.Provider.step.Goals as goal
 
 -- the readers come back as they were lent

@@ -1,0 +1,8 @@
+use Rattle.otel_pipeline.specs.Handles.{part_after_bind}
+use Rattle.otel_pipeline.specs.Pipelines.{part_of}
+use Rattle.otel_pipeline.proofs.PipelinesLemmas.{IsDoneUpto}
+use Rattle.otel_provider.proofs.each_pipeline.commit_bind_all.Given as goal
+
+-- the bind is made at the readers so far
+abbrev pub invariant-loop-i : goal.invariant-loop-i
+invariant-loop-i l = IsDoneUpto part_of (part_after_bind l.fn.instrument l.fn.handle) l.initial.pipelines l.pipelines l.i
