@@ -1,8 +1,8 @@
 -- Buckets that are left.
 use Rattle.std.proofs.Common.{◌≡◌, ℕ, ◌+◌, ◌<◌, ◌%◌, ◌^◌, ℤ, List, [], ◌∷◌, ◌++◌, length, drop, slice_index_or, codes, refl, sym, ap, ◌∙◌, append_assoc, append-nil, arith}
 use Rattle.std.proofs.lemmas.List.{drop_more}
-use Rattle.otel_exposition.specs.Samples.{Pair, line_text, sample_text}
-use Rattle.otel_exposition.specs.declared.formats.Format.{Format}
+use Rattle.otel_prometheus.specs.Samples.{Pair, line_text, sample_text}
+use Rattle.otel_prometheus.specs.declared.text.formats.Format.{Format}
 use Rattle.otel_prometheus.specs.Points.{bound_text, bucket, buckets}
 use Rattle.otel_prometheus.specs.Series.{samples_text}
 

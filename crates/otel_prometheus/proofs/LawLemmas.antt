@@ -3,8 +3,8 @@ use Rattle.std.proofs.Common.{◌≡◌, ℕ, ◌+◌, ◌%◌, ◌^◌, ◌<◌
 use Rattle.otel_data.specs.declared.collections.Metric.{Metric}
 use Rattle.otel_data.specs.declared.collections.ResourceMetrics.{ResourceMetrics}
 use Rattle.otel_data.specs.declared.collections.ScopeMetrics.{ScopeMetrics}
-use Rattle.otel_exposition.specs.Samples.{Pair, labels_text}
-use Rattle.otel_exposition.specs.declared.formats.Format.{Format}
+use Rattle.otel_prometheus.specs.Samples.{Pair, labels_text}
+use Rattle.otel_prometheus.specs.declared.text.formats.Format.{Format}
 use Rattle.otel_prometheus.specs.Families.{is_refused, with_heading, with_metric, with_scope, families}
 use Rattle.otel_prometheus.specs.Headings.{heading_of}
 use Rattle.otel_prometheus.specs.Laws.{AreNew, StandApart, Rise}

@@ -1,10 +1,10 @@
 -- The text of a few lines.
 use Rattle.std.proofs.Common.{◌≡◌, ℕ, List, [], ◌∷◌, ◌++◌, codes, sym, ap, ◌∙◌, append_assoc, append-nil}
 use Rattle.std.specs.Fmt.{signed_decimal}
-use Rattle.otel_exposition.specs.Lines.{kind, spelled, text_of}
-use Rattle.otel_exposition.specs.Numbers.{unsigned}
-use Rattle.otel_exposition.specs.Samples.{Pair, labels_text, line_text, sample_text}
-use Rattle.otel_exposition.specs.declared.formats.Format.{Format}
+use Rattle.otel_prometheus.specs.Lines.{kind, spelled, text_of}
+use Rattle.otel_prometheus.specs.Numbers.{unsigned}
+use Rattle.otel_prometheus.specs.Samples.{Pair, labels_text, line_text, sample_text}
+use Rattle.otel_prometheus.specs.declared.text.formats.Format.{Format}
 use Rattle.otel_prometheus.specs.Collections.{kind_word, kind_end, help_lines, front_lines, target_kind, target_lines}
 use Rattle.otel_prometheus.specs.declared.expositions.LeftOut.{LeftOut}
 use Rattle.otel_prometheus.specs.declared.families.Family.{Family}

@@ -4,7 +4,7 @@ use Rattle.std.specs.Cmp.Lexicographic.{slice_cmp}
 use Rattle.std.specs.Ordering.{nat_cmp}
 use Rattle.std.specs.declared.cmp.Ordering.{Ordering}
 use Rattle.std.specs.declared.cmp.Ordering.TheVariants.{Equal}
-use Rattle.otel_exposition.specs.Samples.{Pair, joined}
+use Rattle.otel_prometheus.specs.Samples.{Pair, joined}
 use Rattle.otel_prometheus.specs.Labels.{placed, with_label}
 use Rattle.otel_prometheus.specs.Places.{IsAt}
 

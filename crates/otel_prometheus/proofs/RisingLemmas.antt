@@ -10,8 +10,8 @@ use Rattle.std.proofs.lemmas.Grind.{fold-append, flat_map-append}
 use Rattle.std.proofs.lemmas.List.{take-append-drop, take-map, drop-map, length-map}
 use Rattle.otel_common.specs.declared.attributes.KeyValue.{KeyValue}
 use Rattle.otel_common.specs.declared.scopes.InstrumentationScope.{InstrumentationScope}
-use Rattle.otel_exposition.specs.Names.{name_of}
-use Rattle.otel_exposition.specs.Samples.{Pair, escaped, is_label_byte, label_text, more_labels_text, labels_text}
+use Rattle.otel_prometheus.specs.Names.{name_of}
+use Rattle.otel_prometheus.specs.Samples.{Pair, escaped, is_label_byte, label_text, more_labels_text, labels_text}
 use Rattle.otel_prometheus.specs.Labels.{own_name, placed, with_label, label_of, with_attributes, text_label, version_label, scope_labels, point_labels}
 use Rattle.otel_prometheus.specs.Rising.{name_in, rises, count_below, place_of_scope, comma_texts, named, front_texts, value_front}
 use Rattle.otel_prometheus.specs.Values.{value_text}

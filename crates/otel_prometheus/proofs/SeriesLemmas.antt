@@ -2,9 +2,9 @@
 use Rattle.std.proofs.Common.{◌≡◌, ℕ, ◌+◌, ◌≤◌, ◌%◌, ◌^◌, Bool, true, false, cond, List, [], ◌∷◌, ◌++◌, flat_map, map, fold, take, drop, length, refl, sym, ap, ◌∙◌, append_assoc, append-nil, length-append, arith}
 use Rattle.std.proofs.lemmas.Grind.{flat_map-append}
 use Rattle.std.proofs.lemmas.List.{take-append-drop}
-use Rattle.otel_exposition.specs.Lines.{Line, sample, spelled, text_of}
-use Rattle.otel_exposition.specs.Samples.{Pair, Sample, labels_text, sample_text}
-use Rattle.otel_exposition.specs.declared.formats.Format.{Format}
+use Rattle.otel_prometheus.specs.Lines.{Line, sample, spelled, text_of}
+use Rattle.otel_prometheus.specs.Samples.{Pair, Sample, labels_text, sample_text}
+use Rattle.otel_prometheus.specs.declared.text.formats.Format.{Format}
 use Rattle.otel_data.specs.declared.collections.ResourceMetrics.{ResourceMetrics}
 use Rattle.otel_prometheus.specs.Collections.{family_series, family_samples}
 use Rattle.otel_prometheus.specs.declared.headings.Heading.{Heading}

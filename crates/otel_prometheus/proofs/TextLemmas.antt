@@ -1,7 +1,7 @@
 -- Series that are left among texts.
 use Rattle.std.proofs.Common.{◌≡◌, ℕ, ◌+◌, ◌<◌, ◌%◌, ◌^◌, Bool, true, false, cond, List, ◌∷◌, ◌++◌, length, take, drop, slice_index_or, sym, ap, ◌∙◌, arith}
 use Rattle.std.proofs.lemmas.List.{drop_more}
-use Rattle.otel_exposition.specs.Samples.{Pair}
+use Rattle.otel_prometheus.specs.Samples.{Pair}
 use Rattle.otel_prometheus.specs.Series.{kept_text, doubled_texts}
 use Rattle.otel_prometheus.specs.Texts.{pieces_from}
 use Rattle.otel_prometheus.specs.declared.series.Mark.{Mark}

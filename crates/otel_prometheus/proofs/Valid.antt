@@ -19,14 +19,14 @@ use Rattle.otel_data.specs.declared.collections.Metric.{Metric}
 use Rattle.otel_data.specs.declared.collections.ResourceMetrics.{ResourceMetrics}
 use Rattle.otel_data.specs.declared.collections.ScopeMetrics.{ScopeMetrics}
 use Rattle.otel_data.specs.declared.points.HistogramDataPoint.{HistogramDataPoint}
-use Rattle.otel_exposition.specs.Lines.{Line, kind, sample, IsLine, AreLines}
-use Rattle.otel_exposition.specs.Names.{name_of}
-use Rattle.otel_exposition.specs.Numbers.{unsigned, signed}
-use Rattle.otel_exposition.specs.Samples.{Pair, Sample, IsSample, IsNumber, AreLabels, IsLabelName, IsMetricName, AreAll, is_letter, is_label_byte, is_metric_byte, labels_text}
-use Rattle.otel_exposition.specs.declared.formats.Format.{Format}
-use Rattle.otel_exposition.specs.declared.formats.Format.TheVariants.{Prometheus, OpenMetrics}
-use Rattle.otel_exposition.proofs.NameLemmas.{label_name, metric_name}
-use Rattle.otel_exposition.proofs.NumberLemmas.{unsigned_fits, signed_fits}
+use Rattle.otel_prometheus.specs.Lines.{Line, kind, sample, IsLine, AreLines}
+use Rattle.otel_prometheus.specs.Names.{name_of}
+use Rattle.otel_prometheus.specs.Numbers.{unsigned, signed}
+use Rattle.otel_prometheus.specs.Samples.{Pair, Sample, IsSample, IsNumber, AreLabels, IsLabelName, IsMetricName, AreAll, is_letter, is_label_byte, is_metric_byte, labels_text}
+use Rattle.otel_prometheus.specs.declared.text.formats.Format.{Format}
+use Rattle.otel_prometheus.specs.declared.text.formats.Format.TheVariants.{Prometheus, OpenMetrics}
+use Rattle.otel_prometheus.proofs.NameLemmas.{label_name, metric_name}
+use Rattle.otel_prometheus.proofs.NumberLemmas.{unsigned_fits, signed_fits}
 use Rattle.otel_prometheus.specs.Collections.{belongs, metric_series, scope_series, family_series, kind_word, kind_end, help_lines, front_lines, family_samples, family_lines, target_kind, target_lines, end_lines, lines_of}
 use Rattle.otel_prometheus.specs.Families.{families, is_refused, with_heading, with_metric, with_scope}
 use Rattle.otel_prometheus.specs.Headings.{own_text, heading_with, base_name, heading_of, is_last_value, content_kind}

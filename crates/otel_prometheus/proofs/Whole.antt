@@ -12,8 +12,8 @@ use Rattle.otel_data.specs.declared.aggregated.MetricData.TheVariants.{Gauge, Su
 use Rattle.otel_data.specs.declared.collections.Metric.{Metric}
 use Rattle.otel_data.specs.declared.collections.ResourceMetrics.{ResourceMetrics}
 use Rattle.otel_data.specs.declared.collections.ScopeMetrics.{ScopeMetrics}
-use Rattle.otel_exposition.specs.Numbers.{unsigned, signed}
-use Rattle.otel_exposition.specs.Samples.{labels_text}
+use Rattle.otel_prometheus.specs.Numbers.{unsigned, signed}
+use Rattle.otel_prometheus.specs.Samples.{labels_text}
 use Rattle.otel_prometheus.specs.Collections.{belongs, metric_series, scope_series, family_series, doubled_points}
 use Rattle.otel_prometheus.specs.Families.{is_refused, families, data_length, content_length, delta_if, delta_in, delta_points, conflicting_if, conflicting_in, conflicting_points}
 use Rattle.otel_prometheus.specs.Headings.{heading_of, same_heading, kind_eq, clashes, may_be_sample, is_reserved}

@@ -4,11 +4,11 @@ use Rattle.otel_common.specs.declared.scopes.InstrumentationScope.{Instrumentati
 use Rattle.otel_data.specs.declared.collections.Metric.{Metric}
 use Rattle.otel_data.specs.declared.collections.ResourceMetrics.{ResourceMetrics}
 use Rattle.otel_data.specs.declared.collections.ScopeMetrics.{ScopeMetrics}
-use Rattle.otel_exposition.specs.Lines.{Line, help, kind, sample, finish}
-use Rattle.otel_exposition.specs.Numbers.{unsigned}
-use Rattle.otel_exposition.specs.Samples.{Pair, Sample}
-use Rattle.otel_exposition.specs.declared.formats.Format.{Format}
-use Rattle.otel_exposition.specs.declared.formats.Format.TheVariants as formats
+use Rattle.otel_prometheus.specs.Lines.{Line, help, kind, sample, finish}
+use Rattle.otel_prometheus.specs.Numbers.{unsigned}
+use Rattle.otel_prometheus.specs.Samples.{Pair, Sample}
+use Rattle.otel_prometheus.specs.declared.text.formats.Format.{Format}
+use Rattle.otel_prometheus.specs.declared.text.formats.Format.TheVariants as formats
 use Rattle.otel_prometheus.specs.Totals.{total}
 use Rattle.otel_prometheus.specs.Families.{families, delta_points, conflicting_points}
 use Rattle.otel_prometheus.specs.Headings.{heading_of, same_heading}

@@ -1,8 +1,8 @@
 -- The front of the samples of a histogram's buckets: all up to the bound.
 use Rattle.std.specs.Prelude.{◌≡◌, ℕ, List, [], ◌∷◌, ◌++◌, codes}
 use Rattle.std.specs.Fmt.{signed_decimal}
-use Rattle.otel_exposition.specs.Numbers.{unsigned}
-use Rattle.otel_exposition.specs.Samples.{Pair, escaped, labels_text}
+use Rattle.otel_prometheus.specs.Numbers.{unsigned}
+use Rattle.otel_prometheus.specs.Samples.{Pair, escaped, labels_text}
 
 -- with any bound, its quote and the closing brace it is the name of the buckets and the labels
 abbrev pub IsFront : List ℕ → List ℕ → List Pair → Type 0

@@ -10,8 +10,8 @@ use Rattle.otel_data.specs.declared.aggregated.AggregatedMetrics.TheVariants as 
 use Rattle.otel_data.specs.declared.aggregated.MetricData.{MetricData}
 use Rattle.otel_data.specs.declared.aggregated.MetricData.TheVariants as aggregations
 use Rattle.otel_data.specs.declared.collections.Metric.{Metric}
-use Rattle.otel_exposition.specs.Names.{name_of}
-use Rattle.otel_exposition.specs.Samples.{is_metric_byte}
+use Rattle.otel_prometheus.specs.Names.{name_of}
+use Rattle.otel_prometheus.specs.Samples.{is_metric_byte}
 use Rattle.otel_prometheus.specs.Units.{unit_suffix}
 use Rattle.otel_prometheus.specs.declared.headings.Heading.{Heading}
 use Rattle.otel_prometheus.specs.declared.headings.Kind.{Kind}

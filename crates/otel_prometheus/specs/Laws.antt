@@ -1,7 +1,7 @@
 -- What holds of the lines of every collection, in the subject's words.
 use Rattle.std.specs.Prelude.{◌≡◌, ℕ, ◌≤◌, pos, List, [], ◌∷◌, ◌++◌, false, length}
 use Rattle.otel_data.specs.declared.collections.ResourceMetrics.{ResourceMetrics}
-use Rattle.otel_exposition.specs.Samples.{Sample, labels_text}
+use Rattle.otel_prometheus.specs.Samples.{Sample, labels_text}
 use Rattle.otel_prometheus.specs.Collections.{family_series}
 use Rattle.otel_prometheus.specs.Families.{is_refused, content_length, families}
 use Rattle.otel_prometheus.specs.Series.{Series, is_seen, kept}

@@ -4,9 +4,15 @@ pub mod Fronts
 pub mod Headings
 pub mod Labels
 pub mod Laws
+pub mod Lines
+pub mod Names
+pub mod Numbers
 pub mod Places
-pub mod Rising
+pub mod Plain
 pub mod Points
+pub mod Reading
+pub mod Rising
+pub mod Samples
 pub mod Series
 pub mod Texts
 pub mod Totals

@@ -1,6 +1,6 @@
 -- The place of a label among others.
 use Rattle.std.specs.Prelude.{◌≡◌, ℕ, ◌<◌, ◌≤◌, List, length, insert, slice_set, slice_index_or}
-use Rattle.otel_exposition.specs.Samples.{Pair, joined}
+use Rattle.otel_prometheus.specs.Samples.{Pair, joined}
 use Rattle.otel_prometheus.specs.Labels.{with_label}
 use Rattle.otel_prometheus.specs.declared.places.Place.{Place}
 use Rattle.otel_prometheus.specs.declared.places.Place.TheVariants.{At, Before}

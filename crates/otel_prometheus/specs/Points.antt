@@ -11,10 +11,10 @@ use Rattle.otel_data.specs.declared.aggregated.MetricData.TheVariants as aggrega
 use Rattle.otel_data.specs.declared.points.GaugeDataPoint.{GaugeDataPoint}
 use Rattle.otel_data.specs.declared.points.HistogramDataPoint.{HistogramDataPoint}
 use Rattle.otel_data.specs.declared.points.SumDataPoint.{SumDataPoint}
-use Rattle.otel_exposition.specs.Numbers.{unsigned, signed}
-use Rattle.otel_exposition.specs.Samples.{Pair, Sample}
-use Rattle.otel_exposition.specs.declared.formats.Format.{Format}
-use Rattle.otel_exposition.specs.declared.formats.Format.TheVariants as formats
+use Rattle.otel_prometheus.specs.Numbers.{unsigned, signed}
+use Rattle.otel_prometheus.specs.Samples.{Pair, Sample}
+use Rattle.otel_prometheus.specs.declared.text.formats.Format.{Format}
+use Rattle.otel_prometheus.specs.declared.text.formats.Format.TheVariants as formats
 use Rattle.otel_prometheus.specs.Labels.{point_labels}
 use Rattle.otel_prometheus.specs.Series.{Series}
 use Rattle.otel_prometheus.specs.declared.headings.Heading.{Heading}

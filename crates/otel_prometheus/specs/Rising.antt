@@ -3,8 +3,8 @@ use Rattle.std.specs.Prelude.{ℕ, ◌+◌, ◌&&◌, List, [], ◌∷◌, ◌++
 use Rattle.std.specs.Cmp.Lexicographic.{slice_cmp}
 use Rattle.std.specs.Ordering.{nat_cmp, is_lt}
 use Rattle.otel_common.specs.declared.attributes.KeyValue.{KeyValue}
-use Rattle.otel_exposition.specs.Names.{name_of}
-use Rattle.otel_exposition.specs.Samples.{Pair, escaped, is_label_byte, label_text}
+use Rattle.otel_prometheus.specs.Names.{name_of}
+use Rattle.otel_prometheus.specs.Samples.{Pair, escaped, is_label_byte, label_text}
 use Rattle.otel_prometheus.specs.Labels.{own_name}
 use Rattle.otel_prometheus.specs.Values.{value_text}
 

@@ -2,7 +2,7 @@
 use Rattle.std.specs.Prelude.{ℕ, ◌+◌, List, [], ◌∷◌, ◌++◌, Bool, cond, flat_map}
 use Rattle.std.specs.List.{list_any}
 use Rattle.otel_common.specs.Equality.{bytes_eq}
-use Rattle.otel_exposition.specs.Samples.{Pair, Sample, labels_text, sample_text}
+use Rattle.otel_prometheus.specs.Samples.{Pair, Sample, labels_text, sample_text}
 
 -- the samples of a point, all with its labels
 pub record Series : Type 0 where

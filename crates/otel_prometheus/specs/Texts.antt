@@ -1,6 +1,6 @@
 -- Series as text, one behind the other.
 use Rattle.std.specs.Prelude.{ℕ, List, [], ◌∷◌, ◌++◌, length, take, drop}
-use Rattle.otel_exposition.specs.Samples.{Pair}
+use Rattle.otel_prometheus.specs.Samples.{Pair}
 use Rattle.otel_prometheus.specs.Series.{Series, spelled_series}
 use Rattle.otel_prometheus.specs.declared.series.Mark.{Mark}
 

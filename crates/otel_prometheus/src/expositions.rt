@@ -1,8 +1,8 @@
 //! Expositions: the text of a whole collection.
 
 ghost use Rattle.std.specs.Prelude.{◌≡◌, ◌++◌, ◌%◌, ◌^◌, [], false, Some, OnOk, IfOk, map, flat_map, fold};
-ghost use Rattle.otel_exposition.specs.Lines.{sample, spelled, text_of};
-ghost use Rattle.otel_exposition.specs.Reading.{read};
+ghost use Rattle.otel_prometheus.specs.Lines.{sample, spelled, text_of};
+ghost use Rattle.otel_prometheus.specs.Reading.{read};
 ghost use Rattle.otel_prometheus.specs.Collections.{metric_series, scope_series, family_series, kind_word, kind_end, help_lines, front_lines, family_samples, family_lines, target_kind, target_lines, end_lines, lines_of, doubled_points, left_out_of};
 ghost use Rattle.otel_prometheus.specs.Totals.{total};
 ghost use Rattle.otel_prometheus.specs.Families.{families};
@@ -17,13 +17,13 @@ use crate::laws::says_lines;
 use crate::points::add_content;
 use crate::series::{Texts, without_doubled};
 use crate::settings::Settings;
+use crate::text::comments::{push_finish, push_help, push_kind};
+use crate::text::formats::Format;
+use crate::text::labels::{Label, push_labels};
+use crate::text::samples::push_line;
 use otel_common::resource::Resource;
 use otel_common::scopes::InstrumentationScope;
 use otel_data::collections::{Metric, ResourceMetrics, ScopeMetrics};
-use otel_exposition::comments::{push_finish, push_help, push_kind};
-use otel_exposition::formats::Format;
-use otel_exposition::labels::{Label, push_labels};
-use otel_exposition::samples::push_line;
 use std::alloc::{AllocError, Global};
 use std::mem;
 

@@ -4,12 +4,12 @@ ghost use Rattle.std.specs.Prelude.{◌≡◌, ◌==◌, IfOk, OnOk};
 ghost use Rattle.std.specs.String.{string_bytes};
 ghost use Rattle.otel_prometheus.specs.Headings.{if_cumulative, points_kind, content_kind, keeps_last, is_last_value, kind_eq, without_end, own_text, with_end, base_name, heading_of, same_heading, is_sample_end, may_be_sample, clashes, is_reserved};
 
+use crate::text::names::metric_name;
 use crate::units::unit_suffix;
 use otel_common::metrics::Temporality;
 use otel_common::strings::StringValue;
 use otel_data::aggregated::{AggregatedMetrics, MetricData};
 use otel_data::collections::Metric;
-use otel_exposition::names::metric_name;
 use std::alloc::{AllocError, Global};
 
 /// The type of a family.

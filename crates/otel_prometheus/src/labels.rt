@@ -4,17 +4,17 @@ ghost use Rattle.std.specs.Prelude.{◌≡◌, ◌++◌, false, OnOk, IfOk};
 ghost use Rattle.std.specs.Option.{option_map};
 ghost use Rattle.std.specs.String.{string_bytes};
 ghost use Rattle.otel_prometheus.specs.Labels.{with_label, label_of, own_name, with_attributes, text_label, version_label, scope_labels, point_labels};
-ghost use Rattle.otel_exposition.specs.Names.{name_of};
-ghost use Rattle.otel_exposition.specs.Samples.{is_label_byte};
+ghost use Rattle.otel_prometheus.specs.Names.{name_of};
+ghost use Rattle.otel_prometheus.specs.Samples.{is_label_byte};
 
 use crate::places::add_label;
 use crate::settings::Settings;
+use crate::text::labels::Label;
+use crate::text::names::label_name;
 use crate::values::value_text;
 use otel_common::attributes::{KeyValue, Value};
 use otel_common::resource::Resource;
 use otel_common::scopes::InstrumentationScope;
-use otel_exposition::labels::Label;
-use otel_exposition::names::label_name;
 use std::alloc::{AllocError, Global};
 
 /// Adds a label with this text at the end, unless the text is empty.

@@ -2,10 +2,10 @@
 
 ghost use Rattle.std.specs.Prelude.{◌≡◌, ◌+◌, ◌<◌, ◌≤◌, ◌^◌, ℕ, ℤ, List, [], Some};
 ghost use Rattle.otel_data.specs.declared.collections.ResourceMetrics.{ResourceMetrics};
-ghost use Rattle.otel_exposition.specs.Lines.{AreLines, text_of};
-ghost use Rattle.otel_exposition.specs.Reading.{read};
-ghost use Rattle.otel_exposition.specs.Samples.{Pair};
-ghost use Rattle.otel_exposition.specs.declared.formats.Format.{Format};
+ghost use Rattle.otel_prometheus.specs.Lines.{AreLines, text_of};
+ghost use Rattle.otel_prometheus.specs.Reading.{read};
+ghost use Rattle.otel_prometheus.specs.Samples.{Pair};
+ghost use Rattle.otel_prometheus.specs.declared.text.formats.Format.{Format};
 ghost use Rattle.otel_prometheus.specs.Collections.{family_series, lines_of, doubled_points};
 ghost use Rattle.otel_prometheus.specs.Families.{families, delta_points, conflicting_points};
 ghost use Rattle.otel_prometheus.specs.Laws.{AreNew, StandApart, Rise, all_points, shown_points};
@@ -15,7 +15,7 @@ ghost use Rattle.otel_prometheus.specs.Totals.{total};
 ghost use Rattle.otel_prometheus.specs.declared.headings.Heading.{Heading};
 ghost use Rattle.otel_prometheus.specs.declared.settings.Settings.{Settings};
 
-use otel_exposition::laws::reads_back;
+use crate::text::laws::reads_back;
 
 /// The text of a collection reads as its lines, whatever its names, its help texts and its attributes are.
 ///

@@ -17,6 +17,7 @@ mod rising;
 mod samples;
 mod series;
 pub mod settings;
+pub mod text;
 mod units;
 mod values;
 pub mod writes;

@@ -5,7 +5,7 @@ ghost use Rattle.std.specs.String.{string_bytes};
 ghost use Rattle.otel_prometheus.specs.Labels.{with_label};
 ghost use Rattle.otel_prometheus.specs.Places.{IsPlace};
 
-use otel_exposition::labels::Label;
+use crate::text::labels::Label;
 use std::alloc::AllocError;
 use std::cmp::Ordering;
 

@@ -15,12 +15,12 @@ use crate::rising::Spelling;
 use crate::samples::{push_histogram_point, value_end};
 use crate::series::Texts;
 use crate::settings::Settings;
+use crate::text::numbers::Number;
+use crate::text::samples::push_line;
 use otel_common::attributes::KeyValue;
 use otel_common::scopes::InstrumentationScope;
 use otel_data::aggregated::{AggregatedMetrics, MetricData};
 use otel_data::points::{GaugeDataPoint, HistogramDataPoint, SumDataPoint};
-use otel_exposition::numbers::Number;
-use otel_exposition::samples::push_line;
 use std::alloc::{AllocError, Global};
 
 /// Adds the series of a point that has one value.

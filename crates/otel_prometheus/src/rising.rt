@@ -1,21 +1,21 @@
 //! Labels that stand as their attributes do, since the names of both rise.
 
 ghost use Rattle.std.specs.Prelude.{◌≡◌, ◌++◌, [], ◌∷◌, ◌≤◌, ℕ, List, length, take, drop, IsTrue, IfOk, OnOk, map};
-ghost use Rattle.otel_exposition.specs.Names.{name_of};
-ghost use Rattle.otel_exposition.specs.Samples.{Pair, escaped, is_label_byte, label_text, labels_text};
+ghost use Rattle.otel_prometheus.specs.Names.{name_of};
+ghost use Rattle.otel_prometheus.specs.Samples.{Pair, escaped, is_label_byte, label_text, labels_text};
 ghost use Rattle.otel_prometheus.specs.Labels.{own_name, point_labels, scope_labels};
 ghost use Rattle.otel_prometheus.specs.Rising.{rises, count_below, place_of_scope, comma_texts, value_front, front_texts};
 ghost use Rattle.otel_prometheus.specs.Values.{value_text};
 
 use crate::labels::{own_name, point_labels, push_scope};
 use crate::settings::Settings;
+use crate::text::labels::{Label, push_label, push_labels, push_value};
 use crate::values::value_text;
 use itoa::Buffer;
 use otel_common::attributes::{KeyValue, Value};
 use otel_common::keys::Key;
 use otel_common::scopes::InstrumentationScope;
 use otel_common::strings::StringValue;
-use otel_exposition::labels::{Label, push_label, push_labels, push_value};
 use std::alloc::{AllocError, Global};
 
 /// Whether each name is greater than the one before it, and the first than these bytes.

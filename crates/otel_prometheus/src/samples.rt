@@ -1,18 +1,18 @@
 //! Samples of points.
 
 ghost use Rattle.std.specs.Prelude.{◌≡◌, ◌++◌, [], ◌∷◌, ℕ, List, codes, OnOk};
-ghost use Rattle.otel_exposition.specs.Samples.{Pair, escaped, label_text, labels_text, sample_text};
+ghost use Rattle.otel_prometheus.specs.Samples.{Pair, escaped, label_text, labels_text, sample_text};
 ghost use Rattle.otel_prometheus.specs.Fronts.{IsFront, bucket_end};
 ghost use Rattle.otel_prometheus.specs.Points.{are_natural, bound_text, bucket, buckets, sum_samples, count_samples, histogram_samples, value_end};
 ghost use Rattle.otel_prometheus.specs.Series.{samples_text};
 
 use crate::headings::Kind;
+use crate::text::escapes::push_escaped;
+use crate::text::formats::Format;
+use crate::text::numbers::Number;
+use crate::text::samples::push_line;
 use itoa::Buffer;
 use otel_data::points::HistogramDataPoint;
-use otel_exposition::escapes::push_escaped;
-use otel_exposition::formats::Format;
-use otel_exposition::numbers::Number;
-use otel_exposition::samples::push_line;
 use std::alloc::AllocError;
 
 /// What a family of this type adds to its name in the names of values.

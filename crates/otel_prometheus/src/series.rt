@@ -5,7 +5,7 @@ ghost use Rattle.std.proofs.Common.{rules};
 ghost use Rattle.std.specs.Cmp.Rules.{comparing};
 ghost use Rattle.std.specs.Cmp.Lexicographic.{pointwise, bytes_decides};
 ghost use Rattle.std.specs.Hash as fed;
-ghost use Rattle.otel_exposition.specs.Samples.{Pair};
+ghost use Rattle.otel_prometheus.specs.Samples.{Pair};
 ghost use Rattle.otel_prometheus.specs.Series.{kept_text, doubled_texts};
 ghost use Rattle.otel_prometheus.specs.Texts.{written_behind, with_mark, pieces_from, pieces};
 

@@ -2,7 +2,7 @@
 
 ghost use Rattle.std.specs.Prelude.{◌≡◌, true};
 
-use otel_exposition::formats::Format;
+use crate::text::formats::Format;
 
 /// How a collection is shown.
 #[derive(Clone, Copy, Debug, PartialEq, Eq)]

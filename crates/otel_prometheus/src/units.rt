@@ -5,7 +5,7 @@ ghost use Rattle.std.specs.Option.{option_map};
 ghost use Rattle.std.specs.String.{string_bytes};
 ghost use Rattle.otel_prometheus.specs.Units.{word_at, rates, unit_word, is_count, worded, ratio, unit_parts, unit_suffix};
 
-use otel_exposition::names::label_name;
+use crate::text::names::label_name;
 use std::alloc::{AllocError, Global};
 
 /// Units and their words: of time, of size with steps of 1,000 and of 1,024, and of other quantities.

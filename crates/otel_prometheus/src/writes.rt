@@ -2,7 +2,7 @@
 
 ghost use Rattle.std.specs.Prelude.{◌≡◌, Err, IfOk, OnOk};
 ghost use Rattle.std.specs.Io.KnownBytes.{Appends};
-ghost use Rattle.otel_exposition.specs.Lines.{text_of};
+ghost use Rattle.otel_prometheus.specs.Lines.{text_of};
 ghost use Rattle.otel_prometheus.specs.Collections.{lines_of, left_out_of};
 
 use crate::expositions::{LeftOut, exposition_of};

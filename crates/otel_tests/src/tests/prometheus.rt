@@ -11,7 +11,7 @@ use otel_data::collections::{Metric, ResourceMetrics, ScopeMetrics};
 use otel_data::histograms::Histogram;
 use otel_data::points::{HistogramDataPoint, SumDataPoint};
 use otel_data::sums::Sum;
-use otel_exposition::formats::Format;
+use otel_prometheus::text::formats::Format;
 use otel_prometheus::expositions::{LeftOut, exposition_of};
 use otel_prometheus::settings::Settings;
 use otel_prometheus::writes::write;

@@ -1,4 +1,4 @@
-use Rattle.otel_exposition.specs.declared.formats.Format.TheVariants.{OpenMetrics}
+use Rattle.otel_prometheus.specs.declared.text.formats.Format.TheVariants.{OpenMetrics}
 use Rattle.otel_prometheus.proofs.expositions.push_end.Goals as goal
 
 pub returns-in-OpenMetrics : goal.returns-in-OpenMetrics

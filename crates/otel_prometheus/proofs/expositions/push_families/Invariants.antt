@@ -1,5 +1,5 @@
 use Rattle.std.proofs.Common.{◌≡◌, ◌+◌, ◌%◌, ◌^◌, ◌++◌, [], flat_map, drop}
-use Rattle.otel_exposition.specs.Lines.{text_of}
+use Rattle.otel_prometheus.specs.Lines.{text_of}
 use Rattle.otel_prometheus.specs.Totals.{total}
 use Rattle.otel_prometheus.specs.Collections.{family_lines, family_series}
 use Rattle.otel_prometheus.specs.Series.{doubled}

@@ -1,4 +1,4 @@
-use Rattle.otel_exposition.specs.declared.formats.Format.TheVariants.{Prometheus, OpenMetrics}
+use Rattle.otel_prometheus.specs.declared.text.formats.Format.TheVariants.{Prometheus, OpenMetrics}
 use Rattle.otel_prometheus.proofs.expositions.push_target_kind.Goals as goal
 
 pub returns-in-Prometheus : goal.returns-in-Prometheus

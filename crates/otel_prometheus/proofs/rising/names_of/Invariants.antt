@@ -1,6 +1,6 @@
 use Rattle.std.proofs.Common.{◌≡◌, ◌++◌, map, drop}
-use Rattle.otel_exposition.specs.Names.{name_of}
-use Rattle.otel_exposition.specs.Samples.{is_label_byte}
+use Rattle.otel_prometheus.specs.Names.{name_of}
+use Rattle.otel_prometheus.specs.Samples.{is_label_byte}
 use Rattle.otel_prometheus.specs.Labels.{own_name}
 use Rattle.otel_prometheus.proofs.rising.names_of.Given as goal
 

@@ -1,5 +1,5 @@
 use Rattle.std.proofs.Common.{[], ◌∷◌, ◌++◌, ap, ◌∙◌, codes, rules}
-use Rattle.otel_exposition.specs.Samples.{escaped, labels_text}
+use Rattle.otel_prometheus.specs.Samples.{escaped, labels_text}
 use Rattle.otel_prometheus.proofs.BucketLemmas.{front_opened}
 use Rattle.otel_prometheus.proofs.samples.make_front.Goals as goal
 

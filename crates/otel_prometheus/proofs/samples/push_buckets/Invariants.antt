@@ -1,5 +1,5 @@
 use Rattle.std.proofs.Common.{◌≡◌, ◌++◌, ℕ, List, drop}
-use Rattle.otel_exposition.specs.Samples.{Pair}
+use Rattle.otel_prometheus.specs.Samples.{Pair}
 use Rattle.otel_prometheus.specs.Fronts.{IsFront}
 use Rattle.otel_prometheus.specs.Points.{buckets}
 use Rattle.otel_prometheus.specs.Series.{samples_text}

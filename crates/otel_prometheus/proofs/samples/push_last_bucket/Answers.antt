@@ -1,7 +1,7 @@
 use Rattle.std.proofs.Common.{[], ◌∷◌, ◌++◌, codes}
 use Rattle.std.specs.Fmt.{signed_decimal}
-use Rattle.otel_exposition.specs.Numbers.{unsigned}
-use Rattle.otel_exposition.specs.Samples.{labels_text}
+use Rattle.otel_prometheus.specs.Numbers.{unsigned}
+use Rattle.otel_prometheus.specs.Samples.{labels_text}
 use Rattle.otel_prometheus.proofs.BucketLemmas.{bucket_pushed}
 use Rattle.otel_prometheus.proofs.samples.push_last_bucket.Goals as goal
 

@@ -1,7 +1,0 @@
-use Rattle.std.proofs.Common.{◌≡◌, take}
-use Rattle.otel_exposition.specs.Samples.{escaped}
-use Rattle.otel_exposition.proofs.escapes.split_special.Given as goal
-
--- the bytes so far stand for themselves
-abbrev pub invariant-loop-index : goal.invariant-loop-index
-invariant-loop-index l = escaped (take l.index l.text) ≡ take l.index l.text
