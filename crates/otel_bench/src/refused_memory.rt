@@ -25,16 +25,20 @@ mod workers;
 
 use anyhow::Error;
 use runs::try_scenario;
-use scenarios::last_scenario;
+use scenarios::lines;
 use std::alloc::Global;
 
 /// Tries the scenario of a number, or all of them if no number is given.
 pub fn try_scenarios<R: Print>(rt: &R, alloc: Global, numbers: &[String]) -> Result<(), Error> {
-    if let [number] = numbers {
-        return try_scenario(rt, alloc, number.as_str().parse::<usize>()?);
-    }
-    for number in 1..=last_scenario() {
-        try_scenario(rt, alloc, number)?;
+    let wanted = match numbers {
+        [number] => number.as_str().parse::<usize>()?,
+        _ => 0,
+    };
+    for (index, line) in lines(alloc)?.iter().enumerate() {
+        let number = index.saturating_add(1);
+        if wanted == 0 || wanted == number {
+            try_scenario(rt, alloc, number, line)?;
+        }
     }
     Ok(())
 }

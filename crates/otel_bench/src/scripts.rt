@@ -23,7 +23,7 @@ pub fn calls_of(alloc: Global, script: &str) -> Result<Vec<Call>, Error> {
 }
 
 /// Returns the builder with these readers.
-fn with_readers<P: Parts>(
+pub fn with_readers<P: Parts>(
     builder: ProviderBuilder<P>,
     readers: Vec<P::Reader>,
 ) -> Result<ProviderBuilder<P>, Fault> {
@@ -35,7 +35,7 @@ fn with_readers<P: Parts>(
 }
 
 /// Returns the builder with these views.
-fn with_views<P: Parts>(
+pub fn with_views<P: Parts>(
     builder: ProviderBuilder<P>,
     views: Vec<P::View>,
 ) -> Result<ProviderBuilder<P>, Fault> {

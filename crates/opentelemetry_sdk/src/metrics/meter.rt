@@ -1,8 +1,5 @@
 //! Meters, builders of instruments, synchronous instruments, and the checks of names, units and bounds.
 
-pub use otel_provider::instrument_checks::{
-    validate_bucket_boundaries, validate_instrument_name, validate_instrument_unit,
-};
 pub use otel_data::numbers::NumberType;
 pub use otel_provider::async_builders::AsyncInstrumentBuilder;
 pub use otel_provider::asynchronous::{
@@ -11,6 +8,9 @@ pub use otel_provider::asynchronous::{
 };
 pub use otel_provider::bound::Bound;
 pub use otel_provider::builders::{HistogramBuilder, InstrumentBuilder};
+pub use otel_provider::instrument_checks::{
+    validate_bucket_boundaries, validate_instrument_name, validate_instrument_unit,
+};
 pub use otel_provider::laws::{
     copied_instruments, copied_meter, copied_observables, keeps_identity,
 };

@@ -7,7 +7,7 @@ use crate::refused_memory::set_up::{CALLBACKS, build, fill, resource, settings};
 use crate::refused_memory::shared::share;
 use crate::refused_memory::trials::Trial;
 use crate::refused_memory::values::write_value;
-use anyhow::{Error, bail};
+use anyhow::Error;
 use metrics_script::script_lines::script_of;
 use std::alloc::Global;
 use std::mem::replace;
@@ -68,11 +68,15 @@ fn has_twin<R: Print>(trial: &mut Trial<R>, text: &str) -> Result<bool, Error> {
     Ok(false)
 }
 
-/// Makes the call under test of the scenario of a number, compares what follows with twins, and prints its line.
-pub fn try_scenario<R: Print>(rt: &R, alloc: Global, number: usize) -> Result<(), Error> {
-    let Some(scenario) = scenario_of(number) else {
-        bail!("there is no scenario {number}");
-    };
+/// Makes the call under test of the scenario of this number and line, compares what follows with twins, and prints what
+/// it found.
+pub fn try_scenario<R: Print>(
+    rt: &R,
+    alloc: Global,
+    number: usize,
+    line: &'static str,
+) -> Result<(), Error> {
+    let scenario = scenario_of(alloc, line)?;
     let mut trial = Trial {
         rt,
         alloc,

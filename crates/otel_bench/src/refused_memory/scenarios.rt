@@ -1,6 +1,7 @@
 //! The calls under test, by their numbers.
 
 use anyhow::{Error, bail};
+use std::alloc::{AllocError, Global};
 
 /// A call under test, as the words of its line.
 ///
@@ -201,27 +202,28 @@ pub fn unknown(word: &str) -> Result<(), Error> {
     bail!("nothing is known by the word {word}")
 }
 
-/// The number of the last scenario.
-pub fn last_scenario() -> usize {
-    SCENARIOS.split('\n').count()
+/// The lines of the scenarios.
+pub fn lines(alloc: Global) -> Result<Vec<&'static str>, AllocError> {
+    SCENARIOS.split("\n").collect(alloc)
 }
 
-/// The scenario of a number, from 1. After the last there is none, nor of a line with another first word.
-pub fn scenario_of(number: usize) -> Option<Scenario<'static>> {
-    let line = SCENARIOS.split('\n').nth(number.checked_sub(1)?)?;
-    let (words, texts) = line.split_once('|').unwrap_or((line, ""));
-    let (lines, waiting) = texts.split_once('|').unwrap_or((texts, ""));
-    let mut words = words.split(' ');
-    let is_sure = match words.next() {
-        Some("sure") => true,
-        Some("maybe") => false,
-        _ => return None,
+/// The scenario of a line.
+pub fn scenario_of(alloc: Global, line: &'static str) -> Result<Scenario<'static>, Error> {
+    let (words, texts) = line.split_once("|").unwrap_or((line, ""));
+    let (lines, waiting) = texts.split_once("|").unwrap_or((texts, ""));
+    let words: Vec<&str> = words.split(" ").collect(alloc)?;
+    let [kind, place, call, word @ ..] = words.as_slice() else {
+        bail!("a scenario lacks a word");
     };
-    Some(Scenario {
-        is_sure,
-        place: words.next().unwrap_or(""),
-        call: words.next().unwrap_or(""),
-        word: words.next().unwrap_or(""),
+    let word = match word {
+        [word, ..] => *word,
+        [] => "",
+    };
+    Ok(Scenario {
+        is_sure: *kind == "sure",
+        place: *place,
+        call: *call,
+        word,
         lines,
         waiting,
     })

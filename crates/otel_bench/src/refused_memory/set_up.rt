@@ -2,6 +2,7 @@
 
 use crate::refused_memory::callbacks::Counting;
 use crate::refused_memory::typed::{Instruments, instruments_at, watch};
+use crate::scripts::{with_readers, with_views};
 use anyhow::{Error, bail};
 use metrics_script::script_lines::{Script, script_of};
 use opentelemetry_sdk::Resource;
@@ -128,14 +129,8 @@ pub fn resource(alloc: Global) -> Result<Resource, Fault> {
 /// Builds a provider of this resource with the readers and views of a script.
 pub fn build(alloc: Global, resource: Resource, script: Script) -> Result<Provider<Swept>, Fault> {
     let Script { readers, views, .. } = script;
-    let mut builder = Provider::builder(alloc).with_resource(resource)?;
-    for reader in readers {
-        builder = builder.with_reader(reader)?;
-    }
-    for view in views {
-        builder = builder.with_view(view)?;
-    }
-    builder.build()
+    let builder = Provider::builder(alloc).with_resource(resource)?;
+    with_views(with_readers(builder, readers)?, views)?.build()
 }
 
 /// Makes the calls of these lines, none of which may be refused.

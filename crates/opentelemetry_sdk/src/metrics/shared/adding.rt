@@ -11,9 +11,9 @@ use crate::metrics::shared::pending::PendingRecord;
 use crate::metrics::shared::worker::Worker;
 use otel_common::attributes::KeyValue;
 use otel_common::faults::Fault;
-use otel_provider::calls::Call;
 use otel_data::numbers::{NumberType, NumberValue};
 use otel_provider::bound::Bound;
+use otel_provider::calls::Call;
 use otel_provider::synchronous::{Adds, Records, Synchronous};
 
 /// Records by number. Nothing is checked here: `Locked::submit` is refused if a record can't be made.

@@ -6,8 +6,8 @@ ghost use Rattle.opentelemetry_sdk.specs.Pending.{call_in, bits_in};
 
 use otel_common::attributes::KeyValue;
 use otel_common::lists::Items;
-use otel_provider::calls::Call;
 use otel_data::numbers::NumberValue;
+use otel_provider::calls::Call;
 
 /// A record that a worker keeps until it is made.
 #[derive(Debug, Drop)]

@@ -4,8 +4,8 @@ use super::counted::{add, fault_of_call, open_worker};
 use opentelemetry_sdk::metrics::shared::{Account, Locked, Worker};
 use otel_common::faults::Fault;
 use otel_common::lists::Items;
-use otel_provider::calls::Call;
 use otel_data::numbers::NumberValue;
+use otel_provider::calls::Call;
 use otel_provider::parts::Parts;
 use std::alloc::Global;
 

@@ -4,13 +4,13 @@ use opentelemetry_sdk::metrics::shared::{Account, Locked, Worker};
 use otel_common::faults::Fault;
 use otel_common::scopes::InstrumentationScope;
 use otel_common::strings::StringValue;
-use otel_provider::calls::{Call, Reply};
-use otel_provider::sorts::InstrumentSort;
 use otel_data::aggregated::{AggregatedMetrics, MetricData};
 use otel_data::collections::{Metric, ResourceMetrics};
 use otel_data::numbers::NumberValue;
+use otel_provider::calls::{Call, Reply};
 use otel_provider::parts::Parts;
 use otel_provider::provider::Provider;
+use otel_provider::sorts::InstrumentSort;
 use std::alloc::Global;
 
 /// The number of the fault of a refusal, otherwise 0.
