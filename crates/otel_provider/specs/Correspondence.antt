@@ -1,5 +1,5 @@
 -- What the code's own values are in the words of the model, by cases. These definitions are trusted: no contract says
--- that they are right. Tests in `otel_run_tests` and `metrics_script_tests` send each kind of call, and look at each
+-- that they are right. Tests in `otel_tests` send each kind of call, and look at each
 -- kind of reply, each fault and each message.
 use Rattle.std.specs.Prelude.{◌≡◌, ℕ, ℤ, Bool, false, true, List, map, Option, None, Some, Result, Ok, Err}
 use Rattle.otel_aggregate.specs.Any.{is_signed_value, amount_of}
