@@ -25,6 +25,7 @@ static void *(*real_calloc)(size_t, size_t);
 static int (*real_posix_memalign)(void **, size_t, size_t);
 static void *(*real_aligned_alloc)(size_t, size_t);
 static ssize_t (*real_write)(int, const void *, size_t);
+static void (*real_exit)(int) __attribute__((noreturn));
 
 /* Calls of calloc before the library's own is known, which dlsym makes itself, are served from here. */
 static char early[4096];
@@ -51,6 +52,7 @@ __attribute__((constructor)) static void start(void) {
     real_posix_memalign = dlsym(RTLD_NEXT, "posix_memalign");
     real_aligned_alloc = dlsym(RTLD_NEXT, "aligned_alloc");
     real_write = dlsym(RTLD_NEXT, "write");
+    real_exit = dlsym(RTLD_NEXT, "_exit");
     const char *number = getenv("REFUSE_REQUEST");
     wanted = number ? strtoul(number, NULL, 10) : 0;
     dl_iterate_phdr(find_code, NULL);
@@ -68,6 +70,12 @@ __attribute__((destructor)) static void finish(void) {
             perror(path);
         close(file);
     }
+}
+
+/* A program that may start threads ends so, and runs no destructors. */
+void _exit(int status) {
+    finish();
+    real_exit(status);
 }
 
 /* Whether the request that comes from this place is the one to be refused. */
