@@ -13,7 +13,7 @@ counts=$(mktemp)
 scripts=$(mktemp)
 trap 'rm -f "$counts" "$scripts"' EXIT
 command -v valgrind >/dev/null || { echo "valgrind is not there" >&2; exit 1; }
-rt run -- 0 <cases >/dev/null 2>&1 || { echo "rt run failed" >&2; exit 1; }
+rt run -- 0 <stdin >/dev/null 2>&1 || { echo "rt run failed" >&2; exit 1; }
 
 # Attributes with these numbers, in this order.
 attributes() {

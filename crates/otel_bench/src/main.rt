@@ -1,14 +1,9 @@
-//! Shows how a program uses the library, and measures it.
+//! Makes the calls of a script on a provider, so that the instructions of one call can be counted (`measure.sh`).
 //!
-//! Without an argument it prints what the programs of `example` do. With the argument `refused_memory`, perhaps with the
-//! number of a scenario, it makes calls for which memory may be refused.
-//!
-//! With a number it makes the calls of a script on a provider, so that the instructions of one call can be counted
-//! (`measure.sh`). The number says how many calls are counted. Standard input has three scripts as `metrics_run` takes
-//! them, with a line `---` between each two. The first says which readers and views the provider has, and what is done
-//! once. The calls of the second are made before each counted call; it may have none. Those of the third are counted:
-//! they are made in turn, starting over after the last. A line before the third script says how its records are made
-//! instead:
+//! The argument says how many calls are counted. Standard input has three scripts as `metrics_run` takes them, with
+//! a line `---` between each two. The first says which readers and views the provider has, and what is done once. The
+//! calls of the second are made before each counted call; it may have none. Those of the third are counted: they are
+//! made in turn, starting over after the last. A line before the third script says how its records are made instead:
 //!
 //! - `typed add`: a counter as a value adds 1 with the attributes of each record in turn;
 //! - `typed bound`: a handle as a value, with the attributes of the first record, adds 1;
@@ -20,11 +15,11 @@
 //! provider.
 //!
 //! With the arguments `threads` and a number, it prints how many seconds 1, 2 and 4 threads take that make this many
-//! records each. Standard input has two scripts then: what is done once, and the record.
+//! records each. Standard input has two scripts then: what is done once, and the record. With the argument
+//! `refused_memory`, perhaps with the number of a scenario, it makes calls for which memory may be refused.
 #![tactic(auto)]
 
 mod counted;
-mod example;
 mod exports;
 mod refused_memory;
 mod scripts;
@@ -35,7 +30,6 @@ mod typed;
 mod workers;
 
 use anyhow::{Error, bail};
-use example::example;
 use exports::count_exports;
 use refused_memory::try_scenarios;
 use scripts::{calls_of, provider_of};
@@ -103,7 +97,7 @@ fn count_all(rt: &impl Print, alloc: Global, scripts: &str, times: u64) -> Resul
 }
 
 /// Counts or times, as the arguments say.
-fn measure<R: Print + Clock + Threads + Wait + Sync>(
+fn run<R: Print + Clock + Threads + Wait + Sync>(
     rt: &R,
     alloc: Global,
     words: &[String],
@@ -120,14 +114,11 @@ fn measure<R: Print + Clock + Threads + Wait + Sync>(
 
 fn main(rt: HostRuntime) -> Result<(), Error> {
     let words: Vec<String> = env::args(&rt)?.skip(1).collect(rt.alloc())?;
-    match words.as_slice() {
-        [] => example(&rt, rt.alloc()),
-        [name, numbers @ ..] if name.as_str() == "refused_memory" => {
-            try_scenarios(&rt, rt.alloc(), numbers)
-        }
-        words => {
-            let scripts = io::read_to_string(rt.alloc(), rt.reader())?;
-            measure(&rt, rt.alloc(), words, scripts.as_str())
-        }
+    if let [name, numbers @ ..] = words.as_slice()
+        && name.as_str() == "refused_memory"
+    {
+        return try_scenarios(&rt, rt.alloc(), numbers);
     }
+    let scripts = io::read_to_string(rt.alloc(), rt.reader())?;
+    run(&rt, rt.alloc(), words.as_slice(), scripts.as_str())
 }

@@ -4,8 +4,8 @@ use Rattle.opentelemetry_sdk.specs.Calls as model
 use Rattle.opentelemetry_sdk.specs.Correspondence.{number_of}
 use Rattle.opentelemetry_sdk.specs.Providers.{state_of, views_of}
 use Rattle.opentelemetry_sdk.specs.Typed.{instrument_number, record_reply}
-use Rattle.otel_bench.proofs.Batches.{total_grown, record_unchanged}
-use Rattle.otel_bench.proofs.example.counted.count_batch.Goals as goal
+use Rattle.otel_example.proofs.Batches.{total_grown, record_unchanged}
+use Rattle.otel_example.proofs.counted.count_batch.Goals as goal
 
 pub returns : goal.returns
 returns g c =

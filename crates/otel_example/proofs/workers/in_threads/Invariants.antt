@@ -1,7 +1,7 @@
 use Rattle.std.specs.Prelude.{◌%◌, ◌^◌}
 use Rattle.opentelemetry_sdk.specs.Books.{count_in, sum_in}
 use Rattle.opentelemetry_sdk.specs.Providers.{state_of}
-use Rattle.otel_bench.proofs.example.workers.in_threads.Given as goal
+use Rattle.otel_example.proofs.workers.in_threads.Given as goal
 
 abbrev pub ghosts-share-C-Ledger : goal.ghosts-share-C-Ledger
 ghosts-share-C-Ledger g a = record { name = a.records.name; parts = a.records.parts }

@@ -13,7 +13,7 @@ use Rattle.opentelemetry_sdk.specs.Steps.{Step, reply_by, after_by}
 use Rattle.opentelemetry_sdk.proofs.Single.{step_cases}
 use Rattle.opentelemetry_sdk.specs.Correspondence.{fault_of}
 use Rattle.opentelemetry_sdk.specs.Typed.{record_reply}
-use Rattle.otel_bench.specs.Totals.{sum_of, total_of}
+use Rattle.otel_example.specs.Totals.{sum_of, total_of}
 
 -- the instrument of a record that isn't refused is there, and its sum grows
 sum_grown : (n : ℕ) (v : model.Number) (is : List InstrumentState) → record_refusal (slice_get is n) v.signed ≡ None

@@ -4,8 +4,8 @@ ghost use Rattle.std.specs.Prelude.{◌≡◌, ◌%◌, ◌^◌};
 ghost use Rattle.opentelemetry_sdk.specs.Books.{count_in, sum_in};
 ghost use Rattle.opentelemetry_sdk.specs.Providers.{state_of};
 
-use crate::example::calls::{counter, print_collection};
-use crate::example::parts::provider_with;
+use crate::calls::{counter, print_collection};
+use crate::parts::provider_with;
 use anyhow::Error;
 use opentelemetry_sdk::common::{Fault, KeyValue};
 use opentelemetry_sdk::metrics::meter::Counter;

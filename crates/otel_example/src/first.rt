@@ -2,8 +2,8 @@
 
 ghost use Rattle.std.specs.Prelude.{◌≡◌, ◌∷◌, [], map, IfOk};
 
-use crate::example::calls::{counter, print_collection};
-use crate::example::parts::provider_with;
+use crate::calls::{counter, print_collection};
+use crate::parts::provider_with;
 use anyhow::Error;
 use opentelemetry_sdk::common::{Fault, KeyValue};
 use opentelemetry_sdk::metrics::callback::{Observation, ObserveU64};

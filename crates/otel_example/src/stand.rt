@@ -1,9 +1,9 @@
 //! A stand that counts at a provider with views.
 
-use crate::example::calls::{counter, print_collection};
-use crate::example::first::{latency_of, record_all};
-use crate::example::parts::{OnlyManual, provider_with};
-use crate::example::views::view_of;
+use crate::calls::{counter, print_collection};
+use crate::first::{latency_of, record_all};
+use crate::parts::{OnlyManual, provider_with};
+use crate::views::view_of;
 use anyhow::Error;
 use opentelemetry_sdk::common::{Fault, KeyValue};
 use opentelemetry_sdk::metrics::ManualReader;

@@ -1,7 +1,7 @@
 //! Requests that are counted by the batch, with what a batch adds to their total as a contract.
 
 ghost use Rattle.std.specs.Prelude.{◌≡◌, ◌+◌, ◌%◌, ◌^◌, OnOk, OnErr};
-ghost use Rattle.otel_bench.specs.Totals.{total_of};
+ghost use Rattle.otel_example.specs.Totals.{total_of};
 ghost use Rattle.opentelemetry_sdk.specs.Providers.{state_of};
 ghost use Rattle.opentelemetry_sdk.specs.Typed.{IsInstrumentOf, instrument_number};
 

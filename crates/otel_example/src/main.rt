@@ -1,4 +1,5 @@
 //! A shop counts its requests: how a program uses the library.
+#![tactic(auto)]
 
 mod balances;
 mod calls;
@@ -27,8 +28,6 @@ use service::with_service;
 use shop::Shop;
 use stand::with_views;
 use std::alloc::Global;
-use std::sync::Wait;
-use std::thread::Threads;
 use workers::in_threads;
 
 /// A shop serves requests of these paths on two days, and prints on each what was counted.
@@ -82,13 +81,12 @@ fn in_batches<P: Parts>(rt: &impl Print, alloc: Global, reader: P::Reader) -> Re
     count_two(rt, alloc, &mut provider)
 }
 
-/// All that the program shows.
-pub fn example<R: Print + Threads + Wait + Sync>(rt: &R, alloc: Global) -> Result<(), Error> {
-    hello(rt, alloc)?;
-    with_boxes(rt, alloc)?;
-    without_boxes(rt, alloc)?;
-    with_views(rt, alloc)?;
-    in_batches::<OnlyManual>(rt, alloc, ManualReader::default())?;
-    in_threads::<OnlyManual, R>(rt, alloc, ManualReader::default())?;
-    with_service(rt, alloc)
+fn main(rt: HostRuntime) -> Result<(), Error> {
+    hello(&rt, rt.alloc())?;
+    with_boxes(&rt, rt.alloc())?;
+    without_boxes(&rt, rt.alloc())?;
+    with_views(&rt, rt.alloc())?;
+    in_batches::<OnlyManual>(&rt, rt.alloc(), ManualReader::default())?;
+    in_threads::<OnlyManual, HostRuntime>(&rt, rt.alloc(), ManualReader::default())?;
+    with_service(&rt, rt.alloc())
 }

@@ -1,6 +1,6 @@
 //! A shop that keeps a provider and counts at it.
 
-use crate::example::calls::{counter, print_collection};
+use crate::calls::{counter, print_collection};
 use anyhow::Error;
 use opentelemetry_sdk::common::{Fault, KeyValue};
 use opentelemetry_sdk::metrics::meter::Counter;
