@@ -10,8 +10,8 @@ use Rattle.otel_model_stream.specs.Sets.{AttributeSet, none_set, over_set}
 use Rattle.otel_model_stream.specs.Folds.{Fold, Sample}
 use Rattle.otel_model_stream.specs.Events.{Handles, held_by, without}
 use Rattle.otel_model_stream.specs.Entries.{Entry, Table, new_entry, is_of, has, number_counted, place, on, write, take_handle, drop_handle, reset, at_entry, stays, evicted_table}
-use Rattle.otel_value_map.specs.Numbers.{is_placed, handles_in, handles_at, entry_without_handles, without_handles}
-use Rattle.otel_value_map.proofs.KeyedLemmas.{same_set, set_eq-self, set_eq-flip}
+use Rattle.otel_aggregate.specs.value_map.Numbers.{is_placed, handles_in, handles_at, entry_without_handles, without_handles}
+use Rattle.otel_aggregate.proofs.value_map.KeyedLemmas.{same_set, set_eq-self, set_eq-flip}
 use Rattle.otel_aggregate.specs.Links.{handles_at_set, IsCounted, AreHeld}
 
 -- a set that has a place

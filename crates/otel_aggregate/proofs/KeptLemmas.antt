@@ -10,7 +10,7 @@ use Rattle.otel_model_stream.specs.Folds.{Amount, Sample, Fold, Total, Last, Spr
 use Rattle.otel_model_stream.specs.Entries.{Entry, Table, new_entry, is_of, has, number_counted, entries_with_place, entry_for, on, write, take_handle, drop_handle, reset, stays, points, point_of_entry}
 use Rattle.otel_model_stream.specs.Events.{held_by}
 use Rattle.otel_model_stream.specs.Maps.{MapState, new_map, measured_map, bound_map, updated_bound, unbound_map, evicted_map, drained_map}
-use Rattle.otel_value_map.specs.Numbers.{entry_without_handles, without_handles}
+use Rattle.otel_aggregate.specs.value_map.Numbers.{entry_without_handles, without_handles}
 use Rattle.otel_aggregate.specs.declared.settings.AnySettings.{AnySettings}
 use Rattle.otel_aggregate.specs.declared.settings.AnySettings.TheVariants as kinds
 use Rattle.otel_aggregate.specs.Any.{Form, form_of, aggregate_of, is_monotonic_of, drains_of}

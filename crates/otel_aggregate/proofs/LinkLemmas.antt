@@ -8,7 +8,7 @@ use Rattle.std.proofs.lemmas.Bool.Decides.{nat_tests}
 use Rattle.otel_model_stream.specs.Sets.{AttributeSet}
 use Rattle.otel_model_stream.specs.Entries.{Entry}
 use Rattle.otel_model_stream.specs.Events.{Handles, held_by, without}
-use Rattle.otel_value_map.specs.Numbers.{Numbers, number_of, set_named, is_placed, KeepNumbers, KeepLeft, AreNamed}
+use Rattle.otel_aggregate.specs.value_map.Numbers.{Numbers, number_of, set_named, is_placed, KeepNumbers, KeepLeft, AreNamed}
 use Rattle.otel_aggregate.specs.Links.{Link, handle_of, handles_of, IsLinked}
 
 -- ======== at other numbers ========

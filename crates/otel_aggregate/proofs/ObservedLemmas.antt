@@ -12,7 +12,7 @@ use Rattle.otel_model_stream.specs.Observed.{fold_in, value_before, difference}
 use Rattle.otel_model_stream.specs.Totals.{value_of}
 use Rattle.otel_model_stream.specs.Data.{sum_point}
 use Rattle.otel_model_stream.proofs.Clearing.{cleared-recorded}
-use Rattle.otel_value_map.specs.Slots.{HasForm}
+use Rattle.otel_aggregate.specs.value_map.Slots.{HasForm}
 use Rattle.otel_aggregate.specs.Streams.{AggregateState, AggregateContents, recorded_set, stream_after_commit, taken_from}
 use Rattle.otel_aggregate.specs.Data.{temporality_of}
 use Rattle.otel_aggregate.specs.Observed.{ObservedState, values_now, since_reported, sums_now, observed_data}

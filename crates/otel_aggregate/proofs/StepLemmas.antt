@@ -13,8 +13,8 @@ use Rattle.otel_model_stream.specs.Folds.{Amount, Sample, sample_of}
 use Rattle.otel_model_stream.specs.Events.{Handles, held_by, without}
 use Rattle.otel_model_stream.specs.Entries.{Table, entry_for, place, take_handle}
 use Rattle.otel_model_stream.specs.Maps.{MapState, KnownMap, measured_map, measured_list, bound_map, bound_to, updated_bound, unbound_map}
-use Rattle.otel_value_map.specs.Contents.{MapContents, known_of}
-use Rattle.otel_value_map.specs.Numbers.{Numbers, number_of, set_named, is_placed, KeepNumbers, AreNamed, AreNumbered}
+use Rattle.otel_aggregate.specs.value_map.Contents.{MapContents, known_of}
+use Rattle.otel_aggregate.specs.value_map.Numbers.{Numbers, number_of, set_named, is_placed, KeepNumbers, AreNamed, AreNumbered}
 use Rattle.otel_aggregate.specs.Links.{Link, handle_of, handles_of, IsLinked, AreHeld}
 use Rattle.otel_aggregate.specs.Streams.{AggregateContents, recorded_set, bind_of, stream_after_bind, update_at, stream_after_update, unbind_at, stream_after_unbind}
 use Rattle.otel_aggregate.proofs.LinkLemmas.{IsLinkedStill, still-kept, handles-still, linked-still, linked-push, held-linked}

@@ -15,7 +15,7 @@ use Rattle.otel_model_stream.specs.Entries.{Table, Point}
 use Rattle.otel_model_stream.specs.Events.{Handles, held_by}
 use Rattle.otel_model_stream.specs.Maps.{draining_points}
 use Rattle.otel_model_stream.specs.Data.{natural_of, signed_of}
-use Rattle.otel_value_map.specs.Numbers.{without_handles}
+use Rattle.otel_aggregate.specs.value_map.Numbers.{without_handles}
 use Rattle.otel_aggregate.specs.declared.settings.AnySettings.{AnySettings}
 use Rattle.otel_aggregate.specs.declared.settings.AnySettings.TheVariants as settings
 use Rattle.otel_aggregate.specs.Data.{sum_data, gauge_data, histogram_data}

@@ -1,7 +1,7 @@
 -- An aggregator of any kind, by its variants.
 use Rattle.std.specs.Prelude.{ℕ, pos}
 use Rattle.std.specs.Option.{option_map}
-use Rattle.otel_aggregators.specs.declared.buckets.Buckets.{Buckets}
+use Rattle.otel_aggregate.specs.declared.aggregators.buckets.Buckets.{Buckets}
 use Rattle.otel_model_stream.specs.Folds.{Fold, Total, Last, Spreads, Spread, Sample, no_spread}
 use Rattle.otel_aggregate.specs.Any.{amount_of}
 use Rattle.otel_aggregate.specs.declared.any_aggregator.AnyBuckets.{AnyBuckets}

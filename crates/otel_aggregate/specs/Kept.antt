@@ -8,7 +8,7 @@ use Rattle.otel_model_stream.specs.Folds.{Fold, Total, Last, Spreads}
 use Rattle.otel_model_stream.specs.Entries.{Table, Point}
 use Rattle.otel_model_stream.specs.Maps.{MapState, draining_points, drained_map}
 use Rattle.otel_model_stream.specs.Data.{spread_of}
-use Rattle.otel_value_map.specs.Contents.{MapContents}
+use Rattle.otel_aggregate.specs.value_map.Contents.{MapContents}
 use Rattle.otel_aggregate.specs.Streams.{AggregateContents}
 use Rattle.otel_aggregate.specs.Any.{Form, Sums, LastValues, Spreads as SpreadForm, AnyContents, form_of, observed_in, data_of}
 use Rattle.otel_aggregate.specs.Observed.{observed_data}

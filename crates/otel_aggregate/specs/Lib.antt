@@ -5,3 +5,5 @@ pub mod Any
 pub mod Kept
 pub mod AnyKept
 pub mod Observed
+pub mod sets
+pub mod value_map

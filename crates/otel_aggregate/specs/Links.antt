@@ -6,7 +6,7 @@ use Rattle.otel_common.specs.Equality.{set_eq}
 use Rattle.otel_model_stream.specs.Sets.{AttributeSet}
 use Rattle.otel_model_stream.specs.Entries.{Entry, Table}
 use Rattle.otel_model_stream.specs.Events.{Handles}
-use Rattle.otel_value_map.specs.Numbers.{Numbers, number_of, set_named, is_placed}
+use Rattle.otel_aggregate.specs.value_map.Numbers.{Numbers, number_of, set_named, is_placed}
 
 -- a handle with the number of its entry
 abbrev pub Link : Type 0

@@ -7,7 +7,7 @@ use Rattle.otel_model_stream.specs.Folds.{Aggregate, Amount, empty_of, sample_of
 use Rattle.otel_model_stream.specs.Entries.{Point, points}
 use Rattle.otel_model_stream.specs.Events.{Handles, held_by, without}
 use Rattle.otel_model_stream.specs.Maps.{MapState, new_map, measured_map, bound_map, bound_to, updated_bound, unbound_map, evicted_map}
-use Rattle.otel_value_map.specs.Numbers.{is_placed}
+use Rattle.otel_aggregate.specs.value_map.Numbers.{is_placed}
 
 pub record AggregateState : Type 0 where
   pub map_state : MapState

@@ -7,11 +7,11 @@ ghost use Rattle.otel_aggregate.specs.Any.{amount_of, aggregate_of, is_monotonic
 ghost use Rattle.otel_aggregate.specs.AnyKept.{spread_in, fold_in, empty_for, sample_in};
 ghost use Rattle.otel_aggregate.specs.declared.any_aggregator.AnyConfig.TheVariants as config;
 
+use crate::aggregators::aggregator::Aggregator;
+use crate::aggregators::buckets::{Buckets, BucketsConfig};
 use crate::measures::Measures;
 use crate::settings::AnySettings;
 use crate::values::{bits_of, wide_of};
-use otel_aggregators::aggregator::Aggregator;
-use otel_aggregators::buckets::{Buckets, BucketsConfig};
 use otel_common::faults::Fault;
 use otel_data::numbers::NumberValue;
 use std::alloc::Global;

@@ -6,11 +6,11 @@ ghost use Rattle.otel_model_stream.specs.Folds.{Histogram as HistogramAggregate,
 ghost use Rattle.otel_model_stream.specs.Data.{histogram_point};
 
 use crate::aggregate_stream::AggregateStream;
+use crate::aggregators::buckets::{Buckets, BucketsConfig};
+use crate::aggregators::number::Number;
 use crate::measures::Measures;
 use crate::settings::HistogramSettings;
 use crate::shows::Shows;
-use otel_aggregators::buckets::{Buckets, BucketsConfig};
-use otel_aggregators::number::Number;
 use otel_common::attributes::KeyValue;
 use otel_common::faults::Fault;
 use otel_common::lists::{Items, SharedItems};

@@ -3,6 +3,7 @@
 #![tactic(auto)]
 
 pub mod aggregate_stream;
+pub mod aggregators;
 pub mod any;
 pub mod any_aggregator;
 pub mod histogram;
@@ -12,8 +13,10 @@ pub mod links;
 pub mod measures;
 pub mod precomputed_sum;
 pub mod saved;
+pub mod sets;
 pub mod settings;
 mod shown;
 pub mod shows;
 pub mod sum;
+pub mod value_map;
 pub mod values;

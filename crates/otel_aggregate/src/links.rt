@@ -5,8 +5,8 @@ ghost use Rattle.std.specs.Map.{lookup};
 ghost use Rattle.indexmap.specs.IndexMap.{shift_remove_entry};
 ghost use Rattle.otel_aggregate.specs.Links.{spare};
 
+use crate::value_map::hashing::SetHashBuilder;
 use indexmap::IndexMap;
-use otel_value_map::hashing::SetHashBuilder;
 use std::alloc::{AllocError, Global};
 use std::marker::Model;
 

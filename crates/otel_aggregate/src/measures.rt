@@ -3,7 +3,7 @@
 ghost use Rattle.std.specs.Prelude.{◌≡◌, Bool};
 ghost use Rattle.otel_model_stream.specs.Folds.{Aggregate, Amount, empty_of, sample_of};
 
-use otel_aggregators::aggregator::Aggregator;
+use crate::aggregators::aggregator::Aggregator;
 
 /// An aggregator of the values that a stream records.
 pub trait Measures: Aggregator {

@@ -1,7 +1,7 @@
 //! The saved entries of a stream of any aggregate.
 
 use crate::any_aggregator::AnyAggregator;
-use otel_value_map::saved::Saved;
+use crate::value_map::saved::Saved;
 use std::marker::Model;
 
 /// A stream's entries as they were when they were saved, to be put back into it.

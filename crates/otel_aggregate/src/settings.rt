@@ -3,7 +3,7 @@
 ghost use Rattle.std.specs.Prelude.{◌≡◌};
 ghost use Rattle.otel_aggregate.specs.Any.{is_monotonic_of, drains_of};
 
-use otel_aggregators::bounds::Bounds;
+use crate::aggregators::bounds::Bounds;
 
 /// The bounds of a histogram's buckets, and what it keeps besides their counts.
 pub struct HistogramSettings {

@@ -6,11 +6,11 @@ ghost use Rattle.otel_model_stream.specs.Entries.{Point};
 ghost use Rattle.otel_model_stream.specs.Folds.{Aggregate};
 
 use crate::measures::Measures;
+use crate::value_map::maker::PointMaker;
 use otel_common::attributes::KeyValue;
 use otel_common::faults::Fault;
 use otel_common::lists::{Items, SharedItems};
 use otel_common::metrics::Temporality;
-use otel_value_map::maker::PointMaker;
 use std::alloc::Global;
 
 /// An aggregator that a collection can show as a point.

@@ -5,10 +5,10 @@ ghost use Rattle.otel_model_stream.specs.Folds.{Sum as SumAggregate};
 ghost use Rattle.otel_model_stream.specs.Data.{sum_point};
 
 use crate::aggregate_stream::AggregateStream;
+use crate::aggregators::aggregator::Increment;
+use crate::aggregators::number::Number;
 use crate::measures::Measures;
 use crate::shows::Shows;
-use otel_aggregators::aggregator::Increment;
-use otel_aggregators::number::Number;
 use otel_common::attributes::KeyValue;
 use otel_common::faults::Fault;
 use otel_common::lists::{Items, SharedItems};

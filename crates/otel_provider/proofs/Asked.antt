@@ -6,7 +6,7 @@ use Rattle.otel_model.specs.Demands as model
 use Rattle.otel_model.specs.Demands.{Demand, Instrument, ReaderAnswers, StreamSpec, View, Views, instrument_of, add_answer, view_demands, own_demand, is_compatible}
 use Rattle.otel_model.specs.Machine as machine
 use Rattle.otel_model.specs.State.{ReaderPart}
-use Rattle.otel_pipeline.specs.Views.{views_answering}
+use Rattle.otel_provider.specs.pipeline.Views.{views_answering}
 use Rattle.otel_provider.specs.States.{AreAsked}
 
 abbrev asked_of : Views → InstrumentationScope → About → Views

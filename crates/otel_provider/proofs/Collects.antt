@@ -11,8 +11,8 @@ use Rattle.otel_model.specs.Machine.{changed_at, part_after_call, accepted_after
 use Rattle.otel_model.specs.Refusals.{refusal, observations_refusal}
 use Rattle.otel_model.specs.State.{ReaderPart, State}
 use Rattle.otel_model.specs.Steps.{Step, collect_reply, reply_by, after_by}
-use Rattle.otel_pipeline.specs.Collections.{IsCollectedFrom}
-use Rattle.otel_pipeline.specs.Pipelines.{Piped, part_of}
+use Rattle.otel_provider.specs.pipeline.Collections.{IsCollectedFrom}
+use Rattle.otel_provider.specs.pipeline.Pipelines.{Piped, part_of}
 use Rattle.otel_provider.specs.Correspondence.{reply_from}
 use Rattle.otel_provider.proofs.Stepped.{memory-step}
 

@@ -3,7 +3,7 @@ use Rattle.std.proofs.Common.{◌≡◌, ◌∙◌, List, [], ◌∷◌, ◌++�
 use Rattle.std.proofs.lemmas.List.{map-append}
 use Rattle.otel_model.specs.Demands.{ReaderAnswers}
 use Rattle.otel_model.specs.Machine.{new_part}
-use Rattle.otel_pipeline.specs.Pipelines.{Piped, part_of, part_by}
+use Rattle.otel_provider.specs.pipeline.Pipelines.{Piped, part_of, part_by}
 
 abbrev answers_of : List Piped → List ReaderAnswers
 answers_of ps = map (λ (p : Piped). p.answers) ps

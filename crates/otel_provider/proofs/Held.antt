@@ -15,10 +15,10 @@ use Rattle.otel_model.specs.State.{InstrumentState, LiveHandle, Shared, ReaderPa
 use Rattle.otel_model.specs.Steps.{Step, reply_by, after_by}
 use Rattle.otel_model.specs.Lawful.{HandlesAreSound, PartIsLawful, TakesRecords}
 use Rattle.otel_model.proofs.Handles.{unfed-unheld, new-unheld}
-use Rattle.otel_pipeline.specs.Handles.{FeedsSynchronous, IsNewAt, IsHeldByFed, IsReadyToBindAt, part_after_bind}
-use Rattle.otel_pipeline.specs.Pipelines.{Piped, part_of}
-use Rattle.otel_pipeline.proofs.Handles.{bound-sent}
-use Rattle.otel_pipeline.proofs.PipelinesLemmas.{IsDoneUpto}
+use Rattle.otel_provider.specs.pipeline.Handles.{FeedsSynchronous, IsNewAt, IsHeldByFed, IsReadyToBindAt, part_after_bind}
+use Rattle.otel_provider.specs.pipeline.Pipelines.{Piped, part_of}
+use Rattle.otel_provider.proofs.pipeline.Handles.{bound-sent}
+use Rattle.otel_provider.proofs.pipeline.PipelinesLemmas.{IsDoneUpto}
 use Rattle.otel_provider.specs.States.{AreTyped}
 
 -- ======== all readers ========

@@ -17,10 +17,10 @@ use Rattle.otel_model.specs.Refusals.{meter_refusal, record_refusal}
 use Rattle.otel_model.specs.Sent.{has_scope}
 use Rattle.otel_model.specs.State.{ReaderPart, InstrumentState, Shared, State}
 use Rattle.otel_model.specs.Steps.{Step, number_from, reply_by, after_by}
-use Rattle.otel_pipeline.specs.Pipelines.{Piped, part_of, part_after_record, IsBuildableIn, IsPreparedFor}
-use Rattle.otel_pipeline.proofs.Builds.{any-position, position-cons}
-use Rattle.otel_pipeline.specs.Views.{views_answering}
-use Rattle.otel_pipeline.proofs.Records.{recorded-sent}
+use Rattle.otel_provider.specs.pipeline.Pipelines.{Piped, part_of, part_after_record, IsBuildableIn, IsPreparedFor}
+use Rattle.otel_provider.proofs.pipeline.Builds.{any-position, position-cons}
+use Rattle.otel_provider.specs.pipeline.Views.{views_answering}
+use Rattle.otel_provider.proofs.pipeline.Records.{recorded-sent}
 use Rattle.otel_provider.proofs.Asked.{built-answered}
 use Rattle.otel_provider.proofs.Stepped.{memory-step}
 use Rattle.otel_provider.specs.Correspondence.{number_of, reply_from}

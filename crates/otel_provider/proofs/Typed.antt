@@ -14,9 +14,9 @@ use Rattle.otel_model.specs.Sent.{is_fed}
 use Rattle.otel_model.specs.State.{InstrumentState, ReaderPart}
 use Rattle.otel_model.proofs.Gather.{identity_eq_true}
 use Rattle.otel_model.proofs.Feeding.{is_one, fed_demanded}
-use Rattle.otel_pipeline.specs.Handles.{AreObservableFor}
-use Rattle.otel_pipeline.specs.Observations.{AreTypedFor}
-use Rattle.otel_pipeline.specs.Pipelines.{Piped, part_of}
+use Rattle.otel_provider.specs.pipeline.Handles.{AreObservableFor}
+use Rattle.otel_provider.specs.pipeline.Observations.{AreTypedFor}
+use Rattle.otel_provider.specs.pipeline.Pipelines.{Piped, part_of}
 use Rattle.otel_provider.specs.Correspondence.{observed_of}
 use Rattle.otel_provider.specs.States.{IsTaken, IsTyped, AreTyped, FeedType}
 

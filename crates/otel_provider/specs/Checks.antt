@@ -5,7 +5,7 @@ use Rattle.std.specs.List.{list_any}
 use Rattle.otel_model.specs.Calls as model
 use Rattle.otel_model.specs.Refusals.{refusal}
 use Rattle.otel_model.specs.State.{State}
-use Rattle.otel_pipeline.specs.Pipelines.{has_stream_at}
+use Rattle.otel_provider.specs.pipeline.Pipelines.{has_stream_at}
 
 -- whether the instrument feeds a stream of some reader
 abbrev pub has_stream : ℕ → State → Bool

@@ -1,7 +1,7 @@
 -- The core of a provider as the state of the model's machine.
 use Rattle.std.specs.Prelude.{map}
 use Rattle.otel_model.specs.State.{State}
-use Rattle.otel_pipeline.specs.Pipelines.{part_of}
+use Rattle.otel_provider.specs.pipeline.Pipelines.{part_of}
 use Rattle.otel_provider.specs.declared.provider_core.Core.TheInside.{Inside}
 
 -- the state that the fields of a core make

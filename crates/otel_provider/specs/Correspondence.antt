@@ -3,7 +3,7 @@
 -- kind of reply, each fault and each message.
 use Rattle.std.specs.Prelude.{◌≡◌, ℕ, ℤ, Bool, false, true, List, map, Option, None, Some, Result, Ok, Err}
 use Rattle.otel_aggregate.specs.Any.{is_signed_value, amount_of}
-pub use Rattle.otel_pipeline.specs.Observations.{observed_of}
+pub use Rattle.otel_provider.specs.pipeline.Observations.{observed_of}
 use Rattle.otel_common.specs.declared.faults.Fault.{Fault}
 use Rattle.otel_common.specs.declared.faults.Fault.TheVariants as fault
 use Rattle.otel_common.specs.declared.faults.InternalFault.TheVariants as inner

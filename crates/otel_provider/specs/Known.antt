@@ -4,7 +4,7 @@ use Rattle.std.specs.List.{list_all}
 use Rattle.otel_common.specs.declared.attributes.KeyValue.{KeyValue}
 use Rattle.otel_model.specs.Calls as model
 use Rattle.otel_model.specs.State.{State}
-use Rattle.otel_pipeline.specs.Known.{is_known_at}
+use Rattle.otel_provider.specs.pipeline.Known.{is_known_at}
 use Rattle.otel_provider.specs.States.{IsNamed}
 use Rattle.otel_provider.specs.declared.calls.Reply.{Reply}
 use Rattle.otel_provider.specs.declared.calls.Reply.TheVariants as reply

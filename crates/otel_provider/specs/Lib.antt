@@ -5,6 +5,7 @@ pub mod Correspondence
 pub mod Headline
 pub mod Instruments
 pub mod Known
+pub mod pipeline
 pub mod Providers
 pub mod Readers
 pub mod States

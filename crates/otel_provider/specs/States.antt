@@ -12,7 +12,7 @@ use Rattle.otel_model.specs.State.{InstrumentState, Shared, ReaderPart, State}
 use Rattle.otel_model.specs.Refusals.{meter_refusal}
 use Rattle.otel_model.specs.Sent.{is_fed, scope_of}
 use Rattle.otel_model.specs.Lawful.{IsLawful}
-use Rattle.otel_pipeline.specs.Pipelines.{FeedsType}
+use Rattle.otel_provider.specs.pipeline.Pipelines.{FeedsType}
 use Rattle.otel_provider.specs.Correspondence.{observed_of}
 
 -- the call may be refused with this fault before readers are asked: with the one that the model gives, or with out of

@@ -6,11 +6,11 @@ ghost use Rattle.otel_model.specs.Calls.{or_else};
 ghost use Rattle.otel_model.specs.Demands.{instrument_of};
 ghost use Rattle.otel_provider.specs.States.{AreAsked};
 
+use crate::pipeline::about::About;
 use otel_common::faults::Fault;
 use otel_common::laws::copied_scope;
 use otel_common::scopes::InstrumentationScope;
 use otel_common::strings::StringValue;
-use otel_pipeline::about::About;
 use otel_stream::instrument::Instrument;
 use otel_stream::stream::Stream;
 use otel_stream::view::View;

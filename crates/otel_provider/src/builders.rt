@@ -12,6 +12,7 @@ ghost use Rattle.otel_provider.specs.Typed.{IsMeterOf, IsInstrumentOf, meter_num
 
 use crate::meters::Meter;
 use crate::parts::Parts;
+use crate::pipeline::about::About;
 use crate::provider::Provider;
 use crate::provider_core::Core;
 use crate::sorts::InstrumentSort;
@@ -19,7 +20,6 @@ use crate::synchronous::{HistogramKind, Synchronous};
 use otel_common::faults::Fault;
 use otel_common::lists::Items;
 use otel_common::strings::StringValue;
-use otel_pipeline::about::About;
 use otel_stream::view::View;
 use std::marker::PhantomData;
 

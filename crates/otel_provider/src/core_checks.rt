@@ -12,12 +12,12 @@ use crate::instrument::Instrument;
 use crate::instrument_checks::{
     validate_bucket_boundaries, validate_instrument_name, validate_instrument_unit,
 };
+use crate::pipeline::about::About;
 use indexmap::IndexSet;
 use otel_aggregate::values::is_signed;
 use otel_common::faults::Fault;
 use otel_common::scopes::InstrumentationScope;
 use otel_data::numbers::NumberValue;
-use otel_pipeline::about::About;
 use otel_stream::instrument::InstrumentKind;
 use otel_stream::observation::Observed;
 

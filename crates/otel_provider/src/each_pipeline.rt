@@ -6,22 +6,22 @@ ghost use Rattle.std.specs.Option.{option_map};
 ghost use Rattle.otel_model.specs.Calls as model;
 ghost use Rattle.otel_model.specs.Machine as machine;
 ghost use Rattle.otel_model.specs.Machine.{part_after_call};
-ghost use Rattle.otel_pipeline.specs.Handles.{FeedsSynchronous, IsNewAt, IsHeldByFed, IsReadyToBindAt, part_after_bind};
-ghost use Rattle.otel_pipeline.specs.Known.{is_known_at};
-ghost use Rattle.otel_pipeline.specs.Pipelines.{part_of, has_stream_at, piped_after_build, part_after_record, IsBuildableIn, IsPlanned, IsReadyFor, IsPreparedFor};
-ghost use Rattle.otel_pipeline.specs.Views.{views_answering};
+ghost use Rattle.otel_provider.specs.pipeline.Handles.{FeedsSynchronous, IsNewAt, IsHeldByFed, IsReadyToBindAt, part_after_bind};
+ghost use Rattle.otel_provider.specs.pipeline.Known.{is_known_at};
+ghost use Rattle.otel_provider.specs.pipeline.Pipelines.{part_of, has_stream_at, piped_after_build, part_after_record, IsBuildableIn, IsPlanned, IsReadyFor, IsPreparedFor};
+ghost use Rattle.otel_provider.specs.pipeline.Views.{views_answering};
 ghost use Rattle.otel_provider.specs.Correspondence.{number_of};
 ghost use Rattle.otel_provider.specs.States.{IsGoodIn, FeedType};
 
+use crate::pipeline::Pipeline;
+use crate::pipeline::about::About;
+use otel_aggregate::value_map::hashed_key::GivenAttributes;
+use otel_aggregate::value_map::hashing::SetHashBuilder;
 use otel_common::attributes::KeyValue;
 use otel_common::faults::Fault;
 use otel_common::scopes::InstrumentationScope;
 use otel_data::numbers::NumberValue;
-use otel_pipeline::about::About;
-use otel_pipeline::pipeline::Pipeline;
 use otel_stream::stream::Stream;
-use otel_value_map::hashed_key::GivenAttributes;
-use otel_value_map::hashing::SetHashBuilder;
 use std::alloc::AllocError;
 
 /// Plans a build at all readers, given each view's answer. What the readers have doesn't change.

@@ -19,6 +19,7 @@ pub mod laws;
 pub mod meters;
 pub mod new_readers;
 pub mod parts;
+mod pipeline;
 pub mod provider;
 pub mod provider_core;
 mod records;

@@ -2,15 +2,15 @@
 
 ghost use Rattle.std.specs.Prelude.{◌≡◌, ◌++◌, ◌∷◌, [], map, OnOk, OnErr, IsOkUnless};
 ghost use Rattle.otel_model.specs.Machine.{new_part};
-ghost use Rattle.otel_pipeline.specs.Pipelines.{part_of};
+ghost use Rattle.otel_provider.specs.pipeline.Pipelines.{part_of};
 ghost use Rattle.otel_stream.specs.Answers.{answers_wanting};
 
 use crate::each_pipeline::set_hashers;
+use crate::pipeline::Pipeline;
+use otel_aggregate::value_map::hashing::SetHashBuilder;
 use otel_common::faults::Fault;
-use otel_pipeline::pipeline::Pipeline;
 use otel_stream::answers::Answers;
 use otel_stream::reader::MetricReader;
-use otel_value_map::hashing::SetHashBuilder;
 use std::alloc::Global;
 use std::marker::Model;
 
@@ -25,7 +25,7 @@ impl Model for NewReaders {
     ghost use Rattle.std.specs.Prelude.{◌≡◌, List, map};
     ghost use Rattle.otel_model.specs.Demands.{ReaderAnswers};
     ghost use Rattle.otel_model.specs.Machine.{new_part};
-    ghost use Rattle.otel_pipeline.specs.Pipelines.{part_of};
+    ghost use Rattle.otel_provider.specs.pipeline.Pipelines.{part_of};
 
     ghost Value = { List ReaderAnswers };
 

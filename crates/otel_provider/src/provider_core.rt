@@ -12,15 +12,15 @@ ghost use Rattle.otel_stream.specs.Requests.{wanted_by};
 
 use crate::instrument::Instrument;
 use crate::new_readers::NewReaders;
+use crate::pipeline::Pipeline;
 use indexmap::IndexSet;
 use otel_aggregate::links::Links;
+use otel_aggregate::value_map::hashing::SetHashBuilder;
 use otel_common::faults::{Fault, OTelSdkResult};
 use otel_common::resource::Resource;
 use otel_common::scopes::InstrumentationScope;
-use otel_pipeline::pipeline::Pipeline;
 use otel_stream::each_reader::{flush_all, shut_all};
 use otel_stream::reader::MetricReader;
-use otel_value_map::hashing::SetHashBuilder;
 use std::alloc::Global;
 use std::marker::Model;
 

@@ -12,13 +12,13 @@ ghost use Rattle.otel_stream.specs.Requests.{wanted_by};
 
 use crate::calls::{Call, Reply};
 use crate::handles::BoundHandle;
+use crate::pipeline::about::About;
 use crate::provider_core::Core;
 use crate::sorts::InstrumentSort;
 use otel_common::attributes::KeyValue;
 use otel_common::faults::{Fault, OTelSdkResult};
 use otel_common::scopes::InstrumentationScope;
 use otel_data::numbers::NumberValue;
-use otel_pipeline::about::About;
 use otel_stream::observation::Observed;
 use otel_stream::reader::MetricReader;
 use otel_stream::view::View;

@@ -1,7 +1,7 @@
 //! Worked rows and ported tests, with each public function called at least once, at both number types. Sets of attributes
 //! are written as texts.
 
-use otel_aggregators::bounds::Bounds;
+use otel_aggregate::aggregators::bounds::Bounds;
 use otel_common::attributes::{Array, KeyValue, Value};
 use otel_common::faults::Fault;
 use otel_common::keys::Key;

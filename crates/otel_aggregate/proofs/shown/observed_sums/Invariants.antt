@@ -2,7 +2,7 @@ use Rattle.std.proofs.Common.{◌≡◌, ◌++◌, map}
 use Rattle.std.specs.Option.{option_map}
 use Rattle.otel_model_stream.specs.Maps.{draining_points}
 use Rattle.otel_model_stream.specs.Data.{sum_point}
-use Rattle.otel_value_map.specs.Slots.{copies}
+use Rattle.otel_aggregate.specs.value_map.Slots.{copies}
 use Rattle.otel_aggregate.specs.AnyKept.{fold_in}
 use Rattle.otel_aggregate.specs.Observed.{since_reported}
 use Rattle.otel_aggregate.proofs.shown.observed_sums.Given as goal

@@ -3,8 +3,8 @@ use Rattle.std.specs.List.{AllByRecursion as EachOf}
 use Rattle.otel_common.specs.declared.attributes.KeyValue.{KeyValue}
 use Rattle.otel_model.specs.Calls as model
 use Rattle.otel_model.specs.Machine.{part_after_call}
-use Rattle.otel_pipeline.specs.Pipelines.{part_of}
-use Rattle.otel_pipeline.specs.Handles.{FeedsSynchronous, IsNewAt}
+use Rattle.otel_provider.specs.pipeline.Pipelines.{part_of}
+use Rattle.otel_provider.specs.pipeline.Handles.{FeedsSynchronous, IsNewAt}
 use Rattle.otel_provider.proofs.Held.{all_bound}
 use Rattle.otel_provider.proofs.each_pipeline.bind_or_none.Goals as goal
 

@@ -1,6 +1,6 @@
 use Rattle.std.proofs.Common.{arith, sym, subst}
-use Rattle.otel_pipeline.specs.Pipelines.{Piped, part_of, piped_after_build, IsPlanned}
-use Rattle.otel_pipeline.proofs.PipelinesLemmas.{done-none, done-more, done-all}
+use Rattle.otel_provider.specs.pipeline.Pipelines.{Piped, part_of, piped_after_build, IsPlanned}
+use Rattle.otel_provider.proofs.pipeline.PipelinesLemmas.{done-none, done-more, done-all}
 use Rattle.otel_provider.proofs.each_pipeline.build_all.Goals as goal
 
 pub loop-i-init : goal.loop-i-init

@@ -1,5 +1,5 @@
-use Rattle.otel_pipeline.specs.Pipelines.{part_of, piped_after_build}
-use Rattle.otel_pipeline.proofs.PipelinesLemmas.{IsDoneUpto}
+use Rattle.otel_provider.specs.pipeline.Pipelines.{part_of, piped_after_build}
+use Rattle.otel_provider.proofs.pipeline.PipelinesLemmas.{IsDoneUpto}
 use Rattle.otel_provider.proofs.each_pipeline.build_all.Given as goal
 
 -- what was planned is carried out at the readers so far

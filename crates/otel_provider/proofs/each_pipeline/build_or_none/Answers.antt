@@ -1,7 +1,7 @@
 use Rattle.std.proofs.Common.{◌∙◌, ap, map}
 use Rattle.otel_model.specs.Machine.{part_after_build}
-use Rattle.otel_pipeline.specs.Views.{views_answering}
-use Rattle.otel_pipeline.proofs.Plans.{all_built, ready-planned}
+use Rattle.otel_provider.specs.pipeline.Views.{views_answering}
+use Rattle.otel_provider.proofs.pipeline.Plans.{all_built, ready-planned}
 use Rattle.otel_provider.proofs.StepLemmas.{buildable-in, good-or-none}
 use Rattle.otel_provider.proofs.each_pipeline.build_or_none.Goals as goal
 

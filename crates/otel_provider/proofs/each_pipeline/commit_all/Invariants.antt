@@ -1,5 +1,5 @@
-use Rattle.otel_pipeline.specs.Pipelines.{part_of, part_after_record}
-use Rattle.otel_pipeline.proofs.PipelinesLemmas.{IsDoneUpto}
+use Rattle.otel_provider.specs.pipeline.Pipelines.{part_of, part_after_record}
+use Rattle.otel_provider.proofs.pipeline.PipelinesLemmas.{IsDoneUpto}
 use Rattle.otel_provider.proofs.each_pipeline.commit_all.Given as goal
 
 -- the record is made at the readers so far

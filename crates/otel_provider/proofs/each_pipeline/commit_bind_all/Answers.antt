@@ -1,7 +1,7 @@
 use Rattle.std.proofs.Common.{arith}
-use Rattle.otel_pipeline.specs.Handles.{part_after_bind}
-use Rattle.otel_pipeline.specs.Pipelines.{part_of}
-use Rattle.otel_pipeline.proofs.PipelinesLemmas.{done-none, done-more, done-all}
+use Rattle.otel_provider.specs.pipeline.Handles.{part_after_bind}
+use Rattle.otel_provider.specs.pipeline.Pipelines.{part_of}
+use Rattle.otel_provider.proofs.pipeline.PipelinesLemmas.{done-none, done-more, done-all}
 use Rattle.otel_provider.proofs.each_pipeline.commit_bind_all.Goals as goal
 
 pub loop-i-init : goal.loop-i-init

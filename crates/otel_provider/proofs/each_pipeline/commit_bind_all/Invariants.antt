@@ -1,6 +1,6 @@
-use Rattle.otel_pipeline.specs.Handles.{part_after_bind}
-use Rattle.otel_pipeline.specs.Pipelines.{part_of}
-use Rattle.otel_pipeline.proofs.PipelinesLemmas.{IsDoneUpto}
+use Rattle.otel_provider.specs.pipeline.Handles.{part_after_bind}
+use Rattle.otel_provider.specs.pipeline.Pipelines.{part_of}
+use Rattle.otel_provider.proofs.pipeline.PipelinesLemmas.{IsDoneUpto}
 use Rattle.otel_provider.proofs.each_pipeline.commit_bind_all.Given as goal
 
 -- the bind is made at the readers so far

@@ -1,9 +1,9 @@
 use Rattle.std.proofs.Common.{◌∙◌, refl, arith, get_or}
 use Rattle.std.specs.Option.{option_map}
 use Rattle.std.proofs.lemmas.List.Elements.{AllWithin-more_set}
-use Rattle.otel_pipeline.specs.Pipelines.{part_of, IsReadyFor}
-use Rattle.otel_pipeline.specs.Views.{views_answering}
-use Rattle.otel_pipeline.proofs.Writes.{seen_same}
+use Rattle.otel_provider.specs.pipeline.Pipelines.{part_of, IsReadyFor}
+use Rattle.otel_provider.specs.pipeline.Views.{views_answering}
+use Rattle.otel_provider.proofs.pipeline.Writes.{seen_same}
 use Rattle.otel_provider.proofs.each_pipeline.plan_all.Goals as goal
 
 pub returns-in_err-plan-clause-same : goal.returns-in_err-plan-clause-same

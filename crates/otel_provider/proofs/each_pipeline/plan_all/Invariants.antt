@@ -1,8 +1,8 @@
 use Rattle.std.proofs.Common.{◌≡◌, map}
 use Rattle.std.specs.List.{AllWithin}
 use Rattle.std.specs.Option.{option_map}
-use Rattle.otel_pipeline.specs.Pipelines.{part_of, IsReadyFor}
-use Rattle.otel_pipeline.specs.Views.{views_answering}
+use Rattle.otel_provider.specs.pipeline.Pipelines.{part_of, IsReadyFor}
+use Rattle.otel_provider.specs.pipeline.Views.{views_answering}
 use Rattle.otel_provider.proofs.each_pipeline.plan_all.Given as goal
 
 -- nothing is seen to change, and the readers so far are ready

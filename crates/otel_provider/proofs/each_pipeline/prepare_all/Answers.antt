@@ -4,9 +4,9 @@ use Rattle.std.specs.Prelude.{IsOk}
 use Rattle.std.proofs.lemmas.List.Folds.{list_all-map}
 use Rattle.std.proofs.lemmas.List.Sums.{AllPass-from_list_all}
 use Rattle.std.proofs.lemmas.List.Elements.{AllWithin-more_set}
-use Rattle.otel_pipeline.specs.Known.{is_known_at}
-use Rattle.otel_pipeline.specs.Pipelines.{Piped, part_of, IsPreparedFor}
-use Rattle.otel_pipeline.proofs.Writes.{seen_same}
+use Rattle.otel_provider.specs.pipeline.Known.{is_known_at}
+use Rattle.otel_provider.specs.pipeline.Pipelines.{Piped, part_of, IsPreparedFor}
+use Rattle.otel_provider.proofs.pipeline.Writes.{seen_same}
 use Rattle.otel_provider.proofs.each_pipeline.prepare_all.Goals as goal
 
 pub returns-in_err-prepare-clause-same : goal.returns-in_err-prepare-clause-same

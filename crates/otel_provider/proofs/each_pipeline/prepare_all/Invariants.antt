@@ -1,6 +1,6 @@
 use Rattle.std.proofs.Common.{◌≡◌, map}
 use Rattle.std.specs.List.{AllWithin}
-use Rattle.otel_pipeline.specs.Pipelines.{part_of, IsPreparedFor}
+use Rattle.otel_provider.specs.pipeline.Pipelines.{part_of, IsPreparedFor}
 use Rattle.otel_provider.proofs.each_pipeline.prepare_all.Given as goal
 
 -- nothing is seen to change, and the readers so far are ready

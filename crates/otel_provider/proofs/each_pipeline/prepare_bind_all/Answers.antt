@@ -1,8 +1,8 @@
 use Rattle.std.proofs.Common.{◌∙◌, refl, arith, get_or}
 use Rattle.std.proofs.lemmas.List.Elements.{AllWithin-more_set}
-use Rattle.otel_pipeline.specs.Handles.{IsReadyToBindAt}
-use Rattle.otel_pipeline.specs.Pipelines.{part_of}
-use Rattle.otel_pipeline.proofs.Writes.{seen_same}
+use Rattle.otel_provider.specs.pipeline.Handles.{IsReadyToBindAt}
+use Rattle.otel_provider.specs.pipeline.Pipelines.{part_of}
+use Rattle.otel_provider.proofs.pipeline.Writes.{seen_same}
 use Rattle.otel_provider.proofs.each_pipeline.prepare_bind_all.Goals as goal
 
 pub returns-in_err-prepare_bind-clause-same : goal.returns-in_err-prepare_bind-clause-same

@@ -2,7 +2,7 @@ use Rattle.std.proofs.Common.{◌∙◌, List, ap, sym, subst, map}
 use Rattle.otel_common.specs.declared.attributes.KeyValue.{KeyValue}
 use Rattle.otel_model.specs.Calls as model
 use Rattle.otel_model.specs.Machine.{part_after_call}
-use Rattle.otel_pipeline.specs.Pipelines.{part_of}
+use Rattle.otel_provider.specs.pipeline.Pipelines.{part_of}
 use Rattle.otel_provider.specs.Correspondence.{number_of}
 use Rattle.otel_provider.specs.States.{FeedType}
 use Rattle.otel_provider.proofs.StepLemmas.{all_recorded}

@@ -3,9 +3,9 @@ use Rattle.std.proofs.lemmas.Simd.{map-map}
 use Rattle.otel_aggregate.specs.Any.{is_signed_value}
 use Rattle.otel_model.specs.Calls as model
 use Rattle.otel_model.specs.Machine.{part_after_call}
-use Rattle.otel_pipeline.specs.Handles.{FeedsSynchronous, IsHeldByFed}
-use Rattle.otel_pipeline.specs.Pipelines.{FeedsType, Piped, part_of}
-use Rattle.otel_pipeline.proofs.PipelinesLemmas.{done-none, done-more, done-all}
+use Rattle.otel_provider.specs.pipeline.Handles.{FeedsSynchronous, IsHeldByFed}
+use Rattle.otel_provider.specs.pipeline.Pipelines.{FeedsType, Piped, part_of}
+use Rattle.otel_provider.proofs.pipeline.PipelinesLemmas.{done-none, done-more, done-all}
 use Rattle.otel_provider.specs.Correspondence.{number_of}
 use Rattle.otel_provider.proofs.Held.{done-alone, each-at, each-left}
 use Rattle.otel_provider.proofs.each_pipeline.record_held.Goals as goal

@@ -1,7 +1,7 @@
 use Rattle.otel_model.specs.Calls as model
 use Rattle.otel_model.specs.Machine.{part_after_call}
-use Rattle.otel_pipeline.specs.Pipelines.{Piped, part_of}
-use Rattle.otel_pipeline.proofs.PipelinesLemmas.{IsDoneUpto}
+use Rattle.otel_provider.specs.pipeline.Pipelines.{Piped, part_of}
+use Rattle.otel_provider.proofs.pipeline.PipelinesLemmas.{IsDoneUpto}
 use Rattle.otel_provider.specs.Correspondence.{number_of}
 use Rattle.otel_provider.proofs.each_pipeline.record_held.Given as goal
 

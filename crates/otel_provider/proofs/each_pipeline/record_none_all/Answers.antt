@@ -3,8 +3,8 @@ use Rattle.std.proofs.lemmas.Simd.{map-map}
 use Rattle.otel_aggregate.specs.Any.{is_signed_value}
 use Rattle.otel_model.specs.Calls as model
 use Rattle.otel_model.specs.Machine.{part_after_call}
-use Rattle.otel_pipeline.specs.Pipelines.{FeedsType, Piped, part_of}
-use Rattle.otel_pipeline.proofs.PipelinesLemmas.{done-none, done-more, done-all}
+use Rattle.otel_provider.specs.pipeline.Pipelines.{FeedsType, Piped, part_of}
+use Rattle.otel_provider.proofs.pipeline.PipelinesLemmas.{done-none, done-more, done-all}
 use Rattle.otel_provider.specs.Correspondence.{number_of}
 use Rattle.otel_provider.proofs.Held.{each-left}
 use Rattle.otel_provider.proofs.each_pipeline.record_none_all.Goals as goal

@@ -2,9 +2,9 @@ use Rattle.std.proofs.Common.{arith, ◌∙◌, sym}
 use Rattle.std.proofs.lemmas.Simd.{map-map}
 use Rattle.otel_model.specs.Calls as model
 use Rattle.otel_model.specs.Machine.{part_after_call}
-use Rattle.otel_pipeline.specs.Handles.{FeedsSynchronous, IsHeldByFed}
-use Rattle.otel_pipeline.specs.Pipelines.{Piped, part_of}
-use Rattle.otel_pipeline.proofs.PipelinesLemmas.{done-none, done-more, done-all}
+use Rattle.otel_provider.specs.pipeline.Handles.{FeedsSynchronous, IsHeldByFed}
+use Rattle.otel_provider.specs.pipeline.Pipelines.{Piped, part_of}
+use Rattle.otel_provider.proofs.pipeline.PipelinesLemmas.{done-none, done-more, done-all}
 use Rattle.otel_provider.proofs.Held.{each-left}
 use Rattle.otel_provider.proofs.each_pipeline.unbind_held.Goals as goal
 

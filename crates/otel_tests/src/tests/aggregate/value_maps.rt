@@ -2,13 +2,13 @@
 
 use super::steps::show;
 use super::{attributes, keys};
-use otel_aggregators::aggregator::{Aggregator, Increment};
-use otel_aggregators::assign::Assign;
-use otel_aggregators::buckets::{Buckets, counted_once};
-use otel_aggregators::number::Number;
+use otel_aggregate::aggregators::aggregator::{Aggregator, Increment};
+use otel_aggregate::aggregators::assign::Assign;
+use otel_aggregate::aggregators::buckets::{Buckets, counted_once};
+use otel_aggregate::aggregators::number::Number;
+use otel_aggregate::sets::allowed_keys::AllowedKeys;
+use otel_aggregate::sets::set_attributes::{SetAttributes, copies_of, same_attributes};
 use otel_common::faults::Fault;
-use otel_sets::allowed_keys::AllowedKeys;
-use otel_sets::set_attributes::{SetAttributes, copies_of, same_attributes};
 use std::fmt::{Debug, Display};
 
 mod aggregators;

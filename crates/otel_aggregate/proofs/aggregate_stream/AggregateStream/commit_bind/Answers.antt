@@ -3,7 +3,7 @@ use Rattle.std.specs.Prelude.{IsSome}
 use Rattle.std.proofs.lemmas.List.{length-map}
 use Rattle.otel_model_stream.specs.Events.{held_by}
 use Rattle.otel_model_stream.specs.Maps.{bound_to}
-use Rattle.otel_value_map.specs.Numbers.{Numbers}
+use Rattle.otel_aggregate.specs.value_map.Numbers.{Numbers}
 use Rattle.otel_aggregate.specs.Links.{Link, handle_of, handles_of}
 use Rattle.otel_aggregate.specs.Streams.{AggregateContents}
 use Rattle.otel_aggregate.proofs.HandleLemmas.{held-few}

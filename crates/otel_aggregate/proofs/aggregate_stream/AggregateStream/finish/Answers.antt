@@ -3,7 +3,7 @@ use Rattle.std.specs.List.{AllByRecursion}
 use Rattle.otel_model_stream.specs.Events.{Handles}
 use Rattle.otel_model_stream.specs.Entries.{evicted_table}
 use Rattle.otel_model_stream.specs.Maps.{MapState}
-use Rattle.otel_value_map.specs.Numbers.{Numbers}
+use Rattle.otel_aggregate.specs.value_map.Numbers.{Numbers}
 use Rattle.otel_aggregate.specs.Links.{Link, handles_of, AreHeld}
 use Rattle.otel_aggregate.specs.Streams.{AggregateContents}
 use Rattle.otel_aggregate.proofs.LinkLemmas.{IsLinkedStill, still-left, handles-still, linked-still}

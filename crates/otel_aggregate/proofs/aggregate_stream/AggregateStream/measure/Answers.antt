@@ -1,6 +1,6 @@
 use Rattle.std.proofs.Common.{◌∙◌, List, ap, sym, subst}
 use Rattle.std.specs.List.{AllByRecursion}
-use Rattle.otel_value_map.specs.Numbers.{Numbers}
+use Rattle.otel_aggregate.specs.value_map.Numbers.{Numbers}
 use Rattle.otel_aggregate.specs.Links.{Link, handles_of, AreHeld}
 use Rattle.otel_aggregate.specs.Streams.{AggregateContents}
 use Rattle.otel_aggregate.proofs.LinkLemmas.{IsLinkedStill, still-kept, handles-still, linked-still}

@@ -2,7 +2,7 @@ use Rattle.std.proofs.Common.{◌≡◌, List, ap, sym, subst}
 use Rattle.std.specs.List.{AllByRecursion}
 use Rattle.otel_model_stream.specs.Maps.{MapState}
 use Rattle.otel_model_stream.specs.Sets.{none_set}
-use Rattle.otel_value_map.specs.Numbers.{Numbers}
+use Rattle.otel_aggregate.specs.value_map.Numbers.{Numbers}
 use Rattle.otel_aggregate.specs.Links.{Link, handles_of, IsLinked, AreHeld}
 use Rattle.otel_aggregate.proofs.HandleLemmas.{held-written}
 use Rattle.otel_aggregate.proofs.StepLemmas.{none-made}

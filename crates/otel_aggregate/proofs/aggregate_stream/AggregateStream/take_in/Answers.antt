@@ -1,7 +1,7 @@
 use Rattle.std.proofs.Common.{◌∙◌, ap, sym, subst, List}
 use Rattle.std.specs.Prelude.{IsSome}
 use Rattle.std.specs.List.{AllByRecursion}
-use Rattle.otel_value_map.specs.Numbers.{Numbers}
+use Rattle.otel_aggregate.specs.value_map.Numbers.{Numbers}
 use Rattle.otel_aggregate.specs.Links.{Link, AreHeld}
 use Rattle.otel_aggregate.specs.Streams.{AggregateContents}
 use Rattle.otel_aggregate.proofs.LinkLemmas.{IsLinkedStill, still-kept, handles-still, linked-still}

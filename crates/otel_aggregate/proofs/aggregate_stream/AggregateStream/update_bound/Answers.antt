@@ -3,7 +3,7 @@ use Rattle.std.specs.List.{AllByRecursion}
 use Rattle.otel_model_stream.specs.Sets.{AttributeSet}
 use Rattle.otel_model_stream.specs.Events.{Handles}
 use Rattle.otel_model_stream.specs.Maps.{MapState}
-use Rattle.otel_value_map.specs.Numbers.{Numbers, number_of, set_named}
+use Rattle.otel_aggregate.specs.value_map.Numbers.{Numbers, number_of, set_named}
 use Rattle.otel_aggregate.specs.Links.{Link, handles_of, IsLinked, AreHeld}
 use Rattle.otel_aggregate.proofs.LinkLemmas.{found-linked}
 use Rattle.otel_aggregate.proofs.HandleLemmas.{held-written}

@@ -1,6 +1,6 @@
 use Rattle.std.proofs.Common.{◌≡◌, ◌∙◌, ap, sym, subst, Some, Option}
 use Rattle.otel_model_stream.specs.Maps.{MapState}
-use Rattle.otel_value_map.specs.Contents.{MapContents}
+use Rattle.otel_aggregate.specs.value_map.Contents.{MapContents}
 use Rattle.otel_aggregate.specs.Any.{form_of}
 use Rattle.otel_aggregate.specs.Kept.{IsKeptMap, IsReportedOf, state_of}
 use Rattle.otel_aggregate.specs.Streams.{AggregateState}

@@ -1,7 +1,7 @@
 use Rattle.std.proofs.Common.{◌∙◌, ap, map, arith}
 use Rattle.otel_model.specs.Machine.{new_part}
 use Rattle.otel_provider.proofs.StepLemmas.{lent-parts}
-use Rattle.otel_pipeline.specs.Pipelines.{part_of}
+use Rattle.otel_provider.specs.pipeline.Pipelines.{part_of}
 use Rattle.otel_provider.proofs.new_readers.NewReaders.into_pipelines.Goals as goal
 
 -- the readers come back as they were lent

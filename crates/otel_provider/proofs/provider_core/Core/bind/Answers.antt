@@ -9,8 +9,8 @@ use Rattle.otel_model.specs.Steps.{Step}
 use Rattle.otel_model.specs.State.{LiveHandle, State}
 use Rattle.otel_model.proofs.Kept.{kept_at_once}
 use Rattle.otel_model.specs.Lawful.{Balances}
-use Rattle.otel_pipeline.specs.Handles.{IsNewAt}
-use Rattle.otel_pipeline.specs.Pipelines.{part_of}
+use Rattle.otel_provider.specs.pipeline.Handles.{IsNewAt}
+use Rattle.otel_provider.specs.pipeline.Pipelines.{part_of}
 use Rattle.otel_provider.specs.Cores.{state_in}
 use Rattle.otel_provider.specs.declared.handles.BoundHandle.{BoundHandle}
 use Rattle.otel_provider.specs.Correspondence.{fault_of}

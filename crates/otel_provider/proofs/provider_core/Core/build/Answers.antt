@@ -8,8 +8,8 @@ use Rattle.otel_model.specs.Steps.{Step}
 use Rattle.otel_model.specs.State.{State}
 use Rattle.otel_model.proofs.Kept.{kept_at_once}
 use Rattle.otel_model.specs.Lawful.{Balances}
-use Rattle.otel_pipeline.specs.Pipelines.{part_of}
-use Rattle.otel_pipeline.specs.Views.{views_answering}
+use Rattle.otel_provider.specs.pipeline.Pipelines.{part_of}
+use Rattle.otel_provider.specs.pipeline.Views.{views_answering}
 use Rattle.otel_provider.specs.Cores.{state_in}
 use Rattle.otel_provider.specs.Correspondence.{fault_of, reply_from}
 use Rattle.otel_provider.specs.States.{AreAsked, IsGoodIn}

@@ -1,6 +1,6 @@
 use Rattle.std.proofs.Common.{◌∙◌, ap, sym}
 use Rattle.std.specs.List.{list_any}
-use Rattle.otel_pipeline.specs.Pipelines.{has_stream_at, part_of}
+use Rattle.otel_provider.specs.pipeline.Pipelines.{has_stream_at, part_of}
 use Rattle.otel_provider.proofs.Mapped.{any_mapped}
 use Rattle.otel_provider.proofs.provider_core.Core.has_stream.Goals as goal
 

@@ -1,7 +1,7 @@
 use Rattle.std.proofs.Common.{◌≡◌, false, subst, sym, map}
 use Rattle.otel_model.specs.Machine.{new_state}
 use Rattle.otel_model.specs.State.{State}
-use Rattle.otel_pipeline.specs.Pipelines.{part_of}
+use Rattle.otel_provider.specs.pipeline.Pipelines.{part_of}
 use Rattle.otel_provider.specs.States.{IsSound}
 use Rattle.otel_provider.proofs.Sound.{first-sound}
 use Rattle.otel_provider.proofs.provider_core.Core.new.Goals as goal

@@ -6,8 +6,8 @@ use Rattle.otel_model.specs.Refusals.{unbind_refusal, instrument_held}
 use Rattle.otel_model.specs.State.{State}
 use Rattle.otel_model.proofs.Kept.{kept_at_once}
 use Rattle.otel_model.specs.Lawful.{Balances}
-use Rattle.otel_pipeline.specs.Handles.{FeedsSynchronous, IsHeldByFed}
-use Rattle.otel_pipeline.specs.Pipelines.{part_of}
+use Rattle.otel_provider.specs.pipeline.Handles.{FeedsSynchronous, IsHeldByFed}
+use Rattle.otel_provider.specs.pipeline.Pipelines.{part_of}
 use Rattle.otel_provider.specs.Cores.{state_in}
 use Rattle.otel_provider.proofs.Held.{held-as, held-fed, without-removed, synchronous-held, unbind-made}
 use Rattle.otel_provider.proofs.Sound.{sound-balances, sound-step, balances-step}

@@ -3,10 +3,10 @@
 use super::super::scripts::{Made, assert_script};
 use super::super::steps::{Readable, Step, Stepped, assert_steps, show};
 use super::tell;
+use otel_aggregate::aggregators::number::Number;
 use otel_aggregate::precomputed_sum::PrecomputedSum;
-use otel_aggregators::number::Number;
+use otel_aggregate::value_map::hashing::SetHashBuilder;
 use otel_common::faults::Fault;
-use otel_value_map::hashing::SetHashBuilder;
 use std::alloc::Global;
 use std::fmt::Display;
 use std::process::Abort;

@@ -3,9 +3,9 @@
 use super::super::scripts::assert_script;
 use super::super::steps::{Stepped, assert_steps};
 use otel_aggregate::sum::Sum;
+use otel_aggregate::value_map::hashing::SetHashBuilder;
 use otel_common::faults::Fault;
 use otel_common::metrics::Temporality;
-use otel_value_map::hashing::SetHashBuilder;
 use std::alloc::Global;
 use std::process::Abort;
 

@@ -2,9 +2,9 @@
 
 use super::super::bounds;
 use super::Written;
-use otel_aggregators::aggregator::{Increment, create_fold, reset_fold, update_fold};
-use otel_aggregators::assign::Assign;
-use otel_aggregators::buckets::{Buckets, BucketsConfig};
+use otel_aggregate::aggregators::aggregator::{Increment, create_fold, reset_fold, update_fold};
+use otel_aggregate::aggregators::assign::Assign;
+use otel_aggregate::aggregators::buckets::{Buckets, BucketsConfig};
 use otel_common::bounds::is_rising;
 use otel_common::faults::Fault;
 use std::alloc::Global;

@@ -3,11 +3,11 @@
 use super::super::scripts::{Made, assert_script};
 use super::super::steps::{Readable, Step, Stepped, assert_steps, show, show_set};
 use super::Written;
+use otel_aggregate::value_map::ValueMap;
+use otel_aggregate::value_map::hashing::SetHashBuilder;
 use otel_common::attributes::KeyValue;
 use otel_common::faults::Fault;
 use otel_common::lists::SharedItems;
-use otel_value_map::hashing::SetHashBuilder;
-use otel_value_map::value_map::ValueMap;
 use std::alloc::Global;
 use std::process::Abort;
 

@@ -1,6 +1,6 @@
 //! Numbers of both types.
 
-use otel_aggregators::number::Number;
+use otel_aggregate::aggregators::number::Number;
 
 #[test]
 fn numbers_wrap(rt: HostRuntime) {

@@ -1,0 +1,54 @@
+-- Keys with hashes, looked up as their sets.
+use Rattle.std.proofs.Common.{ℕ, ◌≡◌, ◌==◌, Bool, true, false, cond, ◌&&◌, List, [], ◌∷◌, ◌++◌, map, filter, Some, refl, sym, ap, ◌∙◌}
+use Rattle.std.specs.Cmp.{unsigned_Decides}
+use Rattle.std.specs.List.{AllByRecursion}
+use Rattle.std.specs.Map.{lookup}
+use Rattle.otel_common.specs.Equality.{set_eq, set_eq-Decides}
+use Rattle.otel_aggregate.specs.value_map.Hashed.{IsHashedBy, hashed_eq, fed_set, plain}
+use Rattle.otel_aggregate.specs.declared.value_map.hashed_key.HashedKey.{HashedKey}
+use Rattle.otel_aggregate.specs.declared.value_map.hashing.SetHashBuilder.{SetHashBuilder}
+
+-- keys that are hashed alike are equal exactly if their sets are
+eq-hashed : (b : SetHashBuilder) (q k : HashedKey) → IsHashedBy b q → IsHashedBy b k → hashed_eq q k ≡ set_eq q.key k.key
+eq-hashed b q k hq hk = by (set_eq q.key k.key) refl
+  where
+    none : (c : Bool) → (c && false) ≡ false
+    none true = refl
+    none false = refl
+
+    by : (s : Bool) → set_eq q.key k.key ≡ s → ((q.hash == k.hash) && s) ≡ s
+    by true e =
+        let same : q.hash ≡ k.hash = hq ∙ ap (λ s. (fed_set b s).state) ((set_eq-Decides q.key k.key).0 e) ∙ sym hk in
+        ap (λ c. c && true) ((unsigned_Decides q.hash k.hash).1 same)
+    by false e = none (q.hash == k.hash)
+
+module _ (b : SetHashBuilder) (q : HashedKey) (hq : IsHashedBy b q) where
+  -- so a key leads where its set does
+  pub lookup-hashed : (es : List (HashedKey × ℕ)) → AllByRecursion (λ (e : HashedKey × ℕ). IsHashedBy b e.0) es → lookup (hashed_eq q) es ≡ lookup (set_eq q.key) (map plain es)
+  lookup-hashed [] h = refl
+  lookup-hashed (e ∷ es) h =
+      ap (λ c. cond c (Some e.1) (lookup (hashed_eq q) es)) (eq-hashed b q e.0 hq h.0)
+      ∙ ap (λ o. cond (set_eq q.key e.0.key) (Some e.1) o) (lookup-hashed es h.1)
+
+-- keys that are left by their numbers
+pub plain-filter : (f : ℕ → Bool) (es : List (HashedKey × ℕ)) → map plain (filter (λ (e : HashedKey × ℕ). f e.1) es) ≡ filter (λ e. f e.1) (map plain es)
+plain-filter f [] = refl
+plain-filter f (e ∷ es) = by (f e.1) (plain-filter f es)
+  where
+    by : (c : Bool) → map plain (filter (λ (e : HashedKey × ℕ). f e.1) es) ≡ filter (λ e. f e.1) (map plain es)
+        → map plain (cond c (e ∷ filter (λ (e : HashedKey × ℕ). f e.1) es) (filter (λ (e : HashedKey × ℕ). f e.1) es)) ≡ cond c (plain e ∷ filter (λ e. f e.1) (map plain es)) (filter (λ e. f e.1) (map plain es))
+    by true h = ap (λ l. plain e ∷ l) h
+    by false h = h
+
+module _ {X : Type 0} (P : X → Type 0) where
+  pub all-filter : (f : X → Bool) (xs : List X) → AllByRecursion P xs → AllByRecursion P (filter f xs)
+  all-filter f [] h = tt
+  all-filter f (x ∷ xs) h = by (f x) (all-filter f xs h.1)
+    where
+      by : (c : Bool) → AllByRecursion P (filter f xs) → AllByRecursion P (cond c (x ∷ filter f xs) (filter f xs))
+      by true left = (h.0, left)
+      by false left = left
+
+  pub all-push : (xs : List X) (x : X) → AllByRecursion P xs → P x → AllByRecursion P (xs ++ x ∷ [])
+  all-push [] x h p = (p, tt)
+  all-push (y ∷ xs) x h p = (h.0, all-push xs x h.1 p)

@@ -1,0 +1,208 @@
+-- Where a record's entry is, once its set has a place.
+use Rattle.std.proofs.Common.{ℕ, ◌+◌, ◌-◌, ◌^◌, ◌<◌, ◌≡◌, List, [], ◌∷◌, ◌++◌, nat_lt, Bool, true, false, cond, not, ◌||◌, Option, Some, None, refl, ap, arith, subst, sym, ◌∙◌}
+use Rattle.std.specs.Map.{lookup, keys_of}
+use Rattle.std.specs.Option.{IfSome}
+use Rattle.std.proofs.lemmas.Bool.{or_parts}
+use Rattle.std.proofs.lemmas.List.Folds.{list_any-append}
+use Rattle.std.proofs.lemmas.List.{map-append}
+use Rattle.otel_common.specs.Canonical.{canon}
+use Rattle.otel_common.specs.Equality.{set_eq}
+use Rattle.otel_common.specs.declared.attributes.KeyValue.{KeyValue}
+use Rattle.otel_model_stream.specs.Folds.{Fold, Sample}
+use Rattle.otel_model_stream.specs.Sets.{AttributeSet, none_set, over_set}
+use Rattle.otel_model_stream.specs.Entries.{Entry, Table, new_entry, is_of, has, number_counted, entries_with_place, entry_for, place, at_entry, write}
+use Rattle.otel_model_stream.specs.Maps.{MapState, with_place, measured_map, bound_to}
+use Rattle.otel_aggregate.specs.value_map.Slots.{Keyed}
+use Rattle.otel_aggregate.specs.value_map.Keyed.{Slotted, IsNew, with_spelling}
+use Rattle.otel_aggregate.specs.value_map.Numbers.{Numbers, number_of, KeepNumbers, is_placed, set_named, handles_in, handles_at}
+use Rattle.otel_aggregate.specs.value_map.Contents.{MapContents, IsOverflowAt, IsSound, IsReady, list_of, pending_in, is_new, is_pending, target_of}
+use Rattle.otel_aggregate.specs.declared.value_map.pending.Pending.{Pending}
+use Rattle.otel_aggregate.specs.declared.value_map.pending.Pending.TheVariants.{Nothing, At, New}
+use Rattle.otel_aggregate.proofs.value_map.CanonicalSets.{some-canon}
+use Rattle.otel_aggregate.proofs.value_map.KeyedLemmas.{same_set, set_eq-self, set_eq-flip}
+use Rattle.otel_aggregate.proofs.value_map.AddLemmas.{lookup-pushed, numbers-pushed}
+use Rattle.otel_aggregate.proofs.value_map.TableLemmas.{counted_cons}
+
+-- what a place does: the entries, and which of them the set uses
+pub record Placing (limit : ℕ) (empty : Fold) (s : AttributeSet) (entries after : List Entry) (used : AttributeSet) : Type 0 where
+  pub state : after ≡ entries_with_place limit empty s entries
+  pub goal : entry_for s after ≡ used
+
+has-last : (s : AttributeSet) (entries : List Entry) (e : Entry) → set_eq e.set s ≡ true → has s (entries ++ e ∷ []) ≡ true
+has-last s entries e q = list_any-append (is_of s) entries (e ∷ []) ∙ ap (λ b. has s entries || (b || false)) q ∙ or-true (has s entries)
+  where
+    or-true : (b : Bool) → (b || true) ≡ true
+    or-true true = refl
+    or-true false = refl
+
+module _ (limit : ℕ) (empty : Fold) (s : AttributeSet) (entries : List Entry) where
+  -- the set has an entry, or is empty
+  pub place-there : is_placed s entries ≡ true → Placing limit empty s entries entries s
+  place-there h = by (set_eq s none_set) refl h
+    where
+      by : (b : Bool) → set_eq s none_set ≡ b → (b || has s entries) ≡ true → Placing limit empty s entries entries s
+      by true q h = record { state = rw q refl; goal = rw q (sym (same_set s none_set q)) }
+      by false q h = record { state = rw (q, h) refl; goal = rw (q, h) refl }
+
+  module _ (some : set_eq s none_set ≡ false) (away : has s entries ≡ false) where
+    pub place-admitted : nat_lt (number_counted entries) limit ≡ true → Placing limit empty s entries (entries ++ new_entry empty s true ∷ []) s
+    place-admitted few =
+        let there : has s (entries ++ new_entry empty s true ∷ []) ≡ true = has-last s entries (new_entry empty s true) (set_eq-self s) in
+        record { state = rw (some, away, few) refl; goal = rw (some, there) refl }
+
+    pub place-over : nat_lt (number_counted entries) limit ≡ false → has over_set entries ≡ true → Placing limit empty s entries entries over_set
+    place-over full there = record { state = rw (some, away, full, there) refl; goal = rw (some, away) refl }
+
+    pub place-over_made : nat_lt (number_counted entries) limit ≡ false → has over_set entries ≡ false → Placing limit empty s entries (entries ++ new_entry empty over_set false ∷ []) over_set
+    place-over_made full gone = record { state = rw (some, away, full, gone) refl; goal = ap (λ b. cond b none_set (cond (has s (entries ++ new_entry empty over_set false ∷ [])) s over_set)) some ∙ to (has s (entries ++ new_entry empty over_set false ∷ [])) refl }
+      where
+        flat : (b : Bool) → (b || false) ≡ true → b ≡ true
+        flat true e = refl
+        flat false e = e
+
+        to : (b : Bool) → has s (entries ++ new_entry empty over_set false ∷ []) ≡ b → cond b s over_set ≡ over_set
+        to false h = refl
+        to true h =
+            let one : (set_eq over_set s || false) ≡ true = ap (λ b. b || (set_eq over_set s || false)) (sym away) ∙ sym (list_any-append (is_of s) entries (new_entry empty over_set false ∷ [])) ∙ h in
+            sym (same_set over_set s (flat (set_eq over_set s) one))
+
+-- what a placing says of the whole state
+pub as_state : (st : MapState) (s : AttributeSet) (t : Table) (goal : AttributeSet) → t.none ≡ st.table.none → Placing st.limit st.empty s st.table.entries t.entries goal → record st { table = t } ≡ with_place s st
+as_state st s t goal none p = λ i. record st { table = record { none = none i; entries = p.state i } }
+
+-- a record of a set that uses an entry that is there
+measured-by : (m : MapState) (s : AttributeSet) (v : Sample) (used : AttributeSet) → Placing m.limit m.empty s m.table.entries m.table.entries used → measured_map s v m ≡ record m { table = at_entry used (write v) m.table }
+measured-by m s v used p =
+    ap (λ (es : List Entry). record m { table = at_entry (entry_for s es) (write v) (record { none = m.table.none; entries = es }) }) (sym p.state)
+    ∙ ap (λ (u : AttributeSet). record m { table = at_entry u (write v) m.table }) p.goal
+
+-- a record of the overflow set is one of the list, where the list uses the overflow entry
+pub target-measured : (over : Option ℕ) (l : List KeyValue) (v : Sample) (h : MapContents) → set_eq l none_set ≡ false → IfSome over (IsOverflowAt h) → measured_map (target_of over l h.state.table.entries) v h.state ≡ measured_map (canon l) v h.state
+target-measured None l v h some over = refl
+target-measured (Some n) l v h some over = by (has (canon l) h.state.table.entries) refl
+  where
+    m : MapState
+    m = h.state
+
+    by : (b : Bool) → has (canon l) m.table.entries ≡ b → measured_map (cond (not (has (canon l) m.table.entries)) over_set (canon l)) v m ≡ measured_map (canon l) v m
+    by true e = ap (λ b. measured_map (cond (not b) over_set (canon l)) v m) e
+    by false e =
+        ap (λ b. measured_map (cond (not b) over_set (canon l)) v m) e
+        ∙ measured-by m over_set v over_set (place-there m.limit m.empty over_set m.table.entries over.1)
+        ∙ sym (measured-by m (canon l) v over_set (place-over m.limit m.empty (canon l) m.table.entries (some-canon l some) e over.0 over.1))
+
+-- an entry more counts one more
+pub counted-push : (entries : List Entry) (e : Entry) → number_counted (entries ++ e ∷ []) ≡ cond e.counted 1 0 + number_counted entries
+counted-push [] e = counted_cons e []
+counted-push (r ∷ rs) e =
+    let one = counted_cons r (rs ++ e ∷ []) in
+    let two = counted_cons r rs in
+    let rest = counted-push rs e in
+    omega (arith, one, two, rest)
+
+-- ======== what is prepared ========
+pub sound-nothing : (t : Slotted) (few room : Bool) (p : Pending) → p ≡ Nothing → IsSound t few room p
+sound-nothing t few room p is = subst (IsSound t few room) (sym is) tt
+
+pub sound-at : (t : Slotted) (few room : Bool) (p : Pending) (n : ℕ) → p ≡ At n → IsSound t few room (At n) → IsSound t few room p
+sound-at t few room p n is found = subst (IsSound t few room) (sym is) found
+
+-- the set that is prepared and has an entry
+pub at-prepared : (t : Slotted) (few room : Bool) (p : Pending) (n : ℕ) (s : AttributeSet) → IsSound t few room p → At n ≡ p → pending_in t.numbers p ≡ Some s → (number_of s t.numbers ≡ Some n) × (is_placed s t.table.entries ≡ true)
+at-prepared t few room p n s sound is e =
+    let found : IsSound t few room (At n) = subst (IsSound t few room) (sym is) sound in
+    let there : Some (set_named n t.numbers) ≡ Some s = ap (pending_in t.numbers) is ∙ e in
+    let same : set_named n t.numbers ≡ s = cc in
+    (subst (λ x. number_of x t.numbers ≡ Some n) same found.0, subst (λ x. is_placed x t.table.entries ≡ true) same found.1)
+
+-- and the one that is new
+pub new-prepared : (t : Slotted) (few room : Bool) (p : Pending) (set : AttributeSet) (list : Option (List KeyValue)) → IsSound t few room p → New set list ≡ p → IsReady t few room set list
+new-prepared t few room p set list sound is = subst (IsSound t few room) (sym is) sound
+
+pub new-set : (ns : Numbers) (p : Pending) (set s : AttributeSet) (list : Option (List KeyValue)) → New set list ≡ p → pending_in ns p ≡ Some s → set ≡ s
+new-set ns p set s list is e = let both : Some set ≡ Some s = ap (pending_in ns) is ∙ e in cc
+
+-- which is the set that is prepared, if that has no entry
+pub new-there : (t : Slotted) (few room : Bool) (p : Pending) (s : AttributeSet) → IsSound t few room p → is_new p ≡ is_pending p → pending_in t.numbers p ≡ Some s → (set_eq s none_set ≡ false) × (has s t.table.entries ≡ false)
+new-there t few room Nothing s sound is e = absurd (cc)
+new-there t few room (At n) s sound is e = absurd (cc)
+new-there t few room (New set list) s sound is e =
+    let same : set ≡ s = cc in
+    (subst (λ x. set_eq x none_set ≡ false) same sound.new.some, subst (λ x. has x t.table.entries ≡ false) same sound.absent)
+
+-- nothing is prepared
+pub nothing-prepared : (ns : Numbers) (p : Pending) (s : AttributeSet) {C : Type 0} → Nothing ≡ p → pending_in ns p ≡ Some s → C
+nothing-prepared ns p s is e = let none : None ≡ Some s = ap (pending_in ns) is ∙ e in absurd (cc)
+
+-- the key that was made in advance
+pub made_key : (o : Option AttributeSet) (key : AttributeSet) → IfSome o (λ k. k ≡ over_set) → o ≡ Some key → key ≡ over_set
+made_key o key h e = let P : Option AttributeSet → Type 0 = λ p. IfSome p (λ k. k ≡ over_set) in subst P e h
+
+-- a list more
+pub keys-spelled : (list : Option (List KeyValue)) (n : ℕ) (gs : List Keyed) → keys_of (with_spelling list n gs) ≡ keys_of gs ++ list_of list
+keys-spelled None n gs = sym (plain (keys_of gs))
+  where
+    plain : (l : List (List KeyValue)) → l ++ [] ≡ l
+    plain [] = refl
+    plain (x ∷ l) = ap (λ (r : List (List KeyValue)). x ∷ r) (plain l)
+keys-spelled (Some l) n gs = map-append (λ (e : Keyed). e.0) gs ((l, n) ∷ [])
+
+-- the numbers with one more
+pub numbers-added : (old new : Numbers) (s : AttributeSet) (n : ℕ) → new.none ≡ old.none → new.sets ≡ old.sets ++ (s, n) ∷ [] → IsNew old.sets s → KeepNumbers old new × (number_of s new ≡ Some n)
+numbers-added old new s n none sets fresh_set =
+    let is : new ≡ record { none = old.none; sets = old.sets ++ (s, n) ∷ [] } = λ i. record { none = none i; sets = sets i } in (
+      subst (KeepNumbers old) (sym is) (numbers-pushed old.none old.sets (s, n)),
+      ap (number_of s) is ∙ ap (λ b. cond b (Some old.none) (lookup (set_eq s) (old.sets ++ (s, n) ∷ []))) fresh_set.some ∙ lookup-pushed s old.sets n fresh_set.absent,
+    )
+
+-- nothing is prepared any more
+pub nothing-left : (ns : Numbers) (p : Pending) → pending_in ns p ≡ None → p ≡ Nothing
+nothing-left ns Nothing e = refl
+nothing-left ns (At n) e = absurd (cc)
+nothing-left ns (New set list) e = absurd (cc)
+
+-- ======== handles ========
+few-push : (x : AttributeSet) (es : List Entry) (e : Entry) (n : ℕ) → 0 < n → e.handles ≡ 0 → handles_in x es < n → handles_in x (es ++ e ∷ []) < n
+few-push x [] e n some none h = by (is_of x e)
+  where
+    by : (b : Bool) → cond b e.handles 0 < n
+    by true = omega (arith, none)
+    by false = some
+few-push x (r ∷ rs) e n some none h = by (is_of x r) h (few-push x rs e n some none)
+  where
+    by : (b : Bool) → cond b r.handles (handles_in x rs) < n → (handles_in x rs < n → handles_in x (rs ++ e ∷ []) < n) → cond b r.handles (handles_in x (rs ++ e ∷ [])) < n
+    by true h ih = h
+    by false h ih = ih h
+
+-- a place for a set adds no handle
+pub few-placed : (limit : ℕ) (empty : Fold) (s : AttributeSet) (t : Table) (x : AttributeSet) → handles_at x t < 2 ^ 64 - 1 → handles_at x (place limit empty s t) < 2 ^ 64 - 1
+few-placed limit empty s t x few = first x (is_of x t.none) few
+  where
+    pushed : (x : AttributeSet) (k : AttributeSet) (b : Bool) → handles_in x t.entries < 2 ^ 64 - 1 → handles_in x (t.entries ++ new_entry empty k b ∷ []) < 2 ^ 64 - 1
+    pushed x k b h = few-push x t.entries (new_entry empty k b) (2 ^ 64 - 1) (omega arith) refl h
+
+    rest : (x : AttributeSet) (a b c d : Bool) → handles_in x t.entries < 2 ^ 64 - 1
+        → handles_in x (cond a t.entries (cond b t.entries (cond c (t.entries ++ new_entry empty s true ∷ []) (cond d t.entries (t.entries ++ new_entry empty over_set false ∷ []))))) < 2 ^ 64 - 1
+    rest x true b c d h = h
+    rest x false true c d h = h
+    rest x false false true d h = pushed x s true h
+    rest x false false false true h = h
+    rest x false false false false h = pushed x over_set false h
+
+    first : (x : AttributeSet) (b : Bool) → cond b t.none.handles (handles_in x t.entries) < 2 ^ 64 - 1 → cond b t.none.handles (handles_in x (entries_with_place limit empty s t.entries)) < 2 ^ 64 - 1
+    first x true h = h
+    first x false h = rest x (set_eq s none_set) (has s t.entries) (nat_lt (number_counted t.entries) limit) (has over_set t.entries) h
+
+-- a set without an entry has no handles
+handles-away : (x : AttributeSet) (es : List Entry) → has x es ≡ false → handles_in x es ≡ 0
+handles-away x [] e = refl
+handles-away x (r ∷ rs) e = let q = or_parts (is_of x r) (has x rs) e in (λ i. cond (q.0 i) r.handles (handles_in x rs)) ∙ handles-away x rs q.1
+
+pub no_handles : (x : AttributeSet) (t : Table) → t.none.set ≡ none_set → set_eq x none_set ≡ false → has x t.entries ≡ false → handles_at x t ≡ 0
+no_handles x t is some away =
+    ap (λ k. cond (set_eq k x) t.none.handles (handles_in x t.entries)) is
+    ∙ (ap (λ b. cond b t.none.handles (handles_in x t.entries)) (set_eq-flip none_set x ∙ some) ∙ handles-away x t.entries away)
+
+-- the entry that a bind uses
+pub bound-by : (m : MapState) (s : AttributeSet) (after : List Entry) (used : AttributeSet) → Placing m.limit m.empty s m.table.entries after used → bound_to s m ≡ used
+bound-by m s after used p = ap (entry_for s) (sym p.state) ∙ p.goal

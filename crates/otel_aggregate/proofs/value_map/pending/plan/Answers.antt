@@ -1,0 +1,38 @@
+use Rattle.std.proofs.Common.{◌≡◌, ◌∙◌, ap, sym, true, false, true≢false, None}
+use Rattle.std.specs.Map.{lookup}
+use Rattle.otel_common.specs.Canonical.{canon}
+use Rattle.otel_common.specs.Equality.{set_eq}
+use Rattle.otel_model_stream.specs.Sets.{AttributeSet}
+use Rattle.otel_model_stream.specs.Entries.{has}
+use Rattle.otel_aggregate.specs.declared.value_map.pending.Pending.TheVariants.{New}
+use Rattle.otel_aggregate.proofs.value_map.KeyedLemmas.{same_set}
+use Rattle.otel_aggregate.proofs.value_map.PlanLemmas.{plan-own, plan-past_over, plan-without, unlisted, unnumbered}
+use Rattle.otel_aggregate.proofs.value_map.pending.plan.Goals as goal
+
+pub returns-in-Some-clause-plan : goal.returns-in-Some-clause-plan
+returns-in-Some-clause-plan g c =
+    let t = c.args.table.now in
+    let l = c.args.list.now in
+    let own : set_eq (canon l) l ≡ true = ap (λ (s : AttributeSet). set_eq (canon s) s) (sym c.set.ensures) ∙ sym c.is_canonical.ensures ∙ c.if-is_canonical.true in
+    let away : has (canon l) t.table.entries ≡ false = ap (λ (s : AttributeSet). has s t.table.entries) (same_set (canon l) l own) ∙ unlisted t l c.requires.unled in
+    plan-past_over t c.args.few l c.args.overflow c.in-Some.number c.in-Some.is c.requires.overflow away
+
+pub returns-then-is_canonical-clause-plan : goal.returns-then-is_canonical-clause-plan
+returns-then-is_canonical-clause-plan g c =
+    let t = c.args.table.now in
+    let l = c.args.list.now in
+    let own : set_eq (canon l) l ≡ true = ap (λ (s : AttributeSet). set_eq (canon s) s) (sym c.set.ensures) ∙ sym c.is_canonical.ensures ∙ c.if-is_canonical.true in
+    let same : canon l ≡ l = same_set (canon l) l own in
+    let set : c.in_ok-own.own ≡ canon l = c.in_ok-own.ensures.copy ∙ sym same in
+    let absent : lookup (set_eq (canon l)) t.numbers.sets ≡ None = ap (λ (s : AttributeSet). lookup (set_eq s) t.numbers.sets) same ∙ unnumbered t l c.requires.unled c.law_of_numbers.ensures.placed in
+    let away : has (canon l) t.table.entries ≡ false = ap (λ (s : AttributeSet). has s t.table.entries) same ∙ unlisted t l c.requires.unled in
+    plan-without t c.args.few l c.args.overflow (New c.in_ok-own.own None) c.in_default.is (plan-own t l c.requires.unled absent away c.args.few c.in_ok-own.own set own)
+
+-- a canonical list that leads to no entry is the set of none
+pub returns-in_err-own-clause-placed : goal.returns-in_err-own-clause-placed
+returns-in_err-own-clause-placed g c placed =
+    let t = c.args.table.now in
+    let l = c.args.list.now in
+    let same : canon l ≡ l = same_set (canon l) l (ap (λ (s : AttributeSet). set_eq (canon s) s) (sym c.set.ensures) ∙ sym c.is_canonical.ensures ∙ c.if-is_canonical.true) in
+    let away : has (canon l) t.table.entries ≡ false = ap (λ (s : AttributeSet). has s t.table.entries) same ∙ unlisted t l c.requires.unled in
+    absurd (true≢false (sym placed ∙ away))

@@ -1,0 +1,110 @@
+-- What contracts see of a map.
+use Rattle.std.specs.Prelude.{◌≡◌, ◌&&◌, ◌||◌, not, nat_lt, ℕ, Bool, true, false, cond, List, [], ◌∷◌, Option, Some, None, IsTrue, is_some}
+use Rattle.std.specs.Map.{keys_of}
+use Rattle.std.specs.Set.{is_member}
+use Rattle.otel_common.specs.Canonical.{canon}
+use Rattle.otel_common.specs.Equality.{set_eq}
+use Rattle.otel_common.specs.declared.attributes.KeyValue.{KeyValue}
+use Rattle.otel_model_stream.specs.Sets.{AttributeSet, none_set, over_set}
+use Rattle.otel_model_stream.specs.Entries.{Entry, has, number_counted}
+use Rattle.otel_model_stream.specs.Maps.{MapState, KnownMap}
+use Rattle.otel_aggregate.specs.value_map.Keyed.{Slotted, IsNew, IsSpelling}
+use Rattle.otel_aggregate.specs.value_map.Numbers.{Numbers, number_of, set_named, is_placed, IsNumberOf}
+use Rattle.otel_aggregate.specs.declared.value_map.pending.Pending.{Pending}
+use Rattle.otel_aggregate.specs.declared.value_map.pending.Pending.TheVariants.{Nothing, At, New}
+
+-- a map's state; the numbers of its entries; the lists, as given, that it knows besides the sets of its entries; the
+-- set of the prepared record or bind, if any; and the list that this adds to those, if any
+pub record MapContents : Type 0 where
+  pub state : MapState
+  pub numbers : Numbers
+  pub given : List (List KeyValue)
+  pub pending : Option AttributeSet
+  pub spelling : List (List KeyValue)
+
+-- a map with the lists that it knows
+abbrev pub known_of : MapContents → KnownMap
+known_of h = record { map_state = h.state; given = h.given }
+
+-- the set of the prepared record or bind, if any
+abbrev pub pending_in : Numbers → Pending → Option AttributeSet
+pending_in ns Nothing = None
+pending_in ns (At n) = Some (set_named n ns)
+pending_in ns (New s list) = Some s
+
+-- the list, if there is one, as a list of lists
+abbrev pub list_of : Option (List KeyValue) → List (List KeyValue)
+list_of None = []
+list_of (Some l) = l ∷ []
+
+-- the list that the prepared record or bind adds, if any
+abbrev pub spelling_in : Pending → List (List KeyValue)
+spelling_in Nothing = []
+spelling_in (At n) = []
+spelling_in (New s list) = list_of list
+
+-- a new set can be given an entry: there is room. The list, if there is one, can become a key too; there is one only if
+-- `few` says that the limit allows one more counted entry
+pub record IsReady (t : Slotted) (few : Bool) (room : Bool) (s : AttributeSet) (list : Option (List KeyValue)) : Type 0 where
+  pub new : IsNew t.numbers.sets s
+  pub absent : has s t.table.entries ≡ false
+  pub spelling : IsSpelling t.aliases s list
+  pub admitted : IsTrue (is_some list) → IsTrue few
+  pub ready : IsTrue room
+
+-- what is prepared can be carried out: the number names a set with an entry, or the new set can be given one
+abbrev pub IsSound : Slotted → Bool → Bool → Pending → Type 0
+IsSound t few room Nothing = Unit {0}
+IsSound t few room (At n) = (number_of (set_named n t.numbers) t.numbers ≡ Some n) × (is_placed (set_named n t.numbers) t.table.entries ≡ true)
+IsSound t few room (New s list) = IsReady t few room s list
+
+-- whether it is for a set that has no entry
+abbrev pub is_new : Pending → Bool
+is_new Nothing = false
+is_new (At n) = false
+is_new (New s list) = true
+
+-- whether a record or a bind is prepared
+abbrev pub is_pending : Pending → Bool
+is_pending Nothing = false
+is_pending (At n) = true
+is_pending (New s list) = true
+
+-- the prepared record or bind, from what is kept of it: the number of an entry, or else a set that has no entry, and
+-- perhaps a list that is to lead to its entry too
+abbrev pub prepared : Option ℕ → Option (AttributeSet × Option (List KeyValue)) → Pending
+prepared (Some n) added = At n
+prepared None (Some p) = New p.0 p.1
+prepared None None = Nothing
+
+-- whether a list, as given, leads to an entry
+abbrev pub leads : List KeyValue → Slotted → Bool
+leads l t = set_eq l none_set || (is_member set_eq (keys_of t.aliases) l || has l t.table.entries)
+
+-- the set whose entry a record or bind of the list uses: its own, or the overflow set, if that is to be used at once for
+-- sets without entries, since its entry has this number
+abbrev pub target_of : Option ℕ → List KeyValue → List Entry → AttributeSet
+target_of overflow l es = cond (is_some overflow && not (has (canon l) es)) over_set (canon l)
+
+-- the overflow entry has this number, and sets without entries go to it, since the limit allows no more
+abbrev pub IsOverflow : Bool → List Entry → Numbers → ℕ → Type 0
+IsOverflow few es ns n = (few ≡ false) × (has over_set es ≡ true) × IsNumberOf over_set n ns
+
+-- the same of a map
+abbrev pub IsOverflowAt : MapContents → ℕ → Type 0
+IsOverflowAt h = IsOverflow (nat_lt (number_counted h.state.table.entries) h.state.limit) h.state.table.entries h.numbers
+
+-- the plan is what a record or bind of the list is to do that uses the entry of the set s. `few` says whether the limit
+-- allows one more counted entry
+pub record IsPlanFor (t : Slotted) (few : Bool) (l : List KeyValue) (s : AttributeSet) (plan : Pending) : Type 0 where
+  pub pending : pending_in t.numbers plan ≡ Some s
+  pub spelling : spelling_in plan ≡ cond ((not (set_eq (canon l) none_set) && (not (has (canon l) t.table.entries) && few)) && not (set_eq (canon l) l)) (l ∷ []) []
+  pub sound : (room : Bool) → IsTrue room → IsSound t few room plan
+
+-- the plan is what a record or bind of the list is to do that uses the list's own set
+abbrev pub IsPlan : Slotted → Bool → List KeyValue → Pending → Type 0
+IsPlan t few l plan = IsPlanFor t few l (canon l) plan
+
+-- a record or bind of the list is to use the entry with this number, whether or not the limit allows one more
+abbrev pub IsPlanAt : Slotted → List KeyValue → ℕ → Type 0
+IsPlanAt t l n = (few : Bool) → IsPlan t few l (At n)

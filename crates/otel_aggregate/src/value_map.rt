@@ -1,0 +1,733 @@
+//! A bounded map from sets of attributes to aggregators.
+
+ghost use Rattle.std.specs.Prelude.{◌≡◌, ◌<◌, ◌-◌, ◌+◌, ◌*◌, ◌≤◌, ◌^◌, ◌++◌, [], true, false, is_some, length, map, None, Some, IsSome, IfSome, OnOk, OnErr, IfOk, IsOk, IfErr, IsOkUnless, IsTrue, ℕ};
+ghost use Rattle.std.specs.List.{AllByRecursion};
+ghost use Rattle.std.specs.Option.{option_copied, option_map};
+ghost use Rattle.otel_common.specs.Canonical.{canon};
+ghost use Rattle.otel_model_stream.specs.Entries.{entry_for, points, number_counted};
+ghost use Rattle.otel_model_stream.specs.Maps.{new_map, with_place, measured_map, measured_list, bound_list, bound_map, bound_to, updated_bound, unbound_map, evicted_map, evicted_known, drained_map, readonly_points, resetting_points, draining_points, knows, keys, given_left, is_admitted, SucceedsIfKnown};
+ghost use Rattle.otel_model_stream.specs.Laws.{AreKnown};
+ghost use Rattle.otel_model_stream.specs.Observed.{fold_in};
+ghost use Rattle.otel_model_stream.specs.Folds.{wrap};
+ghost use Rattle.otel_model_stream.specs.Sets.{AttributeSet, allowed_part, none_set, set_of};
+ghost use Rattle.otel_model_stream.specs.Totals.{points_total};
+ghost use Rattle.otel_aggregate.specs.value_map.Contents.{known_of, target_of, IsOverflowAt};
+ghost use Rattle.otel_aggregate.specs.value_map.Faults.{IsBindFault};
+ghost use Rattle.otel_aggregate.specs.value_map.Numbers.{number_of, is_number, without_handles, handles_at, AreNamed, AreNumbered, spelling_of, is_placed, KeepNumbers, KeepLeft};
+ghost use Rattle.otel_aggregate.specs.value_map.Slots.{HasForm, copies};
+
+use crate::aggregators::aggregator::Aggregator;
+use crate::sets::allowed_keys::AllowedKeys;
+use crate::sets::references::{References, kept_references};
+use crate::sets::set_attributes::SetAttributes;
+use crate::sets::set_key::SetKey;
+use crate::value_map::hashed_key::{GivenAttributes, HashedSet};
+use crate::value_map::hashing::SetHashBuilder;
+use crate::value_map::maker::{Copies, PointMaker};
+use crate::value_map::pending::{Pending, Prepared, led_to, make_ready, plan, take_slot};
+use crate::value_map::saved::Saved;
+use crate::value_map::slots::Slot;
+use crate::value_map::table::Table;
+use otel_common::attributes::KeyValue;
+use otel_common::faults::Fault;
+use otel_common::lists::SharedItems;
+use std::alloc::{AllocError, Global};
+use std::marker::Model;
+
+pub mod hashed_key;
+pub mod hashing;
+mod key_table;
+pub mod maker;
+mod pending;
+pub mod saved;
+pub mod sets;
+mod slots;
+mod table;
+
+/// A bounded map from sets of attributes to aggregators (Metrics SDK, "Cardinality limits").
+///
+/// Any limit is accepted; with 0, every set but the empty one goes to the overflow entry. No memory is reserved for
+/// the limit.
+///
+/// A set that has an entry uses it. A new set gets an entry while the number of counted entries is below the limit,
+/// and otherwise uses the overflow entry. The empty set has an entry of its own, which isn't counted.
+///
+/// Entries have numbers, by which handles name them. An entry keeps its number; the number of an entry that is gone is
+/// used again.
+pub struct ValueMap<A: Aggregator> {
+    alloc: Global,
+    config: A::InitConfig,
+    limit: usize,
+    /// How many entries the limit counts.
+    count: usize,
+    table: Table<A>,
+    /// An aggregator made in advance for the next new entry.
+    unused: Option<A>,
+    /// The set of the overflow entry, made in advance as that entry's key, and for looking it up.
+    spare_key: Option<HashedSet<'static>>,
+    pending: Prepared,
+}
+
+impl<A: Aggregator> Model for ValueMap<A> {
+    ghost use Rattle.std.specs.Prelude.{◌≡◌, ◌&&◌, nat_lt, is_some, IfSome};
+    ghost use Rattle.std.specs.Map.{keys_of};
+    ghost use Rattle.otel_model_stream.specs.Sets.{over_set};
+    ghost use Rattle.otel_model_stream.specs.Entries.{number_counted};
+    ghost use Rattle.otel_aggregate.specs.value_map.Contents.{MapContents, pending_in, spelling_in, IsSound};
+
+    ghost Value = { MapContents };
+
+    ghost view = { λ m. record {
+      state = record { limit = m.limit; empty = A.empty m.config; table = m.table.table };
+      numbers = m.table.numbers;
+      given = keys_of m.table.aliases;
+      pending = pending_in m.table.numbers m.pending;
+      spelling = spelling_in m.pending;
+    } };
+
+    ghost invariant = { λ m. (m.count ≡ number_counted m.table.table.entries)
+        × IfSome m.unused (λ made. A.meaning made ≡ A.empty m.config)
+        × IfSome m.spare_key (λ key. key ≡ over_set)
+        × IsSound m.table (nat_lt m.count m.limit) (is_some m.unused && (is_some m.spare_key && m.table.room)) m.pending };
+}
+
+impl<A: Aggregator> Drop for ValueMap<A> {
+    /// A function of its own, so that no proof about who lets one go looks into it.
+    fn drop(self) {
+        let ValueMap {
+            alloc: _,
+            config: _config,
+            limit: _,
+            count: _,
+            table: _table,
+            unused: _unused,
+            spare_key: _spare_key,
+            pending: _pending,
+        } = self;
+    }
+}
+
+impl<A: Aggregator> ValueMap<A> {
+    /// Makes a map with no entry but that of the empty set, which hashes sets with this hasher. Takes memory for that
+    /// entry and for what an aggregator takes.
+    #[inline(always)]
+    pub fn new(
+        alloc: Global,
+        hasher: SetHashBuilder,
+        config: A::InitConfig,
+        limit: usize,
+    ) -> Result<Self, Fault>
+        ensures made { IfOk result (λ made. made.state ≡ new_map limit (A.empty config)) }
+        ensures given { IfOk result (λ made. made.given ≡ []) }
+        ensures unprepared { IfOk result (λ made. made.pending ≡ None) }
+        ensures only_memory { IsOkUnless result Fault.OutOfMemory }
+    {
+        let none = A::create(alloc, &config)?;
+        let table = Table::new(alloc, hasher, none)?;
+        Ok(ValueMap {
+            alloc,
+            config,
+            limit,
+            count: 0,
+            table,
+            unused: None,
+            spare_key: None,
+            pending: Prepared::nothing(),
+        })
+    }
+
+    /// Prepares a record or a bind for the canonical form of a list, in place of one that was prepared before. The list
+    /// is what is kept of the attributes.
+    #[inline(always)]
+    fn prepare_list(
+        &mut self,
+        list: &HashedSet,
+        allow: Option<&AllowedKeys>,
+        attributes: &[KeyValue],
+    ) -> Result<(), AllocError>
+        requires { list.now ≡ allowed_part (option_copied allow) attributes.now }
+        ensures same { self.new.state ≡ self.old.state }
+        ensures numbers { self.new.numbers ≡ self.old.numbers }
+        ensures given { self.new.given ≡ self.old.given }
+        ensures ready { OnOk result (self.new.pending ≡ Some (canon list.now)) }
+        ensures spelling { OnOk result (self.new.spelling ≡ spelling_of list.now self.old.state) }
+        ensures refused { OnErr result (self.new.pending ≡ None) }
+        ensures known { SucceedsIfKnown list.now (known_of self.old) result }
+        ensures placed { IsTrue (is_placed (canon list.now) self.old.state.table.entries) → IsOk result }
+    {
+        if let Some(number) = led_to(&self.table, list) {
+            self.pending.put_at(number);
+            return Ok(());
+        }
+        match self.prepare_unknown(list, allow, attributes, None) {
+            Ok(()) => Ok(()),
+            Err(_) => Err(AllocError),
+        }
+    }
+
+    /// Does what `prepare_list` does with a list that, as given, leads to no entry. If `overflow` is the number of the overflow
+    /// entry, and the set has no entry, the record or bind is prepared for the overflow entry itself, and the set isn't
+    /// copied.
+    #[inline(never)]
+    fn prepare_unknown(
+        &mut self,
+        list: &HashedSet,
+        allow: Option<&AllowedKeys>,
+        attributes: &[KeyValue],
+        overflow: Option<usize>,
+    ) -> Result<(), Fault>
+        requires list { list.now ≡ allowed_part (option_copied allow) attributes.now }
+        requires unknown { knows list.now (known_of self.old) ≡ false }
+        requires overflow { IfSome overflow (IsOverflowAt self.old) }
+        ensures same { self.new.state ≡ self.old.state }
+        ensures numbers { self.new.numbers ≡ self.old.numbers }
+        ensures given { self.new.given ≡ self.old.given }
+        ensures ready { OnOk result (self.new.pending ≡ Some (target_of overflow list.now self.old.state.table.entries)) }
+        ensures spelling { OnOk result (self.new.spelling ≡ spelling_of list.now self.old.state) }
+        ensures refused { OnErr result (self.new.pending ≡ None) }
+        ensures placed { IsTrue (is_placed (canon list.now) self.old.state.table.entries) → IsOk result }
+        ensures only_memory { IsOkUnless result Fault.OutOfMemory }
+    {
+        self.pending.give_up();
+        let is_few = self.count < self.limit;
+        let plan = plan(
+            self.alloc,
+            &self.table,
+            is_few,
+            overflow,
+            list,
+            allow,
+            attributes,
+        )?;
+        if !plan.is_new() {
+            self.pending.put(plan);
+            return Ok(());
+        }
+        make_ready(
+            &mut self.table,
+            &mut self.unused,
+            &mut self.spare_key,
+            self.alloc,
+            &self.config,
+        )?;
+        self.pending.put(plan);
+        Ok(())
+    }
+
+    /// Finds or makes the entry for what is prepared, and returns its number.
+    #[inline(always)]
+    fn place(&mut self) -> usize
+        requires { IsSome self.old.pending }
+        ensures state { (s : AttributeSet) → self.old.pending ≡ Some s → self.new.state ≡ with_place s self.old.state }
+        ensures number { (s : AttributeSet) → self.old.pending ≡ Some s → number_of (entry_for s self.new.state.table.entries) self.new.numbers ≡ Some result }
+        ensures numbers { KeepNumbers self.old.numbers self.new.numbers }
+        ensures given { self.new.given ≡ self.old.given ++ self.old.spelling }
+        ensures spent { self.new.pending ≡ None }
+    {
+        match self.pending.take_number() {
+            Some(number) => number,
+            None => self.place_new(),
+        }
+    }
+
+    /// Does what `place` does, out of line, as few records are for a set that has no entry.
+    #[inline(never)]
+    fn place_new(&mut self) -> usize
+        requires { IsSome self.old.pending }
+        ensures state { (s : AttributeSet) → self.old.pending ≡ Some s → self.new.state ≡ with_place s self.old.state }
+        ensures number { (s : AttributeSet) → self.old.pending ≡ Some s → number_of (entry_for s self.new.state.table.entries) self.new.numbers ≡ Some result }
+        ensures numbers { KeepNumbers self.old.numbers self.new.numbers }
+        ensures given { self.new.given ≡ self.old.given ++ self.old.spelling }
+        ensures spent { self.new.pending ≡ None }
+    {
+        let (set, list) = match self.pending.take() {
+            Pending::Nothing => return self.table.none(),
+            Pending::At(number) => return number,
+            Pending::New(set, list) => (set, list),
+        };
+        let overflow = self.spare_key.as_ref().unwrap();
+        if self.count < self.limit {
+            let lasting = set.set() == overflow.set();
+            self.count += 1;
+            let slot = take_slot(&mut self.unused, &self.config, true, lasting);
+            return self.table.add(set, list, slot);
+        }
+        if let Some(number) = self.table.find_set(overflow) {
+            return number;
+        }
+        let slot = take_slot(&mut self.unused, &self.config, false, true);
+        let key = self.spare_key.take().unwrap();
+        self.table.add(key, None, slot)
+    }
+
+    /// Prepares a record or a bind for the canonical form of the attributes, in place of one that was prepared before.
+    /// The contents of the map stay unchanged.
+    ///
+    /// This is the first of two phases: a record for several maps is prepared in all of them and then taken in by all.
+    /// It looks the attributes up as given. If they lead to an entry, as its set or as the list that admitted it, that
+    /// is all, and it takes no memory; the same holds if there are no attributes. Otherwise it sorts references to them
+    /// and looks these up, unless the keys rise as given; attributes are copied only for a set without an entry. Up to 16
+    /// keys are sorted without memory. More are sorted with memory; if it is refused, a set that has an entry is still
+    /// found, in quadratic time.
+    pub fn prepare(&mut self, attributes: &[KeyValue]) -> Result<(), Fault>
+        ensures same { self.new.state ≡ self.old.state }
+        ensures numbers { self.new.numbers ≡ self.old.numbers }
+        ensures given { self.new.given ≡ self.old.given }
+        ensures ready { OnOk result (self.new.pending ≡ Some (canon attributes.now)) }
+        ensures spelling { OnOk result (self.new.spelling ≡ spelling_of attributes.now self.old.state) }
+        ensures refused { OnErr result (self.new.pending ≡ None) }
+        ensures known { SucceedsIfKnown attributes.now (known_of self.old) result }
+        ensures placed { IsTrue (is_placed (canon attributes.now) self.old.state.table.entries) → IsOk result }
+        ensures only_memory { IsOkUnless result Fault.OutOfMemory }
+    {
+        self.prepare_given(&GivenAttributes::new(attributes))?;
+        Ok(())
+    }
+
+    /// Prepares a record or a bind as `prepare` does. Attributes that have their hash already are not hashed again.
+    #[inline(always)]
+    pub fn prepare_given(&mut self, given: &GivenAttributes) -> Result<(), AllocError>
+        ensures same { self.new.state ≡ self.old.state }
+        ensures numbers { self.new.numbers ≡ self.old.numbers }
+        ensures given { self.new.given ≡ self.old.given }
+        ensures ready { OnOk result (self.new.pending ≡ Some (canon given.now)) }
+        ensures spelling { OnOk result (self.new.spelling ≡ spelling_of given.now self.old.state) }
+        ensures refused { OnErr result (self.new.pending ≡ None) }
+        ensures known { SucceedsIfKnown given.now (known_of self.old) result }
+        ensures placed { IsTrue (is_placed (canon given.now) self.old.state.table.entries) → IsOk result }
+    {
+        let list = given.list(self.table.hasher());
+        self.prepare_list(&list, None, given.as_slice())
+    }
+
+    /// Prepares a record or a bind, as `prepare` does, for those of the attributes whose key is in the allow-list
+    /// (Metrics SDK, "View").
+    ///
+    /// It looks up what is kept without copying it, as given, by references to up to 16 attributes that it finds once,
+    /// and otherwise by sorted references.
+    #[inline(never)]
+    pub fn prepare_allowed(
+        &mut self,
+        allow: &AllowedKeys,
+        attributes: &[KeyValue],
+    ) -> Result<(), Fault>
+        ensures same { self.new.state ≡ self.old.state }
+        ensures numbers { self.new.numbers ≡ self.old.numbers }
+        ensures given { self.new.given ≡ self.old.given }
+        ensures ready { OnOk result (self.new.pending ≡ Some (set_of (Some allow.now) attributes.now)) }
+        ensures spelling { OnOk result (self.new.spelling ≡ spelling_of (allowed_part (Some allow.now) attributes.now) self.old.state) }
+        ensures refused { OnErr result (self.new.pending ≡ None) }
+        ensures known { SucceedsIfKnown (allowed_part (Some allow.now) attributes.now) (known_of self.old) result }
+        ensures placed { IsTrue (is_placed (set_of (Some allow.now) attributes.now) self.old.state.table.entries) → IsOk result }
+        ensures only_memory { IsOkUnless result Fault.OutOfMemory }
+    {
+        if let Some(few) = kept_references(Some(allow), attributes) {
+            let kept = References {
+                slice: few.as_slice(),
+            };
+            let list = HashedSet::new(self.table.hasher(), SetKey::referenced(&kept));
+            self.prepare_list(&list, Some(allow), attributes)?;
+            return Ok(());
+        }
+        self.prepare_many_allowed(allow, attributes)
+    }
+
+    /// Does what `prepare_allowed` does where too many attributes are kept for references without memory. Asks the
+    /// allow-list anew whenever it goes over them.
+    #[inline(never)]
+    fn prepare_many_allowed(
+        &mut self,
+        allow: &AllowedKeys,
+        attributes: &[KeyValue],
+    ) -> Result<(), Fault>
+        ensures same { self.new.state ≡ self.old.state }
+        ensures numbers { self.new.numbers ≡ self.old.numbers }
+        ensures given { self.new.given ≡ self.old.given }
+        ensures ready { OnOk result (self.new.pending ≡ Some (set_of (Some allow.now) attributes.now)) }
+        ensures spelling { OnOk result (self.new.spelling ≡ spelling_of (allowed_part (Some allow.now) attributes.now) self.old.state) }
+        ensures refused { OnErr result (self.new.pending ≡ None) }
+        ensures known { SucceedsIfKnown (allowed_part (Some allow.now) attributes.now) (known_of self.old) result }
+        ensures placed { IsTrue (is_placed (set_of (Some allow.now) attributes.now) self.old.state.table.entries) → IsOk result }
+        ensures only_memory { IsOkUnless result Fault.OutOfMemory }
+    {
+        let kept = SetAttributes::kept(Some(allow), attributes);
+        let list = HashedSet::new(self.table.hasher(), SetKey::iterated(&kept));
+        self.prepare_list(&list, Some(allow), attributes)?;
+        Ok(())
+    }
+
+    /// Gives up the prepared record or bind, if there is one.
+    pub fn give_up(&mut self)
+        ensures same { self.new.state ≡ self.old.state }
+        ensures numbers { self.new.numbers ≡ self.old.numbers }
+        ensures given { self.new.given ≡ self.old.given }
+        ensures spent { self.new.pending ≡ None }
+    {
+        self.pending.give_up();
+    }
+
+    /// Whether a record or a bind is prepared.
+    pub fn is_prepared(&self) -> bool
+        ensures { result ≡ is_some self.now.pending }
+    {
+        self.pending.is_some()
+    }
+
+    /// Takes in the prepared record. This is the second phase; it looks nothing up for a set that has an entry.
+    #[inline(always)]
+    pub fn commit(&mut self, value: A::PreComputedValue)
+        requires { IsSome self.old.pending }
+        ensures measured { (s : AttributeSet) → self.old.pending ≡ Some s → self.new.state ≡ measured_map s (A.sample value) self.old.state }
+        ensures numbers { KeepNumbers self.old.numbers self.new.numbers }
+        ensures given { self.new.given ≡ self.old.given ++ self.old.spelling }
+        ensures spent { self.new.pending ≡ None }
+    {
+        let entry = self.place();
+        self.table.touch(entry, value);
+    }
+
+    /// Takes in a record for the empty set, which always has an entry. Looks nothing up, takes no memory, and gives up
+    /// what was prepared.
+    #[inline(always)]
+    pub fn measure_none(&mut self, value: A::PreComputedValue)
+        ensures measured { self.new.state ≡ measured_map none_set (A.sample value) self.old.state }
+        ensures numbers { self.new.numbers ≡ self.old.numbers }
+        ensures given { self.new.given ≡ self.old.given }
+        ensures spent { self.new.pending ≡ None }
+    {
+        self.pending.give_up();
+        let none = self.table.none();
+        self.table.touch(none, value);
+    }
+
+    /// Takes in a record for the canonical form of the attributes, in one pass if they lead to an entry as given. Takes
+    /// memory where `prepare` does. If it admits their set, the attributes and their canonical form lead to that set's
+    /// entry from then on.
+    #[inline(always)]
+    pub fn measure(
+        &mut self,
+        value: A::PreComputedValue,
+        attributes: &[KeyValue],
+    ) -> Result<(), Fault>
+        ensures ok { OnOk result (known_of self.new ≡ measured_list attributes.now (A.sample value) (known_of self.old)) }
+        ensures learned { OnOk result (IsTrue (is_admitted (canon attributes.now) self.old.state) → AreKnown attributes.now (known_of self.new)) }
+        ensures numbers { KeepNumbers self.old.numbers self.new.numbers }
+        ensures err { OnErr result (known_of self.new ≡ known_of self.old) }
+        ensures spent { self.new.pending ≡ None }
+        ensures known { SucceedsIfKnown attributes.now (known_of self.old) result }
+        ensures placed { IsTrue (is_placed (canon attributes.now) self.old.state.table.entries) → IsOk result }
+        ensures only_memory { IsOkUnless result Fault.OutOfMemory }
+    {
+        let list = HashedSet::new(self.table.hasher(), SetKey::borrowed(attributes));
+        if let Some(number) = led_to(&self.table, &list) {
+            self.pending.give_up();
+            self.table.touch(number, value);
+            return Ok(());
+        }
+        self.measure_unknown(value, &list, attributes)?;
+        Ok(())
+    }
+
+    /// Does what `measure` does with attributes that, as given, lead to no entry. Out of line, as few records need it.
+    #[inline(never)]
+    fn measure_unknown(
+        &mut self,
+        value: A::PreComputedValue,
+        list: &HashedSet,
+        attributes: &[KeyValue],
+    ) -> Result<(), AllocError>
+        requires list { list.now ≡ attributes.now }
+        requires unknown { knows attributes.now (known_of self.old) ≡ false }
+        ensures ok { OnOk result (known_of self.new ≡ measured_list attributes.now (A.sample value) (known_of self.old)) }
+        ensures numbers { KeepNumbers self.old.numbers self.new.numbers }
+        ensures err { OnErr result (known_of self.new ≡ known_of self.old) }
+        ensures spent { self.new.pending ≡ None }
+        ensures placed { IsTrue (is_placed (canon attributes.now) self.old.state.table.entries) → IsOk result }
+    {
+        let overflow = self.overflow();
+        match self.prepare_unknown(list, None, attributes, overflow) {
+            Ok(()) => {
+                self.commit(value);
+                Ok(())
+            }
+            Err(_) => Err(AllocError),
+        }
+    }
+
+    /// The number of the overflow entry, if it is there and the limit is reached, and if the set that it is looked up by
+    /// is there too. Without it a record past the limit is prepared, with a copy of its set, as any new set is.
+    fn overflow(&self) -> Option<usize>
+        ensures { IfSome result (IsOverflowAt self.now) }
+    {
+        if self.limit > self.count {
+            return None;
+        }
+        let overflow = self.spare_key.as_ref()?;
+        self.table.find_set(overflow)
+    }
+
+    /// Carries out the prepared bind, and returns the number of the entry: that of the set, or the overflow entry.
+    /// This is the second phase; it can't fail.
+    pub fn commit_bind(&mut self) -> usize
+        requires prepared { IsSome self.old.pending }
+        requires few { (s : AttributeSet) → self.old.pending ≡ Some s → handles_at (bound_to s self.old.state) self.old.state.table < 2 ^ 64 - 1 }
+        ensures bound { (s : AttributeSet) → self.old.pending ≡ Some s → self.new.state ≡ bound_map s self.old.state }
+        ensures number { (s : AttributeSet) → self.old.pending ≡ Some s → number_of (bound_to s self.old.state) self.new.numbers ≡ Some result }
+        ensures numbers { KeepNumbers self.old.numbers self.new.numbers }
+        ensures given { self.new.given ≡ self.old.given ++ self.old.spelling }
+        ensures spent { self.new.pending ≡ None }
+    {
+        let number = self.place();
+        self.table.hold(number);
+        number
+    }
+
+    /// How many live handles the entry has that the prepared bind uses; none if the entry is still to be made.
+    fn handles_there(&self) -> u64
+        ensures { (s : AttributeSet) → self.now.pending ≡ Some s → result ≡ handles_at (bound_to s self.now.state) self.now.state.table }
+    {
+        if let Some(number) = self.pending.number() {
+            return self.table.handles(number);
+        }
+        // Tells the prover that the first entry is the empty set's.
+        self.table.law_of_empty_set();
+        if self.limit > self.count {
+            return 0;
+        }
+        // A record or a bind for a new set has such a key.
+        let Some(overflow) = &self.spare_key else {
+            return 0;
+        };
+        match self.table.find_set(overflow) {
+            Some(number) => self.table.handles(number),
+            None => 0,
+        }
+    }
+
+    /// Binds a handle to the entry for the canonical form of the attributes, and returns the entry's number. The
+    /// handle stays with that entry for life. Takes memory as a record of the attributes does, and makes them lead to
+    /// an entry as that does.
+    ///
+    /// Refused for want of memory, or as exhausted if the entry has 2^64 - 1 live handles, and then nothing changes.
+    pub fn bind(&mut self, attributes: &[KeyValue]) -> Result<usize, Fault>
+        ensures ok { OnOk result (known_of self.new ≡ bound_list attributes.now (known_of self.old)) }
+        ensures learned { OnOk result (IsTrue (is_admitted (canon attributes.now) self.old.state) → AreKnown attributes.now (known_of self.new)) }
+        ensures number { IfOk result (λ n. number_of (bound_to (canon attributes.now) self.old.state) self.new.numbers ≡ Some n) }
+        ensures numbers { KeepNumbers self.old.numbers self.new.numbers }
+        ensures err { OnErr result (known_of self.new ≡ known_of self.old) }
+        ensures spent { self.new.pending ≡ None }
+        ensures known { handles_at (bound_to (canon attributes.now) self.old.state) self.old.state.table < 2 ^ 64 - 1 → SucceedsIfKnown attributes.now (known_of self.old) result }
+        ensures placed { handles_at (bound_to (canon attributes.now) self.old.state) self.old.state.table < 2 ^ 64 - 1 → IsTrue (is_placed (canon attributes.now) self.old.state.table.entries) → IsOk result }
+        ensures refused { IfErr result (IsBindFault (handles_at (bound_to (canon attributes.now) self.old.state) self.old.state.table)) }
+    {
+        self.prepare(attributes)?;
+        if self.handles_there() == u64::MAX {
+            self.give_up();
+            return Err(Fault::Exhausted);
+        }
+        Ok(self.commit_bind())
+    }
+
+    /// Takes in a record through a handle, by the number of its entry; does nothing if no entry has the number. Looks
+    /// nothing up, takes no memory, and gives up what was prepared.
+    #[inline(always)]
+    pub fn update_bound(&mut self, number: usize, value: A::PreComputedValue)
+        ensures updated { (s : AttributeSet) → number_of s self.old.numbers ≡ Some number → self.new.state ≡ updated_bound s (A.sample value) self.old.state }
+        ensures unknown { is_number number self.old.numbers ≡ false → self.new.state ≡ self.old.state }
+        ensures numbers { self.new.numbers ≡ self.old.numbers }
+        ensures given { self.new.given ≡ self.old.given }
+        ensures spent { self.new.pending ≡ None }
+    {
+        self.pending.give_up();
+        self.table.touch(number, value);
+    }
+
+    /// Ends a handle, by the number of its entry; does nothing if no entry has the number. Takes no memory, and gives up
+    /// what was prepared.
+    pub fn unbind(&mut self, number: usize)
+        ensures unbound { (s : AttributeSet) → number_of s self.old.numbers ≡ Some number → self.new.state ≡ unbound_map s self.old.state }
+        ensures unknown { is_number number self.old.numbers ≡ false → self.new.state ≡ self.old.state }
+        ensures numbers { self.new.numbers ≡ self.old.numbers }
+        ensures given { self.new.given ≡ self.old.given }
+        ensures spent { self.new.pending ≡ None }
+    {
+        self.pending.give_up();
+        self.table.release(number);
+    }
+
+    /// Whether the attributes as given lead to an entry: as its set, as the list that admitted it, or because there
+    /// are none. A record or a bind with such attributes takes no memory.
+    pub fn knows(&self, attributes: &[KeyValue]) -> bool
+        ensures { result ≡ knows attributes.now (known_of self.now) }
+    {
+        let list = HashedSet::new(self.table.hasher(), SetKey::borrowed(attributes));
+        if list.is_empty() {
+            return true;
+        }
+        self.table.find(&list).is_some()
+    }
+
+    /// How many keys the map has: the sets of its entries, and the lists as given that admitted one of them in another
+    /// form. There are at most two for each entry.
+    pub fn keys(&self) -> usize
+        ensures number { result ≡ keys (known_of self.now) }
+        ensures few { result ≤ 2 * length self.now.state.table.entries }
+    {
+        self.table.keys()
+    }
+
+    /// The law that numbers and sets lead to each other.
+    pub fn law_of_numbers(&self)
+        ensures named { AreNamed self.now.numbers }
+        ensures placed { AreNumbered self.now.state.table.entries self.now.numbers }
+    {
+        self.table.law_of_numbers();
+    }
+
+    /// How many entries the limit counts.
+    pub fn count(&self) -> usize
+        ensures { result ≡ number_counted self.now.state.table.entries }
+    {
+        self.count
+    }
+
+    /// The sets with copies of their aggregators: the empty set if it was updated, then the entries in order of
+    /// making, either all or those that were updated. The map stays unchanged. It shares their sets, and copies none.
+    pub fn points(
+        &self,
+        alloc: Global,
+        every: bool,
+    ) -> Result<Vec<(SharedItems<KeyValue>, A)>, Fault>
+        ensures points { IfOk result (λ given. copies A.meaning given.items ≡ points every self.now.state.table) }
+        ensures only_memory { IsOkUnless result Fault.OutOfMemory }
+    {
+        self.table.shown(alloc, &Copies {}, every)
+    }
+
+    /// The points that this makes of the sets and aggregators that `points` gives, without copies of those. They share the
+    /// map's sets. Takes memory for the list once.
+    pub fn shown<M: PointMaker<A>>(
+        &self,
+        alloc: Global,
+        maker: &M,
+        every: bool,
+    ) -> Result<Vec<M::Point>, Fault>
+        requires { AllByRecursion (M.can_show maker.now) (points every self.now.state.table) }
+        ensures points { IfOk result (λ given. map M.seen given.items ≡ map (M.shown maker.now) (points every self.now.state.table)) }
+        ensures only_memory { IsOkUnless result Fault.OutOfMemory }
+    {
+        self.table.shown(alloc, maker, every)
+    }
+
+    /// What the records that `points` shows add up to, modulo 2^64.
+    pub fn total(&self, every: bool) -> u64
+        ensures { result ≡ wrap (points_total (points every self.now.state.table)) }
+    {
+        self.table.total(every)
+    }
+
+    /// Forgets all records, and evicts the entries that had none since the last time and that no handle holds, except
+    /// the overflow entry. With an entry goes the list that admitted it. A prepared record is given up.
+    pub fn reset_and_evict(&mut self)
+        ensures state { self.new.state ≡ evicted_map self.old.state }
+        ensures numbers { KeepLeft (evicted_map self.old.state).table.entries self.old.numbers self.new.numbers }
+        ensures given { self.new.given ≡ given_left (evicted_map self.old.state) self.old.given }
+        ensures unprepared { self.new.pending ≡ None }
+    {
+        self.pending.give_up();
+        self.table.evict();
+        self.count = self.table.count_counted();
+    }
+
+    /// Forgets all records, and all entries but that of the empty set. A prepared record is given up. The map keeps
+    /// memory for about as many entries as it had, for later ones.
+    pub fn drain(&mut self)
+        ensures state { self.new.state ≡ drained_map self.old.state }
+        ensures none { self.new.numbers.none ≡ self.old.numbers.none }
+        ensures given { self.new.given ≡ [] }
+        ensures unprepared { self.new.pending ≡ None }
+    {
+        self.pending.give_up();
+        self.table.drain();
+        self.count = 0;
+    }
+
+    /// A copy of the entries, held by no handle, to be restored later, which shares their sets. For a map without other
+    /// entries it takes memory for that of the empty set.
+    pub fn save(&self, alloc: Global) -> Result<Saved<A>, Fault>
+        ensures saved { IfOk result (λ saved. saved ≡ without_handles self.now.state.table) }
+        ensures only_memory { IsOkUnless result Fault.OutOfMemory }
+    {
+        Ok(Saved::of(self.table.copy(alloc)?))
+    }
+
+    /// Puts saved entries in place of the map's own, and gives up a prepared record. Takes no memory. Entries may get
+    /// other numbers, so no handle should be live.
+    pub fn restore(&mut self, saved: Saved<A>)
+        ensures state { self.new.state ≡ record self.old.state { table = saved } }
+        ensures unprepared { self.new.pending ≡ None }
+        ensures was { HasForm A.meaning self.old.state.table }
+        ensures is { HasForm A.meaning saved }
+        ensures unheld { without_handles saved ≡ saved }
+    {
+        self.pending.give_up();
+        saved.put_into(&mut self.table);
+        self.count = self.table.count_counted();
+    }
+
+    /// The aggregator of a set as a draining collection would show it, or `None` if it would show no point of the set.
+    /// The attributes are looked up as given, without a copy.
+    pub fn get(&self, attributes: &[KeyValue]) -> Option<&A>
+        ensures { option_map (λ found. A.meaning found.now) result ≡ fold_in (draining_points self.now.state) attributes.now }
+    {
+        let set = HashedSet::new(self.table.hasher(), SetKey::borrowed(attributes));
+        self.table.get(&set)
+    }
+
+    /// The points of a collection that changes nothing: that of the empty set if it was updated, and those of all
+    /// other entries. They share their sets with the map.
+    pub fn collect_readonly(&self, alloc: Global) -> Result<Vec<(SharedItems<KeyValue>, A)>, Fault>
+        ensures points { IfOk result (λ given. copies A.meaning given.items ≡ readonly_points self.now.state) }
+        ensures only_memory { IsOkUnless result Fault.OutOfMemory }
+    {
+        self.points(alloc, true)
+    }
+
+    /// The points of a resetting collection: of the entries updated since the last one. The map then forgets all
+    /// records, evicts the entries that had none and that no handle holds, and gives up a prepared record. Sets are
+    /// shared with the entries that stay, and never copied. If it fails, nothing changes.
+    pub fn collect_and_reset(
+        &mut self,
+        alloc: Global,
+    ) -> Result<Vec<(SharedItems<KeyValue>, A)>, Fault>
+        ensures points { IfOk result (λ given. copies A.meaning given.items ≡ resetting_points self.old.state) }
+        ensures ok { OnOk result (known_of self.new ≡ evicted_known (known_of self.old)) }
+        ensures numbers { KeepLeft self.new.state.table.entries self.old.numbers self.new.numbers }
+        ensures err { OnErr result (self.new ≡ self.old) }
+        ensures spent { OnOk result (self.new.pending ≡ None) }
+        ensures only_memory { IsOkUnless result Fault.OutOfMemory }
+    {
+        let points = self.points(alloc, false)?;
+        self.reset_and_evict();
+        Ok(points)
+    }
+
+    /// The points of a draining collection: that of the empty set if it was updated, and those of all other entries.
+    /// The map then forgets all records and all entries but that of the empty set, and gives up a prepared record. No
+    /// set is copied. If it fails, nothing changes.
+    pub fn drain_and_reset(
+        &mut self,
+        alloc: Global,
+    ) -> Result<Vec<(SharedItems<KeyValue>, A)>, Fault>
+        ensures points { IfOk result (λ given. copies A.meaning given.items ≡ draining_points self.old.state) }
+        ensures ok { OnOk result (self.new.state ≡ drained_map self.old.state) }
+        ensures given { OnOk result (self.new.given ≡ []) }
+        ensures err { OnErr result (self.new ≡ self.old) }
+        ensures spent { OnOk result (self.new.pending ≡ None) }
+        ensures only_memory { IsOkUnless result Fault.OutOfMemory }
+    {
+        let points = self.points(alloc, true)?;
+        self.drain();
+        Ok(points)
+    }
+}

@@ -1,0 +1,379 @@
+//! A prepared record or bind, and what is made for it in advance.
+
+ghost use Rattle.std.specs.Prelude.{◌≡◌, ◌&&◌, true, false, cond, None, Some, IfSome, IfOk, IsOk, OnOk, IsOkUnless, IsTrue, is_some};
+ghost use Rattle.std.specs.Option.{IfNone, option_copied};
+ghost use Rattle.otel_common.specs.Canonical.{canon};
+ghost use Rattle.otel_common.specs.Equality.{set_eq};
+ghost use Rattle.otel_model_stream.specs.Entries.{has};
+ghost use Rattle.otel_model_stream.specs.Sets.{allowed_part, over_set};
+ghost use Rattle.otel_aggregate.specs.value_map.Slots.{kept_of, new_kept};
+ghost use Rattle.otel_aggregate.specs.value_map.Contents.{IsOverflow, IsPlanAt, IsPlanFor, target_of, is_new, is_pending, leads};
+ghost use Rattle.otel_aggregate.specs.declared.value_map.pending.Pending.TheVariants.{Nothing, At};
+
+use crate::aggregators::aggregator::Aggregator;
+use crate::sets::allowed_keys::AllowedKeys;
+use crate::sets::references::{References, few_references, many_references};
+use crate::sets::set_attributes::SetAttributes;
+use crate::sets::set_key::SetKey;
+use crate::value_map::hashed_key::HashedSet;
+use crate::value_map::hashing::SetHashBuilder;
+use crate::value_map::sets::overflow_set;
+use crate::value_map::slots::Slot;
+use crate::value_map::table::Table;
+use otel_common::attributes::KeyValue;
+use otel_common::faults::Fault;
+use std::alloc::Global;
+use std::marker::Model;
+
+/// A prepared record or bind, if there is one.
+#[derive(Drop)]
+pub enum Pending {
+    /// Nothing is prepared.
+    Nothing,
+    /// A record or bind for the set whose entry has this number.
+    At(usize),
+    /// A record or bind for this set, which has no entry, and perhaps another list that is to lead to the entry too.
+    New(HashedSet<'static>, Option<HashedSet<'static>>),
+}
+
+impl Pending {
+    /// Whether it is for a set that has no entry.
+    pub fn is_new(&self) -> bool
+        ensures { result ≡ is_new self.now }
+    {
+        match self {
+            Pending::Nothing => false,
+            Pending::At(_) => false,
+            Pending::New(_, _) => true,
+        }
+    }
+}
+
+/// A map's prepared record or bind, kept so that one for a set that has an entry is put and taken by its number alone.
+pub struct Prepared {
+    number: Option<usize>,
+    added: Option<(HashedSet<'static>, Option<HashedSet<'static>>)>,
+}
+
+impl Drop for Prepared {
+    /// A function of its own, so that no proof about who lets one go looks into it.
+    fn drop(self) {
+        let Prepared {
+            number: _,
+            added: _added,
+        } = self;
+    }
+}
+
+impl Model for Prepared {
+    ghost use Rattle.std.specs.Prelude.{◌≡◌, is_some, IsTrue, false};
+    ghost use Rattle.otel_aggregate.specs.value_map.Contents.{prepared};
+    ghost use Rattle.otel_aggregate.specs.declared.value_map.pending.Pending.{Pending};
+
+    ghost Value = { Pending };
+
+    ghost view = { λ p. prepared p.number p.added };
+
+    ghost invariant = { λ p. IsTrue (is_some p.number) → is_some p.added ≡ false };
+}
+
+impl Prepared {
+    /// Makes one with nothing prepared.
+    pub fn nothing() -> Prepared
+        ensures { result ≡ Nothing }
+    {
+        Prepared {
+            number: None,
+            added: None,
+        }
+    }
+
+    /// Whether a record or a bind is prepared.
+    #[inline(always)]
+    pub fn is_some(&self) -> bool
+        ensures { result ≡ is_pending self.now }
+    {
+        self.number.is_some() || self.added.is_some()
+    }
+
+    /// The number of the entry that a record or bind is prepared for, if that is one for a set that has an entry.
+    #[inline(always)]
+    pub fn number(&self) -> Option<usize>
+        ensures at { IfSome result (λ n. self.now ≡ At n) }
+        ensures other { IfNone result (is_new self.now ≡ is_pending self.now) }
+    {
+        self.number
+    }
+
+    /// Takes out the number of the entry that a record or bind is prepared for, if that is one for a set that has an
+    /// entry.
+    #[inline(always)]
+    pub fn take_number(&mut self) -> Option<usize>
+        ensures at { IfSome result (λ n. self.old ≡ At n) }
+        ensures left { IfSome result (λ _. self.new ≡ Nothing) }
+        ensures other { IfNone result (self.new ≡ self.old) }
+    {
+        self.number.take()
+    }
+
+    /// Gives up what is prepared, if there is anything.
+    #[inline(always)]
+    pub fn give_up(&mut self)
+        ensures { self.new ≡ Nothing }
+    {
+        self.number = None;
+        if self.added.is_some() {
+            give_up_added(&mut self.added);
+        }
+    }
+
+    /// Replaces what is prepared with a record or bind for the set whose entry has this number.
+    #[inline(always)]
+    pub fn put_at(&mut self, number: usize)
+        ensures { self.new ≡ At number }
+    {
+        self.give_up();
+        self.number = Some(number);
+    }
+
+    /// Replaces what is prepared with this.
+    #[inline(never)]
+    pub fn put(&mut self, pending: Pending)
+        ensures { self.new ≡ pending }
+    {
+        self.give_up();
+        match pending {
+            Pending::Nothing => {}
+            Pending::At(number) => self.number = Some(number),
+            Pending::New(set, list) => self.added = Some((set, list)),
+        }
+    }
+
+    /// Takes out what is prepared and leaves nothing.
+    #[inline(always)]
+    pub fn take(&mut self) -> Pending
+        ensures taken { result ≡ self.old }
+        ensures left { self.new ≡ Nothing }
+    {
+        if let Some(number) = self.number.take() {
+            return Pending::At(number);
+        }
+        match self.added.take() {
+            Some((set, list)) => Pending::New(set, list),
+            None => Pending::Nothing,
+        }
+    }
+}
+
+/// Gives up a set that is to be added. Out of line, as most records are for sets that have an entry.
+#[inline(never)]
+fn give_up_added(added: &mut Option<(HashedSet<'static>, Option<HashedSet<'static>>)>)
+    ensures { added.new ≡ None }
+{
+    *added = None;
+}
+
+/// The number of the entry to which a list, as given, leads. Takes no memory.
+#[inline(always)]
+pub fn led_to<A: Aggregator>(table: &Table<A>, list: &HashedSet) -> Option<usize>
+    ensures plan { IfSome result (IsPlanAt table.now list.now) }
+    ensures unled { IfNone result (leads list.now table.now ≡ false) }
+{
+    if list.is_empty() {
+        return Some(table.none());
+    }
+    table.find(list)
+}
+
+/// What a record is to do with a list that, as given, leads to no entry and isn't canonical. `few` says whether the
+/// number of counted entries is below the limit, and `overflow` is the number of the overflow entry, if that is to be used
+/// for a set without an entry. Looks the canonical form up, which is handed in too.
+fn plan_sorted<A: Aggregator>(
+    alloc: Global,
+    table: &Table<A>,
+    few: bool,
+    overflow: Option<usize>,
+    list: &HashedSet,
+    sorted: &HashedSet,
+) -> Result<Pending, Fault>
+    requires overflow { IfSome overflow (IsOverflow few table.now.table.entries table.now.numbers) }
+    requires unled { leads list.now table.now ≡ false }
+    requires other { set_eq (canon list.now) list.now ≡ false }
+    requires sorted { sorted.now ≡ canon list.now }
+    ensures plan { IfOk result (λ plan. IsPlanFor table.now few list.now (target_of overflow list.now table.now.table.entries) plan) }
+    ensures placed { IsTrue (has (canon list.now) table.now.table.entries) → IsOk result }
+    ensures only_memory { IsOkUnless result Fault.OutOfMemory }
+{
+    if let Some(number) = table.find_set(sorted) {
+        return Ok(Pending::At(number));
+    }
+    if let Some(number) = overflow {
+        return Ok(Pending::At(number));
+    }
+    let set = sorted.share(alloc)?;
+    if !few {
+        return Ok(Pending::New(set, None));
+    }
+    let key = list.share(alloc)?;
+    Ok(Pending::New(set, Some(key)))
+}
+
+/// Does what `plan` does where there are too many keys for sorting without memory. If memory for sorting is refused, the
+/// canonical form is looked up without being made, in quadratic time.
+fn plan_many<A: Aggregator>(
+    alloc: Global,
+    table: &Table<A>,
+    few: bool,
+    overflow: Option<usize>,
+    list: &HashedSet,
+    allow: Option<&AllowedKeys>,
+    attributes: &[KeyValue],
+) -> Result<Pending, Fault>
+    requires overflow { IfSome overflow (IsOverflow few table.now.table.entries table.now.numbers) }
+    requires list { list.now ≡ allowed_part (option_copied allow) attributes.now }
+    requires unled { leads list.now table.now ≡ false }
+    requires other { set_eq (canon list.now) list.now ≡ false }
+    ensures plan { IfOk result (λ plan. IsPlanFor table.now few list.now (target_of overflow list.now table.now.table.entries) plan) }
+    ensures placed { IsTrue (has (canon list.now) table.now.table.entries) → IsOk result }
+    ensures only_memory { IsOkUnless result Fault.OutOfMemory }
+{
+    match many_references(alloc, allow, attributes) {
+        Ok(references) => {
+            let sorted = References {
+                slice: references.as_slice(),
+            };
+            let sorted = HashedSet::new(table.hasher(), SetKey::referenced(&sorted));
+            plan_sorted(alloc, table, few, overflow, list, &sorted)
+        }
+        Err(fault) => {
+            let sorted = SetAttributes::canonical(allow, attributes);
+            match table.find_set(&HashedSet::new(table.hasher(), SetKey::iterated(&sorted))) {
+                Some(number) => Ok(Pending::At(number)),
+                None => match overflow {
+                    Some(number) => Ok(Pending::At(number)),
+                    None => Err(fault),
+                },
+            }
+        }
+    }
+}
+
+/// What a record is to do with a list that, as given, leads to no entry: with what is kept of these attributes. `few`
+/// says whether the number of counted entries is below the limit, and `overflow` is the number of the overflow entry, if that
+/// is to be used for a set without an entry, which then isn't copied.
+///
+/// Looks the canonical form up if that is another list, by references that are sorted. For up to 16 keys this takes no
+/// memory.
+#[inline(never)]
+pub fn plan<A: Aggregator>(
+    alloc: Global,
+    table: &Table<A>,
+    few: bool,
+    overflow: Option<usize>,
+    list: &HashedSet,
+    allow: Option<&AllowedKeys>,
+    attributes: &[KeyValue],
+) -> Result<Pending, Fault>
+    requires overflow { IfSome overflow (IsOverflow few table.now.table.entries table.now.numbers) }
+    requires list { list.now ≡ allowed_part (option_copied allow) attributes.now }
+    requires unled { leads list.now table.now ≡ false }
+    ensures plan { IfOk result (λ plan. IsPlanFor table.now few list.now (target_of overflow list.now table.now.table.entries) plan) }
+    ensures placed { IsTrue (has (canon list.now) table.now.table.entries) → IsOk result }
+    ensures only_memory { IsOkUnless result Fault.OutOfMemory }
+{
+    if list.set().is_canonical() {
+        if let Some(number) = overflow {
+            return Ok(Pending::At(number));
+        }
+        // Tells the prover that the set has no number.
+        table.law_of_numbers();
+        let own = list.share(alloc)?;
+        return Ok(Pending::New(own, None));
+    }
+    match few_references(allow, attributes) {
+        Some(references) => {
+            let sorted = References {
+                slice: references.as_slice(),
+            };
+            let sorted = HashedSet::new(table.hasher(), SetKey::referenced(&sorted));
+            plan_sorted(alloc, table, few, overflow, list, &sorted)
+        }
+        None => plan_many(alloc, table, few, overflow, list, allow, attributes),
+    }
+}
+
+/// Makes an aggregator in advance, unless there is one already.
+fn make_unused<A: Aggregator>(
+    unused: &mut Option<A>,
+    alloc: Global,
+    config: &A::InitConfig,
+) -> Result<(), Fault>
+    requires { IfSome unused.old (λ made. A.meaning made ≡ A.empty config.now) }
+    ensures empty { IfSome unused.new (λ made. A.meaning made ≡ A.empty config.now) }
+    ensures made { OnOk result (is_some unused.new ≡ true) }
+    ensures only_memory { IsOkUnless result Fault.OutOfMemory }
+{
+    if unused.is_some() {
+        return Ok(());
+    }
+    *unused = Some(A::create(alloc, config)?);
+    Ok(())
+}
+
+/// Makes the set of the overflow entry in advance, unless there is one already.
+fn make_key(
+    key: &mut Option<HashedSet<'static>>,
+    hasher: SetHashBuilder,
+    alloc: Global,
+) -> Result<(), Fault>
+    requires { IfSome key.old (λ made. made ≡ over_set) }
+    ensures over { IfSome key.new (λ made. made ≡ over_set) }
+    ensures made { OnOk result (is_some key.new ≡ true) }
+    ensures only_memory { IsOkUnless result Fault.OutOfMemory }
+{
+    if key.is_some() {
+        return Ok(());
+    }
+    let set = SetKey::owned(overflow_set(alloc)?);
+    *key = Some(HashedSet::new(hasher, set));
+    Ok(())
+}
+
+/// Makes in advance what a new entry takes: room in the table, an aggregator, and the set of the overflow entry.
+pub fn make_ready<A: Aggregator>(
+    table: &mut Table<A>,
+    unused: &mut Option<A>,
+    key: &mut Option<HashedSet<'static>>,
+    alloc: Global,
+    config: &A::InitConfig,
+) -> Result<(), Fault>
+    requires unused { IfSome unused.old (λ made. A.meaning made ≡ A.empty config.now) }
+    requires key { IfSome key.old (λ made. made ≡ over_set) }
+    ensures table { table.new.table ≡ table.old.table }
+    ensures numbers { table.new.numbers ≡ table.old.numbers }
+    ensures aliases { table.new.aliases ≡ table.old.aliases }
+    ensures empty { IfSome unused.new (λ made. A.meaning made ≡ A.empty config.now) }
+    ensures over { IfSome key.new (λ made. made ≡ over_set) }
+    ensures ready { OnOk result ((is_some unused.new && (is_some key.new && table.new.room)) ≡ true) }
+    ensures only_memory { IsOkUnless result Fault.OutOfMemory }
+{
+    table.make_room()?;
+    make_unused(unused, alloc, config)?;
+    make_key(key, table.hasher(), alloc)?;
+    Ok(())
+}
+
+/// Takes the aggregator that was made in advance, as a slot for a new entry.
+pub fn take_slot<A: Aggregator>(
+    unused: &mut Option<A>,
+    config: &A::InitConfig,
+    counted: bool,
+    lasting: bool,
+) -> Slot<A>
+    requires empty { IfSome unused.old (λ made. A.meaning made ≡ A.empty config.now) }
+    requires made { is_some unused.old ≡ true }
+    ensures slot { kept_of A.meaning result ≡ new_kept (A.empty config.now) counted lasting }
+    ensures taken { unused.new ≡ None }
+{
+    Slot::new(unused.take().unwrap(), counted, lasting)
+}

@@ -1,7 +1,0 @@
-use Rattle.otel_pipeline.specs.Handles.{IsReadyIfThere}
-use Rattle.otel_pipeline.specs.Streams.{without_pending}
-use Rattle.otel_pipeline.proofs.Writes.{IsReadyUpto}
-use Rattle.otel_pipeline.proofs.each_stream.prepare_bind_each.Given as goal
-
-abbrev pub invariant-loop-k : goal.invariant-loop-k
-invariant-loop-k l = IsReadyUpto without_pending (IsReadyIfThere l.attributes) l.feeds l.initial.streams.items l.streams.items l.k-index

@@ -1,7 +1,0 @@
-//! Sets of attributes as keys of a table: owned, or borrowed from a list in any order.
-#![tactic(auto)]
-
-pub mod allowed_keys;
-pub mod references;
-pub mod set_attributes;
-pub mod set_key;

@@ -1,7 +1,0 @@
-use Rattle.std.specs.Prelude.{refl}
-use Rattle.std.specs.Hash.FoldHasher.{folded_multiply}
-use Rattle.otel_value_map.proofs.hashing.folded_multiply.Goals as goal
-
-pub returns : goal.returns
-unfolding folded_multiply
-returns c = refl
