@@ -44,18 +44,16 @@ fn run_script<R: Read + Drop, W: Write + Drop>(
     write_replies(alloc, output, replies.as_slice())
 }
 
-/// Reads all that the reader has, and keeps only the script that it says.
-fn read_script<R: Read + Drop>(alloc: Global, input: R) -> Result<Script, Failure> {
-    let bytes = read_all(alloc, input)?;
-    script_of(alloc, bytes.as_slice())
-}
-
-/// Reads a script and makes its calls.
+/// Reads a script and makes its calls. What was read is let go before they are made.
 pub(crate) fn replies_to_input<R: Read + Drop>(
     alloc: Global,
     input: R,
 ) -> Result<Vec<Reply>, Failure> {
-    replies_of(alloc, read_script(alloc, input)?)
+    let script = {
+        let bytes = read_all(alloc, input)?;
+        script_of(alloc, bytes.as_slice())?
+    };
+    replies_of(alloc, script)
 }
 
 /// Makes the calls of a script on a new provider with the script's readers and views, and returns the replies. All lines

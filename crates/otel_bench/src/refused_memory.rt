@@ -25,7 +25,7 @@ mod workers;
 
 use anyhow::Error;
 use runs::try_scenario;
-use scenarios::lines;
+use scenarios::SCENARIOS;
 use std::alloc::Global;
 
 /// Tries the scenario of a number, or all of them if no number is given.
@@ -34,7 +34,7 @@ pub fn try_scenarios<R: Print>(rt: &R, alloc: Global, numbers: &[String]) -> Res
         [number] => number.as_str().parse::<usize>()?,
         _ => 0,
     };
-    for (index, line) in lines(alloc)?.iter().enumerate() {
+    for (index, line) in SCENARIOS.lines().enumerate() {
         let number = index.saturating_add(1);
         if wanted == 0 || wanted == number {
             try_scenario(rt, alloc, number, line)?;

@@ -76,7 +76,7 @@ pub fn try_scenario<R: Print>(
     number: usize,
     line: &'static str,
 ) -> Result<(), Error> {
-    let scenario = scenario_of(alloc, line)?;
+    let scenario = scenario_of(line);
     let mut trial = Trial {
         rt,
         alloc,

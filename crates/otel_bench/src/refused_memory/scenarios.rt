@@ -1,7 +1,6 @@
 //! The calls under test, by their numbers.
 
 use anyhow::{Error, bail};
-use std::alloc::{AllocError, Global};
 
 /// A call under test, as the words of its line.
 ///
@@ -34,7 +33,7 @@ pub struct Scenario<'a> {
 /// The scenarios, a line each: `maybe` if the call may be refused for want of memory, `sure` if it must not be; the place;
 /// the call; and a further word. Then come, after a bar each, the lines that it is given and the records that wait. These
 /// lines are separated by semicolons.
-const SCENARIOS: &str = "\
+pub const SCENARIOS: &str = "\
 maybe provider line | meter other 2.0
 maybe provider line | build 0 u64_counter more 180 description=d unit=ms
 maybe provider line | build 0 i64_up_down_counter more 180
@@ -202,29 +201,24 @@ pub fn unknown(word: &str) -> Result<(), Error> {
     bail!("nothing is known by the word {word}")
 }
 
-/// The lines of the scenarios.
-pub fn lines(alloc: Global) -> Result<Vec<&'static str>, AllocError> {
-    SCENARIOS.split("\n").collect(alloc)
+/// The first word of a text, and what stands behind it.
+fn first_word(text: &'static str) -> (&'static str, &'static str) {
+    text.split_once(" ").unwrap_or((text, ""))
 }
 
 /// The scenario of a line.
-pub fn scenario_of(alloc: Global, line: &'static str) -> Result<Scenario<'static>, Error> {
+pub fn scenario_of(line: &'static str) -> Scenario<'static> {
     let (words, texts) = line.split_once("|").unwrap_or((line, ""));
     let (lines, waiting) = texts.split_once("|").unwrap_or((texts, ""));
-    let words: Vec<&str> = words.split(" ").collect(alloc)?;
-    let [kind, place, call, word @ ..] = words.as_slice() else {
-        bail!("a scenario lacks a word");
-    };
-    let word = match word {
-        [word, ..] => *word,
-        [] => "",
-    };
-    Ok(Scenario {
-        is_sure: *kind == "sure",
-        place: *place,
-        call: *call,
+    let (kind, words) = first_word(words.trim());
+    let (place, words) = first_word(words);
+    let (call, word) = first_word(words);
+    Scenario {
+        is_sure: kind == "sure",
+        place,
+        call,
         word,
         lines,
         waiting,
-    })
+    }
 }

@@ -68,9 +68,10 @@ observe 6 u:10 a=i:1
 observe 6 u:11 b=i:1
 observe 7 i:10 a=i:1
 observe 8 u:1 a=i:1
-collect 1 150
-observe 6 u:10 a=i:1
-collect 2 160
+";
+
+/// The same, after the collections.
+const NEXT: &str = "\
 record 2 u:3 a=i:1
 record 2 u:3 b=i:1
 record 3 u:7 a=i:1
@@ -102,13 +103,16 @@ pub fn settings(alloc: Global, place: &str) -> Result<String, Error> {
     Ok(format!(in alloc; "{readers}{VIEWS}")?)
 }
 
-/// The calls before the call under test. The only reader, if there is one, collects in place of the others.
+/// The calls before the call under test, with collections by the delta reader and another, or by the only one.
 fn first(alloc: Global, place: &str) -> Result<String, Error> {
-    if is_alone(place) {
-        let calls = FIRST.replace(alloc, "collect 1", "collect 0")?;
-        return Ok(calls.replace(alloc, "collect 2", "collect 0")?);
-    }
-    Ok(String::from_str(alloc, FIRST)?)
+    let (delta, other) = if is_alone(place) {
+        ("0", "0")
+    } else {
+        ("1", "2")
+    };
+    Ok(format!(in alloc;
+        "{FIRST}collect {delta} 150\nobserve 6 u:10 a=i:1\ncollect {other} 160\n{NEXT}"
+    )?)
 }
 
 /// Reads the calls of these lines, which are separated by semicolons or stand on lines of their own.

@@ -112,7 +112,7 @@ fn build<P: Parts<ObserveU64 = Counting, ObserveI64 = Counting>>(
         InstrumentSort::U64Gauge => build_full(alloc, provider, meter.u64_gauge(name)),
         InstrumentSort::I64Gauge => build_full(alloc, provider, meter.i64_gauge(name)),
         InstrumentSort::U64Histogram => {
-            let boundaries = [1, 5].to_vec(alloc)?;
+            let boundaries = vec![in alloc; 1, 5]?;
             let builder = meter.u64_histogram(name).with_boundaries(boundaries);
             build_full(alloc, provider, builder)
         }

@@ -61,7 +61,7 @@ fn sorted(alloc: Global) -> Result<Vec<KeyValue>, Fault> {
 
 /// Says that an aggregation is a histogram.
 fn histogram(alloc: Global) -> Result<Aggregation, Fault> {
-    let boundaries = [1, 5].to_vec(alloc)?;
+    let boundaries = vec![in alloc; 1, 5]?;
     Ok(Aggregation::ExplicitBucketHistogram {
         boundaries: boundaries.into(),
         record_min_max: true,

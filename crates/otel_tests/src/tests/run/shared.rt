@@ -1,10 +1,10 @@
 //! A provider that threads share: with threads, with one worker and no thread, and what threads may be handed.
 
+use super::support::{fault_of, with_manual};
+use opentelemetry_sdk::metrics::ManualReader;
 use opentelemetry_sdk::metrics::shared::account::{check_book, check_workers};
 use otel_common::faults::Fault;
 use otel_provider::provider::SdkMeterProvider;
-use otel_stream::manual_reader::ManualReader;
-use otel_stream::reader::MetricReader;
 use std::alloc::Global;
 use std::process::Abort;
 use std::sync::Wait;
@@ -21,17 +21,13 @@ mod threads;
 mod typed;
 
 use cases::{Case, share_boxes};
-use counted::fault_of;
 use threads::Recording;
 use typed::Instruments;
 
 /// A provider of this identity, with one reader.
-fn provider_of(alloc: Global, identity: u64) -> Result<SdkMeterProvider, Fault> {
-    let reader: Box<dyn MetricReader> = Box::new(alloc, ManualReader::default())?;
-    SdkMeterProvider::builder(alloc)
-        .with_reader(reader)?
-        .with_identity(identity)
-        .build()
+fn provider_of(rt: &impl Abort, alloc: Global, identity: u64) -> Result<SdkMeterProvider, Fault> {
+    let builder = SdkMeterProvider::builder(alloc).with_identity(identity);
+    with_manual(rt, alloc, builder, ManualReader::builder()).build()
 }
 
 /// Shares a provider of its own, does with it what the case says, and asserts what is answered.
@@ -42,7 +38,7 @@ fn assert_case<R: Abort + Threads + Wait + Sync>(
     wanted: &str,
 ) -> Result<(), Fail> {
     let mut text = String::new(alloc);
-    share_boxes(rt, alloc, provider_of(alloc, 0)?, case, &mut text)?;
+    share_boxes(rt, alloc, provider_of(rt, alloc, 0)?, case, &mut text)?;
     assert_eq!(rt; text.as_str(), wanted);
     Ok(())
 }
@@ -121,7 +117,7 @@ fn record_with<R: Abort + Threads + Wait + Sync>(
     foreign: &Instruments,
     text: &mut String,
 ) -> Result<(), Fault> {
-    let mut provider = provider_of(alloc, 0)?;
+    let mut provider = provider_of(rt, alloc, 0)?;
     let own = Instruments::build(alloc, &mut provider)?;
     share_boxes(rt, alloc, provider, Case::Typed(foreign, &own), text)
 }
@@ -132,7 +128,7 @@ fn record_with_foreign<R: Abort + Threads + Wait + Sync>(
     alloc: Global,
     text: &mut String,
 ) -> Result<(), Fault> {
-    let mut other = provider_of(alloc, 7)?;
+    let mut other = provider_of(rt, alloc, 7)?;
     let foreign = Instruments::build(alloc, &mut other)?;
     record_with(rt, alloc, &foreign, text)
 }

@@ -44,7 +44,7 @@ fn run<
     case: Case,
     text: &mut String,
 ) -> Result<Vec<Worker<C, S>>, Fault> {
-    build_counters(alloc, &mut shared.lock(rt))?;
+    build_counters(rt, alloc, &mut shared.lock(rt));
     match case {
         Case::Threads(recording) => record(rt, alloc, shared, recording, text),
         Case::Alone(words) => follow(alloc, &mut shared.lock(rt), words, text),

@@ -1,30 +1,21 @@
 //! Counters by number, and what a collection shows of them.
 
+use super::super::seeds::call;
 use opentelemetry_sdk::metrics::shared::{Account, Locked, Worker};
 use otel_common::faults::Fault;
-use otel_common::scopes::InstrumentationScope;
-use otel_common::strings::StringValue;
 use otel_data::aggregated::{AggregatedMetrics, MetricData};
 use otel_data::collections::{Metric, ResourceMetrics};
 use otel_data::numbers::NumberValue;
 use otel_provider::calls::{Call, Reply};
 use otel_provider::parts::Parts;
 use otel_provider::provider::Provider;
-use otel_provider::sorts::InstrumentSort;
 use std::alloc::Global;
+use std::process::Abort;
 
 /// The number of the fault of a refusal, otherwise 0.
-pub fn fault_of<T: Drop>(answer: Result<T, Fault>) -> u64 {
-    match answer {
-        Ok(_) => 0,
-        Err(fault) => u64::from(fault.number()),
-    }
-}
-
-/// The number of the fault of a refusal, otherwise 0.
-fn refusal(reply: &Reply) -> u64 {
+fn refusal(reply: &Reply) -> u8 {
     match reply {
-        Reply::Refused(fault) => u64::from(fault.number()),
+        Reply::Refused(fault) => fault.number(),
         _ => 0,
     }
 }
@@ -33,45 +24,19 @@ fn refusal(reply: &Reply) -> u64 {
 pub fn fault_of_call<P: Parts, C: Account, S: Account>(
     locked: &mut Locked<P, C, S>,
     call: &Call,
-) -> u64 {
+) -> u8 {
     refusal(&locked.call(call))
 }
 
-/// The build of a counter of the first meter.
-fn build_of(alloc: Global, name: &str) -> Result<Call, Fault> {
-    let name = StringValue::new(alloc, name)?;
-    Ok(Call::Build {
-        meter: Some(0),
-        sort: InstrumentSort::U64Counter,
-        name,
-        description: None,
-        unit: None,
-        boundaries: None,
-        now: 100,
-    })
-}
-
-/// Builds a counter of the first meter.
-fn build_counter<P: Parts, C: Account, S: Account>(
-    alloc: Global,
-    locked: &mut Locked<P, C, S>,
-    name: &str,
-) -> Result<(), Fault> {
-    let build = build_of(alloc, name)?;
-    let _ = fault_of_call(locked, &build);
-    Ok(())
-}
-
-/// Builds the counters `a`, with the number 0, and `b`, with the number 1.
+/// Builds the counters `a`, with the number 0, and `b`, with the number 1, of one meter.
 pub fn build_counters<P: Parts, C: Account, S: Account>(
+    rt: &impl Abort,
     alloc: Global,
     locked: &mut Locked<P, C, S>,
-) -> Result<(), Fault> {
-    let name = String::from_str(alloc, "app")?;
-    let scope = InstrumentationScope::builder(alloc, name).build()?;
-    let _ = fault_of_call(locked, &Call::Meter { scope });
-    build_counter(alloc, locked, "a")?;
-    build_counter(alloc, locked, "b")
+) {
+    for line in ["meter app", "build a", "build b"] {
+        let _ = fault_of_call(locked, &call(rt, alloc, line));
+    }
 }
 
 /// Adds a record to a worker's list, without attributes.

@@ -1,6 +1,7 @@
 //! Instruments and handles as values, of the worker's provider and of another one.
 
-use super::counted::{fault_of, open_workers, read};
+use super::super::support::fault_of;
+use super::counted::{open_workers, read};
 use opentelemetry_sdk::metrics::shared::{Account, Locked, Worker};
 use otel_common::faults::Fault;
 use otel_provider::bound::Bound;
