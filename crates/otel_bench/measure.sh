@@ -114,10 +114,10 @@ after_burst() {
 # to one state by this key and the first 8 bytes of these texts, whatever the last 8 are.
 colliding() {
     instrument u64_counter "$one"
-    lines 0 "$1" "record 0 u:1 00068487=s:bQ4w5mBe%08d"
+    lines 0 "$1" "record 0 u:1 00149132=s:gINajtcl%08d"
     next
     last
-    lines 0 "$1" "record 0 u:1 00068487=s:bQ4w5mBe%08d"
+    lines 0 "$1" "record 0 u:1 00149132=s:gINajtcl%08d"
 }
 
 # Collections of all sets up to the limit, all of which are recorded again before each collection.

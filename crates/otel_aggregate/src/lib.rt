@@ -1,5 +1,6 @@
-//! Aggregates of records by set of attributes: streams over a map, which sums, last values and histograms are; observed
-//! sums, over two maps; and streams of any of these.
+//! Aggregates of records by set of attributes: sets as keys, aggregators, and a bounded map from sets to aggregators;
+//! above it streams, which sums, last values and histograms are; observed sums, over two maps; and streams of any of
+//! these.
 #![tactic(auto)]
 
 pub mod aggregate_stream;

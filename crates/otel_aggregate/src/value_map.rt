@@ -36,6 +36,7 @@ use std::marker::Model;
 
 pub mod hashed_key;
 pub mod hashing;
+mod key_hasher;
 mod key_table;
 pub mod maker;
 mod pending;

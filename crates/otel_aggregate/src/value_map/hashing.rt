@@ -9,11 +9,14 @@ use std::hash::{BuildHasher, Hasher};
 /// An odd number whose bits look random.
 const MULTIPLIER: u64 = 0x9e37_79b9_7f4a_7c15;
 
+/// The byte that ends a text, which no text has.
+const END_OF_TEXT: u8 = 0xff;
+
 /// A hasher for sets of attributes, started from a seed. It is not cryptographic.
 ///
 /// A key or a text costs one multiplication for every 16 bytes. Its length is hashed too, which tells two texts apart
-/// from two others that join to the same bytes. A single byte, such as the end of a text, costs a 64-bit
-/// multiplication.
+/// from two others that join to the same bytes, so the byte that ends a text costs nothing. Any other single byte costs
+/// a 64-bit multiplication.
 #[derive(Clone, Copy)]
 pub struct SetHasher {
     state: u64,
@@ -175,12 +178,15 @@ fn after_few(state: u64, bytes: &[u8]) -> u64
 fn after_one(state: u64, byte: u8) -> u64
     ensures { result ≡ spec.after_one state byte }
 {
+    if byte == END_OF_TEXT {
+        return state;
+    }
     (state ^ byte as u64).wrapping_mul(MULTIPLIER)
 }
 
 /// The state after these bytes.
 #[inline]
-fn after(state: u64, bytes: &[u8]) -> u64
+pub(crate) fn after(state: u64, bytes: &[u8]) -> u64
     ensures { result ≡ spec.after state bytes.now }
 {
     let len = bytes.len();

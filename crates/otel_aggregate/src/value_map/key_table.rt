@@ -13,6 +13,7 @@ ghost use Rattle.otel_aggregate.specs.declared.value_map.hashing.SetHashBuilder.
 use crate::aggregators::aggregator::Aggregator;
 use crate::value_map::hashed_key::{HashedKey, HashedSet};
 use crate::value_map::hashing::SetHashBuilder;
+use crate::value_map::key_hasher::KeyHashBuilder;
 use crate::value_map::slots::Slot;
 use indexmap::IndexMap;
 use indexmap::map::Iter;
@@ -21,7 +22,7 @@ use std::alloc::{AllocError, Global};
 use std::marker::Model;
 
 /// Keys with the numbers of the slots that they lead to, in order of making.
-type Numbered = IndexMap<HashedKey<'static>, usize, SetHashBuilder>;
+type Numbered = IndexMap<HashedKey<'static>, usize, KeyHashBuilder>;
 
 /// The numbers of slots, by set and by list as given.
 pub struct KeyTable {
@@ -64,7 +65,7 @@ impl Drop for KeyTable {
 /// The number that a key leads to, where all keys are hashed alike.
 #[inline(always)]
 fn number_in<'s>(
-    numbers: &'s IndexMap<HashedKey<'s>, usize, SetHashBuilder>,
+    numbers: &'s IndexMap<HashedKey<'s>, usize, KeyHashBuilder>,
     key: &'s HashedKey<'s>,
 ) -> Option<usize>
     requires { (b : SetHashBuilder) × IsHashedBy b key.now × AllByRecursion (λ e. IsHashedBy b e.0) numbers.now.entries }
@@ -113,8 +114,8 @@ impl KeyTable {
     {
         KeyTable {
             hasher,
-            sets: IndexMap::with_hasher(alloc, hasher),
-            aliases: IndexMap::with_hasher(alloc, hasher),
+            sets: IndexMap::with_hasher(alloc, KeyHashBuilder),
+            aliases: IndexMap::with_hasher(alloc, KeyHashBuilder),
         }
     }
 

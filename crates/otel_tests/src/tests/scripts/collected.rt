@@ -3,9 +3,7 @@
 
 use super::assert_text;
 use metrics_script::script::replies_to;
-use opentelemetry_sdk::metrics::data::{
-    AggregatedMetrics, Gauge, Histogram, Metric, MetricData, ResourceMetrics, Sum,
-};
+use opentelemetry_sdk::metrics::data::{AggregatedMetrics, Metric, MetricData, ResourceMetrics};
 use opentelemetry_sdk::metrics::provider::Reply;
 use std::alloc::{AllocError, Global};
 use std::process::Abort;
@@ -19,47 +17,10 @@ fn points_of<T>(data: &MetricData<T>) -> usize {
     }
 }
 
-/// The number of exemplars of a gauge's points.
-fn exemplars_of_gauge<T>(gauge: &Gauge<T>) -> usize {
-    let mut count = 0usize;
-    for point in gauge.data_points() {
-        count = count.saturating_add(point.exemplars().len());
-    }
-    count
-}
-
-/// The number of exemplars of a sum's points.
-fn exemplars_of_sum<T>(sum: &Sum<T>) -> usize {
-    let mut count = 0usize;
-    for point in sum.data_points() {
-        count = count.saturating_add(point.exemplars().len());
-    }
-    count
-}
-
-/// The number of exemplars of a histogram's points.
-fn exemplars_of_histogram<T>(histogram: &Histogram<T>) -> usize {
-    let mut count = 0usize;
-    for point in histogram.data_points() {
-        count = count.saturating_add(point.exemplars().len());
-    }
-    count
-}
-
-/// The number of exemplars of all points.
-fn exemplars_of<T>(data: &MetricData<T>) -> usize {
-    match data {
-        MetricData::Gauge(gauge) => exemplars_of_gauge(gauge),
-        MetricData::Sum(sum) => exemplars_of_sum(sum),
-        MetricData::Histogram(histogram) => exemplars_of_histogram(histogram),
-    }
-}
-
-/// Writes the number type, how many points and exemplars there are, and the bounds of each point of a histogram.
+/// Writes the number type, how many points there are, and the bounds of each point of a histogram.
 fn write_data<T>(text: &mut String, number: &str, data: &MetricData<T>) -> Result<(), AllocError> {
     let points = points_of(data);
-    let exemplars = exemplars_of(data);
-    write!(text, " {number} points={points} exemplars={exemplars}")?;
+    write!(text, " {number} points={points}")?;
     if let MetricData::Histogram(histogram) = data {
         for point in histogram.data_points() {
             write!(text, " bounds={:?}", point.bounds().as_slice())?;

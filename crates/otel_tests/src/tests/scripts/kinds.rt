@@ -157,29 +157,29 @@ fn collected(rt: HostRuntime) {
         EACH_SORT,
         "resource None attributes=0\n\
          scope app None None attributes=0\n\
-         metric hits description= unit= u64 points=1 exemplars=0\n\
-         metric open description= unit=1 i64 points=1 exemplars=0\n\
-         metric load description= unit=% u64 points=1 exemplars=0\n\
-         metric heat description= unit=K i64 points=1 exemplars=0\n\
-         metric size description= unit=By u64 points=1 exemplars=0 bounds=[-1, 5]\n\
+         metric hits description= unit= u64 points=1\n\
+         metric open description= unit=1 i64 points=1\n\
+         metric load description= unit=% u64 points=1\n\
+         metric heat description= unit=K i64 points=1\n\
+         metric size description= unit=By u64 points=1 bounds=[-1, 5]\n\
          resource None attributes=0\n\
          scope app None None attributes=0\n\
-         metric hits description= unit= u64 points=1 exemplars=0\n\
-         metric open description= unit=1 i64 points=1 exemplars=0\n\
-         metric load description= unit=% u64 points=1 exemplars=0\n\
-         metric heat description= unit=K i64 points=1 exemplars=0\n\
-         metric size description= unit=By u64 points=1 exemplars=0 bounds=[-1, 5]\n\
+         metric hits description= unit= u64 points=1\n\
+         metric open description= unit=1 i64 points=1\n\
+         metric load description= unit=% u64 points=1\n\
+         metric heat description= unit=K i64 points=1\n\
+         metric size description= unit=By u64 points=1 bounds=[-1, 5]\n\
          resource None attributes=0\n\
          scope app None None attributes=0\n\
-         metric hits description= unit= u64 points=1 exemplars=0\n\
-         metric open description= unit=1 i64 points=1 exemplars=0\n\
-         metric load description= unit=% u64 points=1 exemplars=0\n\
-         metric heat description= unit=K i64 points=1 exemplars=0\n\
-         metric size description= unit=By u64 points=1 exemplars=0 bounds=[-1, 5]\n\
+         metric hits description= unit= u64 points=1\n\
+         metric open description= unit=1 i64 points=1\n\
+         metric load description= unit=% u64 points=1\n\
+         metric heat description= unit=K i64 points=1\n\
+         metric size description= unit=By u64 points=1 bounds=[-1, 5]\n\
          resource None attributes=0\n\
          scope app None None attributes=0\n\
-         metric open description= unit=1 i64 points=1 exemplars=0\n\
-         metric heat description= unit=K i64 points=1 exemplars=0\n\
-         metric size description= unit=By u64 points=1 exemplars=0 bounds=[-1, 5]\n",
+         metric open description= unit=1 i64 points=1\n\
+         metric heat description= unit=K i64 points=1\n\
+         metric size description= unit=By u64 points=1 bounds=[-1, 5]\n",
     );
 }

@@ -231,28 +231,28 @@ fn collected(rt: HostRuntime) {
         EACH_SORT,
         "resource None attributes=0\n\
          scope app None None attributes=0\n\
-         metric seen description= unit= u64 points=1 exemplars=0\n\
-         metric held description= unit=1 i64 points=1 exemplars=0\n\
-         metric load description= unit=% u64 points=1 exemplars=0\n\
-         metric heat description= unit=K i64 points=1 exemplars=0\n\
+         metric seen description= unit= u64 points=1\n\
+         metric held description= unit=1 i64 points=1\n\
+         metric load description= unit=% u64 points=1\n\
+         metric heat description= unit=K i64 points=1\n\
          resource None attributes=0\n\
          scope app None None attributes=0\n\
-         metric seen description= unit= u64 points=1 exemplars=0\n\
-         metric held description= unit=1 i64 points=1 exemplars=0\n\
-         metric load description= unit=% u64 points=1 exemplars=0\n\
-         metric heat description= unit=K i64 points=1 exemplars=0\n\
+         metric seen description= unit= u64 points=1\n\
+         metric held description= unit=1 i64 points=1\n\
+         metric load description= unit=% u64 points=1\n\
+         metric heat description= unit=K i64 points=1\n\
          resource None attributes=0\n\
          scope app None None attributes=0\n\
-         metric seen description= unit= u64 points=1 exemplars=0\n\
-         metric held description= unit=1 i64 points=1 exemplars=0\n\
-         metric load description= unit=% u64 points=1 exemplars=0\n\
-         metric heat description= unit=K i64 points=1 exemplars=0\n\
+         metric seen description= unit= u64 points=1\n\
+         metric held description= unit=1 i64 points=1\n\
+         metric load description= unit=% u64 points=1\n\
+         metric heat description= unit=K i64 points=1\n\
          resource None attributes=0\n\
          scope app None None attributes=0\n\
-         metric seen description= unit= u64 points=1 exemplars=0\n\
-         metric held description= unit=1 i64 points=1 exemplars=0\n\
-         metric load description= unit=% u64 points=1 exemplars=0\n\
-         metric heat description= unit=K i64 points=1 exemplars=0\n\
+         metric seen description= unit= u64 points=1\n\
+         metric held description= unit=1 i64 points=1\n\
+         metric load description= unit=% u64 points=1\n\
+         metric heat description= unit=K i64 points=1\n\
          resource None attributes=0\n\
          resource None attributes=0\n",
     );

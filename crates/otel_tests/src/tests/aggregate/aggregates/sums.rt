@@ -9,67 +9,6 @@ use otel_common::metrics::Temporality;
 use std::alloc::Global;
 use std::process::Abort;
 
-/// A third set with a limit of 2.
-#[test]
-fn row_3(rt: HostRuntime) {
-    let script = "
-        sum of u64, limit 2, Delta
-        resets => true
-        measure x=1: 1
-        measure y=1: 2
-        measure z=1: 4
-        measure x=1: 8
-        collect 200 => 100..200 Delta monotonic; x=1 -> 9; y=1 -> 2; otel.metric.overflow=true -> 4
-    ";
-    assert_script(&rt, rt.alloc(), script);
-}
-
-/// Another set after a collection, with a limit of 1.
-#[test]
-fn row_4(rt: HostRuntime) {
-    let script = "
-        sum of u64, limit 1, Delta
-        resets => true
-        measure x=1: 1
-        collect 200 => 100..200 Delta monotonic; x=1 -> 1
-        measure y=1: 2
-        collect 300 => 200..300 Delta monotonic; otel.metric.overflow=true -> 2
-        measure y=1: 4
-        collect 400 => 300..400 Delta monotonic; y=1 -> 4
-    ";
-    assert_script(&rt, rt.alloc(), script);
-}
-
-/// The overflow set is recorded.
-#[test]
-fn row_7(rt: HostRuntime) {
-    let script = "
-        sum of u64, limit 1, Delta
-        resets => true
-        measure otel.metric.overflow=true: 1
-        measure x=1: 2
-        collect 200 => 100..200 Delta monotonic; otel.metric.overflow=true -> 3
-        collect 300 => 200..300 Delta monotonic
-        measure x=1: 5
-        collect 400 => 300..400 Delta monotonic; otel.metric.overflow=true -> 5
-    ";
-    assert_script(&rt, rt.alloc(), script);
-}
-
-/// The empty set isn't counted.
-#[test]
-fn row_22(rt: HostRuntime) {
-    let script = "
-        sum of u64, limit 1, Delta
-        resets => true
-        measure: 1
-        measure x=1: 2
-        measure y=1: 4
-        collect 200 => 100..200 Delta monotonic; -> 1; x=1 -> 2; otel.metric.overflow=true -> 4
-    ";
-    assert_script(&rt, rt.alloc(), script);
-}
-
 /// A cumulative sum of signed numbers wraps around, and stays from one collection to the next.
 #[test]
 fn row_13(rt: HostRuntime) {

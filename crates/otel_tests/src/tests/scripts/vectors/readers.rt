@@ -188,10 +188,10 @@ fn row_48(rt: HostRuntime) {
         script,
         "resource None attributes=0\n\
          scope m None None attributes=0\n\
-         metric h description= unit= u64 points=1 exemplars=0\n\
+         metric h description= unit= u64 points=1\n\
          resource None attributes=0\n\
          scope m None None attributes=0\n\
-         metric h description= unit= u64 points=1 exemplars=0 bounds=[5]\n",
+         metric h description= unit= u64 points=1 bounds=[5]\n",
     );
 }
 
@@ -228,10 +228,10 @@ fn row_49(rt: HostRuntime) {
         script,
         "resource None attributes=0\n\
          scope m None None attributes=0\n\
-         metric h description= unit= u64 points=1 exemplars=0\n\
+         metric h description= unit= u64 points=1\n\
          resource None attributes=0\n\
          scope m None None attributes=0\n\
-         metric h description= unit= u64 points=1 exemplars=0 bounds=[10]\n",
+         metric h description= unit= u64 points=1 bounds=[10]\n",
     );
 }
 
