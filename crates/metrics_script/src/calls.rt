@@ -7,7 +7,7 @@ ghost use Rattle.metrics_script.specs.Calls.{IsMeterWord, IsSortWord, IsCollectO
 ghost use Rattle.metrics_script.specs.Refusals.{StandsForNothing};
 ghost use Rattle.metrics_script.specs.Texts.{text_of_word};
 ghost use Rattle.otel_stream.specs.declared.observation.Observed.{Observed};
-ghost use Rattle.otel_provider.specs.declared.calls.Call.{Call};
+ghost use Rattle.opentelemetry_sdk.specs.declared.calls.Call.{Call};
 
 use crate::attributes::attributes_of;
 use crate::numbers::{index, unsigned, value};

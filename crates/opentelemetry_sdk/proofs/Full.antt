@@ -9,7 +9,7 @@ use Rattle.otel_model.specs.Calls.{is_observable, Reply}
 use Rattle.otel_model.specs.Refusals.{number_refusal, record_refusal, held_refusal, handle_refusal, instrument_held}
 use Rattle.otel_model.specs.State.{InstrumentState, State}
 use Rattle.otel_model.specs.Steps.{Step, reply_by}
-use Rattle.otel_provider.specs.Correspondence.{number_of}
+use Rattle.opentelemetry_sdk.specs.Correspondence.{number_of}
 use Rattle.opentelemetry_sdk.specs.Pending.{call_in, IsRefused, StopsBy}
 use Rattle.opentelemetry_sdk.specs.declared.metrics.shared.pending.PendingRecord.{PendingRecord}
 use Rattle.opentelemetry_sdk.specs.declared.metrics.shared.pending.PendingRecord.TheVariants as pending

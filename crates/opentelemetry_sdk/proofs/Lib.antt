@@ -1,6 +1,22 @@
+pub mod AcceptedSteps
+pub mod Asked
+pub mod Collects
+pub mod Fresh
 pub mod Full
+pub mod Headlines
+pub mod Held
+pub mod Identities
+pub mod KeptRuns
 pub mod Lists
-pub mod Steps
+pub mod Mapped
+pub mod Outcomes
+pub mod Reached
+pub mod Runs
+pub mod Scopes
+pub mod Sound
+pub mod StepLemmas
+pub mod Stepped
 pub mod Submitting
+pub mod Typed
 -- Lemmas of the crates below, for the proofs of programs.
 pub use Rattle.otel_model.proofs.Single

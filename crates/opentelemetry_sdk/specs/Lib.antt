@@ -1,14 +1,23 @@
--- What a shared provider, its workers and their records are, and words of the crates below, for the contracts of programs.
+-- What a provider, its parts, its calls, a shared provider and its workers are, and words of the crates below, for the
+-- contracts of programs.
+pub mod Callbacks
+pub mod Checks
+pub mod Cores
+pub mod Correspondence
+pub mod Headline
+pub mod Instruments
+pub mod Known
 pub mod Pending
+pub mod pipeline
+pub mod Providers
+pub mod Readers
 pub mod Shared
+pub mod States
+pub mod Typed
 pub mod Workers
 pub use Rattle.otel_stream.specs.Runs
 pub use Rattle.otel_common.specs.declared.attributes.KeyValue
 pub use Rattle.otel_common.specs.declared.faults.Fault
-pub use Rattle.otel_provider.specs.Checks
-pub use Rattle.otel_provider.specs.Correspondence
-pub use Rattle.otel_provider.specs.Known
-pub use Rattle.otel_provider.specs.Readers
 pub use Rattle.otel_data.specs.declared.numbers.NumberValue
 pub use Rattle.otel_model.specs.Calls
 pub use Rattle.otel_model.specs.Demands
@@ -19,6 +28,3 @@ pub use Rattle.otel_model.specs.State
 pub use Rattle.otel_model.specs.Steps
 pub use Rattle.otel_model.specs.Books
 pub use Rattle.otel_model.specs.Lawful
-pub use Rattle.otel_provider.specs.Callbacks
-pub use Rattle.otel_provider.specs.Providers
-pub use Rattle.otel_provider.specs.Typed

@@ -2,8 +2,8 @@
 use Rattle.std.specs.Prelude.{◌≡◌, ℕ, ◌+◌, ◌≤◌, ◌≢◌, ◌⊎◌, Bool, true, false, List, [], ◌∷◌, map, sum_by, length, take, drop}
 use Rattle.otel_common.specs.declared.faults.Fault.{Fault}
 use Rattle.otel_common.specs.declared.faults.Fault.TheVariants.{LedgerFull}
-use Rattle.otel_provider.specs.Correspondence.{fault_of, number_of}
-use Rattle.otel_provider.specs.Known.{IsKnown}
+use Rattle.opentelemetry_sdk.specs.Correspondence.{fault_of, number_of}
+use Rattle.opentelemetry_sdk.specs.Known.{IsKnown}
 use Rattle.otel_model.specs.Calls.{Call, Meter, Build, Record, Bind, RecordBound, Unbind, Collect, Flush, Shutdown, Reply}
 use Rattle.otel_model.specs.Demands.{Views}
 use Rattle.otel_model.specs.State.{State}

@@ -1,7 +1,9 @@
 //! Metrics: a provider hands out meters, meters make instruments, instruments take in records, and each reader collects
 //! what was recorded, as points by scope, metric and set of attributes.
 //!
-//! This crate gathers the modules of the crates below it:
+//! This crate has the provider: its core is the state without views, readers and callbacks, and what each call does to
+//! it; beside the core stand these parts; meters, instruments and handles are values. The public modules show all of it,
+//! and the crates below:
 //!
 //! - [`common`]: attributes and their canonical sets, instrumentation scopes, faults;
 //! - [`resource`]: what all the metrics of a provider come from;
@@ -27,10 +29,34 @@
 //! The same calls can be made as data, one by `step` or a list of them by `run`, on whose clauses the promises stand.
 #![tactic(auto)]
 
+mod asking;
+mod async_builders;
+mod asynchronous;
 mod attributes;
+mod bound;
+mod builders;
+mod builds;
+mod calls;
+mod collections;
+mod core_checks;
+mod each_pipeline;
 pub mod error;
 pub mod exporter;
+mod handles;
+mod instrument;
+mod instrument_checks;
+mod laws;
+mod meters;
 pub mod metrics;
+mod new_readers;
+mod parts;
+mod pipeline;
+mod provider;
+mod provider_core;
+mod records;
+mod sorts;
+mod steps;
+mod synchronous;
 
 pub use attributes::AttributeValue;
 pub use otel_common::resource::Resource;

@@ -1,6 +1,6 @@
 //! Parts of a provider without boxes.
 
-use otel_provider::parts::Parts;
+use crate::parts::Parts;
 use otel_stream::callback::{ObserveI64, ObserveU64};
 use otel_stream::manual_reader::ManualReader;
 use otel_stream::selector::SelectorView;

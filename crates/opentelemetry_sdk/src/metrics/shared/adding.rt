@@ -1,20 +1,20 @@
 //! What a thread does with its worker: it adds records to the list, and looks at them.
 
 ghost use Rattle.std.specs.Prelude.{◌≡◌, ◌++◌, ◌∷◌, [], drop, length, map, Err, OnOk, OnErr, IfSome, IfNone, IsOkUnless};
-ghost use Rattle.otel_provider.specs.Correspondence.{call_of};
-ghost use Rattle.otel_provider.specs.Typed.{instrument_number, instrument_identity, handle_number, handle_identity};
+ghost use Rattle.opentelemetry_sdk.specs.Correspondence.{call_of};
+ghost use Rattle.opentelemetry_sdk.specs.Typed.{instrument_number, instrument_identity, handle_number, handle_identity};
 ghost use Rattle.opentelemetry_sdk.specs.Pending.{call_in};
 ghost use Rattle.opentelemetry_sdk.specs.Workers.{pending_of, records_of, values_of, worker_identity};
 
+use crate::bound::Bound;
+use crate::calls::Call;
 use crate::metrics::shared::account::Account;
 use crate::metrics::shared::pending::PendingRecord;
 use crate::metrics::shared::worker::Worker;
+use crate::synchronous::{Adds, Records, Synchronous};
 use otel_common::attributes::KeyValue;
 use otel_common::faults::Fault;
 use otel_data::numbers::{NumberType, NumberValue};
-use otel_provider::bound::Bound;
-use otel_provider::calls::Call;
-use otel_provider::synchronous::{Adds, Records, Synchronous};
 
 /// Records by number. Nothing is checked here: `Locked::submit` is refused if a record can't be made.
 ///

@@ -1,11 +1,11 @@
 //! The core of a shared provider, with its book.
 
 ghost use Rattle.std.specs.Prelude.{◌≡◌, ◌≤◌, ◌+◌, ◌-◌, ◌%◌, ◌^◌, ◌==◌, true, false, if◌then◌else◌, [], map, sum_by, vec_len, is_ok, None, Some, IfOk, IfErr, OnOk};
-ghost use Rattle.otel_provider.specs.Checks.{collect_refusal};
-ghost use Rattle.otel_provider.specs.Correspondence.{call_of, fault_of, observed_of, reply_of, reply_from};
-ghost use Rattle.otel_provider.specs.Known.{IsKnown};
-ghost use Rattle.otel_provider.specs.Readers.{StepReaches};
-ghost use Rattle.otel_provider.specs.States.{IsNamed};
+ghost use Rattle.opentelemetry_sdk.specs.Checks.{collect_refusal};
+ghost use Rattle.opentelemetry_sdk.specs.Correspondence.{call_of, fault_of, observed_of, reply_of, reply_from};
+ghost use Rattle.opentelemetry_sdk.specs.Known.{IsKnown};
+ghost use Rattle.opentelemetry_sdk.specs.Readers.{StepReaches};
+ghost use Rattle.opentelemetry_sdk.specs.States.{IsNamed};
 ghost use Rattle.otel_model.specs.Calls as model;
 ghost use Rattle.otel_model.specs.Demands.{Views};
 ghost use Rattle.otel_model.specs.Laws.{KeepsReaders};
@@ -16,14 +16,14 @@ ghost use Rattle.opentelemetry_sdk.specs.Pending.{call_in, bits_in, is_record, I
 ghost use Rattle.opentelemetry_sdk.specs.Workers.{pending_of, records_of, values_of, worker_identity};
 ghost use Rattle.otel_stream.specs.Requests.{wanted_by};
 
+use crate::calls::{Call, Reply};
+use crate::handles::BoundHandle;
 use crate::metrics::shared::account::{Account, check_book, check_workers};
 use crate::metrics::shared::pending::PendingRecord;
 use crate::metrics::shared::worker::Worker;
+use crate::provider_core::Core;
 use otel_common::faults::Fault;
 use otel_data::collections::ResourceMetrics;
-use otel_provider::calls::{Call, Reply};
-use otel_provider::handles::BoundHandle;
-use otel_provider::provider_core::Core;
 use otel_stream::observation::Observed;
 use otel_stream::reader::MetricReader;
 use otel_stream::view::View;

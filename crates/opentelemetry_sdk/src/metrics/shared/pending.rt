@@ -1,13 +1,13 @@
 //! Records that wait to be made.
 
 ghost use Rattle.std.specs.Prelude.{◌≡◌};
-ghost use Rattle.otel_provider.specs.Correspondence.{number_of, call_of};
+ghost use Rattle.opentelemetry_sdk.specs.Correspondence.{number_of, call_of};
 ghost use Rattle.opentelemetry_sdk.specs.Pending.{call_in, bits_in};
 
+use crate::calls::Call;
 use otel_common::attributes::KeyValue;
 use otel_common::lists::Items;
 use otel_data::numbers::NumberValue;
-use otel_provider::calls::Call;
 
 /// A record that a worker keeps until it is made.
 #[derive(Debug, Drop)]

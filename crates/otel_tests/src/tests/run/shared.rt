@@ -2,9 +2,9 @@
 
 use super::support::{fault_of, with_manual};
 use opentelemetry_sdk::metrics::ManualReader;
+use opentelemetry_sdk::metrics::provider::SdkMeterProvider;
 use opentelemetry_sdk::metrics::shared::account::{check_book, check_workers};
 use otel_common::faults::Fault;
-use otel_provider::provider::SdkMeterProvider;
 use std::alloc::Global;
 use std::process::Abort;
 use std::sync::Wait;

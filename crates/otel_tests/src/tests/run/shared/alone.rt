@@ -1,12 +1,11 @@
 //! Workers without threads: what their calls answer, one after another.
 
 use super::counted::{add, fault_of_call, open_worker};
+use opentelemetry_sdk::metrics::provider::{Call, Parts};
 use opentelemetry_sdk::metrics::shared::{Account, Locked, Worker};
 use otel_common::faults::Fault;
 use otel_common::lists::Items;
 use otel_data::numbers::NumberValue;
-use otel_provider::calls::Call;
-use otel_provider::parts::Parts;
 use std::alloc::Global;
 
 /// Submits a worker's records, and writes the number of the receipt or of the fault.

@@ -2,17 +2,16 @@
 
 ghost use Rattle.std.specs.Prelude.{◌≡◌, ◌%◌, ◌^◌};
 ghost use Rattle.otel_model.specs.Books.{count_in, sum_in};
-ghost use Rattle.otel_provider.specs.Providers.{state_of};
+ghost use Rattle.opentelemetry_sdk.specs.Providers.{state_of};
 
 use super::alone::follow;
 use super::counted::build_counters;
 use super::handed::settle_twice;
 use super::threads::{Recording, record};
 use super::typed::{Instruments, record_typed};
+use opentelemetry_sdk::metrics::provider::{Boxed, Parts, Provider, SdkMeterProvider};
 use opentelemetry_sdk::metrics::shared::{Account, Locked, MOST_WORKERS, SharedProvider, Worker};
 use otel_common::faults::Fault;
-use otel_provider::parts::{Boxed, Parts};
-use otel_provider::provider::{Provider, SdkMeterProvider};
 use std::alloc::Global;
 use std::marker::Brand;
 use std::process::Abort;

@@ -1,14 +1,12 @@
 //! Counters by number, and what a collection shows of them.
 
 use super::super::seeds::call;
+use opentelemetry_sdk::metrics::provider::{Call, Parts, Provider, Reply};
 use opentelemetry_sdk::metrics::shared::{Account, Locked, Worker};
 use otel_common::faults::Fault;
 use otel_data::aggregated::{AggregatedMetrics, MetricData};
 use otel_data::collections::{Metric, ResourceMetrics};
 use otel_data::numbers::NumberValue;
-use otel_provider::calls::{Call, Reply};
-use otel_provider::parts::Parts;
-use otel_provider::provider::Provider;
 use std::alloc::Global;
 use std::process::Abort;
 

@@ -1,12 +1,9 @@
 //! What may go to another thread. The functions do nothing: they build only if the types are `Send`, or `Sync`.
 
+use opentelemetry_sdk::metrics::meter::{Bound, Counter, Histogram};
+use opentelemetry_sdk::metrics::provider::{Call, Parts, Provider, Reply, SdkMeterProvider};
 use opentelemetry_sdk::metrics::shared::{Account, Locked, SharedProvider, Worker};
 use otel_data::collections::ResourceMetrics;
-use otel_provider::bound::Bound;
-use otel_provider::calls::{Call, Reply};
-use otel_provider::parts::Parts;
-use otel_provider::provider::{Provider, SdkMeterProvider};
-use otel_provider::synchronous::{Counter, Histogram};
 
 /// Takes what may be handed to another thread.
 fn crosses<T: Send>(_value: &T) {}

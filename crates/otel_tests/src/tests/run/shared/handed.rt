@@ -2,15 +2,14 @@
 
 ghost use Rattle.std.specs.Prelude.{◌≡◌, ◌+◌, ◌%◌, ◌^◌, ◌≤◌, [], length, sum_by, IfOk, OnOk};
 ghost use Rattle.otel_model.specs.Books.{count_in, sum_in};
-ghost use Rattle.otel_provider.specs.Providers.{state_of};
+ghost use Rattle.opentelemetry_sdk.specs.Providers.{state_of};
 ghost use Rattle.opentelemetry_sdk.specs.Pending.{bits_in};
 ghost use Rattle.opentelemetry_sdk.specs.Workers.{pending_of, records_of, values_of};
 
 use super::counted::write_counters;
+use opentelemetry_sdk::metrics::provider::{Parts, Provider};
 use opentelemetry_sdk::metrics::shared::{Account, Locked, SharedProvider, Worker};
 use otel_common::faults::Fault;
-use otel_provider::parts::Parts;
-use otel_provider::provider::Provider;
 use std::alloc::Global;
 use std::sync::Wait;
 

@@ -5,9 +5,9 @@ ghost use Rattle.std.specs.Prelude.{◌≡◌, [], true, Err, is_ok, length};
 ghost use Rattle.opentelemetry_sdk.specs.Shared.{records_in, workers_in};
 ghost use Rattle.opentelemetry_sdk.specs.Workers.{pending_of};
 
+use opentelemetry_sdk::metrics::provider::Parts;
 use opentelemetry_sdk::metrics::shared::{Account, Locked, Receipt, Worker};
 use otel_common::faults::Fault;
-use otel_provider::parts::Parts;
 
 /// A submission of nothing is answered, also at a full book.
 pub fn submit_nothing<P: Parts, C: Account, S: Account>(

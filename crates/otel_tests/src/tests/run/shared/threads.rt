@@ -2,9 +2,9 @@
 
 use super::counted::{add, open_workers, read};
 use super::handed::hand_in;
+use opentelemetry_sdk::metrics::provider::Parts;
 use opentelemetry_sdk::metrics::shared::{Account, SharedProvider, Worker};
 use otel_common::faults::Fault;
-use otel_provider::parts::Parts;
 use std::alloc::Global;
 use std::process::Abort;
 use std::sync::Wait;

@@ -2,12 +2,10 @@
 
 use super::super::support::fault_of;
 use super::counted::{open_workers, read};
+use opentelemetry_sdk::metrics::meter::{Bound, Counter, Gauge};
+use opentelemetry_sdk::metrics::provider::{Parts, Provider};
 use opentelemetry_sdk::metrics::shared::{Account, Locked, Worker};
 use otel_common::faults::Fault;
-use otel_provider::bound::Bound;
-use otel_provider::parts::Parts;
-use otel_provider::provider::Provider;
-use otel_provider::synchronous::{Counter, Gauge};
 use std::alloc::Global;
 
 /// A counter and a gauge of one provider, and a handle of the counter.

@@ -1,4 +1,4 @@
-use Rattle.opentelemetry_sdk.proofs.Steps.{made-done, made-count, made-sum, made-refused}
+use Rattle.opentelemetry_sdk.proofs.AcceptedSteps.{made-done, made-count, made-sum, made-refused}
 use Rattle.opentelemetry_sdk.proofs.metrics.shared.booked.make.Goals as goal
 
 pub returns-clause-done : goal.returns-clause-done

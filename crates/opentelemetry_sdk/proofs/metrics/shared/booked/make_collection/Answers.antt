@@ -1,7 +1,7 @@
 use Rattle.std.proofs.Common.{[], map, refl}
-use Rattle.otel_provider.specs.Correspondence.{observed_of, reply_from}
+use Rattle.opentelemetry_sdk.specs.Correspondence.{observed_of, reply_from}
 use Rattle.otel_model.specs.Calls as model
-use Rattle.opentelemetry_sdk.proofs.Steps.{other-count, other-sum}
+use Rattle.opentelemetry_sdk.proofs.AcceptedSteps.{other-count, other-sum}
 use Rattle.opentelemetry_sdk.proofs.metrics.shared.booked.make_collection.Goals as goal
 
 pub returns-clause-count : goal.returns-clause-count

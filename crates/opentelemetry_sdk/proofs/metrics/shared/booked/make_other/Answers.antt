@@ -1,7 +1,7 @@
 use Rattle.std.proofs.Common.{map}
-use Rattle.otel_provider.specs.Correspondence.{call_of, reply_of}
+use Rattle.opentelemetry_sdk.specs.Correspondence.{call_of, reply_of}
 use Rattle.otel_model.proofs.Kept.{kept_at_once}
-use Rattle.opentelemetry_sdk.proofs.Steps.{other-count, other-sum}
+use Rattle.opentelemetry_sdk.proofs.AcceptedSteps.{other-count, other-sum}
 use Rattle.opentelemetry_sdk.proofs.metrics.shared.booked.make_other.Goals as goal
 
 pub returns-clause-count : goal.returns-clause-count

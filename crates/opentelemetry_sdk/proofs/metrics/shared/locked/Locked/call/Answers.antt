@@ -1,8 +1,8 @@
 use Rattle.std.proofs.Common.{◌∙◌, ap, arith, map, subst, sym}
 use Rattle.otel_stream.specs.Requests.{wanted_by}
-use Rattle.otel_provider.specs.Correspondence.{call_of, reply_of}
-use Rattle.otel_provider.specs.Readers.{StepReaches}
-use Rattle.otel_provider.proofs.StepLemmas.{lent_back}
+use Rattle.opentelemetry_sdk.specs.Correspondence.{call_of, reply_of}
+use Rattle.opentelemetry_sdk.specs.Readers.{StepReaches}
+use Rattle.opentelemetry_sdk.proofs.StepLemmas.{lent_back}
 use Rattle.opentelemetry_sdk.proofs.metrics.shared.locked.Locked.call.Goals as goal
 
 -- the readers come back as they were lent

@@ -2,8 +2,8 @@ use Rattle.std.proofs.Common.{Ok, Err, arith, map, refl, subst, sym}
 use Rattle.otel_stream.specs.Runs.{Ran, RanAll}
 use Rattle.otel_model.specs.Calls as model
 use Rattle.otel_model.specs.Steps.{Step}
-use Rattle.otel_provider.specs.Correspondence.{fault_of, observed_of}
-use Rattle.otel_provider.proofs.StepLemmas.{lent_back}
+use Rattle.opentelemetry_sdk.specs.Correspondence.{fault_of, observed_of}
+use Rattle.opentelemetry_sdk.proofs.StepLemmas.{lent_back}
 use Rattle.opentelemetry_sdk.proofs.metrics.shared.locked.Locked.collect.Goals as goal
 
 -- the callbacks come back as they were lent. They answered a fault

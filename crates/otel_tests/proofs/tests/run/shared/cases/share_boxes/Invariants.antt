@@ -1,6 +1,6 @@
 use Rattle.std.specs.Prelude.{◌%◌, ◌^◌}
 use Rattle.otel_model.specs.Books.{count_in, sum_in}
-use Rattle.otel_provider.specs.Providers.{state_of}
+use Rattle.opentelemetry_sdk.specs.Providers.{state_of}
 use Rattle.otel_tests.proofs.tests.run.shared.cases.share_boxes.Given as goal
 
 abbrev pub ghosts-share-C-Ledger : goal.ghosts-share-C-Ledger

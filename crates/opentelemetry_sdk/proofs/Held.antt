@@ -1,0 +1,128 @@
+-- Handles at all readers, and the calls on them as the machine makes them.
+use Rattle.std.proofs.Common.{◌≡◌, ℕ, ◌+◌, ◌<◌, ◌==◌, Bool, true, false, cond, List, [], ◌∷◌, ◌++◌, map, length, get_or, set, Option, Some, None, slice_get, nat_eq, refl, sym, ◌∙◌, ap, subst, arith, zero, suc, ne_eqb}
+use Rattle.std.proofs.lemmas.Bool.Decides.{nat_tests}
+use Rattle.std.specs.List.{AllByRecursion as EachOf}
+use Rattle.std.specs.Map.{lookup, remove_entry}
+use Rattle.std.specs.Prelude.{All}
+use Rattle.otel_common.specs.declared.attributes.KeyValue.{KeyValue}
+use Rattle.otel_model.specs.Calls as model
+use Rattle.otel_model.specs.Calls.{is_observable}
+use Rattle.otel_model.specs.Demands.{Views}
+use Rattle.otel_model.specs.Machine as machine
+use Rattle.otel_model.specs.Machine.{part_after_call, accepted_by, without_handle}
+use Rattle.otel_model.specs.Refusals.{bind_refusal, instrument_held, held_refusal, handle_refusal, unbind_refusal}
+use Rattle.otel_model.specs.State.{InstrumentState, LiveHandle, Shared, ReaderPart, State}
+use Rattle.otel_model.specs.Steps.{Step, reply_by, after_by}
+use Rattle.otel_model.specs.Lawful.{HandlesAreSound, PartIsLawful, TakesRecords}
+use Rattle.otel_model.proofs.Handles.{unfed-unheld, new-unheld}
+use Rattle.opentelemetry_sdk.specs.pipeline.Handles.{FeedsSynchronous, IsNewAt, IsHeldByFed, IsReadyToBindAt, part_after_bind}
+use Rattle.opentelemetry_sdk.specs.pipeline.Pipelines.{Piped, part_of}
+use Rattle.opentelemetry_sdk.proofs.pipeline.Handles.{bound-sent}
+use Rattle.opentelemetry_sdk.proofs.pipeline.PipelinesLemmas.{IsDoneUpto}
+use Rattle.opentelemetry_sdk.specs.States.{AreTyped}
+
+-- ======== all readers ========
+pub all_bound : (h n : ℕ) (l : List KeyValue) (ps : List Piped) → All (IsReadyToBindAt n l) ps → EachOf (FeedsSynchronous n) (map part_of ps) → EachOf (IsNewAt h) (map part_of ps)
+    → map (part_after_bind n h) ps ≡ map (part_after_call h (model.Call.Bind n l)) (map part_of ps)
+all_bound h n l [] all sync new = refl
+all_bound h n l (p ∷ ps) all sync new = λ i. bound-sent h n l p (all 0 p (omega arith)) sync.0 new.0 i ∷ all_bound h n l ps (λ j d g. all (suc j) d (omega arith)) sync.1 new.1 i
+
+-- what holds at each reader holds at one
+pub each-at : (P : ReaderPart → Type 0) (ps : List Piped) (i : ℕ) (d : Piped) → i < length ps → EachOf P (map part_of ps) → P (part_of (get_or ps i d))
+each-at P [] i d h all = absurd (omega arith)
+each-at P (p ∷ ps) zero d h all = all.0
+each-at P (p ∷ ps) (suc i) d h all = each-at P ps i d (omega arith) all.1
+
+-- and at the first of those that are left
+pub each-left : (P : ReaderPart → Type 0) (g : ReaderPart → ReaderPart) (old new : List Piped) (i : ℕ) (d : Piped) → i < length new → IsDoneUpto part_of (λ (p : Piped). g (part_of p)) old new i → EachOf P (map part_of old) → P (part_of (get_or new i d))
+each-left P g old new i d h so_far all = subst (λ (p : Piped). P (part_of p)) (sym (so_far.rest i (omega arith) d)) (each-at P old i d (omega (arith, so_far.long)) all)
+
+-- what is done at the only reader is done at all
+pub done-alone : (g : ReaderPart → ReaderPart) (ps : List Piped) (d y : Piped) → length ps ≡ 1 → part_of y ≡ g (part_of (get_or ps 0 d)) → map part_of (set ps 0 y) ≡ map g (map part_of ps)
+done-alone g [] d y one is = absurd (omega (arith, one))
+done-alone g (p ∷ []) d y one is = ap (λ q. q ∷ []) is
+done-alone g (p ∷ q ∷ ps) d y one is = absurd (omega (arith, one))
+
+-- ======== what is known of handles ========
+-- an instrument that takes in records feeds no observable stream
+pub feeds-synchronous : (n : ℕ) (is : List InstrumentState) (i : InstrumentState) (ps : List ReaderPart) → slice_get is n ≡ Some i → is_observable i.kind ≡ false → AreTyped is ps → EachOf (FeedsSynchronous n) ps
+feeds-synchronous n is i [] at sync all = tt
+feeds-synchronous n is i (p ∷ ps) at sync all = (λ x fed. ap is_observable (all.0.kinds n x i fed at) ∙ sync, feeds-synchronous n is i ps at sync all.1)
+
+-- no stream has the next handle
+pub next-new : (s : Shared) (ps : List ReaderPart) → HandlesAreSound s → EachOf (PartIsLawful s.live s.instruments) ps → EachOf (IsNewAt s.next) ps
+next-new s [] sound all = tt
+next-new s (p ∷ ps) sound all = (new-unheld s p sound all.0, next-new s ps sound all.1)
+
+-- a stream that the handle's instrument does not feed doesn't have it
+pub held-fed : (s : Shared) (h n : ℕ) (ps : List ReaderPart) → HandlesAreSound s → instrument_held h s.live ≡ Some n → EachOf (PartIsLawful s.live s.instruments) ps → EachOf (IsHeldByFed n h) ps
+held-fed s h n [] sound at all = tt
+held-fed s h n (p ∷ ps) sound at all = (unfed-unheld s p h n sound all.0 at, held-fed s h n ps sound at all.1)
+
+-- the instrument of a live handle takes in records
+held-takes : (is : List InstrumentState) (h n : ℕ) (live : List LiveHandle) → instrument_held h live ≡ Some n → EachOf (λ (p : LiveHandle). TakesRecords is p.1) live → TakesRecords is n
+held-takes is h n [] e all = absurd (cc)
+held-takes is h n (p ∷ ps) e all = by (p.0 == h) e (λ q. held-takes is h n ps q all.1)
+  where
+    by : (b : Bool) → cond b (Some p.1) (instrument_held h ps) ≡ Some n → (instrument_held h ps ≡ Some n → TakesRecords is n) → TakesRecords is n
+    by true e rest = let same : p.1 ≡ n = cc in subst (TakesRecords is) same all.0
+    by false e rest = rest e
+
+-- so it feeds no observable stream
+pub synchronous-held : (s : Shared) (h n : ℕ) (ps : List ReaderPart) → HandlesAreSound s → instrument_held h s.live ≡ Some n → AreTyped s.instruments ps → EachOf (FeedsSynchronous n) ps
+synchronous-held s h n ps sound at all = let t = held-takes s.instruments h n s.live at sound.synchronous in feeds-synchronous n s.instruments t.0 ps t.1 t.2 all
+
+-- the handle of a number, as a map of handles has it
+test-is : (h k : ℕ) → (k == h) ≡ nat_eq h k
+test-is h k = grind (arith, nat_tests)
+
+pub held-lookup : (h : ℕ) (live : List LiveHandle) → instrument_held h live ≡ lookup (nat_eq h) live
+held-lookup h [] = refl
+held-lookup h (p ∷ ps) = λ i. cond (test-is h p.0 i) (Some p.1) (held-lookup h ps i)
+
+-- the instrument of a handle that the map has, or of one that it doesn't have
+pub held-as : (h : ℕ) (live : List LiveHandle) (o : Option ℕ) → o ≡ lookup (nat_eq h) live → instrument_held h live ≡ o
+held-as h live o e = held-lookup h live ∙ sym e
+
+pub without-removed : (h : ℕ) (live : List LiveHandle) → remove_entry (nat_eq h) live ≡ without_handle h live
+without-removed h [] = refl
+without-removed h (p ∷ ps) = λ i. cond (sym (test-is h p.0) i) ps (p ∷ without-removed h ps i)
+
+-- the next number is none of those that are live
+pub next-absent : (next : ℕ) (live : List LiveHandle) → EachOf (λ (p : LiveHandle). p.0 < next) live → lookup (nat_eq next) live ≡ None
+next-absent next [] all = refl
+next-absent next (p ∷ ps) all =
+    let away : nat_eq next p.0 ≡ false = sym (test-is next p.0) ∙ ne_eqb p.0 next (λ e. omega (arith, all.0)) in
+    ap (λ b. cond b (Some p.1) (lookup (nat_eq next) ps)) away ∙ next-absent next ps all.1
+
+-- ======== whole calls ========
+module _ (old : State) where
+  pub bind-made : (n : ℕ) (l : List KeyValue) (more : List LiveHandle) (after : ℕ) (readers : List ReaderPart) → bind_refusal old.shared.next (slice_get old.shared.instruments n) ≡ None
+      → more ≡ old.shared.live ++ (old.shared.next, n) ∷ [] → after ≡ old.shared.next + 1 → readers ≡ map (part_after_call old.shared.next (model.Call.Bind n l)) old.readers
+      → (views : Views) → Step views old (model.Call.Bind n l) (model.Reply.Handle old.shared.next) (record { shared = record old.shared { live = more; next = after }; readers = readers })
+  bind-made n l more after readers fits added grown sent views = (
+    sym (ap (λ o. reply_by o (model.Reply.Handle old.shared.next)) fits),
+    (λ i. record { shared = record old.shared { live = added i; next = grown i }; readers = sent i })
+        ∙ sym (ap (λ o. after_by o old (machine.accepted_after views old (model.Call.Bind n l))) fits),
+  )
+
+  pub update-made : (h n : ℕ) (v : model.Number) (more : List InstrumentState) (readers : List ReaderPart) → instrument_held h old.shared.live ≡ Some n → held_refusal (slice_get old.shared.instruments n) v.signed ≡ None
+      → more ≡ machine.changed_at n (machine.instrument_after_record v.amount) old.shared.instruments → readers ≡ map (part_after_call 0 (model.Call.RecordBound h v)) old.readers
+      → (views : Views) → Step views old (model.Call.RecordBound h v) model.Reply.Done (record { shared = record old.shared { instruments = more }; readers = readers })
+  update-made h n v more readers held fits accepted sent views =
+      let none : handle_refusal (instrument_held h old.shared.live) old.shared.instruments v.signed ≡ None = ap (λ o. handle_refusal o old.shared.instruments v.signed) held ∙ fits in
+      let counted : more ≡ accepted_by (instrument_held h old.shared.live) v.amount old.shared.instruments = accepted ∙ ap (λ o. accepted_by o v.amount old.shared.instruments) (sym held) in (
+        sym (ap (λ o. reply_by o model.Reply.Done) none),
+        (λ i. record { shared = record old.shared { instruments = counted i }; readers = sent i })
+            ∙ sym (ap (λ o. after_by o old (machine.accepted_after views old (model.Call.RecordBound h v))) none),
+      )
+
+  pub unbind-made : (h n : ℕ) (less : List LiveHandle) (readers : List ReaderPart) → instrument_held h old.shared.live ≡ Some n
+      → less ≡ without_handle h old.shared.live → readers ≡ map (part_after_call 0 (model.Call.Unbind h)) old.readers
+      → (views : Views) → Step views old (model.Call.Unbind h) model.Reply.Done (record { shared = record old.shared { live = less }; readers = readers })
+  unbind-made h n less readers held ended sent views =
+      let none : unbind_refusal (instrument_held h old.shared.live) ≡ None = ap unbind_refusal held in (
+        sym (ap (λ o. reply_by o model.Reply.Done) none),
+        (λ i. record { shared = record old.shared { live = ended i }; readers = sent i })
+            ∙ sym (ap (λ o. after_by o old (machine.accepted_after views old (model.Call.Unbind h))) none),
+      )

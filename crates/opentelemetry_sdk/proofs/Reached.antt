@@ -1,0 +1,182 @@
+-- What calls make of readers, one call after another.
+use Rattle.std.proofs.Common.{◌≡◌, ℕ, ◌+◌, ◌<◌, Bool, true, false, cond, List, [], ◌∷◌, ◌++◌, map, length, take, get_or, Option, Some, None, Result, Ok, Err, refl, sym, ◌∙◌, ap, subst, true≢false}
+use Rattle.std.specs.Prelude.{IsTrue, IfOk, OnErr}
+use Rattle.std.specs.List.{list_any}
+use Rattle.std.proofs.lemmas.Bool.{or_parts}
+use Rattle.std.proofs.lemmas.List.{map-append, take_more}
+use Rattle.otel_common.specs.declared.faults.Fault.{Fault}
+use Rattle.otel_common.specs.declared.faults.Fault.TheVariants as fault
+use Rattle.otel_model.specs.Calls as model
+use Rattle.otel_model.specs.Demands.{Views}
+use Rattle.otel_model.specs.Machine.{accepted_after}
+use Rattle.otel_model.specs.Refusals.{refusal}
+use Rattle.otel_model.specs.State.{State}
+use Rattle.otel_model.specs.Steps.{Step, Run, answer_of, after, after_by, reply_by, asks_readers}
+use Rattle.otel_model.specs.Steps as steps
+use Rattle.otel_stream.specs.Requests.{Outcome, AllAsked, outcome_of, outcome_by, failures, first_failure}
+use Rattle.opentelemetry_sdk.specs.Correspondence.{call_of, reply_of, reply_to}
+use Rattle.opentelemetry_sdk.specs.Readers.{AreReached, StepReaches, RunReaches, shut_after}
+use Rattle.opentelemetry_sdk.specs.declared.calls.Call.{Call}
+use Rattle.opentelemetry_sdk.specs.declared.calls.Reply.{Reply}
+
+-- ======== a flush or a shutdown is a call of the machine ========
+by-outcome : (views : Views) (old new : State) (call : model.Call) (failed : ℕ) (first : Option ℕ) → IsTrue (asks_readers call) → refusal old.shared (length old.readers) call ≡ None
+    → model.Reply.Done ≡ steps.reply_of old call → new ≡ after views old call → Step views old call (reply_to (outcome_by failed first)) new
+by-outcome views old new call failed None asks free done made = (done, made)
+by-outcome views old new call failed (Some first) asks free done made = (asks, free, made)
+
+-- readers were asked
+asked-step : (views : Views) (old new : State) (call : model.Call) (result : Outcome) (answers : List Outcome) → IsTrue (asks_readers call) → refusal old.shared (length old.readers) call ≡ None
+    → answer_of old call ≡ model.Reply.Done → new ≡ accepted_after views old call → result ≡ outcome_of answers → Step views old call (reply_to result) new
+asked-step views old new call result answers asks free done made is =
+    let P : Outcome → Type 0 = λ r. Step views old call (reply_to r) new in
+    subst P (sym is) (by-outcome views old new call (failures answers) (first_failure answers) asks free
+    (sym (ap (λ o. reply_by o (answer_of old call)) free ∙ done))
+    (made ∙ sym (ap (λ o. after_by o old (accepted_after views old call)) free)))
+
+-- none was
+refused-step : (views : Views) (old : State) (call : model.Call) (result : Outcome) → refusal old.shared (length old.readers) call ≡ Some model.Fault.AlreadyShutdown
+    → result ≡ Err fault.AlreadyShutdown → Step views old call (reply_to result) old
+refused-step views old call result refused is =
+    let P : Outcome → Type 0 = λ r. Step views old call (reply_to r) old in
+    subst P (sym is) (sym (ap (λ o. reply_by o (answer_of old call)) refused), sym (ap (λ o. after_by o old (accepted_after views old call)) refused))
+
+abbrev fault_by : Bool → Option model.Fault
+fault_by shut = cond shut (Some model.Fault.AlreadyShutdown) None
+
+pub flush-refused : (views : Views) (st : State) (result : Outcome) → st.shared.shut ≡ true → result ≡ Err fault.AlreadyShutdown → Step views st model.Call.Flush (reply_to result) st
+flush-refused views st result shut is = refused-step views st model.Call.Flush result (ap fault_by shut) is
+
+pub shutdown-refused : (views : Views) (st : State) (result : Outcome) → st.shared.shut ≡ true → result ≡ Err fault.AlreadyShutdown → Step views st model.Call.Shutdown (reply_to result) st
+shutdown-refused views st result shut is = refused-step views st model.Call.Shutdown result (ap fault_by shut) is
+
+pub flush-step : {R : Type 0} (does : R → R → Outcome → Type 0) (views : Views) (st : State) (before after : List R) (result : Outcome) → st.shared.shut ≡ false → AllAsked does before after result → Step views st model.Call.Flush (reply_to result) st
+flush-step does views st before after result opened asked = asked-step views st st model.Call.Flush result asked.0 refl (ap fault_by opened) refl refl asked.2
+
+pub shutdown-step : {R : Type 0} (does : R → R → Outcome → Type 0) (views : Views) (old new : State) (before after : List R) (result : Outcome) → old.shared.shut ≡ false → new ≡ accepted_after views old model.Call.Shutdown → AllAsked does before after result
+    → Step views old model.Call.Shutdown (reply_to result) new
+shutdown-step does views old new before after result opened made asked = asked-step views old new model.Call.Shutdown result asked.0 refl (ap fault_by opened) refl made asked.2
+
+-- what was asked, by whether the provider was shut down
+pub reached-closed : {R : Type 0} (does : R → R → Outcome → Type 0) (shut : Bool) (before : List R) → shut ≡ true → AreReached does shut before before (Err fault.AlreadyShutdown)
+reached-closed does true before e = (refl, refl)
+reached-closed does false before e = absurd (true≢false (sym e))
+
+pub reached-open : {R : Type 0} (does : R → R → Outcome → Type 0) (shut : Bool) (before after : List R) (result : Outcome) → shut ≡ false → AllAsked does before after result → AreReached does shut before after result
+reached-open does true before after result e asked = absurd (true≢false e)
+reached-open does false before after result e asked = asked
+
+-- ======== whether a provider is shut down ========
+after-shut : (o : Option model.Fault) (old new : State) → new.shared.shut ≡ old.shared.shut → (after_by o old new).shared.shut ≡ old.shared.shut
+after-shut None old new same = same
+after-shut (Some f) old new same = refl
+
+shut-after : (views : Views) (st : State) (call : model.Call) → (after views st call).shared.shut ≡ shut_after st.shared.shut call
+shut-after views st (model.Call.Meter scope) = refl
+shut-after views st (model.Call.Build meter about now) = after-shut (refusal st.shared (length st.readers) (model.Call.Build meter about now)) st (accepted_after views st (model.Call.Build meter about now)) refl
+shut-after views st (model.Call.Record n v l) = after-shut (refusal st.shared (length st.readers) (model.Call.Record n v l)) st (accepted_after views st (model.Call.Record n v l)) refl
+shut-after views st (model.Call.Bind n l) = after-shut (refusal st.shared (length st.readers) (model.Call.Bind n l)) st (accepted_after views st (model.Call.Bind n l)) refl
+shut-after views st (model.Call.RecordBound h v) = after-shut (refusal st.shared (length st.readers) (model.Call.RecordBound h v)) st (accepted_after views st (model.Call.RecordBound h v)) refl
+shut-after views st (model.Call.Unbind h) = after-shut (refusal st.shared (length st.readers) (model.Call.Unbind h)) st (accepted_after views st (model.Call.Unbind h)) refl
+shut-after views st (model.Call.Collect r now os) = after-shut (refusal st.shared (length st.readers) (model.Call.Collect r now os)) st (accepted_after views st (model.Call.Collect r now os)) refl
+shut-after views st model.Call.Flush = after-shut (refusal st.shared (length st.readers) model.Call.Flush) st (accepted_after views st model.Call.Flush) refl
+shut-after views st model.Call.Shutdown = by st.shared.shut refl
+  where
+    by : (b : Bool) → st.shared.shut ≡ b → (after_by (fault_by st.shared.shut) st (accepted_after views st model.Call.Shutdown)).shared.shut ≡ true
+    by true e = ap (λ b. (after_by (fault_by b) st (accepted_after views st model.Call.Shutdown)).shared.shut) e ∙ e
+    by false e = ap (λ b. (after_by (fault_by b) st (accepted_after views st model.Call.Shutdown)).shared.shut) e
+
+-- a call that takes memory shuts nothing down
+memory-shut : (call : model.Call) (shut : Bool) → IsTrue (steps.takes_memory call) → shut_after shut call ≡ shut
+memory-shut (model.Call.Meter scope) shut takes = refl
+memory-shut (model.Call.Build meter about now) shut takes = refl
+memory-shut (model.Call.Record n v l) shut takes = refl
+memory-shut (model.Call.Bind n l) shut takes = refl
+memory-shut (model.Call.RecordBound h v) shut takes = refl
+memory-shut (model.Call.Unbind h) shut takes = refl
+memory-shut (model.Call.Collect r now os) shut takes = refl
+memory-shut model.Call.Flush shut takes = refl
+memory-shut model.Call.Shutdown shut takes = absurd (true≢false (sym takes))
+
+pub shut-step : (views : Views) (old new : State) (call : model.Call) (reply : model.Reply) → Step views old call reply new → new.shared.shut ≡ shut_after old.shared.shut call
+shut-step views old new call (model.Reply.Meter number) step = ap (λ (st : State). st.shared.shut) step.1 ∙ shut-after views old call
+shut-step views old new call (model.Reply.Instrument number) step = ap (λ (st : State). st.shared.shut) step.1 ∙ shut-after views old call
+shut-step views old new call (model.Reply.Handle number) step = ap (λ (st : State). st.shared.shut) step.1 ∙ shut-after views old call
+shut-step views old new call model.Reply.Done step = ap (λ (st : State). st.shared.shut) step.1 ∙ shut-after views old call
+shut-step views old new call (model.Reply.Collected c) step = ap (λ (st : State). st.shared.shut) step.1 ∙ shut-after views old call
+shut-step views old new call (model.Reply.Refused f) step = by f step
+  where
+    by : (f : model.Fault) → Step views old call (model.Reply.Refused f) new → new.shared.shut ≡ shut_after old.shared.shut call
+    by model.Fault.OutOfMemory s = ap (λ (st : State). st.shared.shut) s.2 ∙ sym (memory-shut call old.shared.shut s.0)
+    by (model.Fault.ReadersFailed failed first) s = ap (λ (st : State). st.shared.shut) s.2 ∙ shut-after views old call
+    by model.Fault.UnknownMeter s = ap (λ (st : State). st.shared.shut) s.1 ∙ shut-after views old call
+    by model.Fault.UnknownInstrument s = ap (λ (st : State). st.shared.shut) s.1 ∙ shut-after views old call
+    by model.Fault.UnknownHandle s = ap (λ (st : State). st.shared.shut) s.1 ∙ shut-after views old call
+    by model.Fault.UnknownReader s = ap (λ (st : State). st.shared.shut) s.1 ∙ shut-after views old call
+    by model.Fault.WrongNumber s = ap (λ (st : State). st.shared.shut) s.1 ∙ shut-after views old call
+    by model.Fault.WrongKind s = ap (λ (st : State). st.shared.shut) s.1 ∙ shut-after views old call
+    by model.Fault.AlreadyShutdown s = ap (λ (st : State). st.shared.shut) s.1 ∙ shut-after views old call
+    by model.Fault.ReaderShutDown s = ap (λ (st : State). st.shared.shut) s.1 ∙ shut-after views old call
+    by model.Fault.Exhausted s = ap (λ (st : State). st.shared.shut) s.1 ∙ shut-after views old call
+    by model.Fault.LedgerFull s = ap (λ (st : State). st.shared.shut) s.1 ∙ shut-after views old call
+    by model.Fault.UseWorker s = ap (λ (st : State). st.shared.shut) s.1 ∙ shut-after views old call
+    by model.Fault.WorkersMissing s = ap (λ (st : State). st.shared.shut) s.1 ∙ shut-after views old call
+
+-- ======== a list of calls ========
+-- a call after others reaches the readers that they left
+reaches-push : {R : Type 0} (flushes : R → R → Outcome → Type 0) (shuts : R → ℕ → R → Outcome → Type 0) (views : Views) (calls : List model.Call) (replies : List model.Reply) (old mid : State) (before between after : List R) (call : model.Call) (reply : model.Reply)
+    → Run views old calls replies mid → RunReaches flushes shuts old.shared.shut calls before replies between → StepReaches flushes shuts mid.shared.shut call between reply after
+    → RunReaches flushes shuts old.shared.shut (calls ++ call ∷ []) before (replies ++ reply ∷ []) after
+reaches-push {R} flushes shuts views [] [] old mid before between after call reply run reaches step =
+    let P : List R → Type 0 = λ rs. StepReaches flushes shuts old.shared.shut call rs reply after in
+    (after, subst P reaches (subst (λ (st : State). StepReaches flushes shuts st.shared.shut call between reply after) run step), refl)
+reaches-push flushes shuts views [] (r ∷ replies) old mid before between after call reply run reaches step = absurd run
+reaches-push flushes shuts views (c ∷ calls) [] old mid before between after call reply run reaches step = absurd run
+reaches-push flushes shuts views (c ∷ calls) (r ∷ replies) old mid before between after call reply run reaches step =
+    let next : State = run.0 in
+    let same : next.shared.shut ≡ shut_after old.shared.shut c = shut-step views old next c r run.1 in (
+      reaches.0,
+      reaches.1,
+      subst (λ b. RunReaches flushes shuts b (calls ++ call ∷ []) reaches.0 (replies ++ reply ∷ []) after) same
+          (reaches-push flushes shuts views calls replies next mid reaches.0 between after call reply run.2 (subst (λ b. RunReaches flushes shuts b calls reaches.0 replies between) (sym same) reaches.2) step),
+    )
+
+-- the calls so far and one more
+pub reaches-more : {R : Type 0} (flushes : R → R → Outcome → Type 0) (shuts : R → ℕ → R → Outcome → Type 0) (views : Views) (calls : List Call) (i : ℕ) (call : Call) (replies more : List Reply) (old mid : State) (before between after : List R) (reply : Reply)
+    → i < length calls → call ≡ get_or calls i call → more ≡ replies ++ reply ∷ []
+    → Run views old (map call_of (take i calls)) (map reply_of replies) mid
+    → RunReaches flushes shuts old.shared.shut (map call_of (take i calls)) before (map reply_of replies) between
+    → StepReaches flushes shuts mid.shared.shut (call_of call) between (reply_of reply) after
+    → RunReaches flushes shuts old.shared.shut (map call_of (take (i + 1) calls)) before (map reply_of more) after
+reaches-more flushes shuts views calls i call replies more old mid before between after reply h at e run reaches step =
+    let longer : take (i + 1) calls ≡ take i calls ++ call ∷ [] = take_more calls i call h ∙ ap (λ x. take i calls ++ x ∷ []) (sym at) in
+    rw (longer, e, map-append, map-append) (reaches-push flushes shuts views (map call_of (take i calls)) (map reply_of replies) old mid before between after (call_of call) (reply_of reply) run reaches step)
+
+-- ======== calls that ask no readers ========
+step-unasked : {R : Type 0} (flushes : R → R → Outcome → Type 0) (shuts : R → ℕ → R → Outcome → Type 0) (shut : Bool) (call : model.Call) (before after : List R) (reply : model.Reply)
+    → asks_readers call ≡ false → StepReaches flushes shuts shut call before reply after → after ≡ before
+step-unasked flushes shuts shut (model.Call.Meter scope) before after reply e same = same
+step-unasked flushes shuts shut (model.Call.Build meter about now) before after reply e same = same
+step-unasked flushes shuts shut (model.Call.Record n v l) before after reply e same = same
+step-unasked flushes shuts shut (model.Call.Bind n l) before after reply e same = same
+step-unasked flushes shuts shut (model.Call.RecordBound h v) before after reply e same = same
+step-unasked flushes shuts shut (model.Call.Unbind h) before after reply e same = same
+step-unasked flushes shuts shut (model.Call.Collect r now os) before after reply e same = same
+step-unasked flushes shuts shut model.Call.Flush before after reply e reached = absurd (true≢false e)
+step-unasked flushes shuts shut model.Call.Shutdown before after reply e reached = absurd (true≢false e)
+
+pub run-unasked : {R : Type 0} (flushes : R → R → Outcome → Type 0) (shuts : R → ℕ → R → Outcome → Type 0) (shut : Bool) (calls : List model.Call) (replies : List model.Reply) (before after : List R)
+    → list_any asks_readers calls ≡ false → RunReaches flushes shuts shut calls before replies after → after ≡ before
+run-unasked flushes shuts shut [] [] before after none same = same
+run-unasked flushes shuts shut [] (r ∷ replies) before after none reaches = absurd reaches
+run-unasked flushes shuts shut (c ∷ calls) [] before after none reaches = absurd reaches
+run-unasked flushes shuts shut (c ∷ calls) (r ∷ replies) before after none reaches =
+    let both = or_parts (asks_readers c) (list_any asks_readers calls) none in
+    run-unasked flushes shuts (shut_after shut c) calls replies reaches.0 after both.1 reaches.2
+    ∙ step-unasked flushes shuts shut c before reaches.0 r both.0 reaches.1
+
+-- whether a list of calls was made or not
+pub unasked : {R T : Type 0} (flushes : R → R → Outcome → Type 0) (shuts : R → ℕ → R → Outcome → Type 0) (shut : Bool) (r : Result T Fault) (calls : List model.Call) (replies : T → List model.Reply) (before after : List R)
+    → IfOk r (λ t. RunReaches flushes shuts shut calls before (replies t) after) → OnErr r (after ≡ before) → list_any asks_readers calls ≡ false → after ≡ before
+unasked flushes shuts shut (Ok t) calls replies before after reaches same none = run-unasked flushes shuts shut calls (replies t) before after none reaches
+unasked flushes shuts shut (Err f) calls replies before after reaches same none = same

@@ -1,0 +1,215 @@
+-- Calls that the provider carries out are the model's.
+use Rattle.std.proofs.Common.{◌≡◌, ◌⊎◌, inl, inr, ℕ, zero, suc, ◌+◌, ◌<◌, Bool, true, false, cond, not, ◌||◌, List, [], ◌∷◌, ◌++◌, map, length, take, Option, Some, None, option_map, slice_get, refl, sym, ◌∙◌, ap, subst, arith, true≢false}
+use Rattle.std.specs.Prelude.{All, Result, Ok, Err, OnOk, OnErr, IfOk, IsOkUnless, is_none, is_some, position}
+use Rattle.std.specs.List.{list_any, position_or_len}
+use Rattle.std.proofs.lemmas.Bool.{and_parts}
+use Rattle.otel_common.specs.Scopes.{scope_eq, scope_eq-Decides}
+use Rattle.otel_common.specs.declared.attributes.KeyValue.{KeyValue}
+use Rattle.otel_common.specs.declared.faults.Fault.{Fault}
+use Rattle.otel_common.specs.declared.faults.Fault.TheVariants as fault
+use Rattle.otel_common.specs.declared.scopes.InstrumentationScope.{InstrumentationScope}
+use Rattle.otel_data.specs.declared.numbers.NumberValue.{NumberValue}
+use Rattle.otel_model.specs.Calls as model
+use Rattle.otel_model.specs.Checks.{is_good_name, optional_unit_fault}
+use Rattle.otel_model.specs.Demands.{StreamSpec, Views, is_good, are_good_bounds}
+use Rattle.otel_model.specs.Machine as machine
+use Rattle.otel_model.specs.Refusals.{meter_refusal, record_refusal}
+use Rattle.otel_model.specs.Sent.{has_scope}
+use Rattle.otel_model.specs.State.{ReaderPart, InstrumentState, Shared, State}
+use Rattle.otel_model.specs.Steps.{Step, number_from, reply_by, after_by}
+use Rattle.opentelemetry_sdk.specs.pipeline.Pipelines.{Piped, part_of, part_after_record, IsBuildableIn, IsPreparedFor}
+use Rattle.opentelemetry_sdk.proofs.pipeline.Builds.{any-position, position-cons}
+use Rattle.opentelemetry_sdk.specs.pipeline.Views.{views_answering}
+use Rattle.opentelemetry_sdk.proofs.pipeline.Records.{recorded-sent}
+use Rattle.opentelemetry_sdk.proofs.Asked.{built-answered}
+use Rattle.opentelemetry_sdk.proofs.Stepped.{memory-step}
+use Rattle.opentelemetry_sdk.specs.Correspondence.{number_of, reply_from}
+use Rattle.opentelemetry_sdk.specs.States.{IsFault, IsScopeOf, IsNoMeter, IsGoodIn, AreAsked, FeedType}
+
+-- ======== meters ========
+scope_eq-flip : (a b : InstrumentationScope) → scope_eq a b ≡ scope_eq b a
+scope_eq-flip a b = by (scope_eq a b) (scope_eq b a) refl refl
+  where
+    by : (x y : Bool) → scope_eq a b ≡ x → scope_eq b a ≡ y → x ≡ y
+    by true true p q = refl
+    by false false p q = refl
+    by true false p q = sym ((scope_eq-Decides b a).1 (sym ((scope_eq-Decides a b).0 p))) ∙ q
+    by false true p q = sym p ∙ (scope_eq-Decides a b).1 (sym ((scope_eq-Decides b a).0 q))
+
+pub has_scope-flip : (scope : InstrumentationScope) (ms : List InstrumentationScope) → has_scope scope ms ≡ list_any (scope_eq scope) ms
+has_scope-flip scope [] = refl
+has_scope-flip scope (m ∷ ms) = λ i. scope_eq-flip m scope i || has_scope-flip scope ms i
+
+number_shift : (k n : ℕ) → Some (k + 1 + n) ≡ Some (k + (1 + n))
+number_shift k n = ap (λ m. Some m) (omega arith)
+
+number_step : (scope m : InstrumentationScope) (k n : ℕ) (b : Bool) (rest : Option ℕ) → scope_eq m scope ≡ b → rest ≡ Some (k + 1 + n) → cond b (Some k) rest ≡ Some (k + cond (not b) (1 + n) 0)
+number_step scope m k n true rest e r = ap (λ m. Some m) (omega arith)
+number_step scope m k n false rest e r = r ∙ number_shift k n
+
+self_scope : (scope : InstrumentationScope) → scope_eq scope scope ≡ true
+self_scope scope = (scope_eq-Decides scope scope).1 refl
+
+-- a scope at the end has the number of its first place
+number_last : (scope : InstrumentationScope) (k : ℕ) (ms : List InstrumentationScope) → number_from k scope (ms ++ scope ∷ []) ≡ Some (k + position_or_len (scope_eq scope) ms)
+number_last scope k [] = rw (self_scope scope) (ap (λ m. Some m) (omega arith))
+number_last scope k (m ∷ ms) =
+    number_step scope m k (position_or_len (scope_eq scope) ms) (scope_eq m scope) _ refl (number_last scope (k + 1) ms)
+    ∙ ap (λ b. Some (k + cond (not b) (1 + position_or_len (scope_eq scope) ms) 0)) (scope_eq-flip m scope)
+
+number_there : (scope : InstrumentationScope) (k : ℕ) (ms : List InstrumentationScope) → list_any (scope_eq scope) ms ≡ true → number_from k scope ms ≡ Some (k + position_or_len (scope_eq scope) ms)
+number_there scope k [] h = absurd (true≢false (sym h))
+number_there scope k (m ∷ ms) h =
+    by (scope_eq scope m) (scope_eq-flip m scope) h (λ q. number_there scope (k + 1) ms q)
+  where
+    by : (b : Bool) → scope_eq m scope ≡ b → (b || list_any (scope_eq scope) ms) ≡ true → (list_any (scope_eq scope) ms ≡ true → number_from (k + 1) scope ms ≡ Some (k + 1 + position_or_len (scope_eq scope) ms))
+        → cond (scope_eq m scope) (Some k) (number_from (k + 1) scope ms) ≡ Some (k + cond (not b) (1 + position_or_len (scope_eq scope) ms) 0)
+    by true e q rest = rw e (ap (λ m. Some m) (omega arith))
+    by false e q rest = rw e (rest q ∙ number_shift k (position_or_len (scope_eq scope) ms))
+
+-- the number of a meter once it is there
+pub meter_number : (scope : InstrumentationScope) (ms : List InstrumentationScope) (n : ℕ) → n ≡ position_or_len (scope_eq scope) ms → Some n ≡ number_from 0 scope (machine.with_meter scope ms)
+meter_number scope ms n e = ap (λ m. Some m) (e ∙ omega arith) ∙ sym (by (list_any (scope_eq scope) ms) refl)
+  where
+    by : (b : Bool) → list_any (scope_eq scope) ms ≡ b → number_from 0 scope (machine.with_meter scope ms) ≡ Some (0 + position_or_len (scope_eq scope) ms)
+    by true h = rw (has_scope-flip scope ms, h) (number_there scope 0 ms h)
+    by false h = rw (has_scope-flip scope ms, h) (number_last scope 0 ms)
+
+-- ======== builds ========
+pub good-or-none : (scope : Option InstrumentationScope) (about : model.About) → IsGoodIn scope about → (scope ≡ None ⊎ is_good about ≡ true)
+good-or-none None about good = inl refl
+good-or-none (Some scope) about good = inr good
+
+pub buildable-in : (scope : Option InstrumentationScope) (about : model.About) → IsGoodIn scope about → IsBuildableIn scope about
+buildable-in None about good = tt
+buildable-in (Some scope) about good = record {
+  bounds = (and_parts (is_none (optional_unit_fault about.unit)) (are_good_bounds about.kind about.bounds) (and_parts (is_good_name about.name) _ good).1).1;
+}
+
+-- an instrument whose name, unit or bounds are bad has no scope
+pub good-in : (scope : Option InstrumentationScope) (about : model.About) (b : Bool) → is_good about ≡ b → IsGoodIn (cond b scope None) about
+good-in scope about false e = tt
+good-in None about true e = tt
+good-in (Some scope) about true e = e
+
+-- and demands nothing
+built-alike : (views : Views) (scope : Option InstrumentationScope) (about : model.About) (now : ℕ) (b : Bool) → is_good about ≡ b → (p : ReaderPart) → machine.part_after_build views (cond b scope None) about now p ≡ machine.part_after_build views scope about now p
+built-alike views scope about now true e p = refl
+built-alike views None about now false e p = refl
+built-alike views (Some scope) about now false e p = rw e refl
+
+all-alike : (views : Views) (scope : Option InstrumentationScope) (about : model.About) (now : ℕ) (b : Bool) → is_good about ≡ b → (ps : List ReaderPart) → map (machine.part_after_build views (cond b scope None) about now) ps ≡ map (machine.part_after_build views scope about now) ps
+all-alike views scope about now b e [] = refl
+all-alike views scope about now b e (p ∷ ps) = λ i. built-alike views scope about now b e p i ∷ all-alike views scope about now b e ps i
+
+-- a build sees what the views answer of the instrument, and no more
+all-asked : (views : Views) (scope : Option InstrumentationScope) (about : model.About) (now : ℕ) (answered : List (Option StreamSpec)) → AreAsked views scope about answered
+    → (ps : List ReaderPart) → map (machine.part_after_build (views_answering answered) scope about now) ps ≡ map (machine.part_after_build views scope about now) ps
+all-asked views None about now answered asked ps = refl
+all-asked views (Some scope) about now answered asked [] = refl
+all-asked views (Some scope) about now answered asked (p ∷ ps) =
+    λ i. (ap (λ l. machine.part_after_build (views_answering l) (Some scope) about now p) asked ∙ built-answered views scope about now p) i ∷ all-asked views (Some scope) about now answered asked ps i
+
+-- ======== records ========
+pub all_recorded : (next n : ℕ) (value : NumberValue) (l : List KeyValue) (ps : List Piped) → All (IsPreparedFor n l) ps → FeedType n (number_of value) (map part_of ps)
+    → map (part_after_record n value) ps ≡ map (machine.part_after_call next (model.Call.Record n (number_of value) l)) (map part_of ps)
+all_recorded next n value l [] all typed = refl
+all_recorded next n value l (p ∷ ps) all typed =
+    λ i. recorded-sent next n value l p (all 0 p (omega arith)) typed.0 i
+    ∷ all_recorded next n value l ps (λ j d h. all (suc j) d (omega arith)) typed.1 i
+
+-- ======== lent readers ========
+-- what was lent whole comes back whole
+pub lent_back : {X : Type 0} (n : ℕ) (ys zs : List X) → n ≡ length ys → take n (ys ++ zs) ≡ ys
+lent_back zero [] zs e = refl
+lent_back zero (y ∷ ys) zs e = absurd (omega arith)
+lent_back (suc n) [] zs e = absurd (omega arith)
+lent_back (suc n) (y ∷ ys) zs e = ap (λ xs. y ∷ xs) (lent_back n ys zs (omega arith))
+
+-- so the readers' parts are what was made of them
+pub lent-parts : (n : ℕ) (ys zs : List Piped) (ps : List ReaderPart) → n ≡ length ys → map part_of ys ≡ ps → map part_of (take n (ys ++ zs)) ≡ ps
+lent-parts n ys zs ps e is = ap (map part_of) (lent_back n ys zs e) ∙ is
+
+pub get-inside : {X : Type 0} (xs : List X) (n : ℕ) (x : X) → slice_get xs n ≡ Some x → n < length xs
+get-inside [] n x e = absurd (cc)
+get-inside (y ∷ xs) zero x e = omega arith
+get-inside (y ∷ xs) (suc n) x e = let q = get-inside xs n x e in omega arith
+
+-- ======== whole calls ========
+-- a build of a meter that isn't there
+pub no_meter-fault : (s : Shared) (meter : Option ℕ) (f : Fault) → IsNoMeter s.meters meter f → IsFault (meter_refusal s meter) f
+no_meter-fault s meter f none =
+    let P : Fault → Type 0 = λ g. IsFault (meter_refusal s meter) g in
+    subst P (sym none.is) (none.unknown s refl)
+
+position-first : {X : Type 0} (p : X → Bool) (xs : List X) (n : ℕ) → position p xs ≡ Some n → n ≡ position_or_len p xs
+position-first p [] n e = absurd (cc)
+position-first p (x ∷ xs) n e = next (p x) (position p xs) (λ m q. position-first p xs m q) (sym (position-cons p x xs) ∙ e)
+  where
+    next : (b : Bool) (o : Option ℕ) → ((m : ℕ) → o ≡ Some m → m ≡ position_or_len p xs) → cond b (Some 0) (option_map suc o) ≡ Some n → n ≡ cond (not b) (1 + position_or_len p xs) 0
+    next true o rest q = let z : 0 ≡ n = cc in sym z
+    next false None rest q = absurd (cc)
+    next false (Some m) rest q = let z : suc m ≡ n = cc in let y = rest m refl in omega arith
+
+module _ (old : State) where
+  -- a record that is accepted
+  pub record-made : (n : ℕ) (v : model.Number) (l : List KeyValue) (more : List InstrumentState) (readers : List ReaderPart) → record_refusal (slice_get old.shared.instruments n) v.signed ≡ None
+      → more ≡ machine.changed_at n (machine.instrument_after_record v.amount) old.shared.instruments → readers ≡ map (machine.part_after_call 0 (model.Call.Record n v l)) old.readers
+      → (views : Views) → Step views old (model.Call.Record n v l) model.Reply.Done (record { shared = record old.shared { instruments = more }; readers = readers })
+  record-made n v l more readers fits accepted sent views = (
+    sym (ap (λ o. reply_by o model.Reply.Done) fits),
+    (λ i. record { shared = record old.shared { instruments = accepted i }; readers = sent i })
+        ∙ sym (ap (λ o. after_by o old (machine.accepted_after views old (model.Call.Record n v l))) fits),
+  )
+
+  -- a build, of an instrument that may be bad
+  pub build-made : (views : Views) (answered : List (Option StreamSpec)) (more : List InstrumentState) (readers : List ReaderPart) (meter : Option ℕ) (scope named : Option InstrumentationScope) (about : model.About) (now n : ℕ)
+      → IsScopeOf old.shared.meters meter scope → named ≡ cond (is_good about) scope None → n ≡ length old.shared.instruments → more ≡ old.shared.instruments ++ machine.new_instrument about ∷ []
+      → AreAsked views named about answered → readers ≡ map (machine.part_after_build (views_answering answered) named about now) old.readers
+      → Step views old (model.Call.Build meter about now) (model.Reply.Instrument n) (record { shared = record old.shared { instruments = more }; readers = readers })
+  build-made views answered more readers meter scope named about now n at named_is number made asked built =
+      let known : meter_refusal old.shared meter ≡ None = at.known old.shared refl in (
+        ap model.Reply.Instrument number ∙ sym (ap (λ o. reply_by o (model.Reply.Instrument (length old.shared.instruments))) known),
+        (λ i. record {
+          shared = record old.shared { instruments = made i };
+          readers = (built ∙ (all-asked views named about now answered asked old.readers ∙ (ap (λ s. map (machine.part_after_build views s about now) old.readers) named_is ∙ (all-alike views scope about now (is_good about) refl old.readers ∙ ap (λ s. map (machine.part_after_build views s about now) old.readers) at.is)))) i;
+        })
+            ∙ sym (ap (λ o. after_by o old (machine.accepted_after views old (model.Call.Build meter about now))) known),
+      )
+
+  -- whether it was made or not
+  pub build-step : (views : Views) (answered : List (Option StreamSpec)) (more : List InstrumentState) (readers : List ReaderPart) (meter : Option ℕ) (scope named : Option InstrumentationScope) (about : model.About) (now : ℕ) (r : Result ℕ Fault)
+      → IsScopeOf old.shared.meters meter scope → named ≡ cond (is_good about) scope None → AreAsked views named about answered
+      → IfOk r (λ n. n ≡ length old.shared.instruments) → OnOk r (more ≡ old.shared.instruments ++ machine.new_instrument about ∷ []) → OnOk r (readers ≡ map (machine.part_after_build (views_answering answered) named about now) old.readers)
+      → OnErr r (more ≡ old.shared.instruments) → OnErr r (readers ≡ old.readers) → IsOkUnless r fault.OutOfMemory
+      → Step views old (model.Call.Build meter about now) (reply_from model.Reply.Instrument r) (record { shared = record old.shared { instruments = more }; readers = readers })
+  build-step views answered more readers meter scope named about now (Ok n) at named_is asked number made built same same_readers only = build-made views answered more readers meter scope named about now n at named_is number made asked built
+  build-step views answered more readers meter scope named about now (Err f) at named_is asked number made built same same_readers only =
+      memory-step views old (record { shared = record old.shared { instruments = more }; readers = readers }) (model.Call.Build meter about now) f refl only (at.known old.shared refl)
+      (λ i. record { shared = record old.shared { instruments = same i }; readers = same_readers i })
+
+  -- the meter of a scope, where the provider was not shut down
+  pub meter-made : (more : List InstrumentationScope) (scope : InstrumentationScope) (n : ℕ) → old.shared.shut ≡ false → n ≡ position_or_len (scope_eq scope) old.shared.meters → more ≡ machine.with_meter scope old.shared.meters
+      → (views : Views) → Step views old (model.Call.Meter scope) (model.Reply.Meter (Some n)) (record old { shared = record old.shared { meters = more } })
+  meter-made more scope n opened first made views = (
+    ap model.Reply.Meter (meter_number scope old.shared.meters n first ∙ sym (ap (λ b. cond b None (number_from 0 scope (machine.with_meter scope old.shared.meters))) opened)),
+    ap (λ ms. record old { shared = record old.shared { meters = ms } }) (made ∙ sym (ap (λ b. cond b old.shared.meters (machine.with_meter scope old.shared.meters)) opened)),
+  )
+
+  -- there is none once it was shut down
+  pub meter-none : (scope : InstrumentationScope) → old.shared.shut ≡ true → (views : Views) → Step views old (model.Call.Meter scope) (model.Reply.Meter None) old
+  meter-none scope closed views = (
+    ap model.Reply.Meter (sym (ap (λ b. cond b None (number_from 0 scope (machine.with_meter scope old.shared.meters))) closed)),
+    ap (λ ms. record old { shared = record old.shared { meters = ms } }) (sym (ap (λ b. cond b old.shared.meters (machine.with_meter scope old.shared.meters)) closed)),
+  )
+
+  -- a meter that is known stays as it is, where the provider was not shut down
+  pub meter-known : (scope : InstrumentationScope) (n : ℕ) → old.shared.shut ≡ false → position (scope_eq scope) old.shared.meters ≡ Some n → (views : Views) → Step views old (model.Call.Meter scope) (model.Reply.Meter (Some n)) old
+  meter-known scope n opened at views =
+      let ms : List InstrumentationScope = old.shared.meters in
+      let there : list_any (scope_eq scope) ms ≡ true = sym (any-position (scope_eq scope) ms) ∙ ap is_some at in
+      let first : n ≡ position_or_len (scope_eq scope) ms = position-first (scope_eq scope) ms n at in
+      meter-made ms scope n opened first (sym (ap (λ b. cond b ms (ms ++ scope ∷ [])) (has_scope-flip scope ms ∙ there))) views
+
+pub meter-unknown : (meters : List InstrumentationScope) (scope : InstrumentationScope) → position (scope_eq scope) meters ≡ None → has_scope scope meters ≡ false
+meter-unknown meters scope at = has_scope-flip scope meters ∙ (sym (any-position (scope_eq scope) meters) ∙ ap is_some at)

@@ -1,0 +1,59 @@
+-- Calls that are refused are steps of the model's machine.
+use Rattle.std.proofs.Common.{◌≡◌, ◌∙◌, ℕ, IsTrue, List, [], ◌∷◌, length, Some, None, Result, Err, refl, sym, ap, subst}
+use Rattle.otel_common.specs.declared.attributes.KeyValue.{KeyValue}
+use Rattle.otel_common.specs.declared.faults.Fault.{Fault}
+use Rattle.otel_common.specs.declared.faults.Fault.TheVariants as fault
+use Rattle.otel_common.specs.declared.faults.InternalFault.TheVariants as inner
+use Rattle.otel_model.specs.Calls as model
+use Rattle.otel_model.specs.Demands.{Views}
+use Rattle.otel_model.specs.Machine.{accepted_after}
+use Rattle.otel_model.specs.Refusals.{refusal}
+use Rattle.otel_model.specs.State.{State}
+use Rattle.otel_model.specs.Steps.{Step, takes_memory, answer_of, reply_by, after_by, reply_of, after}
+use Rattle.opentelemetry_sdk.specs.Correspondence.{fault_of, reply_from}
+use Rattle.opentelemetry_sdk.specs.States.{IsFault}
+
+-- refused by a fault that the machine names
+pub named-step : (views : Views) (old new : State) (call : model.Call) (f : model.Fault) → refusal old.shared (length old.readers) call ≡ Some f → new ≡ old
+    → (model.Reply.Refused f ≡ reply_of old call) × (new ≡ after views old call)
+named-step views old new call f is same = (
+  sym (ap (λ o. reply_by o (answer_of old call)) is),
+  same ∙ sym (ap (λ o. after_by o old (accepted_after views old call)) is),
+)
+
+-- refused, and unchanged
+pub refused-step : (views : Views) (old new : State) (call : model.Call) (f : Fault) → (f ≡ fault.OutOfMemory → IsTrue (takes_memory call)) → IsFault (refusal old.shared (length old.readers) call) f → new ≡ old
+    → Step views old call (model.Reply.Refused (fault_of f)) new
+refused-step views old new call fault.OutOfMemory takes is same = (takes refl, is, same)
+refused-step views old new call fault.UnknownMeter takes is same = named-step views old new call model.Fault.UnknownMeter is same
+refused-step views old new call fault.UnknownInstrument takes is same = named-step views old new call model.Fault.UnknownInstrument is same
+refused-step views old new call fault.UnknownHandle takes is same = named-step views old new call model.Fault.UnknownHandle is same
+refused-step views old new call fault.UnknownReader takes is same = named-step views old new call model.Fault.UnknownReader is same
+refused-step views old new call fault.WrongNumber takes is same = named-step views old new call model.Fault.WrongNumber is same
+refused-step views old new call fault.WrongKind takes is same = named-step views old new call model.Fault.WrongKind is same
+refused-step views old new call fault.AlreadyShutdown takes is same = named-step views old new call model.Fault.AlreadyShutdown is same
+refused-step views old new call fault.Exhausted takes is same = named-step views old new call model.Fault.Exhausted is same
+refused-step views old new call fault.LedgerFull takes is same = absurd is
+refused-step views old new call fault.UseWorker takes is same = absurd is
+refused-step views old new call fault.WorkersMissing takes is same = absurd is
+refused-step views old new call (fault.InternalFailure inner.ReaderShutDown) takes is same = named-step views old new call model.Fault.ReaderShutDown is same
+refused-step views old new call (fault.InternalFailure (inner.Readers failed first)) takes is same = absurd is
+
+-- refused for want of memory
+pub memory-step : (views : Views) (old new : State) (call : model.Call) (f : Fault) → IsTrue (takes_memory call) → f ≡ fault.OutOfMemory → refusal old.shared (length old.readers) call ≡ None → new ≡ old
+    → Step views old call (model.Reply.Refused (fault_of f)) new
+memory-step views old new call f takes is none same =
+    let P : Fault → Type 0 = λ g. Step views old call (model.Reply.Refused (fault_of g)) new in
+    subst P (sym is) (takes, none, same)
+
+-- the same of a result
+pub memory-result : {X : Type 0} (reply : X → model.Reply) (views : Views) (old new : State) (call : model.Call) (r : Result X Fault) → IsTrue (takes_memory call) → r ≡ Err fault.OutOfMemory → refusal old.shared (length old.readers) call ≡ None → new ≡ old
+    → Step views old call (reply_from reply r) new
+memory-result {X} reply views old new call r takes is none same =
+    let P : Result X Fault → Type 0 = λ q. Step views old call (reply_from reply q) new in
+    subst P (sym is) (takes, none, same)
+
+-- a record that attributes are given with may take memory
+pub record-takes : (n : ℕ) (v : model.Number) (l : List KeyValue) → (l ≡ [] → ⊥) → IsTrue (takes_memory (model.Call.Record n v l))
+record-takes n v [] some = absurd (some refl)
+record-takes n v (a ∷ l) some = refl

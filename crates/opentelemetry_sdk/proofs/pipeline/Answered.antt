@@ -1,0 +1,87 @@
+-- Whether a stream resets, and by which demand it was made, whatever is done to it.
+use Rattle.std.proofs.Common.{◌≡◌, ℕ, Bool, true, false, cond, not, ◌&&◌, List, [], ◌∷◌, ◌++◌, map, Option, Some, None, Result, Ok, Err, is_none, refl, sym, ◌∙◌, ap, subst}
+use Rattle.std.specs.Bool.{beq}
+use Rattle.std.specs.List.{AllByRecursion}
+use Rattle.std.specs.Prelude.{OnOk, OnErr}
+use Rattle.std.proofs.lemmas.Simd.{map-map}
+use Rattle.otel_common.specs.declared.attributes.KeyValue.{KeyValue}
+use Rattle.otel_data.specs.declared.numbers.NumberValue.{NumberValue}
+use Rattle.otel_stream.specs.declared.observation.Observed.{Observed}
+use Rattle.otel_model_stream.specs.Events.{held_by}
+use Rattle.otel_model_stream.specs.Sets.{AttributeSet, none_set}
+use Rattle.otel_aggregate.specs.Any.{is_signed_value, amount_of}
+use Rattle.otel_model.specs.Calls.{is_observable}
+use Rattle.otel_model.specs.Demands.{Demand}
+use Rattle.otel_model.specs.Sent.{set_for}
+use Rattle.otel_model.specs.Streams.{is_drained}
+use Rattle.opentelemetry_sdk.specs.pipeline.Observations.{observed_all, observed_in, observing_numbers}
+use Rattle.opentelemetry_sdk.specs.pipeline.Pipelines.{all_without_pending}
+use Rattle.opentelemetry_sdk.specs.pipeline.Streams.{StreamContents, contents_after_bind, bound_by, contents_after_commit, committed_by, contents_after_none, contents_after_record, contents_after_unbind, without_handle, contents_after_update, with_update, with_record, without_pending}
+use Rattle.opentelemetry_sdk.proofs.pipeline.Writes.{unseen-each}
+
+abbrev pub answer_of : StreamContents → Bool × Demand
+answer_of k = (k.resets, k.stream.demand)
+
+-- a change of streams that leaves both
+abbrev pub KeepsAnswer : (StreamContents → StreamContents) → Type 0
+KeepsAnswer f = (k : StreamContents) → answer_of (f k) ≡ answer_of k
+
+-- ======== what is done to one stream ========
+kept-if : (b : Bool) (m n k : StreamContents) → answer_of m ≡ answer_of k → answer_of n ≡ answer_of k → answer_of (cond b m n) ≡ answer_of k
+kept-if true m n k p q = p
+kept-if false m n k p q = q
+
+pub commits : (value : NumberValue) → KeepsAnswer (contents_after_commit value)
+commits value k = kept-if (beq (is_signed_value value) k.stream.demand.identity.signed) (committed_by k.pending (amount_of value) k) k k (by k.pending) refl
+  where
+    by : (o : Option AttributeSet) → answer_of (committed_by o (amount_of value) k) ≡ answer_of k
+    by None = refl
+    by (Some s) = refl
+
+pub measures : (value : NumberValue) → KeepsAnswer (contents_after_none value)
+measures value k = kept-if (beq (is_signed_value value) k.stream.demand.identity.signed) (with_record none_set (amount_of value) k) k k refl refl
+
+pub records : (value : NumberValue) (l : List KeyValue) → KeepsAnswer (contents_after_record value l)
+records value l k = kept-if (beq (is_signed_value value) k.stream.demand.identity.signed) (with_record (set_for k.stream.demand l) (amount_of value) k) k k refl refl
+
+-- also if it is refused
+pub records-either : {T E : Type 0} (value : NumberValue) (l : List KeyValue) (k m : StreamContents) (r : Result T E) → OnOk r (m ≡ contents_after_record value l k) → OnErr r (without_pending m ≡ without_pending k) → answer_of m ≡ answer_of k
+records-either value l k m (Ok t) is same = ap answer_of is ∙ records value l k
+records-either value l k m (Err e) is same = ap answer_of same
+
+pub binds : (h : ℕ) → KeepsAnswer (contents_after_bind h)
+binds h k = kept-if (not (is_observable k.stream.demand.identity.kind) && (k.room && is_none (held_by h k.stream.machine.live))) (bound_by k.pending h k) k k (by k.pending) refl
+  where
+    by : (o : Option AttributeSet) → answer_of (bound_by o h k) ≡ answer_of k
+    by None = refl
+    by (Some s) = refl
+
+pub updates : (h : ℕ) (value : NumberValue) → KeepsAnswer (contents_after_update h value)
+updates h value k = kept-if (not (is_drained k.stream.demand) && beq (is_signed_value value) k.stream.demand.identity.signed) (with_update (held_by h k.stream.machine.live) (amount_of value) k) k k refl refl
+
+pub unbinds : (h : ℕ) → KeepsAnswer (contents_after_unbind h)
+unbinds h k = kept-if (is_drained k.stream.demand) k (without_handle h k) k refl refl
+
+-- ======== what is done to streams ========
+pub answers-settled : (a b : List StreamContents) → all_without_pending a ≡ all_without_pending b → map answer_of a ≡ map answer_of b
+answers-settled a b e = sym (map-map answer_of without_pending a) ∙ (ap (map answer_of) e ∙ map-map answer_of without_pending b)
+
+pub answers-observed : (feeds : List (List ℕ)) (os : List Observed) (ks : List StreamContents) → map answer_of (observed_all feeds os ks) ≡ map answer_of ks
+answers-observed feeds [] ks = refl
+answers-observed feeds (o ∷ os) ks = answers-observed feeds os (observed_in feeds ks o) ∙ unseen-each answer_of (contents_after_record o.value o.attributes) (records o.value o.attributes) (observing_numbers feeds o) ks
+
+-- ======== what is read off both ========
+abbrev pub OfAnswer : (Bool → Demand → Type 0) → List StreamContents → Type 0
+OfAnswer P ks = AllByRecursion (λ (k : StreamContents). P k.resets k.stream.demand) ks
+
+module _ (P : Bool → Demand → Type 0) where
+  pub answered-same : (new old : List StreamContents) → map answer_of new ≡ map answer_of old → OfAnswer P old → OfAnswer P new
+  answered-same [] old e all = tt
+  answered-same (a ∷ new) [] e all = absurd (cc)
+  answered-same (a ∷ new) (b ∷ old) e all =
+      let parts : (answer_of b ≡ answer_of a) × (map answer_of new ≡ map answer_of old) = (cc, cc) in
+      (subst (λ (x : Bool × Demand). P x.0 x.1) parts.0 all.0, answered-same new old parts.1 all.1)
+
+  pub answered-push : (ks : List StreamContents) (k : StreamContents) → OfAnswer P ks → P k.resets k.stream.demand → OfAnswer P (ks ++ k ∷ [])
+  answered-push [] k all is = (is, tt)
+  answered-push (m ∷ ks) k all is = (all.0, answered-push ks k all.1 is)

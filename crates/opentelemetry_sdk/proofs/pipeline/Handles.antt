@@ -1,0 +1,144 @@
+-- What is done to handles stream by stream is the model's call.
+use Rattle.std.proofs.Common.{◌≡◌, ℕ, zero, suc, ◌+◌, ◌<◌, ◌==◌, length, eq-eqb, Bool, true, false, cond, not, ◌&&◌, ◌||◌, List, [], ◌∷◌, map, Option, Some, None, is_none, slice_get, refl, sym, ◌∙◌, ap, subst, arith, true≢false, get_or}
+use Rattle.std.specs.List.{AllByRecursion as EachOf}
+use Rattle.otel_common.specs.declared.attributes.KeyValue.{KeyValue}
+use Rattle.otel_data.specs.declared.numbers.NumberValue.{NumberValue}
+use Rattle.otel_aggregate.specs.Any.{is_signed_value, amount_of}
+use Rattle.otel_stream.specs.declared.observation.Observed.{Observed}
+use Rattle.otel_model_stream.specs.Events.{held_by}
+use Rattle.otel_model_stream.specs.Folds.{Amount, sample_of, wrap}
+use Rattle.otel_model_stream.specs.Machine.{through, let_go}
+use Rattle.otel_model_stream.specs.Sets.{AttributeSet}
+use Rattle.otel_model_stream.specs.Totals.{has_number, size}
+use Rattle.otel_model.specs.Calls.{InstrumentKind, Counter, UpDownCounter, Histogram, ObservableCounter, ObservableUpDownCounter, Gauge, ObservableGauge, is_observable, Number, Bind, RecordBound, Unbind}
+use Rattle.otel_model.specs.Demands as model
+use Rattle.otel_model.specs.Machine.{stream_after, part_after_call, if_held}
+use Rattle.otel_model.specs.Sent.{is_fed, set_for}
+use Rattle.otel_model.specs.State.{Stream}
+use Rattle.otel_model.specs.Streams.{aggregate_of, is_drained, observes_sums}
+use Rattle.opentelemetry_sdk.specs.pipeline.Handles.{FeedsSynchronous, AreObservableFor, IsNewAt, IsHeldByFed, IsReadyToBind, IsReadyIfThere, IsReadyToBindAt, part_after_bind}
+use Rattle.opentelemetry_sdk.specs.pipeline.Observations.{AreObservableIn}
+use Rattle.opentelemetry_sdk.specs.pipeline.Pipelines.{Piped, IsLawful, FeedsType, identity_of, is_streamed, model_streams, named_identities, number_of, part_of, part_changed_by, fed_by}
+use Rattle.opentelemetry_sdk.specs.pipeline.Streams.{StreamContents, with_bind, bound_by, contents_after_bind, with_update, contents_after_update, without_handle, contents_after_unbind}
+use Rattle.opentelemetry_sdk.proofs.pipeline.Answered.{binds, unbinds, updates}
+use Rattle.opentelemetry_sdk.proofs.pipeline.Records.{each-sent, fed-at, fits, some_same, there-at, typed-fits}
+
+-- ======== kinds ========
+drained-by : (kind : InstrumentKind) → is_observable kind ≡ false → observes_sums kind ≡ false
+drained-by Counter e = refl
+drained-by UpDownCounter e = refl
+drained-by Histogram e = refl
+drained-by ObservableCounter e = absurd (true≢false e)
+drained-by ObservableUpDownCounter e = absurd (true≢false e)
+drained-by Gauge e = refl
+drained-by ObservableGauge e = absurd (true≢false e)
+
+-- a synchronous stream isn't drained
+pub undrained : (d : model.Demand) → is_observable d.identity.kind ≡ false → is_drained d ≡ false
+undrained d e = by _ (observes_sums d.identity.kind) (drained-by d.identity.kind e)
+  where
+    by : (a b : Bool) → b ≡ false → (a && b) ≡ false
+    by true b e = e
+    by false b e = refl
+
+-- ======== what holds of a part's streams ========
+of-rest : (P : Stream → Type 0) (m : StreamContents) (ks : List StreamContents) → EachOf P (model_streams (m ∷ ks)) → EachOf P (model_streams ks)
+of-rest P m ks all = by (is_streamed m) refl all
+  where
+    by : (b : Bool) → is_streamed m ≡ b → EachOf P (model_streams (m ∷ ks)) → EachOf P (model_streams ks)
+    by true e all = (rw e at all).1
+    by false e all = rw e at all
+
+of-first : (P : Stream → Type 0) (m : StreamContents) (ks : List StreamContents) → EachOf P (model_streams (m ∷ ks)) → is_streamed m ≡ true → P m.stream
+of-first P m ks all e = (rw e at all).0
+
+-- holds of a stream, by its number
+pub of-streamed : (P : Stream → Type 0) (ks : List StreamContents) → EachOf P (model_streams ks) → (i : ℕ) (k : StreamContents) → slice_get ks i ≡ Some k → is_streamed k ≡ true → P k.stream
+of-streamed P [] all i k at s = absurd (cc)
+of-streamed P (m ∷ ks) all zero k at s =
+    let same : m ≡ k = some_same m k at in
+    subst (λ (x : StreamContents). P x.stream) same (of-first P m ks all (ap is_streamed same ∙ s))
+of-streamed P (m ∷ ks) all (suc i) k at s = of-streamed P ks (of-rest P m ks all) i k at s
+
+-- ======== observations ========
+number-there : (ns : List ℕ) (i d : ℕ) → i < length ns → has_number (get_or ns i d) ns ≡ true
+number-there [] i d h = absurd (omega arith)
+number-there (n ∷ ns) zero d h = ap (λ b. b || has_number n ns) (eq-eqb n n refl)
+number-there (n ∷ ns) (suc i) d h = by (n == get_or ns i d) (number-there ns i d (omega arith))
+  where
+    by : (a : Bool) → has_number (get_or ns i d) ns ≡ true → (a || has_number (get_or ns i d) ns) ≡ true
+    by true e = refl
+    by false e = e
+
+-- streams that take observations in are observable
+pub observable-in : (os : List Observed) (p : Piped) → IsLawful p → AreObservableFor os (part_of p) → AreObservableIn p.feeds os p.streams
+observable-in os p lawful all i d h j e g k at =
+    let n = (get_or os i d).instrument in
+    all i d h (identity_of k) (fed-at p lawful n (get_or (fed_by n p) j e) k at ∙ number-there (fed_by n p) j e g)
+
+-- ======== binds ========
+bind-if : (answers : model.ReaderAnswers) (h n : ℕ) (l : List KeyValue) (feeds : List (List model.Identity)) (k : StreamContents) (b : Bool) → is_fed feeds n (identity_of k) ≡ b
+    → stream_after answers feeds h (Bind n l) k.stream ≡ (cond b (with_bind h (set_for k.stream.demand l) k) k).stream
+bind-if answers h n l feeds k true e = rw e refl
+bind-if answers h n l feeds k false e = rw e refl
+
+abbrev can_bind : ℕ → StreamContents → Bool
+can_bind h k = not (is_observable k.stream.demand.identity.kind) && (k.room && is_none (held_by h k.stream.machine.live))
+
+pub bound-sent : (h n : ℕ) (l : List KeyValue) (p : Piped) → IsReadyToBindAt n l p → FeedsSynchronous n (part_of p) → IsNewAt h (part_of p) → part_after_bind n h p ≡ part_after_call h (Bind n l) (part_of p)
+bound-sent h n l p ready sync new = each-sent p ready.lawful h n (Bind n l) (contents_after_bind h) (binds h)
+    (λ i k at s t fed.
+    let is : IsReadyToBind l k = there-at (IsReadyIfThere l) p.streams (fed_by n p) ready.ready i k at t in
+    let kind : is_observable k.stream.demand.identity.kind ≡ false = sync (identity_of k) fed in
+    let room : k.room ≡ true = is.room ∙ ap not (undrained k.stream.demand kind) in
+    let away : held_by h k.stream.machine.live ≡ None = of-streamed (λ (q : Stream). held_by h q.machine.live ≡ None) p.streams new i k at s in
+    let can : can_bind h k ≡ true = λ j. not (kind j) && (room j && is_none (away j)) in
+    bind-if p.answers h n l (map (named_identities p.streams) p.feeds) k true fed
+    ∙ ap (λ o. (bound_by o h k).stream) (sym is.set)
+    ∙ ap (λ b. (cond b (bound_by k.pending h k) k).stream) (sym can))
+    (λ i k at s fed. bind-if p.answers h n l (map (named_identities p.streams) p.feeds) k false fed)
+
+-- ======== what handles do to one stream ========
+-- a record through a handle, by what the stream has of it
+abbrev update_by : Option AttributeSet → Amount → Stream → Stream
+update_by o v q = record {
+  demand = q.demand;
+  machine = through o (sample_of (aggregate_of q.demand) v) q.machine;
+  start = q.start;
+  reported = q.reported;
+  recorded = if_held o (wrap (q.recorded + size (aggregate_of q.demand) v)) q.recorded;
+  exported = q.exported;
+}
+
+update-is : (answers : model.ReaderAnswers) (feeds : List (List model.Identity)) (next h : ℕ) (v : Number) (q : Stream) (o : Option AttributeSet) → held_by h q.machine.live ≡ o → stream_after answers feeds next (RecordBound h v) q ≡ update_by o v.amount q
+update-is answers feeds next h v q o e = ap (λ p. update_by p v.amount q) e
+
+-- the end of a handle, by what the stream has of it
+abbrev unbind_by : Option AttributeSet → ℕ → Stream → Stream
+unbind_by o h q = record { demand = q.demand; machine = let_go o h q.machine; start = q.start; reported = q.reported; recorded = q.recorded; exported = q.exported }
+
+unbind-is : (answers : model.ReaderAnswers) (feeds : List (List model.Identity)) (next h : ℕ) (q : Stream) (o : Option AttributeSet) → held_by h q.machine.live ≡ o → stream_after answers feeds next (Unbind h) q ≡ unbind_by o h q
+unbind-is answers feeds next h q o e = ap (λ p. unbind_by p h q) e
+
+-- ======== all streams that an instrument feeds ========
+module _ (n h : ℕ) (p : Piped) (lawful : IsLawful p) (sync : FeedsSynchronous n (part_of p)) (held : IsHeldByFed n h (part_of p)) where
+  -- a stream that is not fed has no such handle
+  unfed-free : (i : ℕ) (k : StreamContents) → slice_get p.streams i ≡ Some k → is_streamed k ≡ true → is_fed (map (named_identities p.streams) p.feeds) n (identity_of k) ≡ false → held_by h k.stream.machine.live ≡ None
+  unfed-free i k at s fed = of-streamed (λ (q : Stream). is_fed (map (named_identities p.streams) p.feeds) n q.demand.identity ≡ false → held_by h q.machine.live ≡ None) p.streams held i k at s fed
+
+  -- records through handles
+  pub update-sent : (value : NumberValue) → FeedsType n (is_signed_value value) (part_of p) → part_changed_by (contents_after_update h value) n p ≡ part_after_call 0 (RecordBound h (number_of value)) (part_of p)
+  update-sent value typed = each-sent p lawful 0 n (RecordBound h (number_of value)) (contents_after_update h value) (updates h value)
+      (λ i k at s t fed.
+      let free : is_drained k.stream.demand ≡ false = undrained k.stream.demand (sync (identity_of k) fed) in
+      let fit : fits value k.stream.demand ≡ true = typed-fits n value (part_of p) k.stream.demand typed fed in
+      λ j. (cond (not (sym free j) && sym fit j) (with_update (held_by h k.stream.machine.live) (amount_of value) k) k).stream)
+      (λ i k at s fed. update-is p.answers (map (named_identities p.streams) p.feeds) 0 h (number_of value) k.stream None (unfed-free i k at s fed))
+
+  -- the end of handles
+  pub unbind-sent : part_changed_by (contents_after_unbind h) n p ≡ part_after_call 0 (Unbind h) (part_of p)
+  unbind-sent = each-sent p lawful 0 n (Unbind h) (contents_after_unbind h) (unbinds h)
+      (λ i k at s t fed.
+      let free : is_drained k.stream.demand ≡ false = undrained k.stream.demand (sync (identity_of k) fed) in
+      λ j. (cond (sym free j) k (without_handle h k)).stream)
+      (λ i k at s fed. unbind-is p.answers (map (named_identities p.streams) p.feeds) 0 h k.stream None (unfed-free i k at s fed))

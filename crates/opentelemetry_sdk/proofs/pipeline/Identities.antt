@@ -1,0 +1,76 @@
+-- The test of identities is equality, whichever stands first.
+use Rattle.std.proofs.Common.{◌≡◌, ℕ, zero, suc, Bool, true, false, ◌&&◌, List, [], ◌∷◌, Some, slice_get, position, refl, sym, ◌∙◌, ap, subst, option_map, true≢false, eq-eqb}
+use Rattle.std.specs.Bool.{beq, Decides}
+use Rattle.std.specs.List.{IsDistinct, AllByRecursion}
+use Rattle.otel_common.specs.Equality.{bytes_eq}
+use Rattle.otel_common.specs.Scopes.{scope_eq}
+use Rattle.otel_model.specs.Calls.{InstrumentKind, kind_eq, kind_number}
+use Rattle.std.proofs.lemmas.Option.{slice_get-map}
+use Rattle.otel_model.specs.Demands.{Identity, identity_eq}
+use Rattle.otel_model.proofs.Gather.{kind_eq_true, identity_eq_true, identity_eq_self}
+use Rattle.opentelemetry_sdk.specs.pipeline.Pipelines.{identity_of, stream_identities}
+use Rattle.opentelemetry_sdk.specs.pipeline.Streams.{StreamContents}
+
+-- the same answer, with the two turned round
+pub test-flip : (x y : Identity) → identity_eq y x ≡ identity_eq x y
+test-flip x y = by (identity_eq y x) (identity_eq x y) refl refl
+  where
+    by : (a b : Bool) → identity_eq y x ≡ a → identity_eq x y ≡ b → a ≡ b
+    by true true p q = refl
+    by false false p q = refl
+    by true false p q = sym (ap (λ z. identity_eq z y) (sym (identity_eq_true y x p)) ∙ identity_eq_self y) ∙ q
+    by false true p q = sym p ∙ (ap (λ z. identity_eq z x) (sym (identity_eq_true x y q)) ∙ identity_eq_self x)
+
+-- a test of kinds that decides equality is the one of their numbers, and so of identities
+module _ (same : InstrumentKind → InstrumentKind → Bool) (law : (x y : InstrumentKind) → Decides (same x y) (x ≡ y)) where
+  kind-same : (a b : InstrumentKind) → same a b ≡ kind_eq a b
+  kind-same a b = by (same a b) (kind_eq a b) refl refl
+    where
+      self : (k : InstrumentKind) → kind_eq k k ≡ true
+      self k = eq-eqb (kind_number k) (kind_number k) refl
+
+      by : (p q : Bool) → same a b ≡ p → kind_eq a b ≡ q → p ≡ q
+      by true true e f = refl
+      by false false e f = refl
+      by true false e f = sym (ap (kind_eq a) (sym ((law a b).0 e)) ∙ self a) ∙ f
+      by false true e f = sym e ∙ (law a b).1 (kind_eq_true a b f)
+
+  abbrev pub test_of : Identity → Identity → Bool
+  test_of x y = scope_eq x.scope y.scope && (same x.kind y.kind && (beq x.signed y.signed && (bytes_eq x.description y.description && (bytes_eq x.unit y.unit && bytes_eq x.name y.name))))
+
+  pub test-same : test_of ≡ identity_eq
+  test-same = λ i x y. scope_eq x.scope y.scope && (kind-same x.kind y.kind i && (beq x.signed y.signed && (bytes_eq x.description y.description && (bytes_eq x.unit y.unit && bytes_eq x.name y.name))))
+
+  -- what is told by that test is told by the model's
+  pub distinct-same : (xs : List Identity) → IsDistinct test_of xs → IsDistinct identity_eq xs
+  distinct-same xs d = subst (λ t. IsDistinct t xs) test-same d
+
+  pub position-same : (x : Identity) (xs : List Identity) → position (test_of x) xs ≡ position (identity_eq x) xs
+  position-same x xs = ap (λ (t : Identity → Identity → Bool). position (t x) xs) test-same
+
+some_is : (a b : Identity) → Some a ≡ Some b → a ≡ b
+some_is a b e = cc
+
+not_among : (x : Identity) (xs : List Identity) → AllByRecursion (λ y. identity_eq x y ≡ false) xs → (j : ℕ) (y : Identity) → slice_get xs j ≡ Some y → x ≡ y → ⊥
+not_among x [] all j y q e = cc
+not_among x (z ∷ xs) all zero y q e = true≢false (sym (ap (identity_eq x) (some_is z y q ∙ sym e) ∙ identity_eq_self x) ∙ all.0)
+not_among x (z ∷ xs) all (suc j) y q e = not_among x xs all.1 j y q e
+
+apart_by : (xs : List Identity) → IsDistinct identity_eq xs → (i j : ℕ) (x y : Identity) → slice_get xs i ≡ Some x → slice_get xs j ≡ Some y → x ≡ y → i ≡ j
+unfolding IsDistinct
+apart_by [] distinct i j x y p q e = absurd (cc)
+apart_by (z ∷ xs) distinct zero zero x y p q e = refl
+apart_by (z ∷ xs) distinct zero (suc j) x y p q e = absurd (not_among z xs distinct.0 j y q (some_is z x p ∙ e))
+apart_by (z ∷ xs) distinct (suc i) zero x y p q e = absurd (not_among z xs distinct.0 i x p (some_is z y q ∙ sym e))
+apart_by (z ∷ xs) distinct (suc i) (suc j) x y p q e = ap suc (apart_by xs distinct.1 i j x y p q e)
+
+-- no identity stands twice among the streams
+abbrev pub AreApart : List StreamContents → Type 0
+AreApart ks = (i j : ℕ) (a b : StreamContents) → slice_get ks i ≡ Some a → slice_get ks j ≡ Some b → identity_eq (identity_of a) (identity_of b) ≡ true → i ≡ j
+
+pub are_apart : (ks : List StreamContents) → IsDistinct identity_eq (stream_identities ks) → AreApart ks
+are_apart ks distinct i j a b p q t =
+    apart_by (stream_identities ks) distinct i j (identity_of a) (identity_of b)
+    (slice_get-map identity_of ks i ∙ ap (option_map identity_of) p)
+    (slice_get-map identity_of ks j ∙ ap (option_map identity_of) q)
+    (identity_eq_true (identity_of a) (identity_of b) t)

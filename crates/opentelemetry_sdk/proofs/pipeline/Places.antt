@@ -1,0 +1,170 @@
+-- Metrics that are put down at the places of their meters.
+use Rattle.std.proofs.Common.{◌≡◌, ℕ, zero, suc, ◌+◌, ◌<◌, ◌≤◌, Bool, true, false, cond, ◌&&◌, List, [], ◌∷◌, ◌++◌, map, filter, length, get_or, set, drop, replicate, Option, Some, None, option_map, refl, sym, ◌∙◌, ap, subst, arith, append_assoc, add-one}
+use Rattle.std.specs.List.{IsDistinct, AllByRecursion, position}
+use Rattle.std.proofs.lemmas.List.{append-nil, drop_all, length-map, length-replicate, nil_from_length}
+use Rattle.otel_common.specs.Scopes.{scope_eq, scope_eq-Decides}
+use Rattle.otel_common.specs.declared.scopes.InstrumentationScope.{InstrumentationScope}
+use Rattle.otel_data.specs.declared.collections.Metric.{Metric}
+use Rattle.otel_data.specs.declared.collections.ScopeMetrics.{ScopeMetrics}
+use Rattle.otel_model.specs.Collections.{has_points, has_metrics}
+use Rattle.opentelemetry_sdk.specs.pipeline.Collections.{if_shown, append_each, shown_one, shown_in, scope_shown, scopes_shown}
+use Rattle.opentelemetry_sdk.specs.pipeline.Pipelines.{is_streamed}
+use Rattle.opentelemetry_sdk.specs.pipeline.Streams.{StreamContents, shown_metric, if_points}
+use Rattle.opentelemetry_sdk.proofs.pipeline.Builds.{position-cons}
+use Rattle.opentelemetry_sdk.proofs.pipeline.Shows.{shown-suc}
+
+-- ======== lists that are joined ========
+-- before the first
+pub joined-none : {A B : Type 0} (f : B → List A) (bs : List B) (n : ℕ) → n ≡ length bs → append_each (replicate n []) (map f bs) ≡ map f bs
+joined-none f [] zero e = refl
+joined-none f [] (suc n) e = absurd (omega arith)
+joined-none f (b ∷ bs) zero e = absurd (omega arith)
+joined-none f (b ∷ bs) (suc n) e = λ i. f b ∷ joined-none f bs n (omega arith) i
+
+pub lists-long : {V : Type 0} (view : V → List Metric) (vs : List V) (n : ℕ) → map view vs ≡ replicate n [] → length vs ≡ n
+lists-long view vs n e = sym (length-map vs view) ∙ (ap length e ∙ length-replicate n [])
+
+-- where nothing is added
+pub joined-nothing : {A B : Type 0} (f : B → List A) (xs : List (List A)) (bs : List B) → ((b : B) → f b ≡ []) → append_each xs (map f bs) ≡ xs
+joined-nothing f [] bs e = refl
+joined-nothing f (x ∷ xs) [] e = refl
+joined-nothing f (x ∷ xs) (b ∷ bs) e = λ i. (ap (λ y. x ++ y) (e b) ∙ append-nil x) i ∷ joined-nothing f xs bs e i
+
+-- and once more
+pub joined-twice : {A B : Type 0} (f g h : B → List A) (xs : List (List A)) (bs : List B) → ((b : B) → h b ≡ f b ++ g b) → append_each (append_each xs (map f bs)) (map g bs) ≡ append_each xs (map h bs)
+joined-twice f g h [] bs e = refl
+joined-twice f g h (x ∷ xs) [] e = refl
+joined-twice f g h (x ∷ xs) (b ∷ bs) e = λ i. (append_assoc x (f b) (g b) ∙ ap (λ y. x ++ y) (sym (e b))) i ∷ joined-twice f g h xs bs e i
+
+-- ======== one metric more ========
+module _ (s : InstrumentationScope) (c : Bool) (x : Metric) where
+  -- what the meter of a scope gets
+  abbrev pub gets : InstrumentationScope → List Metric
+  gets m = if_shown (scope_eq s m && c) x
+
+  gets_none : (m : InstrumentationScope) → scope_eq s m ≡ false → gets m ≡ []
+  gets_none m e = ap (λ b. if_shown (b && c) x) e
+
+  -- no meter is of the scope
+  absent : (xs : List (List Metric)) (ms : List InstrumentationScope) → AllByRecursion (λ m. scope_eq s m ≡ false) ms → append_each xs (map gets ms) ≡ xs
+  absent [] ms all = refl
+  absent (y ∷ xs) [] all = refl
+  absent (y ∷ xs) (m ∷ ms) all = λ i. (ap (λ z. y ++ z) (gets_none m all.0) ∙ append-nil y) i ∷ absent xs ms all.1 i
+
+  all_other : (ms : List InstrumentationScope) → position (scope_eq s) ms ≡ None → AllByRecursion (λ m. scope_eq s m ≡ false) ms
+  all_other [] e = tt
+  all_other (m ∷ ms) e = by (scope_eq s m) (position (scope_eq s) ms) refl (λ q. all_other ms q) (sym (position-cons (scope_eq s) m ms) ∙ e)
+    where
+      by : (b : Bool) (o : Option ℕ) → scope_eq s m ≡ b → (o ≡ None → AllByRecursion (λ m. scope_eq s m ≡ false) ms) → cond b (Some 0) (option_map suc o) ≡ None → AllByRecursion (λ m. scope_eq s m ≡ false) (m ∷ ms)
+      by true o p rest r = absurd (cc)
+      by false None p rest r = (p, rest refl)
+      by false (Some n) p rest r = absurd (cc)
+
+  pub placed-none : (xs : List (List Metric)) (ms : List InstrumentationScope) → position (scope_eq s) ms ≡ None → append_each xs (map gets ms) ≡ xs
+  placed-none xs ms e = absent xs ms (all_other ms e)
+
+  -- the meter of a place is of the scope, and no other is
+  pub placed-at : {V : Type 0} (view : V → List Metric) (vs : List V) (ms : List InstrumentationScope) (n : ℕ) (old new : V) → length vs ≡ length ms → IsDistinct scope_eq ms → position (scope_eq s) ms ≡ Some n
+      → old ≡ get_or vs n old → view new ≡ view old ++ if_shown c x → map view (set vs n new) ≡ append_each (map view vs) (map gets ms)
+  unfolding IsDistinct
+  placed-at view [] [] n old new long apart at is e = absurd (cc)
+  placed-at view [] (m ∷ ms) n old new long apart at is e = absurd (omega arith)
+  placed-at view (v ∷ vs) [] n old new long apart at is e = absurd (omega arith)
+  placed-at view (v ∷ vs) (m ∷ ms) n old new long apart at is e =
+      by (scope_eq s m) (position (scope_eq s) ms) n refl (λ k q is. placed-at view vs ms k old new (omega arith) apart.1 q is e) (sym (position-cons (scope_eq s) m ms) ∙ at) is
+    where
+      by : (b : Bool) (o : Option ℕ) (n : ℕ) → scope_eq s m ≡ b → ((k : ℕ) → o ≡ Some k → old ≡ get_or vs k old → map view (set vs k new) ≡ append_each (map view vs) (map gets ms)) → cond b (Some 0) (option_map suc o) ≡ Some n
+          → old ≡ get_or (v ∷ vs) n old → map view (set (v ∷ vs) n new) ≡ append_each (map view (v ∷ vs)) (map gets (m ∷ ms))
+      by true o zero p rest r is = λ i. (e ∙ ap (λ z. view z ++ if_shown c x) is ∙ ap (λ b. view v ++ if_shown (b && c) x) (sym p)) i
+          ∷ sym (absent (map view vs) ms (subst (λ (t : InstrumentationScope). AllByRecursion (λ y. scope_eq t y ≡ false) ms) (sym ((scope_eq-Decides s m).0 p)) apart.0)) i
+      by true o (suc n) p rest r is = absurd (cc)
+      by false None n p rest r is = absurd (cc)
+      by false (Some k) zero p rest r is = absurd (cc)
+      by false (Some k) (suc n) p rest r is = λ i. sym (ap (λ z. view v ++ z) (gets_none m p) ∙ append-nil (view v)) i ∷ rest n (cc) is i
+
+-- ======== one stream more ========
+-- a stream that drops gives nothing
+pub pushed-dropped : (now : ℕ) (k : StreamContents) (xs : List (List Metric)) (ms : List InstrumentationScope) → is_streamed k ≡ false → append_each xs (map (λ m. shown_one m now k) ms) ≡ xs
+pushed-dropped now k xs ms e = joined-nothing (λ m. shown_one m now k) xs ms (λ m. ap (λ b. if_shown (b && (scope_eq k.stream.demand.identity.scope m && has_points (shown_metric now k))) (shown_metric now k)) e)
+
+-- nor does one without points
+pub pushed-pointless : (now : ℕ) (k : StreamContents) (xs : List (List Metric)) (ms : List InstrumentationScope) → has_points (shown_metric now k) ≡ false → append_each xs (map (λ m. shown_one m now k) ms) ≡ xs
+pushed-pointless now k xs ms e =
+    joined-nothing (λ m. shown_one m now k) xs ms
+    (λ m. ap (λ b. if_shown (is_streamed k && (scope_eq k.stream.demand.identity.scope m && b)) (shown_metric now k)) e ∙ none (is_streamed k) (scope_eq k.stream.demand.identity.scope m))
+  where
+    none : (a b : Bool) → if_shown (a && (b && false)) (shown_metric now k) ≡ []
+    none true true = refl
+    none true false = refl
+    none false b = refl
+
+-- what has points is shown
+pub pointed : (m : Metric) (o : Option Metric) → o ≡ if_points m → (x : Metric) → o ≡ Some x → (has_points m ≡ true) × (x ≡ m)
+pointed m o e x is = by (has_points m) refl (sym is ∙ e)
+  where
+    by : (b : Bool) → has_points m ≡ b → Some x ≡ cond b (Some m) None → (has_points m ≡ true) × (x ≡ m)
+    by true p q = (p, cc)
+    by false p q = absurd (cc)
+
+pub pointless : (m : Metric) (o : Option Metric) → o ≡ if_points m → o ≡ None → has_points m ≡ false
+pointless m o e is = by (has_points m) refl (sym is ∙ e)
+  where
+    by : (b : Bool) → has_points m ≡ b → None ≡ cond b (Some m) None → has_points m ≡ false
+    by true p q = absurd (cc)
+    by false p q = p
+
+streamed_gets : (now : ℕ) (k : StreamContents) → is_streamed k ≡ true → (λ (m : InstrumentationScope). shown_one m now k) ≡ gets k.stream.demand.identity.scope (has_points (shown_metric now k)) (shown_metric now k)
+streamed_gets now k e = λ i m. if_shown (e i && (scope_eq k.stream.demand.identity.scope m && has_points (shown_metric now k))) (shown_metric now k)
+
+-- nor does one whose scope has no meter
+pub pushed-nowhere : (now : ℕ) (k : StreamContents) (xs : List (List Metric)) (ms : List InstrumentationScope) → is_streamed k ≡ true → position (scope_eq k.stream.demand.identity.scope) ms ≡ None
+    → append_each xs (map (λ m. shown_one m now k) ms) ≡ xs
+pushed-nowhere now k xs ms e at = ap (λ (f : InstrumentationScope → List Metric). append_each xs (map f ms)) (streamed_gets now k e) ∙ placed-none k.stream.demand.identity.scope _ _ xs ms at
+
+-- the others give their metric to the meter of their scope
+pub pushed-at : {V : Type 0} (view : V → List Metric) (now : ℕ) (k : StreamContents) (vs : List V) (ms : List InstrumentationScope) (n : ℕ) (old new : V) → is_streamed k ≡ true → has_points (shown_metric now k) ≡ true
+    → length vs ≡ length ms → IsDistinct scope_eq ms → position (scope_eq k.stream.demand.identity.scope) ms ≡ Some n → old ≡ get_or vs n old → view new ≡ view old ++ shown_metric now k ∷ []
+    → map view (set vs n new) ≡ append_each (map view vs) (map (λ m. shown_one m now k) ms)
+pushed-at view now k vs ms n old new e points long apart at is more =
+    placed-at k.stream.demand.identity.scope _ _ view vs ms n old new long apart at is (more ∙ ap (λ b. view old ++ if_shown b (shown_metric now k)) (sym points))
+    ∙ ap (λ (f : InstrumentationScope → List Metric). append_each (map view vs) (map f ms)) (sym (streamed_gets now k e))
+
+-- one stream's metric more
+pub places-more : (now : ℕ) (done done' all : List (List Metric)) (ks : List StreamContents) (i : ℕ) (k : StreamContents) (ms : List InstrumentationScope) → i < length ks → k ≡ get_or ks i k
+    → done' ≡ append_each done (map (λ m. shown_one m now k) ms) → append_each done (map (λ m. shown_in m now (drop i ks)) ms) ≡ all → append_each done' (map (λ m. shown_in m now (drop (i + 1) ks)) ms) ≡ all
+places-more now done done' all ks i k ms h at e so_far =
+    rw (add-one, e) (joined-twice (λ m. shown_one m now k) (λ m. shown_in m now (drop (suc i) ks)) (λ m. shown_in m now (drop i ks)) done ms (λ m. shown-suc m now ks i k h at) ∙ so_far)
+
+-- no stream is left
+pub places-all : (now : ℕ) (done all : List (List Metric)) (ks : List StreamContents) (i : ℕ) (ms : List InstrumentationScope) → length ks ≤ i → append_each done (map (λ m. shown_in m now (drop i ks)) ms) ≡ all → done ≡ all
+places-all now done all ks i ms h so_far =
+    sym (joined-nothing (λ m. shown_in m now (drop i ks)) done ms (λ m. ap (shown_in m now) (drop_all i ks h))) ∙ so_far
+
+-- ======== one scope more ========
+filter_one : {A : Type 0} (p : A → Bool) (x : A) (xs : List A) → filter p (x ∷ xs) ≡ filter p (x ∷ []) ++ filter p xs
+filter_one p x xs = by (p x)
+  where
+    by : (b : Bool) → cond b (x ∷ filter p xs) (filter p xs) ≡ cond b (x ∷ []) [] ++ filter p xs
+    by true = refl
+    by false = refl
+
+-- the lists are those of the meters, one after another
+pub left-more : {V : Type 0} (view : V → List Metric) (f : InstrumentationScope → List Metric) (vs vs' : List V) (ms ms' : List InstrumentationScope) (v : V) (m : InstrumentationScope)
+    → vs ≡ v ∷ vs' → ms ≡ m ∷ ms' → map view vs ≡ map f ms → (view v ≡ f m) × (map view vs' ≡ map f ms')
+left-more view f vs vs' ms ms' v m e g same =
+    let both : view v ∷ map view vs' ≡ f m ∷ map f ms' = ap (map view) (sym e) ∙ (same ∙ ap (map f) g) in (cc, cc)
+
+pub left-long : {V : Type 0} (view : V → List Metric) (f : InstrumentationScope → List Metric) (vs : List V) (ms : List InstrumentationScope) → map view vs ≡ map f ms → length vs ≡ length ms
+left-long view f vs ms e = sym (length-map vs view) ∙ (ap length e ∙ length-map ms f)
+
+pub scopes-more : (now : ℕ) (ks : List StreamContents) (done done' all : List ScopeMetrics) (s : InstrumentationScope) (metrics : List Metric) (ms ms' : List InstrumentationScope) → ms ≡ s ∷ ms' → metrics ≡ shown_in s now ks
+    → done' ≡ done ++ filter has_metrics (record { scope = s; metrics = metrics } ∷ []) → done ++ scopes_shown now ks ms ≡ all → done' ++ scopes_shown now ks ms' ≡ all
+scopes-more now ks done done' all s metrics ms ms' at shown e so_far =
+    rw (e, append_assoc)
+    (ap (λ (l : List Metric). done ++ (filter has_metrics (record { scope = s; metrics = l } ∷ []) ++ scopes_shown now ks ms')) shown
+    ∙ (ap (λ (l : List ScopeMetrics). done ++ l) (sym (filter_one has_metrics (scope_shown now ks s) (map (scope_shown now ks) ms')))
+    ∙ (ap (λ (l : List InstrumentationScope). done ++ scopes_shown now ks l) (sym at) ∙ so_far)))
+
+pub scopes-all : (now : ℕ) (ks : List StreamContents) (done all : List ScopeMetrics) (ms : List InstrumentationScope) → length ms ≡ 0 → done ++ scopes_shown now ks ms ≡ all → done ≡ all
+scopes-all now ks done all ms e so_far =
+    sym (append-nil done) ∙ (ap (λ (l : List InstrumentationScope). done ++ scopes_shown now ks l) (sym (nil_from_length ms e)) ∙ so_far)

@@ -1,0 +1,173 @@
+-- What is done stream by stream is the model's call.
+use Rattle.std.proofs.Common.{◌≡◌, ℕ, zero, suc, ◌+◌, ◌<◌, ◌==◌, Bool, true, false, cond, not, ◌||◌, List, [], ◌∷◌, ◌++◌, map, length, Option, Some, None, slice_get, refl, sym, ◌∙◌, ap, subst, arith, eq-eqb, ne_eqb, eqb-true}
+use Rattle.std.specs.Bool.{beq}
+use Rattle.std.specs.Cmp.{booleans_Decides}
+use Rattle.std.specs.Option.{option_map}
+use Rattle.std.specs.Prelude.{All}
+use Rattle.std.proofs.Common.{⊎_elim}
+use Rattle.std.proofs.lemmas.List.Elements.{All-tail}
+use Rattle.std.proofs.lemmas.Option.{slice_get-map}
+use Rattle.std.proofs.lemmas.Bool.{cases_Bool, true≢false}
+use Rattle.otel_common.specs.declared.attributes.KeyValue.{KeyValue}
+use Rattle.otel_data.specs.declared.numbers.NumberValue.{NumberValue}
+use Rattle.otel_aggregate.specs.Any.{is_signed_value, amount_of}
+use Rattle.otel_model_stream.specs.Sets.{none_set}
+use Rattle.otel_model_stream.specs.Totals.{has_number}
+use Rattle.otel_model.specs.Calls.{or_else, Number, Call, Record as RecordCall}
+use Rattle.otel_model.specs.Demands as model
+use Rattle.otel_model.specs.Machine.{stream_after, part_after_call}
+use Rattle.otel_model.specs.Sent.{is_fed, set_for}
+use Rattle.otel_model.specs.State.{ReaderPart, Stream}
+use Rattle.otel_model.proofs.Gather.{identity_eq_self}
+use Rattle.opentelemetry_sdk.specs.pipeline.Pipelines.{fates_of, named_identities, identity_at, identity_of, is_streamed, model_streams, part_of, Piped, AreNumbers, IsLawful, IsPrepared, IsPreparedFor, changed_each, fed_by, number_of, part_after_record, part_changed_by, FeedsType}
+use Rattle.opentelemetry_sdk.specs.pipeline.Streams.{StreamContents, with_record, contents_after_commit, contents_after_none, contents_after_record, committed_by}
+use Rattle.opentelemetry_sdk.proofs.pipeline.Answered.{KeepsAnswer, commits, measures, records}
+use Rattle.opentelemetry_sdk.proofs.pipeline.Identities.{AreApart, are_apart}
+use Rattle.opentelemetry_sdk.proofs.pipeline.NoAttributes.{set_of-nil}
+use Rattle.opentelemetry_sdk.proofs.pipeline.Once.{changed_in, fed-once, fold-once}
+use Rattle.opentelemetry_sdk.proofs.pipeline.PipelineLemmas.{fates-changed, feeds-same}
+
+-- ======== numbers and identities ========
+-- each of these numbers has a stream
+abbrev pub HaveStreams : List ℕ → List StreamContents → Type 0
+HaveStreams [] ks = Unit {0}
+HaveStreams (n ∷ ns) ks = ((k : StreamContents) × (slice_get ks n ≡ Some k)) × HaveStreams ns ks
+
+pub some_same : (a b : StreamContents) → Some a ≡ Some b → a ≡ b
+some_same a b e = cc
+
+pub identity_at-is : (ks : List StreamContents) (n : ℕ) (k : StreamContents) → slice_get ks n ≡ Some k → identity_at ks n ≡ identity_of k ∷ []
+identity_at-is ks n k e = rw e refl
+
+-- an instrument feeds a stream by identity exactly if it feeds it by number
+pub named-has : (ks : List StreamContents) → AreApart ks → (ns : List ℕ) → HaveStreams ns ks → (i : ℕ) (k : StreamContents) → slice_get ks i ≡ Some k
+    → model.has_identity (named_identities ks ns) (identity_of k) ≡ has_number i ns
+named-has ks apart [] all i k e = refl
+named-has ks apart (n ∷ ns) all i k e =
+    let m = all.0.0 in
+    ap (λ xs. model.has_identity (xs ++ named_identities ks ns) (identity_of k)) (identity_at-is ks n m all.0.1)
+    ∙ λ j. same j || named-has ks apart ns all.1 i k e j
+  where
+    same : model.identity_eq (identity_of (all.0.0)) (identity_of k) ≡ (n == i)
+    same = ⊎_elim
+        (λ t. t ∙ sym (eq-eqb n i (apart n i all.0.0 k all.0.1 e t)))
+        (λ f. f ∙ sym (ne_eqb n i (λ q. true≢false (sym (ap (λ (m : StreamContents). model.identity_eq (identity_of m) (identity_of k)) (some_same _ _ (sym (all.0.1) ∙ ap (slice_get ks) q ∙ e)) ∙ identity_eq_self (identity_of k)) ∙ f))))
+        (cases_Bool (model.identity_eq (identity_of (all.0.0)) (identity_of k)))
+
+pub fed-named : (ks : List StreamContents) (feeds : List (List ℕ)) (n : ℕ) → or_else (slice_get (map (named_identities ks) feeds) n) [] ≡ named_identities ks (or_else (slice_get feeds n) [])
+fed-named ks feeds n = ap (λ o. or_else o []) (slice_get-map (named_identities ks) feeds n) ∙ cases (slice_get feeds n)
+  where
+    cases : (o : Option (List ℕ)) → or_else (option_map (named_identities ks) o) [] ≡ named_identities ks (or_else o [])
+    cases None = refl
+    cases (Some ns) = refl
+
+get-below : (ks : List StreamContents) (n : ℕ) → n < length ks → (k : StreamContents) × (slice_get ks n ≡ Some k)
+get-below [] n h = absurd (omega arith)
+get-below (k ∷ ks) zero h = (k, refl)
+get-below (k ∷ ks) (suc n) h = get-below ks n (omega arith)
+
+pub numbers-named : (ks : List StreamContents) (ns : List ℕ) → AreNumbers ks ns → HaveStreams ns ks
+numbers-named ks [] all = tt
+numbers-named ks (n ∷ ns) all = (get-below ks n (all 0 n (omega arith)), numbers-named ks ns (All-tail (λ n. n < length ks) n ns all))
+
+pub fed-numbers : (ks : List StreamContents) (feeds : List (List ℕ)) (n : ℕ) → All (AreNumbers ks) feeds → AreNumbers ks (or_else (slice_get feeds n) [])
+fed-numbers ks [] n all = λ i d h. absurd (omega arith)
+fed-numbers ks (ns ∷ feeds) zero all = all 0 ns (omega arith)
+fed-numbers ks (ns ∷ feeds) (suc n) all = fed-numbers ks feeds n (All-tail (AreNumbers ks) ns feeds all)
+
+pub fed-at : (p : Piped) → IsLawful p → (n i : ℕ) (k : StreamContents) → slice_get p.streams i ≡ Some k → is_fed (map (named_identities p.streams) p.feeds) n (identity_of k) ≡ has_number i (fed_by n p)
+fed-at p lawful n i k at =
+    ap (λ xs. model.has_identity xs (identity_of k)) (fed-named p.streams p.feeds n)
+    ∙ named-has p.streams (are_apart p.streams lawful.apart) (fed_by n p) (numbers-named p.streams (fed_by n p) (fed-numbers p.streams p.feeds n lawful.numbers)) i k at
+
+-- what holds of the streams of these numbers
+pub there-at : (P : Option StreamContents → Type 0) (ks : List StreamContents) (ns : List ℕ) → All (λ n. P (slice_get ks n)) ns → (i : ℕ) (k : StreamContents) → slice_get ks i ≡ Some k → has_number i ns ≡ true → P (Some k)
+there-at P ks [] all i k at h = absurd (true≢false (sym h))
+there-at P ks (n ∷ ns) all i k at h = by (n == i) refl h (there-at P ks ns (All-tail (λ n. P (slice_get ks n)) n ns all) i k at)
+  where
+    by : (b : Bool) → (n == i) ≡ b → (b || has_number i ns) ≡ true → (has_number i ns ≡ true → P (Some k)) → P (Some k)
+    by true t q rest = subst P (ap (slice_get ks) (eqb-true n i t) ∙ at) (all 0 n (omega arith))
+    by false t q rest = rest q
+
+-- ======== a call that changes the streams that the instrument feeds ========
+-- `f` is what becomes of a stream that the instrument feeds
+module _ (p : Piped) (lawful : IsLawful p) (next n : ℕ) (call : Call) (f : StreamContents → StreamContents) (keeps : KeepsAnswer f)
+    (made : (i : ℕ) (k : StreamContents) → slice_get p.streams i ≡ Some k → is_streamed k ≡ true → has_number i (fed_by n p) ≡ true → is_fed (map (named_identities p.streams) p.feeds) n (identity_of k) ≡ true → stream_after p.answers (map (named_identities p.streams) p.feeds) next call k.stream ≡ (f k).stream)
+    (unmade : (i : ℕ) (k : StreamContents) → slice_get p.streams i ≡ Some k → is_streamed k ≡ true → is_fed (map (named_identities p.streams) p.feeds) n (identity_of k) ≡ false → stream_after p.answers (map (named_identities p.streams) p.feeds) next call k.stream ≡ k.stream) where
+  abbrev ns : List ℕ
+  ns = fed_by n p
+
+  abbrev after : Stream → Stream
+  after = stream_after p.answers (map (named_identities p.streams) p.feeds) next call
+
+  one-sent : (i : ℕ) (k : StreamContents) → slice_get p.streams i ≡ Some k → is_streamed k ≡ true → (b : Bool) → has_number i ns ≡ b → after k.stream ≡ (cond b (f k) k).stream
+  one-sent i k at s true h = made i k at s h (fed-at p lawful n i k at ∙ h)
+  one-sent i k at s false h = unmade i k at s (fed-at p lawful n i k at ∙ h)
+
+  kept-streamed : (b : Bool) (k : StreamContents) → is_streamed (cond b (f k) k) ≡ is_streamed k
+  kept-streamed true k = ap (λ (x : Bool × model.Demand). not (model.is_drop x.1.aggregation)) (keeps k)
+  kept-streamed false k = refl
+
+  -- one stream more, whether it drops or not
+  more-sent : (b : Bool) (k m : StreamContents) (ks ms : List StreamContents) → is_streamed k ≡ b → is_streamed m ≡ b → (b ≡ true → after k.stream ≡ m.stream) → map after (model_streams ks) ≡ model_streams ms
+      → map after (model_streams (k ∷ ks)) ≡ model_streams (m ∷ ms)
+  more-sent true k m ks ms p q e rest = rw (p, q) (λ i. e refl i ∷ rest i)
+  more-sent false k m ks ms p q e rest = rw (p, q) rest
+
+  rest-sent : (i : ℕ) (ks : List StreamContents) → ((j : ℕ) (k : StreamContents) → slice_get ks j ≡ Some k → is_streamed k ≡ true → after k.stream ≡ (cond (has_number (i + j) ns) (f k) k).stream) → map after (model_streams ks) ≡ model_streams (changed_in ns f i ks)
+  rest-sent i [] each = refl
+  rest-sent i (k ∷ ks) each =
+      more-sent (is_streamed k) k (cond (has_number i ns) (f k) k) ks (changed_in ns f (suc i) ks) refl (kept-streamed (has_number i ns) k)
+      (λ s. each 0 k refl s ∙ ap (λ m. (cond (has_number m ns) (f k) k).stream) (omega arith))
+      (rest-sent (suc i) ks (λ j m at s. each (suc j) m at s ∙ ap (λ x. (cond (has_number x ns) (f m) m).stream) (omega arith)))
+
+  pub each-sent : part_changed_by f n p ≡ part_after_call next call (part_of p)
+  each-sent =
+      let new : List StreamContents = changed_each f ns p.streams in
+      let same : fates_of new ≡ fates_of p.streams = fates-changed f keeps ns p.streams in
+      λ i. record {
+        answers = p.answers;
+        fates = same i;
+        streams = (ap model_streams (fold-once f ns p.streams (fed-once p.feeds n lawful.once)) ∙ sym (rest-sent 0 p.streams (λ j k at s. one-sent j k at s (has_number (0 + j) ns) (ap (λ m. has_number m ns) (omega arith))))) i;
+        feeds = feeds-same new p.streams same p.feeds i;
+      }
+
+-- ======== records ========
+abbrev pub fits : NumberValue → model.Demand → Bool
+fits value d = beq (is_signed_value value) d.identity.signed
+
+-- a value of the number type of a stream that its instrument feeds
+pub typed-fits : (n : ℕ) (value : NumberValue) (p : ReaderPart) (d : model.Demand) → FeedsType n (is_signed_value value) p → is_fed p.feeds n d.identity ≡ true → fits value d ≡ true
+typed-fits n value p d typed fed = (booleans_Decides (is_signed_value value) d.identity.signed).1 (sym (typed d.identity fed))
+
+-- what a stream is after a record, as its identity is fed or not
+sent-if : (answers : model.ReaderAnswers) (next n : ℕ) (v : Number) (l : List KeyValue) (feeds : List (List model.Identity)) (k : StreamContents) (b : Bool) → is_fed feeds n (identity_of k) ≡ b
+    → stream_after answers feeds next (RecordCall n v l) k.stream ≡ (cond b (with_record (set_for k.stream.demand l) v.amount k) k).stream
+sent-if answers next n v l feeds k true e = rw e refl
+sent-if answers next n v l feeds k false e = rw e refl
+
+pub record-sent : (p : Piped) → IsLawful p → (next n : ℕ) (value : NumberValue) (l : List KeyValue) → FeedsType n (is_signed_value value) (part_of p) → (f : StreamContents → StreamContents) → KeepsAnswer f
+    → ((i : ℕ) (k : StreamContents) → slice_get p.streams i ≡ Some k → has_number i (fed_by n p) ≡ true → fits value k.stream.demand ≡ true → (with_record (set_for k.stream.demand l) (amount_of value) k).stream ≡ (f k).stream)
+    → part_changed_by f n p ≡ part_after_call next (RecordCall n (number_of value) l) (part_of p)
+record-sent p lawful next n value l typed f keeps made = each-sent p lawful next n (RecordCall n (number_of value) l) f keeps
+    (λ i k at s h fed. sent-if p.answers next n (number_of value) l (map (named_identities p.streams) p.feeds) k true fed ∙ made i k at h (typed-fits n value (part_of p) k.stream.demand typed fed))
+    (λ i k at s fed. sent-if p.answers next n (number_of value) l (map (named_identities p.streams) p.feeds) k false fed)
+
+pub recorded-sent : (next n : ℕ) (value : NumberValue) (l : List KeyValue) (p : Piped) → IsPreparedFor n l p → FeedsType n (is_signed_value value) (part_of p)
+    → part_after_record n value p ≡ part_after_call next (RecordCall n (number_of value) l) (part_of p)
+recorded-sent next n value l p ready typed = record-sent p ready.lawful next n value l typed (contents_after_commit value) (commits value)
+    (λ i k at h fit.
+    ap (λ o. (committed_by o (amount_of value) k).stream) (sym (there-at (IsPrepared l) p.streams (fed_by n p) ready.prepared i k at h))
+    ∙ ap (λ b. (cond b (committed_by k.pending (amount_of value) k) k).stream) (sym fit))
+
+-- a record in one pass
+pub taken-sent : (n : ℕ) (value : NumberValue) (l : List KeyValue) (p : Piped) → IsLawful p → FeedsType n (is_signed_value value) (part_of p) → part_changed_by (contents_after_record value l) n p ≡ part_after_call 0 (RecordCall n (number_of value) l) (part_of p)
+taken-sent n value l p lawful typed = record-sent p lawful 0 n value l typed (contents_after_record value l) (records value l)
+    (λ i k at h fit. ap (λ b. (cond b (with_record (set_for k.stream.demand l) (amount_of value) k) k).stream) (sym fit))
+
+-- a record without attributes
+pub none-sent : (n : ℕ) (value : NumberValue) (p : Piped) → IsLawful p → FeedsType n (is_signed_value value) (part_of p) → part_changed_by (contents_after_none value) n p ≡ part_after_call 0 (RecordCall n (number_of value) []) (part_of p)
+none-sent n value p lawful typed = record-sent p lawful 0 n value [] typed (contents_after_none value) (measures value)
+    (λ i k at h fit.
+    ap (λ set. (with_record set (amount_of value) k).stream) (set_of-nil k.stream.demand.allow)
+    ∙ ap (λ b. (cond b (with_record none_set (amount_of value) k) k).stream) (sym fit))

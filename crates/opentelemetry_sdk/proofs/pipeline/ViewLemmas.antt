@@ -1,0 +1,158 @@
+-- What the answers of views demand.
+use Rattle.std.proofs.Common.{◌≡◌, ℕ, ◌+◌, ◌<◌, ℤ, Bool, true, false, cond, not, ◌&&◌, ◌||◌, List, [], ◌∷◌, ◌++◌, fold, take, get_or, length, Option, Some, None, is_some, refl, sym, ◌∙◌, ap, subst, append_assoc, add-one}
+use Rattle.std.specs.List.{list_any}
+use Rattle.std.proofs.Math.Seq.{take-suc}
+use Rattle.std.proofs.lemmas.List.{append-nil}
+use Rattle.otel_common.specs.declared.metrics.Aggregation.{Aggregation}
+use Rattle.otel_common.specs.declared.metrics.Aggregation.TheVariants.{Drop, Default, Sum, LastValue, ExplicitBucketHistogram}
+use Rattle.otel_common.specs.declared.scopes.InstrumentationScope.{InstrumentationScope}
+use Rattle.otel_model.specs.Calls.{About, InstrumentKind, Counter, UpDownCounter, Histogram, ObservableCounter, ObservableUpDownCounter, Gauge, ObservableGauge}
+use Rattle.otel_model.specs.Demands as model
+use Rattle.otel_model.specs.Demands.{Identity, Demand, ReaderAnswers, StreamSpec, answer_for, fits, is_valid, kind_default, default_from, reader_default, with_bounds, with_own, resolved_aggregation, demand_of, own_demand, view_demands, is_compatible}
+use Rattle.otel_model.specs.Machine as machine
+use Rattle.opentelemetry_sdk.specs.pipeline.Pipelines.{Planned, part_by, named_identities, fates_of, demands_in, dropped_with, IsPlanOf}
+use Rattle.opentelemetry_sdk.specs.pipeline.Streams.{StreamContents}
+use Rattle.opentelemetry_sdk.specs.pipeline.Views.{views_answering, usable_answer, usable_demands, can_keep, is_unfit, has_none, demands_own}
+use Rattle.opentelemetry_sdk.proofs.pipeline.Plans.{demanded-fates, no_identity, fed-empty}
+use Rattle.opentelemetry_sdk.proofs.pipeline.Records.{HaveStreams, identity_at-is, numbers-named}
+
+-- ======== which aggregations can be used ========
+kind_default-fits : (kind : InstrumentKind) → fits kind (kind_default kind) ≡ true
+kind_default-fits Counter = refl
+kind_default-fits UpDownCounter = refl
+kind_default-fits Histogram = refl
+kind_default-fits ObservableCounter = refl
+kind_default-fits ObservableUpDownCounter = refl
+kind_default-fits Gauge = refl
+kind_default-fits ObservableGauge = refl
+
+chosen-fits : (kind : InstrumentKind) (v f : Bool) (a other : Aggregation) → fits kind a ≡ f → fits kind other ≡ true → fits kind (cond (v && f) a other) ≡ true
+chosen-fits kind true true a other held stood = held
+chosen-fits kind true false a other held stood = stood
+chosen-fits kind false f a other held stood = stood
+
+default_from-fits : (kind : InstrumentKind) (wanted : Option Aggregation) → fits kind (default_from kind wanted) ≡ true
+default_from-fits kind None = kind_default-fits kind
+default_from-fits kind (Some Default) = kind_default-fits kind
+default_from-fits kind (Some Drop) = chosen-fits kind true (fits kind Drop) Drop (kind_default kind) refl (kind_default-fits kind)
+default_from-fits kind (Some Sum) = chosen-fits kind true (fits kind Sum) Sum (kind_default kind) refl (kind_default-fits kind)
+default_from-fits kind (Some LastValue) = chosen-fits kind true (fits kind LastValue) LastValue (kind_default kind) refl (kind_default-fits kind)
+default_from-fits kind (Some (ExplicitBucketHistogram bounds m)) =
+    let wanted : Aggregation = ExplicitBucketHistogram bounds m in
+    chosen-fits kind (is_valid wanted) (fits kind wanted) wanted (kind_default kind) refl (kind_default-fits kind)
+
+with_bounds-fits : (own : Option (List ℤ)) (a : Aggregation) → fits Histogram a ≡ true → fits Histogram (with_bounds own a) ≡ true
+with_bounds-fits None a e = e
+with_bounds-fits (Some own) (ExplicitBucketHistogram bounds m) e = refl
+with_bounds-fits (Some own) Drop e = e
+with_bounds-fits (Some own) Default e = e
+with_bounds-fits (Some own) Sum e = e
+with_bounds-fits (Some own) LastValue e = e
+
+with_own-fits : (kind : InstrumentKind) (own : Option (List ℤ)) (a : Aggregation) → fits kind a ≡ true → fits kind (with_own kind own a) ≡ true
+with_own-fits Histogram own a e = with_bounds-fits own a e
+with_own-fits Counter own a e = e
+with_own-fits UpDownCounter own a e = e
+with_own-fits ObservableCounter own a e = e
+with_own-fits ObservableUpDownCounter own a e = e
+with_own-fits Gauge own a e = e
+with_own-fits ObservableGauge own a e = e
+
+-- what is left to the reader or the instrument can be used
+pub compatible-is : (answers : ReaderAnswers) (scope : InstrumentationScope) (about : About) (s : StreamSpec) → is_compatible (demand_of answers scope about s) ≡ can_keep about.kind s.aggregation
+compatible-is answers scope about s = by s.aggregation
+  where
+    by : (set : Option Aggregation) → fits about.kind (resolved_aggregation answers about set) ≡ can_keep about.kind set
+    by None = with_own-fits about.kind about.bounds (reader_default answers about.kind) (default_from-fits about.kind (answer_for answers about.kind).aggregation)
+    by (Some Default) = default_from-fits about.kind (answer_for answers about.kind).aggregation
+    by (Some Drop) = refl
+    by (Some Sum) = refl
+    by (Some LastValue) = refl
+    by (Some (ExplicitBucketHistogram bounds m)) = refl
+
+-- ======== the answers, one after another ========
+module _ (answers : ReaderAnswers) (scope : InstrumentationScope) (about : About) where
+  abbrev demands : List (Option StreamSpec) → List Demand
+  demands l = view_demands (views_answering l) answers scope about
+
+  abbrev usable : List (Option StreamSpec) → List Demand
+  usable l = usable_demands answers scope about l
+
+  abbrev usable-one : Option StreamSpec → List Demand
+  usable-one o = usable_answer answers scope about o
+
+  usable-cons : (o : Option StreamSpec) (l : List (Option StreamSpec)) → usable (o ∷ l) ≡ usable-one o ++ usable l
+  usable-cons None l = refl
+  usable-cons (Some s) l = by (is_compatible (demand_of answers scope about s))
+    where
+      by : (b : Bool) → cond b (demand_of answers scope about s ∷ usable l) (usable l) ≡ cond b (demand_of answers scope about s ∷ []) [] ++ usable l
+      by true = refl
+      by false = refl
+
+  usable-push : (l : List (Option StreamSpec)) (o : Option StreamSpec) → usable (l ++ o ∷ []) ≡ usable l ++ usable-one o
+  usable-push [] o = usable-cons o [] ∙ append-nil (usable-one o)
+  usable-push (x ∷ l) o =
+      usable-cons x (l ++ o ∷ [])
+      ∙ (ap (λ ds. usable-one x ++ ds) (usable-push l o)
+      ∙ (sym (append_assoc (usable-one x) (usable l) (usable-one o)) ∙ ap (λ ds. ds ++ usable-one o) (sym (usable-cons x l))))
+
+  -- one answer more
+  pub usable-more : (l : List (Option StreamSpec)) (i : ℕ) (o : Option StreamSpec) → i < length l → o ≡ get_or l i o → usable (take (i + 1) l) ≡ usable (take i l) ++ usable-one o
+  usable-more l i o h e =
+      ap (λ n. usable (take n l)) (add-one i)
+      ∙ (ap usable (take-suc l i o h ∙ ap (λ x. take i l ++ x ∷ []) (sym e)) ∙ usable-push (take i l) o)
+
+  -- ======== whether the own stream is demanded ========
+  is_empty-is : (l : List (Option StreamSpec)) → model.is_empty (demands l) ≡ not (list_any is_some l)
+  is_empty-is [] = refl
+  is_empty-is (None ∷ l) = is_empty-is l
+  is_empty-is (Some s ∷ l) = refl
+
+  unfit-is : (l : List (Option StreamSpec)) → list_any (λ d. not (is_compatible d)) (demands l) ≡ list_any (is_unfit about.kind) l
+  unfit-is [] = refl
+  unfit-is (None ∷ l) = unfit-is l
+  unfit-is (Some s ∷ l) = λ i. not (compatible-is answers scope about s i) || unfit-is l i
+
+  -- nothing is fed exactly if all that is demanded drops
+  module _ (made : List StreamContents) (now : ℕ) (plan : Planned) (ds : List Demand) (is : IsPlanOf answers made now ds plan) where
+    same-fates : fates_of (made ++ plan.added) ≡ fold machine.enter (fates_of made) ds
+    same-fates = ap (λ p. p.fates) is.streams ∙ demanded-fates now (part_by answers made []) ds
+
+    none-named : (ks : List StreamContents) (ns : List ℕ) → HaveStreams ns ks → has_none ns ≡ no_identity (named_identities ks ns)
+    none-named ks [] all = refl
+    none-named ks (n ∷ ns) all = sym (ap (λ xs. no_identity (xs ++ named_identities ks ns)) (identity_at-is ks n (all.0.0) all.0.1))
+
+    pub fed-none : has_none plan.feeds ≡ not (list_any (λ (d : Demand). not (dropped_with made ds d.identity)) ds)
+    fed-none =
+        none-named (made ++ plan.added) plan.feeds (numbers-named (made ++ plan.added) plan.feeds is.numbers)
+        ∙ (ap no_identity is.feeds
+        ∙ (fed-empty (model.is_dropped (fates_of (made ++ plan.added))) ds
+        ∙ ap (λ fs. not (list_any (λ (d : Demand). not (model.is_dropped fs d.identity)) ds)) same-fates))
+
+  -- so the plan of what can be used tells whether the own stream is demanded
+  pub demands_own-is : (made : List StreamContents) (now : ℕ) (plan : Planned) (l : List (Option StreamSpec)) → IsPlanOf answers made now (usable l) plan
+      → demands_own about.kind l plan.feeds ≡ model.needs_own (dropped_with made (usable l)) (demands l)
+  demands_own-is made now plan l is = λ i. sym (is_empty-is l) i || (sym (unfit-is l) i && fed-none made now plan (usable l) is i)
+
+  -- all that an instrument demands
+  pub demands-with : (made : List StreamContents) (o : Option InstrumentationScope) (l : List (Option StreamSpec)) (b : Bool) → o ≡ Some scope → model.needs_own (dropped_with made (usable l)) (demands l) ≡ b
+      → demands_in (dropped_with made) (views_answering l) answers o about ≡ usable l ++ cond b (own_demand answers scope about ∷ []) []
+  demands-with made o l b e needs =
+      ap (λ s. demands_in (dropped_with made) (views_answering l) answers s about) e
+      ∙ ap (λ n. usable l ++ cond n (own_demand answers scope about ∷ []) []) needs
+
+-- without a scope nothing is demanded
+pub demands-none : (made : List StreamContents) (answers : ReaderAnswers) (o : Option InstrumentationScope) (about : About) (l : List (Option StreamSpec)) → o ≡ None → demands_in (dropped_with made) (views_answering l) answers o about ≡ []
+demands-none made answers o about l e = ap (λ s. demands_in (dropped_with made) (views_answering l) answers s about) e
+
+-- an aggregation that can't be used is not demanded
+pub unfit-demands : (answers : ReaderAnswers) (scope : InstrumentationScope) (about : About) (s : StreamSpec) → can_keep about.kind s.aggregation ≡ false → usable_answer answers scope about (Some s) ≡ []
+unfit-demands answers scope about s e = ap (λ b. cond b (demand_of answers scope about s ∷ []) []) (compatible-is answers scope about s ∙ e)
+
+-- one that can is
+pub fit-demands : (answers : ReaderAnswers) (scope : InstrumentationScope) (about : About) (s : StreamSpec) → can_keep about.kind s.aggregation ≡ true → usable_answer answers scope about (Some s) ≡ demand_of answers scope about s ∷ []
+fit-demands answers scope about s e = ap (λ b. cond b (demand_of answers scope about s ∷ []) []) (compatible-is answers scope about s ∙ e)
+
+-- nothing more
+pub plan-same : (answers : ReaderAnswers) (made : List StreamContents) (now : ℕ) (plan : Planned) (more : List Demand) → more ≡ [] → (ds : List Demand) → IsPlanOf answers made now ds plan → IsPlanOf answers made now (ds ++ more) plan
+plan-same answers made now plan more e ds is = subst (λ (l : List Demand). IsPlanOf answers made now l plan) (sym (append-nil ds) ∙ ap (λ m. ds ++ m) (sym e)) is

@@ -1,0 +1,20 @@
+use Rattle.std.proofs.Common.{◌∙◌, ap, map, arith}
+use Rattle.opentelemetry_sdk.specs.pipeline.Collections.{append_each, shown_in}
+use Rattle.opentelemetry_sdk.proofs.pipeline.Places.{joined-none, lists-long, places-more, places-all}
+use Rattle.opentelemetry_sdk.proofs.pipeline.collecting.metrics_by_meter.Goals as goal
+
+pub loop-stream-init : goal.loop-stream-init
+loop-stream-init c = record {
+  long = lists-long (λ v. v.items) c.in_ok-lists.lists.items _ c.in_ok-lists.ensures.lists ∙ c.len.ensures.len;
+  all = ap (λ xs. append_each xs (map (λ m. shown_in m c.args.now c.args.streams.now) c.args.meters.now.keys)) c.in_ok-lists.ensures.lists
+      ∙ joined-none (λ m. shown_in m c.args.now c.args.streams.now) c.args.meters.now.keys _ c.len.ensures.len;
+}
+
+pub loop-stream-preserved : goal.loop-stream-preserved
+loop-stream-preserved c = record {
+  long = c.push_metric.ensures.long ∙ c.loop-stream.invariant.long;
+  all = places-more c.args.now _ _ _ c.args.streams.now c.loop-stream.stream-index c.stream-item.result c.args.meters.now.keys c.loop-stream-test.true c.stream-item.is c.in_ok-push_metric.ensures.metrics c.loop-stream.invariant.all;
+}
+
+pub returns-clause-metrics : goal.returns-clause-metrics
+returns-clause-metrics c = places-all c.args.now _ _ c.args.streams.now c.loop-stream.stream-index c.args.meters.now.keys (omega (arith, c.loop-stream-test.false)) c.loop-stream.invariant.all

@@ -1,0 +1,36 @@
+-- Calls that are never refused for lack of memory, though others of their kind may be.
+use Rattle.std.specs.Prelude.{◌≡◌, ℕ, Bool, true, List}
+use Rattle.std.specs.List.{list_all}
+use Rattle.otel_common.specs.declared.attributes.KeyValue.{KeyValue}
+use Rattle.otel_model.specs.Calls as model
+use Rattle.otel_model.specs.State.{State}
+use Rattle.opentelemetry_sdk.specs.pipeline.Known.{is_known_at}
+use Rattle.opentelemetry_sdk.specs.States.{IsNamed}
+use Rattle.opentelemetry_sdk.specs.declared.calls.Reply.{Reply}
+use Rattle.opentelemetry_sdk.specs.declared.calls.Reply.TheVariants as reply
+
+-- whether at each reader each stream that the instrument feeds knows the attributes: their set has an entry there, or is
+-- the empty one
+abbrev pub is_known : ℕ → List KeyValue → State → Bool
+is_known n l st = list_all (is_known_at n l) st.readers
+
+-- the call is a record of such attributes
+abbrev pub IsKnown : State → model.Call → Type 0
+IsKnown st (model.Call.Meter scope) = ⊥
+IsKnown st (model.Call.Build meter about now) = ⊥
+IsKnown st (model.Call.Record n v l) = is_known n l st ≡ true
+IsKnown st (model.Call.Bind n l) = ⊥
+IsKnown st (model.Call.RecordBound h v) = ⊥
+IsKnown st (model.Call.Unbind h) = ⊥
+IsKnown st (model.Call.Collect r now os) = ⊥
+IsKnown st model.Call.Flush = ⊥
+IsKnown st model.Call.Shutdown = ⊥
+
+-- the call was not refused for lack of memory
+abbrev pub HasMemory : Reply → Type 0
+HasMemory (reply.Meter number) = Unit {0}
+HasMemory (reply.Instrument number) = Unit {0}
+HasMemory (reply.Handle number) = Unit {0}
+HasMemory reply.Done = Unit {0}
+HasMemory (reply.Collected collection) = Unit {0}
+HasMemory (reply.Refused f) = IsNamed f

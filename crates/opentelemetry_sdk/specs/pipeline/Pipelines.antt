@@ -1,0 +1,239 @@
+-- One reader's streams: as the model's part of a reader, and with what the model leaves out.
+use Rattle.std.specs.Prelude.{◌≡◌, ◌<◌, ◌+◌, ℕ, Bool, not, cond, ◌||◌, true, false, List, [], ◌∷◌, ◌++◌, map, filter, fold, length, All, IsTrue, Option, None, Some, slice_get, position}
+use Rattle.std.specs.Option.{option_map}
+use Rattle.std.specs.List.{IsDistinct, AllByRecursion}
+use Rattle.otel_common.specs.declared.attributes.KeyValue.{KeyValue}
+use Rattle.otel_common.specs.declared.scopes.InstrumentationScope.{InstrumentationScope}
+use Rattle.otel_data.specs.declared.numbers.NumberValue.{NumberValue}
+use Rattle.otel_aggregate.specs.Any.{is_signed_value, amount_of}
+use Rattle.otel_model.specs.Calls.{About, Number, or_else}
+use Rattle.otel_model.specs.Demands.{Identity, Demand, ReaderAnswers, Views, identity_eq, is_drop, is_dropped, are_good_bounds, demands_with, fed_identities}
+use Rattle.otel_model.specs.State.{Stream, ReaderPart}
+use Rattle.otel_model.specs.Machine.{changed_at, part_after_demand, enter}
+use Rattle.otel_model.specs.Sent.{is_fed, set_for}
+use Rattle.otel_model.specs.Streams.{is_delta}
+use Rattle.otel_model_stream.specs.Totals.{has_number}
+use Rattle.opentelemetry_sdk.specs.pipeline.Streams.{StreamContents, contents_after_commit, without_pending, contents_after_collection}
+
+-- what a build is going to do: the numbers of the streams that the instrument will feed, and the new streams
+pub record Planned : Type 0 where
+  pub feeds : List ℕ
+  pub added : List StreamContents
+
+-- a reader's answers; its streams, in order of making; for each instrument the numbers of those that it feeds; what is
+-- planned, if anything; and whether there is room for that. A demand that drops is kept among the streams, so that it
+-- is known
+pub record Piped : Type 0 where
+  pub answers : ReaderAnswers
+  pub streams : List StreamContents
+  pub feeds : List (List ℕ)
+  pub plan : Option Planned
+  pub room : Bool
+
+-- how many streams the plan adds, if there is one
+abbrev pub many_added : Option Planned → ℕ
+many_added None = 0
+many_added (Some plan) = length plan.added
+
+-- ======== the model's part ========
+abbrev pub identity_of : StreamContents → Identity
+identity_of h = h.stream.demand.identity
+
+abbrev pub stream_identities : List StreamContents → List Identity
+stream_identities streams = map identity_of streams
+
+-- the identity of the stream with this number, if there is one
+abbrev pub identity_at : List StreamContents → ℕ → List Identity
+identity_at streams n = found (slice_get streams n)
+  where
+    found : Option StreamContents → List Identity
+    found None = []
+    found (Some h) = identity_of h ∷ []
+
+-- the identities of the streams with these numbers
+abbrev pub named_identities : List StreamContents → List ℕ → List Identity
+named_identities streams [] = []
+named_identities streams (n ∷ ns) = identity_at streams n ++ named_identities streams ns
+
+-- whether the demand makes a stream, that is, doesn't drop
+abbrev pub is_streamed : StreamContents → Bool
+is_streamed h = not (is_drop h.stream.demand.aggregation)
+
+-- the streams, without those that drop
+abbrev pub model_streams : List StreamContents → List Stream
+model_streams streams = map (λ (h : StreamContents). h.stream) (filter is_streamed streams)
+
+-- the demands of the streams
+abbrev pub fates_of : List StreamContents → List Demand
+fates_of streams = map (λ (h : StreamContents). h.stream.demand) streams
+
+-- the part of a reader with these answers and streams, where each instrument feeds the streams with its numbers
+abbrev pub part_by : ReaderAnswers → List StreamContents → List (List ℕ) → ReaderPart
+part_by answers streams feeds = record {
+  answers = answers;
+  fates = fates_of streams;
+  streams = model_streams streams;
+  feeds = map (named_identities streams) feeds;
+}
+
+abbrev pub part_of : Piped → ReaderPart
+part_of p = part_by p.answers p.streams p.feeds
+
+-- whether the list has an element
+abbrev pub some_stream : {X : Type 0} → List X → Bool
+some_stream [] = false
+some_stream (x ∷ xs) = true
+
+-- whether the instrument feeds a stream of the reader
+abbrev pub has_stream_at : ℕ → ReaderPart → Bool
+has_stream_at n part = some_stream (or_else (slice_get part.feeds n) [])
+
+-- ======== what holds of the streams ========
+-- each of these is the number of a stream
+abbrev pub AreNumbers : List StreamContents → List ℕ → Type 0
+AreNumbers streams ns = All (λ n. n < length streams) ns
+
+-- no number occurs twice among these, so that no stream is fed twice
+abbrev pub AreFedOnce : List ℕ → Type 0
+AreFedOnce [] = Unit {0}
+AreFedOnce (n ∷ ns) = (has_number n ns ≡ false) × AreFedOnce ns
+
+-- the streams reset as the reader's answers say
+abbrev pub AreAnswered : ReaderAnswers → List StreamContents → Type 0
+AreAnswered answers streams = AllByRecursion (λ h. h.resets ≡ is_delta answers h.stream.demand) streams
+
+-- no two streams have the same identity, and the instruments feed only streams that are there, each once
+pub record IsLawful (p : Piped) : Type 0 where
+  pub apart : IsDistinct identity_eq (stream_identities p.streams)
+  pub numbers : All (AreNumbers p.streams) p.feeds
+  pub once : AllByRecursion AreFedOnce p.feeds
+
+-- ======== builds ========
+-- the instrument can be built: if it is a histogram with bounds of its own, these rise
+pub record IsBuildable (about : About) : Type 0 where
+  pub bounds : are_good_bounds about.kind about.bounds ≡ true
+
+-- the same of an instrument with a scope; one without demands nothing
+abbrev pub IsBuildableIn : Option InstrumentationScope → About → Type 0
+IsBuildableIn None about = Unit {0}
+IsBuildableIn (Some scope) about = IsBuildable about
+
+-- the demands of an instrument whose name, unit and bounds are valid; without a scope there are none. `dropped` tells
+-- which identities drop once the demands given are made
+abbrev pub demands_in : (List Demand → Identity → Bool) → Views → ReaderAnswers → Option InstrumentationScope → About → List Demand
+demands_in dropped views answers None about = []
+demands_in dropped views answers (Some scope) about = demands_with dropped views answers scope about
+
+-- which identities drop at a reader with these streams, once these demands are made
+abbrev pub dropped_with : List StreamContents → List Demand → Identity → Bool
+dropped_with made demands = is_dropped (fold enter (fates_of made) demands)
+
+-- the number of the stream with this identity, if there is one
+abbrev pub stream_number : Identity → List Identity → Option ℕ
+stream_number x keys = position (identity_eq x) keys
+
+-- whether the stream with this number, if there is one, drops
+abbrev pub drops_at : List StreamContents → ℕ → Bool
+drops_at streams n = by (slice_get streams n)
+  where
+    by : Option StreamContents → Bool
+    by None = false
+    by (Some h) = is_drop h.stream.demand.aggregation
+
+-- a number, and whether its stream drops
+abbrev pub with_drop : List StreamContents → ℕ → ℕ × Bool
+with_drop streams n = (n, drops_at streams n)
+
+-- the number of the stream with this identity, and whether it drops, if there is one
+abbrev pub found_at : Identity → List StreamContents → Option (ℕ × Bool)
+found_at x streams = option_map (with_drop streams) (stream_number x (stream_identities streams))
+
+-- the same, with the numbers counted from `first` on
+abbrev pub counted_from : ℕ → ℕ × Bool → ℕ × Bool
+counted_from first p = (first + p.0, p.1)
+
+-- these numbers and n, unless it is there already or its stream drops: nothing feeds a stream that drops
+abbrev pub fed_once : Bool → ℕ → List ℕ → List ℕ
+fed_once drops n ns = cond (drops || has_number n ns) ns (ns ++ n ∷ [])
+
+-- the plan makes these demands, at a reader with these answers and streams
+pub record IsPlanOf (answers : ReaderAnswers) (made : List StreamContents) (now : ℕ) (demands : List Demand) (plan : Planned) : Type 0 where
+  pub apart : IsDistinct identity_eq (stream_identities (made ++ plan.added))
+  pub numbers : AreNumbers (made ++ plan.added) plan.feeds
+  pub answered : AreAnswered answers plan.added
+  pub streams : part_by answers (made ++ plan.added) [] ≡ fold (part_after_demand now) (part_by answers made []) demands
+  pub feeds : named_identities (made ++ plan.added) plan.feeds ≡ fed_identities (is_dropped (fates_of (made ++ plan.added))) demands
+
+-- there is a plan for some demands, and room to carry it out
+pub record IsPlanned (p : Piped) : Type 0 where
+  pub planned : Planned
+  pub demands : List Demand
+  pub now : ℕ
+  pub plan : p.plan ≡ Some planned
+  pub meets : IsPlanOf p.answers p.streams now demands planned
+  pub room : IsTrue p.room
+
+-- the reader is ready for a build of this instrument: there is a plan for the instrument's demands, and room to carry
+-- it out
+pub record IsReadyFor (views : Views) (scope : Option InstrumentationScope) (about : About) (now : ℕ) (p : Piped) : Type 0 where
+  pub lawful : IsLawful p
+  pub planned : Planned
+  pub plan : p.plan ≡ Some planned
+  pub meets : IsPlanOf p.answers p.streams now (demands_in (dropped_with p.streams) views p.answers scope about) planned
+  pub room : IsTrue p.room
+
+abbrev pub built_by : Option Planned → Piped → Piped
+built_by None p = p
+built_by (Some plan) p = record { answers = p.answers; streams = p.streams ++ plan.added; feeds = p.feeds ++ plan.feeds ∷ []; plan = None; room = p.room }
+
+-- after the plan, if there is one, is carried out
+abbrev pub piped_after_build : Piped → Piped
+piped_after_build p = built_by p.plan p
+
+-- ======== records ========
+-- a value in the words of the model
+abbrev pub number_of : NumberValue → Number
+number_of value = record { signed = is_signed_value value; amount = amount_of value }
+
+-- the elements, once f is done to the one with each of these numbers
+abbrev pub changed_each : {X : Type 0} → (X → X) → List ℕ → List X → List X
+changed_each f ns xs = fold (λ ys n. changed_at n f ys) xs ns
+
+-- the numbers of the streams that the instrument feeds
+abbrev pub fed_by : ℕ → Piped → List ℕ
+fed_by instrument p = or_else (slice_get p.feeds instrument) []
+
+-- the stream, if there is one, is ready for a record of these attributes
+abbrev pub IsPrepared : List KeyValue → Option StreamContents → Type 0
+IsPrepared l None = Unit {0}
+IsPrepared l (Some h) = h.pending ≡ Some (set_for h.stream.demand l)
+
+-- the same of the streams with these numbers
+abbrev pub ArePrepared : List KeyValue → List StreamContents → List ℕ → Type 0
+ArePrepared l streams ns = All (λ n. IsPrepared l (slice_get streams n)) ns
+
+-- the instrument feeds only streams with this number type
+abbrev pub FeedsType : ℕ → Bool → ReaderPart → Type 0
+FeedsType instrument signed p = (x : Identity) → is_fed p.feeds instrument x ≡ true → x.signed ≡ signed
+
+-- the reader is ready for a record of these attributes at the instrument
+pub record IsPreparedFor (instrument : ℕ) (attributes : List KeyValue) (p : Piped) : Type 0 where
+  pub lawful : IsLawful p
+  pub prepared : ArePrepared attributes p.streams (fed_by instrument p)
+
+-- the streams, with nothing prepared and no room made
+abbrev pub all_without_pending : List StreamContents → List StreamContents
+all_without_pending streams = map without_pending streams
+
+-- the reader's part, once f is done to each stream that the instrument feeds
+abbrev pub part_changed_by : (StreamContents → StreamContents) → ℕ → Piped → ReaderPart
+part_changed_by f instrument p = part_by p.answers (changed_each f (fed_by instrument p) p.streams) p.feeds
+
+-- the same, once the prepared record is made
+abbrev pub part_after_record : ℕ → NumberValue → Piped → ReaderPart
+part_after_record instrument value p = part_changed_by (contents_after_commit value) instrument p
+
+-- ======== collections ========
+-- the streams after a collection at a moment
+abbrev pub all_after_collection : ℕ → List StreamContents → List StreamContents
+all_after_collection now streams = map (contents_after_collection now) streams

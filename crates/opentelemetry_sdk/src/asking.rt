@@ -1,0 +1,87 @@
+//! What views answer about an instrument.
+
+ghost use Rattle.std.specs.Prelude.{◌≡◌, [], map, IfOk, IsOkUnless};
+ghost use Rattle.std.specs.Option.{option_map};
+ghost use Rattle.otel_model.specs.Calls.{or_else};
+ghost use Rattle.otel_model.specs.Demands.{instrument_of};
+ghost use Rattle.opentelemetry_sdk.specs.States.{AreAsked};
+
+use crate::pipeline::about::About;
+use otel_common::faults::Fault;
+use otel_common::laws::copied_scope;
+use otel_common::scopes::InstrumentationScope;
+use otel_common::strings::StringValue;
+use otel_stream::instrument::Instrument;
+use otel_stream::stream::Stream;
+use otel_stream::view::View;
+use std::alloc::Global;
+
+/// Returns a copy of the text, or the empty text if there is none.
+fn text_of(alloc: Global, text: &Option<StringValue>) -> Result<StringValue, Fault>
+    ensures text { IfOk result (λ t. t ≡ or_else text.now []) }
+    ensures only_memory { IsOkUnless result Fault.OutOfMemory }
+{
+    match text {
+        Some(text) => Ok(text.clone()?),
+        None => Ok(String::new(alloc).into()),
+    }
+}
+
+/// Makes the instrument of a build, as views see it.
+fn seen_by_views(
+    alloc: Global,
+    scope: &InstrumentationScope,
+    about: &About<'_>,
+) -> Result<Instrument, Fault>
+    ensures instrument { IfOk result (λ i. i ≡ instrument_of scope.now about.now) }
+    ensures only_memory { IsOkUnless result Fault.OutOfMemory }
+{
+    copied_scope();
+    Ok(Instrument {
+        name: about.name.clone()?,
+        description: text_of(alloc, about.description)?,
+        kind: about.kind,
+        unit: text_of(alloc, about.unit)?,
+        scope: scope.clone()?,
+    })
+}
+
+/// Asks each view about an instrument, in order.
+fn ask_each<V: View>(
+    alloc: Global,
+    views: &[V],
+    instrument: &Instrument,
+) -> Result<Vec<Option<Stream>>, Fault>
+    ensures answers { IfOk result (λ answers. answers.items ≡ map (λ v. V.answer v instrument.now) views.now) }
+    ensures only_memory { IsOkUnless result Fault.OutOfMemory }
+{
+    let mut answers = Vec::with_capacity(alloc, views.len())?;
+    for view in views {
+        let answer = view.match_inst(instrument)?;
+        answers.push_reserved(answer);
+    }
+    Ok(answers)
+}
+
+/// Asks each view once about the instrument of a build; without a scope, asks none. Takes no memory if there are no
+/// views.
+pub(crate) fn ask_in<V: View>(
+    alloc: Global,
+    views: &[V],
+    scope: Option<&InstrumentationScope>,
+    about: &About<'_>,
+) -> Result<Vec<Option<Stream>>, Fault>
+    ensures asked { IfOk result (λ answers. AreAsked (map V.answer views.now) (option_map (λ s. s.now) scope.entry) about.now answers.items) }
+    ensures only_memory { IsOkUnless result Fault.OutOfMemory }
+{
+    match scope {
+        Some(scope) => {
+            if views.is_empty() {
+                return Ok(Vec::new(alloc));
+            }
+            let instrument = seen_by_views(alloc, scope, about)?;
+            ask_each(alloc, views, &instrument)
+        }
+        None => Ok(Vec::new(alloc)),
+    }
+}

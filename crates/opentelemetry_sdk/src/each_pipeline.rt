@@ -1,0 +1,274 @@
+//! What is done to the streams of all readers, one reader after another.
+
+ghost use Rattle.std.specs.Prelude.{◌≡◌, [], true, false, All, map, IsOk, OnOk, OnErr, IsOkUnless};
+ghost use Rattle.std.specs.List.{list_any, list_all, AllByRecursion as EachOf};
+ghost use Rattle.std.specs.Option.{option_map};
+ghost use Rattle.otel_model.specs.Calls as model;
+ghost use Rattle.otel_model.specs.Machine as machine;
+ghost use Rattle.otel_model.specs.Machine.{part_after_call};
+ghost use Rattle.opentelemetry_sdk.specs.pipeline.Handles.{FeedsSynchronous, IsNewAt, IsHeldByFed, IsReadyToBindAt, part_after_bind};
+ghost use Rattle.opentelemetry_sdk.specs.pipeline.Known.{is_known_at};
+ghost use Rattle.opentelemetry_sdk.specs.pipeline.Pipelines.{part_of, has_stream_at, piped_after_build, part_after_record, IsBuildableIn, IsPlanned, IsReadyFor, IsPreparedFor};
+ghost use Rattle.opentelemetry_sdk.specs.pipeline.Views.{views_answering};
+ghost use Rattle.opentelemetry_sdk.specs.Correspondence.{number_of};
+ghost use Rattle.opentelemetry_sdk.specs.States.{IsGoodIn, FeedType};
+
+use crate::pipeline::Pipeline;
+use crate::pipeline::about::About;
+use otel_aggregate::value_map::hashed_key::GivenAttributes;
+use otel_aggregate::value_map::hashing::SetHashBuilder;
+use otel_common::attributes::KeyValue;
+use otel_common::faults::Fault;
+use otel_common::scopes::InstrumentationScope;
+use otel_data::numbers::NumberValue;
+use otel_stream::stream::Stream;
+use std::alloc::AllocError;
+
+/// Plans a build at all readers, given each view's answer. What the readers have doesn't change.
+fn plan_all(
+    pipelines: &mut [Pipeline],
+    scope: Option<&InstrumentationScope>,
+    about: &About<'_>,
+    answered: &[Option<Stream>],
+    now: u64,
+) -> Result<(), Fault>
+    requires { IsBuildableIn (option_map (λ s. s.now) scope) about.now }
+    ensures same { map part_of pipelines.new ≡ map part_of pipelines.old }
+    ensures ready { OnOk result (All (IsReadyFor (views_answering answered.now) (option_map (λ s. s.now) scope.entry) about.now now) pipelines.new) }
+    ensures only_memory { IsOkUnless result Fault.OutOfMemory }
+{
+    for i in 0..pipelines.len() {
+        pipelines[i].plan(scope, about, answered, now)?;
+    }
+    Ok(())
+}
+
+/// Carries out the planned build at all readers.
+fn build_all(pipelines: &mut [Pipeline])
+    requires { All IsPlanned pipelines.old }
+    ensures { map part_of pipelines.new ≡ map (λ p. part_of (piped_after_build p)) pipelines.old }
+{
+    for i in 0..pipelines.len() {
+        pipelines[i].build();
+    }
+}
+
+/// Prepares a record in the streams that an instrument feeds, at all readers.
+#[inline(always)]
+fn prepare_all(
+    pipelines: &mut [Pipeline],
+    instrument: usize,
+    attributes: &GivenAttributes,
+) -> Result<(), AllocError>
+    ensures same { map part_of pipelines.new ≡ map part_of pipelines.old }
+    ensures prepared { OnOk result (All (IsPreparedFor instrument attributes.now) pipelines.new) }
+    ensures free { attributes.now ≡ [] → IsOk result }
+    ensures known { list_all (is_known_at instrument attributes.now) (map part_of pipelines.old) ≡ true → IsOk result }
+{
+    for i in 0..pipelines.len() {
+        pipelines[i].prepare(instrument, attributes)?;
+    }
+    Ok(())
+}
+
+/// Makes the prepared record in the streams that an instrument feeds, at all readers.
+#[inline(always)]
+fn commit_all(pipelines: &mut [Pipeline], instrument: usize, value: NumberValue)
+    ensures { map part_of pipelines.new ≡ map (part_after_record instrument value) pipelines.old }
+{
+    for i in 0..pipelines.len() {
+        pipelines[i].commit(instrument, value);
+    }
+}
+
+/// Makes a record without attributes in the streams that an instrument feeds, at all readers.
+#[inline(never)]
+fn record_none_all(pipelines: &mut [Pipeline], instrument: usize, value: NumberValue)
+    requires { FeedType instrument (number_of value) (map part_of pipelines.old) }
+    ensures { map part_of pipelines.new ≡ map (part_after_call 0 (model.Call.Record instrument (number_of value) [])) (map part_of pipelines.old) }
+{
+    for i in 0..pipelines.len() {
+        pipelines[i].record_none(instrument, value);
+    }
+}
+
+/// Prepares a bind in the streams that an instrument feeds, at all readers.
+fn prepare_bind_all(
+    pipelines: &mut [Pipeline],
+    instrument: usize,
+    attributes: &GivenAttributes,
+) -> Result<(), Fault>
+    ensures same { map part_of pipelines.new ≡ map part_of pipelines.old }
+    ensures ready { OnOk result (All (IsReadyToBindAt instrument attributes.now) pipelines.new) }
+    ensures only_memory { IsOkUnless result Fault.OutOfMemory }
+{
+    for i in 0..pipelines.len() {
+        pipelines[i].prepare_bind(instrument, attributes)?;
+    }
+    Ok(())
+}
+
+/// Makes the prepared bind in the streams that an instrument feeds, at all readers, and returns the handle's place in one
+/// of them. It mostly has the same place in all.
+fn commit_bind_all(pipelines: &mut [Pipeline], instrument: usize, handle: u64) -> usize
+    ensures { map part_of pipelines.new ≡ map (part_after_bind instrument handle) pipelines.old }
+{
+    let mut place = 0;
+    for i in 0..pipelines.len() {
+        place = place.max(pipelines[i].commit_bind(instrument, handle));
+    }
+    place
+}
+
+/// Makes new streams of all readers hash sets with this builder from now on.
+pub(crate) fn set_hashers(pipelines: &mut [Pipeline], hasher: SetHashBuilder)
+    ensures { pipelines.new ≡ pipelines.old }
+{
+    for i in 0..pipelines.len() {
+        pipelines[i].set_hasher(hasher);
+    }
+}
+
+/// Whether an instrument feeds a stream of some reader.
+pub(crate) fn any_stream(pipelines: &[Pipeline], instrument: usize) -> bool
+    ensures { result ≡ list_any (λ p. has_stream_at instrument (part_of p)) pipelines.now }
+{
+    pipelines
+        .iter()
+        .any(|pipeline| pipeline.has_stream(instrument))
+}
+
+/// Builds an instrument at all readers or at none, given each view's answer. Without a scope it demands no stream.
+pub(crate) fn build_or_none(
+    pipelines: &mut [Pipeline],
+    scope: Option<&InstrumentationScope>,
+    about: &About<'_>,
+    answered: &[Option<Stream>],
+    now: u64,
+) -> Result<(), Fault>
+    requires { IsGoodIn (option_map (λ s. s.now) scope) about.now }
+    ensures ok { OnOk result (map part_of pipelines.new ≡ map (machine.part_after_build (views_answering answered.now) (option_map (λ s. s.now) scope.entry) about.now now) (map part_of pipelines.old)) }
+    ensures err { OnErr result (map part_of pipelines.new ≡ map part_of pipelines.old) }
+    ensures only_memory { IsOkUnless result Fault.OutOfMemory }
+{
+    plan_all(pipelines, scope, about, answered, now)?;
+    build_all(pipelines);
+    Ok(())
+}
+
+/// The attributes of a record or a bind, with their hash if several readers are to look them up.
+fn given_at<'a>(pipelines: &[Pipeline], attributes: &'a [KeyValue]) -> GivenAttributes<'a>
+    ensures { result ≡ attributes.now }
+{
+    if pipelines.len() > 1 {
+        GivenAttributes::hashed(pipelines[0].hasher(), attributes)
+    } else {
+        GivenAttributes::new(attributes)
+    }
+}
+
+/// Makes a record with attributes in the streams that an instrument feeds, at all readers or at none. Out of line, so that
+/// a record without attributes is short.
+#[inline(never)]
+fn record_given(
+    pipelines: &mut [Pipeline],
+    instrument: usize,
+    value: NumberValue,
+    attributes: &[KeyValue],
+) -> Result<(), AllocError>
+    requires { FeedType instrument (number_of value) (map part_of pipelines.old) }
+    ensures ok { OnOk result (map part_of pipelines.new ≡ map (part_after_call 0 (model.Call.Record instrument (number_of value) attributes.now)) (map part_of pipelines.old)) }
+    ensures err { OnErr result (map part_of pipelines.new ≡ map part_of pipelines.old) }
+    ensures known { list_all (is_known_at instrument attributes.now) (map part_of pipelines.old) ≡ true → IsOk result }
+{
+    let given = given_at(pipelines, attributes);
+    prepare_all(pipelines, instrument, &given)?;
+    commit_all(pipelines, instrument, value);
+    Ok(())
+}
+
+/// Makes a record in the streams that an instrument feeds, at all readers or at none. At the only reader there is nothing
+/// to undo, so it is made in one pass.
+#[inline(always)]
+pub(crate) fn record_or_none(
+    pipelines: &mut [Pipeline],
+    instrument: usize,
+    value: NumberValue,
+    attributes: &[KeyValue],
+) -> Result<(), Fault>
+    requires { FeedType instrument (number_of value) (map part_of pipelines.old) }
+    ensures ok { OnOk result (map part_of pipelines.new ≡ map (part_after_call 0 (model.Call.Record instrument (number_of value) attributes.now)) (map part_of pipelines.old)) }
+    ensures err { OnErr result (map part_of pipelines.new ≡ map part_of pipelines.old) }
+    ensures free { attributes.now ≡ [] → IsOk result }
+    ensures known { list_all (is_known_at instrument attributes.now) (map part_of pipelines.old) ≡ true → IsOk result }
+    ensures only_memory { IsOkUnless result Fault.OutOfMemory }
+{
+    if pipelines.len() == 1 {
+        if attributes.is_empty() {
+            pipelines[0].record_none(instrument, value);
+            return Ok(());
+        }
+        pipelines[0].record(instrument, value, attributes)?;
+        return Ok(());
+    }
+    if attributes.is_empty() {
+        record_none_all(pipelines, instrument, value);
+        return Ok(());
+    }
+    record_given(pipelines, instrument, value, attributes)?;
+    Ok(())
+}
+
+/// Binds a new handle in the streams that an instrument feeds, at all readers or at none, and returns its place in one of
+/// them.
+pub(crate) fn bind_or_none(
+    pipelines: &mut [Pipeline],
+    instrument: usize,
+    handle: u64,
+    attributes: &[KeyValue],
+) -> Result<usize, Fault>
+    requires synchronous { EachOf (FeedsSynchronous instrument) (map part_of pipelines.old) }
+    requires new { EachOf (IsNewAt handle) (map part_of pipelines.old) }
+    ensures ok { OnOk result (map part_of pipelines.new ≡ map (part_after_call handle (model.Call.Bind instrument attributes.now)) (map part_of pipelines.old)) }
+    ensures err { OnErr result (map part_of pipelines.new ≡ map part_of pipelines.old) }
+    ensures only_memory { IsOkUnless result Fault.OutOfMemory }
+{
+    let given = given_at(pipelines, attributes);
+    prepare_bind_all(pipelines, instrument, &given)?;
+    Ok(commit_bind_all(pipelines, instrument, handle))
+}
+
+/// Makes a record through a handle in the streams that its instrument feeds, at all readers. Looks for the handle at this
+/// place of theirs first.
+#[inline(always)]
+pub(crate) fn record_held(
+    pipelines: &mut [Pipeline],
+    instrument: usize,
+    handle: u64,
+    place: usize,
+    value: NumberValue,
+)
+    requires typed { FeedType instrument (number_of value) (map part_of pipelines.old) }
+    requires synchronous { EachOf (FeedsSynchronous instrument) (map part_of pipelines.old) }
+    requires held { EachOf (IsHeldByFed instrument handle) (map part_of pipelines.old) }
+    ensures { map part_of pipelines.new ≡ map (part_after_call 0 (model.Call.RecordBound handle (number_of value))) (map part_of pipelines.old) }
+{
+    if pipelines.len() == 1 {
+        pipelines[0].record_held(instrument, handle, place, value);
+        return;
+    }
+    for i in 0..pipelines.len() {
+        pipelines[i].record_held(instrument, handle, place, value);
+    }
+}
+
+/// Ends a handle in the streams that its instrument feeds, at all readers.
+pub(crate) fn unbind_held(pipelines: &mut [Pipeline], instrument: usize, handle: u64)
+    requires synchronous { EachOf (FeedsSynchronous instrument) (map part_of pipelines.old) }
+    requires held { EachOf (IsHeldByFed instrument handle) (map part_of pipelines.old) }
+    ensures { map part_of pipelines.new ≡ map (part_after_call 0 (model.Call.Unbind handle)) (map part_of pipelines.old) }
+{
+    for i in 0..pipelines.len() {
+        pipelines[i].unbind(instrument, handle);
+    }
+}

@@ -1,0 +1,388 @@
+//! One reader's part of a provider: its answers, its streams, and what feeds them.
+
+ghost use Rattle.std.specs.Prelude.{◌≡◌, [], true, ℕ, IfOk, OnOk, OnErr, IsOk, IsOkUnless, map};
+ghost use Rattle.otel_model.specs.Calls as model;
+ghost use Rattle.otel_model.specs.Machine.{part_after_call};
+ghost use Rattle.std.specs.Option.{option_map};
+ghost use Rattle.opentelemetry_sdk.specs.pipeline.Collections.{IsCollectedFrom};
+ghost use Rattle.opentelemetry_sdk.specs.pipeline.Handles.{AreObservableFor, FeedsSynchronous, IsHeldByFed, IsReadyToBindAt, part_after_bind};
+ghost use Rattle.opentelemetry_sdk.specs.pipeline.Known.{is_known_at};
+ghost use Rattle.opentelemetry_sdk.specs.pipeline.Observations.{AreTypedFor, observed_of};
+ghost use Rattle.opentelemetry_sdk.specs.pipeline.Pipelines.{part_of, has_stream_at, number_of, piped_after_build, part_after_record, FeedsType, IsBuildableIn, IsPlanned, IsReadyFor, IsPreparedFor};
+ghost use Rattle.otel_aggregate.specs.Any.{is_signed_value};
+ghost use Rattle.opentelemetry_sdk.specs.pipeline.Views.{views_answering};
+
+use crate::pipeline::about::About;
+use crate::pipeline::each_stream::{
+    commit_bind_each, commit_each, prepare_bind_each, prepare_each, record_held_each,
+    record_none_each, streams_fed, unbind_each,
+};
+use crate::pipeline::metric_stream::MetricStream;
+use crate::pipeline::observing::collect_observed;
+use crate::pipeline::plan::Plan;
+use crate::pipeline::vectors::insert_each;
+use indexmap::IndexSet;
+use otel_aggregate::value_map::hashed_key::GivenAttributes;
+use otel_aggregate::value_map::hashing::SetHashBuilder;
+use otel_common::attributes::KeyValue;
+use otel_common::faults::Fault;
+use otel_common::lists::Items;
+use otel_common::resource::Resource;
+use otel_common::scopes::InstrumentationScope;
+use otel_data::collections::ResourceMetrics;
+use otel_data::numbers::NumberValue;
+use otel_stream::answers::Answers;
+use otel_stream::demand::Identity;
+use otel_stream::laws::kind_laws;
+use otel_stream::observation::Observed;
+use otel_stream::stream::Stream;
+use std::alloc::{AllocError, Global};
+use std::marker::Model;
+
+pub mod about;
+mod aggregations;
+mod collecting;
+pub mod defaults;
+pub mod demands;
+mod each_stream;
+mod metric_stream;
+mod observing;
+mod plan;
+mod planning;
+mod saved;
+mod vectors;
+
+/// What one reader answered, its streams in order of making, and, for each instrument, the streams that it feeds.
+pub struct Pipeline {
+    pub(crate) alloc: Global,
+    pub(crate) hasher: SetHashBuilder,
+    pub(crate) answers: Answers,
+    pub(crate) identities: IndexSet<Identity>,
+    /// A demand that drops has a place here too, so that its identity is known; nothing feeds it, and no collection
+    /// shows it.
+    pub(crate) streams: Vec<MetricStream>,
+    feeds: Vec<Items<usize>>,
+    plan: Option<Plan>,
+}
+
+impl Model for Pipeline {
+    ghost use Rattle.std.specs.Prelude.{◌≡◌, ◌+◌, ◌&&◌, nat_lt, nat_le, All, vec_len, vec_capacity};
+    ghost use Rattle.std.specs.List.{AllByRecursion};
+    ghost use Rattle.indexmap.specs.IndexSet.{spare};
+    ghost use Rattle.opentelemetry_sdk.specs.pipeline.Pipelines.{Piped, AreNumbers, AreAnswered, AreFedOnce, many_added, stream_identities};
+
+    ghost Value = { Piped };
+
+    ghost view = { λ p. record {
+      answers = p.answers;
+      streams = p.streams.items;
+      feeds = p.feeds.items;
+      plan = p.plan;
+      room = nat_le (many_added p.plan) (spare p.identities) && (nat_le (vec_len p.streams + many_added p.plan) (vec_capacity p.streams) && nat_lt (vec_len p.feeds) (vec_capacity p.feeds));
+    } };
+
+    ghost invariant = { λ p. (p.identities.keys ≡ stream_identities p.streams.items) × All (AreNumbers p.streams.items) p.feeds.items × AreAnswered p.answers p.streams.items × AllByRecursion AreFedOnce p.feeds.items };
+}
+
+impl Drop for Pipeline {
+    /// A function of its own, so that no proof about who lets one go looks into it.
+    fn drop(self) {
+        let Pipeline {
+            alloc: _,
+            hasher: _,
+            answers: _answers,
+            identities: _identities,
+            streams: _streams,
+            feeds: _feeds,
+            plan: _plan,
+        } = self;
+    }
+}
+
+impl Pipeline {
+    /// Makes the pipeline of a reader with these answers, without streams. Takes no memory.
+    pub fn new(alloc: Global, hasher: SetHashBuilder, answers: Answers) -> Pipeline
+        ensures answers { result.answers ≡ answers }
+        ensures streams { result.streams ≡ [] }
+        ensures feeds { result.feeds ≡ [] }
+    {
+        Pipeline {
+            alloc,
+            hasher,
+            answers,
+            identities: IndexSet::new(alloc),
+            streams: Vec::new(alloc),
+            feeds: Vec::new(alloc),
+            plan: None,
+        }
+    }
+
+    /// Sets the hasher of sets for streams made from now on. It has no visible effect. Takes no memory.
+    pub fn set_hasher(&mut self, hasher: SetHashBuilder)
+        ensures { self.new ≡ self.old }
+    {
+        self.hasher = hasher;
+    }
+
+    /// Plans a build of this instrument at the moment `now`, in nanoseconds since 1970. `answered` has the answer of
+    /// each view; without a scope the instrument demands nothing. What the reader has stays unchanged.
+    ///
+    /// For each answer, and for the instrument's own stream if that is demanded, copies texts, keys and bounds, looks
+    /// up the identity, and takes memory for a new stream.
+    pub fn plan(
+        &mut self,
+        scope: Option<&InstrumentationScope>,
+        about: &About<'_>,
+        answered: &[Option<Stream>],
+        now: u64,
+    ) -> Result<(), Fault>
+        requires { IsBuildableIn (option_map (λ s. s.now) scope) about.now }
+        ensures same { part_of self.new ≡ part_of self.old }
+        ensures ready { OnOk result (IsReadyFor (views_answering answered.now) (option_map (λ s. s.now) scope.entry) about.now now self.new) }
+        ensures only_memory { IsOkUnless result Fault.OutOfMemory }
+    {
+        let plan = self.plan_in(scope, about, answered, now)?;
+        kind_laws();
+        let many = plan.added.len();
+        self.plan = Some(plan);
+        self.identities.reserve(many)?;
+        self.streams.reserve(many)?;
+        self.feeds.reserve(1)?;
+        Ok(())
+    }
+
+    /// Carries out the planned build. Takes no memory.
+    pub fn build(&mut self)
+        requires { IsPlanned self.old }
+        ensures { part_of self.new ≡ part_of (piped_after_build self.old) }
+    {
+        kind_laws();
+        let Some(plan) = self.plan.take() else {
+            return;
+        };
+        let Plan {
+            hasher: _,
+            feeds,
+            identities,
+            mut added,
+        } = plan;
+        insert_each(&mut self.identities, identities);
+        self.streams.append(&mut added).unwrap();
+        self.feeds.push_reserved(Items::from(feeds));
+    }
+
+    /// What sets of attributes are hashed with.
+    pub fn hasher(&self) -> SetHashBuilder {
+        self.hasher
+    }
+
+    /// Whether an instrument feeds a stream of this reader.
+    pub fn has_stream(&self, instrument: usize) -> bool
+        ensures { result ≡ has_stream_at instrument (part_of self.now) }
+    {
+        !streams_fed(&self.feeds, instrument).is_empty()
+    }
+
+    /// Prepares a record with these attributes in the streams that the instrument feeds. What the reader has stays
+    /// unchanged.
+    ///
+    /// Looks the attributes up in each of these streams; `AnyAggregate::prepare` tells when that takes memory.
+    #[inline(always)]
+    pub fn prepare(
+        &mut self,
+        instrument: usize,
+        attributes: &GivenAttributes,
+    ) -> Result<(), AllocError>
+        ensures same { part_of self.new ≡ part_of self.old }
+        ensures prepared { OnOk result (IsPreparedFor instrument attributes.now self.new) }
+        ensures free { attributes.now ≡ [] → IsOk result }
+        ensures known { is_known_at instrument attributes.now (part_of self.old) ≡ true → IsOk result }
+    {
+        // These two tell the prover that no identity occurs twice.
+        kind_laws();
+        let _ = self.identities.len();
+        prepare_each(
+            &mut self.streams,
+            streams_fed(&self.feeds, instrument),
+            attributes,
+        )
+    }
+
+    /// Takes in the prepared record in the streams that the instrument feeds. Takes no memory, and looks nothing up
+    /// for a set that has an entry.
+    #[inline(always)]
+    pub fn commit(&mut self, instrument: usize, value: NumberValue)
+        ensures { part_of self.new ≡ part_after_record instrument value self.old }
+    {
+        commit_each(
+            &mut self.streams,
+            streams_fed(&self.feeds, instrument),
+            value,
+        );
+    }
+
+    /// Makes a record with these attributes in all streams that the instrument feeds or in none, in one pass if it feeds
+    /// one stream. Out of line, so that a record without attributes is short.
+    #[inline(never)]
+    pub fn record(
+        &mut self,
+        instrument: usize,
+        value: NumberValue,
+        attributes: &[KeyValue],
+    ) -> Result<(), AllocError>
+        requires { FeedsType instrument (is_signed_value value) (part_of self.old) }
+        ensures ok { OnOk result (part_of self.new ≡ part_after_call 0 (model.Call.Record instrument (number_of value) attributes.now) (part_of self.old)) }
+        ensures err { OnErr result (part_of self.new ≡ part_of self.old) }
+        ensures known { is_known_at instrument attributes.now (part_of self.old) ≡ true → IsOk result }
+    {
+        // These two tell the prover that no identity occurs twice.
+        kind_laws();
+        let _ = self.identities.len();
+        let feeds = streams_fed(&self.feeds, instrument);
+        if feeds.len() == 1 {
+            return self.streams[feeds[0]].record(value, attributes);
+        }
+        self.record_each(instrument, value, attributes)
+    }
+
+    /// Makes a record with these attributes in all streams that the instrument feeds or in none, in two passes.
+    #[inline(never)]
+    fn record_each(
+        &mut self,
+        instrument: usize,
+        value: NumberValue,
+        attributes: &[KeyValue],
+    ) -> Result<(), AllocError>
+        requires { FeedsType instrument (is_signed_value value) (part_of self.old) }
+        ensures ok { OnOk result (part_of self.new ≡ part_after_call 0 (model.Call.Record instrument (number_of value) attributes.now) (part_of self.old)) }
+        ensures err { OnErr result (part_of self.new ≡ part_of self.old) }
+        ensures known { is_known_at instrument attributes.now (part_of self.old) ≡ true → IsOk result }
+    {
+        self.prepare(instrument, &GivenAttributes::new(attributes))?;
+        self.commit(instrument, value);
+        Ok(())
+    }
+
+    /// Makes a record without attributes in the streams that the instrument feeds. Looks nothing up, and takes no
+    /// memory.
+    #[inline(always)]
+    pub fn record_none(&mut self, instrument: usize, value: NumberValue)
+        requires { FeedsType instrument (is_signed_value value) (part_of self.old) }
+        ensures { part_of self.new ≡ part_after_call 0 (model.Call.Record instrument (number_of value) []) (part_of self.old) }
+    {
+        // These two tell the prover that no identity occurs twice.
+        kind_laws();
+        let _ = self.identities.len();
+        let feeds = streams_fed(&self.feeds, instrument);
+        if feeds.len() == 1 {
+            self.streams[feeds[0]].record_none(value);
+            return;
+        }
+        record_none_each(&mut self.streams, feeds, value);
+    }
+
+    /// Prepares a bind to these attributes in the streams that the instrument feeds, and makes room for its handle
+    /// there. What the reader has stays unchanged.
+    ///
+    /// Looks the attributes up in each of these streams.
+    pub fn prepare_bind(
+        &mut self,
+        instrument: usize,
+        attributes: &GivenAttributes,
+    ) -> Result<(), Fault>
+        ensures same { part_of self.new ≡ part_of self.old }
+        ensures ready { OnOk result (IsReadyToBindAt instrument attributes.now self.new) }
+        ensures only_memory { IsOkUnless result Fault.OutOfMemory }
+    {
+        // These two tell the prover that no identity occurs twice.
+        kind_laws();
+        let _ = self.identities.len();
+        prepare_bind_each(
+            &mut self.streams,
+            streams_fed(&self.feeds, instrument),
+            attributes,
+        )
+    }
+
+    /// Carries out the prepared bind in the streams that the instrument feeds, for this handle, and returns its place in
+    /// one of them, for `record_held`; 0 if there is none. Takes no memory.
+    pub fn commit_bind(&mut self, instrument: usize, handle: u64) -> usize
+        ensures { part_of self.new ≡ part_after_bind instrument handle self.old }
+    {
+        commit_bind_each(
+            &mut self.streams,
+            streams_fed(&self.feeds, instrument),
+            handle,
+        )
+    }
+
+    /// Makes a record through a handle in the streams that its instrument feeds. Looks for the handle at this place
+    /// first, and looks it up in a stream only if it is not there. Takes no memory.
+    #[inline(always)]
+    pub fn record_held(&mut self, instrument: usize, handle: u64, place: usize, value: NumberValue)
+        requires typed { FeedsType instrument (is_signed_value value) (part_of self.old) }
+        requires synchronous { FeedsSynchronous instrument (part_of self.old) }
+        requires held { IsHeldByFed instrument handle (part_of self.old) }
+        ensures { part_of self.new ≡ part_after_call 0 (model.Call.RecordBound handle (number_of value)) (part_of self.old) }
+    {
+        // These two tell the prover that no identity occurs twice.
+        kind_laws();
+        let _ = self.identities.len();
+        let feeds = streams_fed(&self.feeds, instrument);
+        if feeds.len() == 1 {
+            self.streams[feeds[0]].record_held(handle, place, value);
+            return;
+        }
+        record_held_each(&mut self.streams, feeds, handle, place, value);
+    }
+
+    /// Ends a handle in the streams that its instrument feeds. Takes no memory.
+    pub fn unbind(&mut self, instrument: usize, handle: u64)
+        requires synchronous { FeedsSynchronous instrument (part_of self.old) }
+        requires held { IsHeldByFed instrument handle (part_of self.old) }
+        ensures { part_of self.new ≡ part_after_call 0 (model.Call.Unbind handle) (part_of self.old) }
+    {
+        // These two tell the prover that no identity occurs twice.
+        kind_laws();
+        let _ = self.identities.len();
+        unbind_each(
+            &mut self.streams,
+            streams_fed(&self.feeds, instrument),
+            handle,
+        );
+    }
+
+    /// Takes in what was observed, and makes a collection at the moment `now`, in nanoseconds since 1970, for the
+    /// resource and by the scopes of these meters. After that, the streams that reset start again, and those of
+    /// observed sums are empty. If it fails, the observations are undone.
+    ///
+    /// Goes once over streams, points and meters. Copies the resource and the scopes, and also the entries of each
+    /// stream that takes an observation in, to undo that if need be. Shares the sets that are shown, and copies none.
+    pub fn collect(
+        &mut self,
+        resource: &Resource,
+        meters: &IndexSet<InstrumentationScope>,
+        observations: &[Observed],
+        now: u64,
+    ) -> Result<ResourceMetrics, Fault>
+        requires typed { AreTypedFor observations.now (part_of self.old) }
+        requires observable { AreObservableFor observations.now (part_of self.old) }
+        ensures collection { IfOk result (λ c. IsCollectedFrom resource.now meters.now.keys now (map observed_of observations.now) (part_of self.old) c) }
+        ensures ok { OnOk result ((r : ℕ) → part_of self.new ≡ part_after_call 0 (model.Call.Collect r now (map observed_of observations.now)) (part_of self.old)) }
+        ensures err { OnErr result (part_of self.new ≡ part_of self.old) }
+        ensures only_memory { IsOkUnless result Fault.OutOfMemory }
+    {
+        // These two tell the prover that no identity occurs twice.
+        kind_laws();
+        let _ = self.identities.len();
+        collect_observed(
+            self.alloc,
+            &mut self.streams,
+            &self.feeds,
+            resource,
+            meters,
+            observations,
+            now,
+        )
+    }
+}

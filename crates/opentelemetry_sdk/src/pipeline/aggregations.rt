@@ -1,0 +1,143 @@
+//! What a stream makes of its records, given its demand.
+
+ghost use Rattle.std.specs.Prelude.{◌≡◌, false, IfOk, IsOkUnless};
+ghost use Rattle.otel_aggregate.specs.Any as any;
+ghost use Rattle.otel_model.specs.Demands as demands;
+ghost use Rattle.otel_model.specs.Demands.{resets};
+ghost use Rattle.otel_model.specs.Streams.{aggregate_of, always_resets, has_sum, is_delta, is_drained, is_monotonic_kind, observes_sums};
+ghost use Rattle.opentelemetry_sdk.specs.pipeline.Streams.{IsMakeable, asks_monotonic};
+
+use otel_aggregate::aggregators::bounds::Bounds;
+use otel_aggregate::settings::{AnySettings, HistogramSettings};
+use otel_common::faults::Fault;
+use otel_common::lists::SharedItems;
+use otel_common::metrics::{Aggregation, Temporality};
+use otel_stream::answers::Answers;
+use otel_stream::demand::Demand;
+use otel_stream::instrument::InstrumentKind;
+
+/// Whether a demand with this aggregation drops its stream.
+pub(crate) fn is_drop(aggregation: &Aggregation) -> bool
+    ensures { result ≡ demands.is_drop aggregation.now }
+{
+    match aggregation {
+        Aggregation::Drop => true,
+        Aggregation::Default => false,
+        Aggregation::Sum => false,
+        Aggregation::LastValue => false,
+        Aggregation::ExplicitBucketHistogram { .. } => false,
+    }
+}
+
+/// Whether the sums of a kind of instrument never fall.
+fn is_monotonic(kind: InstrumentKind) -> bool
+    ensures { result ≡ is_monotonic_kind kind }
+{
+    match kind {
+        InstrumentKind::Counter => true,
+        InstrumentKind::UpDownCounter => false,
+        InstrumentKind::Histogram => true,
+        InstrumentKind::ObservableCounter => true,
+        InstrumentKind::ObservableUpDownCounter => false,
+        InstrumentKind::Gauge => false,
+        InstrumentKind::ObservableGauge => false,
+    }
+}
+
+/// Whether a histogram of a kind's values has a sum. It has none for up-down counters, synchronous or not, and for
+/// asynchronous gauges.
+fn has_sum(kind: InstrumentKind) -> bool
+    ensures { result ≡ has_sum kind }
+{
+    match kind {
+        InstrumentKind::Counter => true,
+        InstrumentKind::UpDownCounter => false,
+        InstrumentKind::Histogram => true,
+        InstrumentKind::ObservableCounter => true,
+        InstrumentKind::ObservableUpDownCounter => false,
+        InstrumentKind::Gauge => true,
+        InstrumentKind::ObservableGauge => false,
+    }
+}
+
+/// Whether a kind observes values that are already summed.
+fn observes_sums(kind: InstrumentKind) -> bool
+    ensures { result ≡ observes_sums kind }
+{
+    match kind {
+        InstrumentKind::Counter => false,
+        InstrumentKind::UpDownCounter => false,
+        InstrumentKind::Histogram => false,
+        InstrumentKind::ObservableCounter => true,
+        InstrumentKind::ObservableUpDownCounter => true,
+        InstrumentKind::Gauge => false,
+        InstrumentKind::ObservableGauge => false,
+    }
+}
+
+/// Whether each collection empties the stream of this demand, as it does for a sum of values that are already summed.
+fn is_drained(demand: &Demand) -> bool
+    ensures { result ≡ is_drained demand.now }
+{
+    match &demand.aggregation {
+        Aggregation::Sum => observes_sums(demand.identity.kind),
+        Aggregation::Drop => false,
+        Aggregation::Default => false,
+        Aggregation::LastValue => false,
+        Aggregation::ExplicitBucketHistogram { .. } => false,
+    }
+}
+
+/// Whether the stream of this demand starts again at each collection, whatever its reader answers, as the last values
+/// of an asynchronous gauge do.
+fn always_resets(demand: &Demand) -> bool
+    ensures { result ≡ always_resets demand.now }
+{
+    match (&demand.aggregation, demand.identity.kind) {
+        (Aggregation::LastValue, InstrumentKind::ObservableGauge) => true,
+        _ => false,
+    }
+}
+
+/// The temporality of the stream of this demand at a reader with these answers.
+pub(crate) fn temporality_of(answers: &Answers, demand: &Demand) -> Temporality
+    ensures { resets result ≡ is_delta answers.now demand.now }
+{
+    if always_resets(demand) {
+        Temporality::Delta
+    } else {
+        answers.temporality(demand.identity.kind)
+    }
+}
+
+/// What a stream of this demand makes of its records.
+pub(crate) fn settings_of(demand: &Demand) -> Result<AnySettings, Fault>
+    requires { IsMakeable demand.now }
+    ensures aggregate { IfOk result (λ s. any.aggregate_of s ≡ aggregate_of demand.now) }
+    ensures monotonic { IfOk result (λ s. any.is_monotonic_of s ≡ asks_monotonic demand.now) }
+    ensures drains { IfOk result (λ s. any.drains_of s ≡ is_drained demand.now) }
+    ensures only_memory { IsOkUnless result Fault.OutOfMemory }
+{
+    let kind = demand.identity.kind;
+    match &demand.aggregation {
+        Aggregation::LastValue => Ok(AnySettings::LastValue),
+        Aggregation::ExplicitBucketHistogram {
+            boundaries,
+            record_min_max,
+        } => {
+            let boundaries = SharedItems::new(boundaries.clone()?.into_vec())?;
+            let bounds = Bounds::new(boundaries).unwrap();
+            Ok(AnySettings::Histogram(HistogramSettings {
+                bounds,
+                has_min_max: *record_min_max,
+                has_sum: has_sum(kind),
+            }))
+        }
+        Aggregation::Sum if observes_sums(kind) => Ok(AnySettings::PrecomputedSum {
+            is_monotonic: is_monotonic(kind),
+        }),
+        Aggregation::Sum | Aggregation::Drop | Aggregation::Default => Ok(AnySettings::Sum {
+            is_monotonic: is_monotonic(kind),
+        }),
+    }
+}

@@ -1,0 +1,178 @@
+//! What an instrument demands of a reader, through a view's answer or by itself (Metrics SDK, "View" and
+//! "MetricReader").
+
+ghost use Rattle.std.specs.Prelude.{◌≡◌, [], IfOk, IsOkUnless, true};
+ghost use Rattle.otel_model.specs.Calls.{ascii_lowercase, or_else};
+ghost use Rattle.otel_model.specs.Demands.{answer_for, demand_of, own_demand, are_good_bounds, is_valid, default_limit, resolved_aggregation};
+ghost use Rattle.opentelemetry_sdk.specs.pipeline.Identities.{identity_with};
+
+use crate::pipeline::about::About;
+use crate::pipeline::defaults::{reader_default, resolved_own};
+use otel_common::faults::Fault;
+use otel_common::laws::{copied_aggregation, copied_attributes, copied_scope};
+use otel_common::metrics::Aggregation;
+use otel_common::scopes::InstrumentationScope;
+use otel_common::strings::StringValue;
+use otel_stream::answers::Answers;
+use otel_stream::demand::{Demand, Identity};
+use otel_stream::instrument::InstrumentKind;
+use otel_stream::stream::Stream;
+use otel_stream::stream_spec::StreamSpec;
+use std::alloc::Global;
+
+/// The cardinality limit if neither a view nor the reader gives one.
+const DEFAULT_LIMIT: usize = 2000;
+
+/// The text with its ASCII letters lowered.
+fn lowered_text(alloc: Global, text: &StringValue) -> Result<StringValue, Fault>
+    ensures lowered { IfOk result (λ t. t ≡ ascii_lowercase text.now) }
+    ensures only_memory { IsOkUnless result Fault.OutOfMemory }
+{
+    let mut lowered = String::from_str(alloc, text.as_str())?;
+    lowered.make_ascii_lowercase();
+    Ok(lowered.into())
+}
+
+/// The text, or an empty one if there is none.
+fn text_or_empty(alloc: Global, text: &Option<StringValue>) -> Result<StringValue, Fault>
+    ensures text { IfOk result (λ t. t ≡ or_else text.now []) }
+    ensures only_memory { IsOkUnless result Fault.OutOfMemory }
+{
+    match text {
+        Some(text) => Ok(text.clone()?),
+        None => Ok(String::new(alloc).into()),
+    }
+}
+
+/// The cardinality limit if no view gives one: what the reader wants for the kind, or else the default.
+fn own_limit(answers: &Answers, kind: InstrumentKind) -> usize
+    ensures { result ≡ or_else (answer_for answers.now kind).limit default_limit }
+{
+    match answers.limit(kind) {
+        Some(wanted) => wanted,
+        None => DEFAULT_LIMIT,
+    }
+}
+
+/// The first text, or else the second, or else an empty one.
+fn text_or(
+    alloc: Global,
+    first: &Option<StringValue>,
+    second: &Option<StringValue>,
+) -> Result<StringValue, Fault>
+    ensures text { IfOk result (λ t. t ≡ or_else first.now (or_else second.now [])) }
+    ensures only_memory { IsOkUnless result Fault.OutOfMemory }
+{
+    match first {
+        Some(text) => Ok(text.clone()?),
+        None => text_or_empty(alloc, second),
+    }
+}
+
+/// The name of a stream: the one that is set, or else the instrument's.
+fn spelling_of<'a>(set: &'a Option<StringValue>, own: &'a StringValue) -> &'a StringValue
+    ensures { result.now ≡ or_else set.entry.now own.entry.now }
+{
+    match set {
+        Some(name) => name,
+        None => own,
+    }
+}
+
+/// The identity of the stream that an instrument demands with these settings, which makes it the same as another or
+/// not.
+fn identity_of(
+    alloc: Global,
+    scope: &InstrumentationScope,
+    about: &About<'_>,
+    settings: &StreamSpec,
+) -> Result<Identity, Fault>
+    ensures identity { IfOk result (λ x. x ≡ identity_with scope.now about.now settings.now) }
+    ensures only_memory { IsOkUnless result Fault.OutOfMemory }
+{
+    copied_scope();
+    let spelling = spelling_of(&settings.name, about.name);
+    Ok(Identity {
+        scope: scope.clone()?,
+        kind: about.kind,
+        signed: about.signed,
+        description: text_or(alloc, &settings.description, about.description)?,
+        unit: text_or(alloc, &settings.unit, about.unit)?,
+        name: lowered_text(alloc, spelling)?,
+    })
+}
+
+/// The cardinality limit, which is how many sets of attributes may have points of their own: the one that is set, or
+/// else the one that the reader wants for the kind, or else the default.
+fn limit_of(answers: &Answers, kind: InstrumentKind, settings: &StreamSpec) -> usize
+    ensures { result ≡ or_else settings.now.limit (or_else (answer_for answers.now kind).limit default_limit) }
+{
+    match settings.limit {
+        Some(set) => set,
+        None => own_limit(answers, kind),
+    }
+}
+
+/// The aggregation of a stream: what is set, or else what the reader wants for the kind. If nothing is set, a
+/// histogram has its instrument's bounds.
+fn aggregation_of(
+    alloc: Global,
+    answers: &Answers,
+    about: &About<'_>,
+    set: &Option<Aggregation>,
+) -> Result<Aggregation, Fault>
+    ensures aggregation { IfOk result (λ made. made ≡ resolved_aggregation answers.now about.now set.now) }
+    ensures only_memory { IsOkUnless result Fault.OutOfMemory }
+{
+    copied_aggregation();
+    match set {
+        None => resolved_own(alloc, answers, about),
+        Some(Aggregation::Default) => reader_default(alloc, answers, about.kind),
+        Some(aggregation) => Ok(aggregation.clone()?),
+    }
+}
+
+/// What an instrument demands of a reader if a view answers with these settings: a stream with what the settings give,
+/// and otherwise with the instrument's texts, all attributes, and the aggregation and limit that the reader wants for
+/// its kind.
+///
+/// Copies texts, keys and bounds.
+pub fn demand_of(
+    alloc: Global,
+    answers: &Answers,
+    scope: &InstrumentationScope,
+    about: &About<'_>,
+    stream: &Stream,
+) -> Result<Demand, Fault>
+    ensures demand { IfOk result (λ d. d ≡ demand_of answers.now scope.now about.now stream.now) }
+    ensures valid { are_good_bounds about.now.kind about.now.bounds ≡ true → IfOk result (λ d. is_valid d.aggregation ≡ true) }
+    ensures only_memory { IsOkUnless result Fault.OutOfMemory }
+{
+    copied_attributes();
+    stream.lawful();
+    let settings = stream.spec();
+    Ok(Demand {
+        identity: identity_of(alloc, scope, about, settings)?,
+        spelling: spelling_of(&settings.name, about.name).clone()?,
+        aggregation: aggregation_of(alloc, answers, about, &settings.aggregation)?,
+        allow: settings.allow.clone()?,
+        limit: limit_of(answers, about.kind, settings),
+    })
+}
+
+/// What an instrument demands of a reader by itself: a stream with its name, description and unit, all attributes, and
+/// the aggregation and limit that the reader wants for its kind.
+///
+/// Copies texts and bounds.
+pub fn own_demand(
+    alloc: Global,
+    answers: &Answers,
+    scope: &InstrumentationScope,
+    about: &About<'_>,
+) -> Result<Demand, Fault>
+    ensures demand { IfOk result (λ d. d ≡ own_demand answers.now scope.now about.now) }
+    ensures valid { are_good_bounds about.now.kind about.now.bounds ≡ true → IfOk result (λ d. is_valid d.aggregation ≡ true) }
+    ensures only_memory { IsOkUnless result Fault.OutOfMemory }
+{
+    demand_of(alloc, answers, scope, about, &Stream::default())
+}

@@ -1,0 +1,300 @@
+//! One stream of one reader.
+
+ghost use Rattle.std.specs.Prelude.{◌≡◌, nat_lt, true, [], Some, IfOk, IsOk, OnOk, OnErr, IsOkUnless};
+ghost use Rattle.otel_common.specs.Temporalities.{resets};
+ghost use Rattle.otel_model.specs.Calls.{is_observable};
+ghost use Rattle.otel_model.specs.Collections.{number_of_points};
+ghost use Rattle.otel_model.specs.Sent.{set_for};
+ghost use Rattle.opentelemetry_sdk.specs.pipeline.Known.{is_known_to};
+ghost use Rattle.opentelemetry_sdk.specs.pipeline.Handles.{IsReadyToBind};
+ghost use Rattle.opentelemetry_sdk.specs.pipeline.Observations.{IsSavedOf, contents_after_restore, saved_by};
+ghost use Rattle.opentelemetry_sdk.specs.pipeline.Streams.{IsAsked, IsMakeable, contents_of, new_contents, without_pending, contents_after_commit, contents_after_none, contents_after_record, contents_after_bind, contents_after_update, contents_after_unbind, contents_after_collection, shown_metric, if_points};
+
+use crate::pipeline::aggregations::settings_of;
+use crate::pipeline::saved::SavedStream;
+use otel_aggregate::any::AnyAggregate;
+use otel_aggregate::value_map::hashed_key::GivenAttributes;
+use otel_aggregate::value_map::hashing::SetHashBuilder;
+use otel_common::attributes::KeyValue;
+use otel_common::faults::Fault;
+use otel_common::laws::copied_attributes;
+use otel_common::metrics::Temporality;
+use otel_data::aggregated::{AggregatedMetrics, MetricData};
+use otel_data::collections::Metric;
+use otel_data::numbers::NumberValue;
+use otel_stream::demand::Demand;
+use otel_stream::instrument::InstrumentKind;
+use std::alloc::{AllocError, Global};
+use std::marker::Model;
+
+/// A stream: what was demanded, and the records so far.
+pub(crate) struct MetricStream {
+    demand: Demand,
+    aggregate: AnyAggregate,
+    /// The total of all records, modulo 2^64.
+    recorded: u64,
+    /// The total of all points given by collections that then reset the stream, modulo 2^64.
+    exported: u64,
+}
+
+impl Model for MetricStream {
+    ghost use Rattle.opentelemetry_sdk.specs.pipeline.Streams.{StreamContents, IsAsked, contents_of};
+
+    ghost Value = { StreamContents };
+
+    ghost view = { λ s. contents_of s.demand s.aggregate s.recorded s.exported };
+
+    ghost invariant = { λ s. IsAsked s.demand s.aggregate };
+}
+
+impl Drop for MetricStream {
+    /// A function of its own, so that no proof about who lets one go looks into it.
+    fn drop(self) {
+        let MetricStream {
+            demand: _demand,
+            aggregate: _aggregate,
+            recorded: _,
+            exported: _,
+        } = self;
+    }
+}
+
+/// Whether an instrument of this kind is observable.
+fn is_observable(kind: InstrumentKind) -> bool
+    ensures { result ≡ is_observable kind }
+{
+    match kind {
+        InstrumentKind::Counter => false,
+        InstrumentKind::UpDownCounter => false,
+        InstrumentKind::Histogram => false,
+        InstrumentKind::ObservableCounter => true,
+        InstrumentKind::ObservableUpDownCounter => true,
+        InstrumentKind::Gauge => false,
+        InstrumentKind::ObservableGauge => true,
+    }
+}
+
+/// Whether a metric has points.
+fn has_points(metrics: &AggregatedMetrics) -> bool
+    ensures { result ≡ nat_lt 0 (number_of_points metrics.now) }
+{
+    let many = match metrics {
+        AggregatedMetrics::U64(MetricData::Gauge(gauge)) => gauge.data_points().len(),
+        AggregatedMetrics::U64(MetricData::Sum(sum)) => sum.data_points().len(),
+        AggregatedMetrics::U64(MetricData::Histogram(histogram)) => histogram.data_points().len(),
+        AggregatedMetrics::I64(MetricData::Gauge(gauge)) => gauge.data_points().len(),
+        AggregatedMetrics::I64(MetricData::Sum(sum)) => sum.data_points().len(),
+        AggregatedMetrics::I64(MetricData::Histogram(histogram)) => histogram.data_points().len(),
+    };
+    many > 0
+}
+
+/// Makes the aggregate of the stream of this demand, without records, at the moment `now`, in nanoseconds since 1970, for
+/// a reader that answered this temporality.
+#[inline(always)]
+fn new_aggregate(
+    alloc: Global,
+    hasher: SetHashBuilder,
+    temporality: Temporality,
+    demand: &Demand,
+    now: u64,
+) -> Result<AnyAggregate, Fault>
+    requires { IsMakeable demand.now }
+    ensures asked { IfOk result (λ made. IsAsked demand.now made) }
+    ensures made { IfOk result (λ made. contents_of demand.now made 0 0 ≡ new_contents (resets temporality) demand.now now) }
+    ensures only_memory { IsOkUnless result Fault.OutOfMemory }
+{
+    copied_attributes();
+    let settings = settings_of(demand)?;
+    let allow = demand.allow.clone()?;
+    AnyAggregate::new(
+        alloc,
+        hasher,
+        settings,
+        demand.identity.signed,
+        temporality,
+        allow,
+        demand.limit,
+        now,
+    )
+}
+
+impl MetricStream {
+    /// Makes a stream without records at the moment `now`, in nanoseconds since 1970, for a reader that answered this
+    /// temporality.
+    #[inline(always)]
+    pub(crate) fn new(
+        alloc: Global,
+        hasher: SetHashBuilder,
+        temporality: Temporality,
+        demand: Demand,
+        now: u64,
+    ) -> Result<MetricStream, Fault>
+        requires { IsMakeable demand }
+        ensures made { IfOk result (λ s. s ≡ new_contents (resets temporality) demand now) }
+        ensures only_memory { IsOkUnless result Fault.OutOfMemory }
+    {
+        let aggregate = new_aggregate(alloc, hasher, temporality, &demand, now)?;
+        Ok(MetricStream {
+            demand,
+            aggregate,
+            recorded: 0,
+            exported: 0,
+        })
+    }
+
+    /// What was demanded.
+    pub(crate) fn demand(&self) -> &Demand
+        ensures { result.now ≡ self.now.stream.demand }
+    {
+        &self.demand
+    }
+
+    /// Prepares a record with these attributes. What the stream shows stays unchanged.
+    #[inline(always)]
+    pub(crate) fn prepare(&mut self, attributes: &GivenAttributes) -> Result<(), AllocError>
+        ensures same { without_pending self.new ≡ without_pending self.old }
+        ensures ready { OnOk result (self.new.pending ≡ Some (set_for self.old.stream.demand attributes.now)) }
+        ensures free { attributes.now ≡ [] → IsOk result }
+        ensures known { is_known_to attributes.now self.old.stream ≡ true → IsOk result }
+    {
+        self.aggregate.prepare(attributes)
+    }
+
+    /// Takes in the prepared record, if there is one and the value has the stream's number type.
+    #[inline(always)]
+    pub(crate) fn commit(&mut self, value: NumberValue)
+        ensures { self.new ≡ contents_after_commit value self.old }
+    {
+        if self.aggregate.commit(value) {
+            self.recorded = self.recorded.wrapping_add(self.aggregate.size(value));
+        }
+    }
+
+    /// Takes in a record with these attributes, if the value has the stream's number type.
+    #[inline(always)]
+    pub(crate) fn record(
+        &mut self,
+        value: NumberValue,
+        attributes: &[KeyValue],
+    ) -> Result<(), AllocError>
+        ensures ok { OnOk result (self.new ≡ contents_after_record value attributes.now self.old) }
+        ensures err { OnErr result (without_pending self.new ≡ without_pending self.old) }
+        ensures known { is_known_to attributes.now self.old.stream ≡ true → IsOk result }
+    {
+        if self.aggregate.measure(value, attributes)? {
+            self.recorded = self.recorded.wrapping_add(self.aggregate.size(value));
+        }
+        Ok(())
+    }
+
+    /// Takes in a record without attributes, if the value has the stream's number type. Takes no memory.
+    #[inline(always)]
+    pub(crate) fn record_none(&mut self, value: NumberValue)
+        ensures { self.new ≡ contents_after_none value self.old }
+    {
+        if self.aggregate.measure_none(value) {
+            self.recorded = self.recorded.wrapping_add(self.aggregate.size(value));
+        }
+    }
+
+    /// Prepares a bind to these attributes, and makes room for its handle. What the stream shows stays unchanged.
+    pub(crate) fn prepare_bind(&mut self, attributes: &GivenAttributes) -> Result<(), Fault>
+        ensures same { without_pending self.new ≡ without_pending self.old }
+        ensures ready { OnOk result (IsReadyToBind attributes.now self.new) }
+        ensures only_memory { IsOkUnless result Fault.OutOfMemory }
+    {
+        self.prepare(attributes)?;
+        self.aggregate.make_room()
+    }
+
+    /// Carries out the prepared bind, if there is one, for a handle with this number, unless the handle is live
+    /// already, and returns the handle's place, for `record_held`.
+    pub(crate) fn commit_bind(&mut self, handle: u64) -> usize
+        ensures { self.new ≡ contents_after_bind handle self.old }
+    {
+        if is_observable(self.demand.identity.kind) {
+            return 0;
+        }
+        self.aggregate.commit_bind(handle)
+    }
+
+    /// Takes in a record through a handle, if the stream has the handle and the value has the stream's number type.
+    /// Looks for the handle at this place first. Takes no memory.
+    #[inline(always)]
+    pub(crate) fn record_held(&mut self, handle: u64, place: usize, value: NumberValue)
+        ensures { self.new ≡ contents_after_update handle value self.old }
+    {
+        if self.aggregate.update_bound(handle, place, value) {
+            self.recorded = self.recorded.wrapping_add(self.aggregate.size(value));
+        }
+    }
+
+    /// Ends the handle, if the stream has it. Takes no memory.
+    pub(crate) fn unbind(&mut self, handle: u64)
+        ensures { self.new ≡ contents_after_unbind handle self.old }
+    {
+        self.aggregate.unbind(handle);
+    }
+
+    /// Ends a collection, which gave the stream's points, at the moment `now`, in nanoseconds since 1970.
+    pub(crate) fn finish(&mut self, now: u64)
+        ensures { without_pending self.new ≡ without_pending (contents_after_collection now self.old) }
+    {
+        // Tells the prover that observed sums have no handles.
+        self.aggregate.law_of_handles();
+        if self.aggregate.resets() {
+            self.exported = self.exported.wrapping_add(self.aggregate.total());
+        }
+        self.aggregate.finish(now);
+    }
+
+    /// Saves the entries and the total of the records of an observable instrument's stream.
+    ///
+    /// Copies the entries, and shares their sets.
+    pub(crate) fn save(&self, alloc: Global) -> Result<SavedStream, Fault>
+        requires { is_observable self.now.stream.demand.identity.kind ≡ true }
+        ensures saved { IfOk result (λ saved. saved ≡ saved_by self.now) }
+        ensures only_memory { IsOkUnless result Fault.OutOfMemory }
+    {
+        // Tells the prover that no entry is held.
+        self.aggregate.law_of_handles();
+        let aggregate = self.aggregate.save(alloc)?;
+        Ok(SavedStream {
+            aggregate,
+            recorded: self.recorded,
+        })
+    }
+
+    /// Puts back what was saved of it. Takes no memory.
+    pub(crate) fn restore(&mut self, saved: SavedStream)
+        requires { IsSavedOf saved self.old }
+        ensures { self.new ≡ contents_after_restore saved self.old }
+    {
+        let SavedStream {
+            aggregate,
+            recorded,
+        } = saved;
+        self.aggregate.restore(aggregate);
+        self.recorded = recorded;
+    }
+
+    /// What a collection at the moment `now`, in nanoseconds since 1970, gives for the stream, or `None` if it has no
+    /// points.
+    pub(crate) fn metric(&self, alloc: Global, now: u64) -> Result<Option<Metric>, Fault>
+        ensures metric { IfOk result (λ m. m ≡ if_points (shown_metric now self.now)) }
+        ensures only_memory { IsOkUnless result Fault.OutOfMemory }
+    {
+        let points = self.aggregate.points(alloc, now)?;
+        if !has_points(&points) {
+            return Ok(None);
+        }
+        let identity = &self.demand.identity;
+        Ok(Some(Metric::new(
+            self.demand.spelling.clone()?,
+            identity.description.clone()?,
+            identity.unit.clone()?,
+            points,
+        )))
+    }
+}

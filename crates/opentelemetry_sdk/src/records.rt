@@ -1,0 +1,47 @@
+//! Records.
+
+ghost use Rattle.std.specs.Prelude.{◌≡◌, true, Err, IfErr};
+ghost use Rattle.otel_model.specs.Calls as model;
+ghost use Rattle.otel_model.specs.Demands.{Views};
+ghost use Rattle.otel_model.specs.Laws.{KeepsReaders};
+ghost use Rattle.otel_model.specs.Steps.{Step};
+ghost use Rattle.otel_model.specs.Lawful.{Balances};
+ghost use Rattle.opentelemetry_sdk.specs.Correspondence.{number_of, reply_from};
+ghost use Rattle.opentelemetry_sdk.specs.Known.{is_known};
+ghost use Rattle.opentelemetry_sdk.specs.States.{IsNamed};
+
+use crate::core_checks::check_value;
+use crate::each_pipeline::record_or_none;
+use crate::provider_core::Core;
+use otel_common::attributes::KeyValue;
+use otel_common::faults::Fault;
+use otel_data::numbers::NumberValue;
+
+impl Core {
+    /// Records a value with attributes at an instrument of a provider of this identity, in all the streams that it
+    /// feeds or in none.
+    #[inline(always)]
+    pub fn record(
+        &mut self,
+        identity: u64,
+        instrument: usize,
+        value: NumberValue,
+        attributes: &[KeyValue],
+    ) -> Result<(), Fault>
+        ensures step { identity ≡ self.old.shared.identity → (views : Views) → Step views self.old (model.Call.Record instrument (number_of value) attributes.now) (reply_from (λ _. model.Reply.Done) result) self.new }
+        ensures foreign { ¬ (identity ≡ self.old.shared.identity) → (result ≡ Err Fault.UnknownInstrument) × (self.new ≡ self.old) }
+        ensures known { is_known instrument attributes.now self.old ≡ true → IfErr result IsNamed }
+        ensures balances { Balances self.new }
+        ensures readers { KeepsReaders self.old self.new }
+    {
+        if identity != self.identity {
+            return Err(Fault::UnknownInstrument);
+        }
+        if let Err(fault) = check_value(&self.instruments, instrument, value) {
+            return Err(fault);
+        }
+        record_or_none(&mut self.pipelines, instrument, value, attributes)?;
+        self.instruments[instrument].accept(value);
+        Ok(())
+    }
+}

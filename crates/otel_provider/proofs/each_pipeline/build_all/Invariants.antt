@@ -1,7 +1,0 @@
-use Rattle.otel_provider.specs.pipeline.Pipelines.{part_of, piped_after_build}
-use Rattle.otel_provider.proofs.pipeline.PipelinesLemmas.{IsDoneUpto}
-use Rattle.otel_provider.proofs.each_pipeline.build_all.Given as goal
-
--- what was planned is carried out at the readers so far
-abbrev pub invariant-loop-i : goal.invariant-loop-i
-invariant-loop-i l = IsDoneUpto part_of (λ p. part_of (piped_after_build p)) l.initial.pipelines l.pipelines l.i

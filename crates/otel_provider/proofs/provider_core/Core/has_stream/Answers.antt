@@ -1,9 +1,0 @@
-use Rattle.std.proofs.Common.{◌∙◌, ap, sym}
-use Rattle.std.specs.List.{list_any}
-use Rattle.otel_provider.specs.pipeline.Pipelines.{has_stream_at, part_of}
-use Rattle.otel_provider.proofs.Mapped.{any_mapped}
-use Rattle.otel_provider.proofs.provider_core.Core.has_stream.Goals as goal
-
--- a reader's part is that of its streams
-pub returns : goal.returns
-returns c = rw (← c.self.view_is) (c.any_stream.ensures ∙ (ap (list_any (λ p. has_stream_at c.args.instrument (part_of p))) c.deref.ensures.value ∙ sym (any_mapped (has_stream_at c.args.instrument) part_of c.self.inside.pipelines.items)))
