@@ -70,25 +70,6 @@ fn sum_of(counts: &[u64]) -> u64 {
     sum
 }
 
-/// Has each worker record in a thread of its own, and returns how many records were accepted.
-fn record_in_threads<W: Recorder + Send, S: Shared<W> + Send, R: Threads + Wait + Sync>(
-    rt: &R,
-    alloc: Global,
-    shared: &Mutex<S>,
-    target: &Target<'_>,
-    batches: u64,
-    workers: Vec<W>,
-) -> Result<u64, Fault> {
-    match thread::map_vec(
-        rt,
-        workers,
-        &|worker| hand_in_batches(rt, alloc, shared, target, batches, worker),
-    ) {
-        Ok(counts) => Ok(sum_of(counts.as_slice())),
-        Err(_) => Err(Fault::OutOfMemory),
-    }
-}
-
 /// Has a worker record in each thread. Returns how many records were accepted.
 fn record_by_workers<W: Recorder + Send, S: Shared<W> + Send, R: Threads + Wait + Sync>(
     rt: &R,
@@ -100,7 +81,14 @@ fn record_by_workers<W: Recorder + Send, S: Shared<W> + Send, R: Threads + Wait 
     let mut shared = shared;
     let workers = open_workers(alloc, &mut shared, load.threads)?;
     let shared = Mutex::new(shared);
-    record_in_threads(rt, alloc, &shared, target, load.batches, workers)
+    match thread::map_vec(
+        rt,
+        workers,
+        &|worker| hand_in_batches(rt, alloc, &shared, target, load.batches, worker),
+    ) {
+        Ok(counts) => Ok(sum_of(counts.as_slice())),
+        Err(_) => Err(Fault::OutOfMemory),
+    }
 }
 
 /// Shares a provider by these ledgers, and has its workers record. Returns how many records were accepted.
@@ -144,28 +132,21 @@ fn by_workers<R: Threads + Wait + Sync>(
     )
 }
 
-/// Records once, and returns whether that succeeded.
-fn record_one<S: Subject>(subject: &mut S, target: &Target<'_>) -> bool {
-    match target {
-        Target::Set(counter, attributes) => subject.add_one(counter, attributes),
-        Target::Handle(handle) => subject.add_one_through(handle),
-    }
-}
-
 /// What one thread does without a worker: it takes the lock for each record. Returns how many succeeded.
 fn record_each<S: Subject, R: Wait>(
     rt: &R,
     shared: &Mutex<S>,
     target: &Target<'_>,
-    batches: u64,
+    records: u64,
 ) -> u64 {
     let mut made: u64 = 0;
-    for _ in 0..batches {
-        for _ in 0..BATCH {
-            if record_one(&mut *shared.lock(rt), target) {
-                made = made.saturating_add(1);
-            }
-        }
+    for _ in 0..records {
+        let mut subject = shared.lock(rt);
+        let is_made = match target {
+            Target::Set(counter, attributes) => subject.add_one(counter, attributes),
+            Target::Handle(handle) => subject.add_one_through(handle),
+        };
+        made = made.saturating_add(u64::from(is_made));
     }
     made
 }
@@ -183,26 +164,11 @@ fn by_lock<S: Subject + Send, R: Threads + Wait + Sync>(
         rt,
         alloc,
         load.threads,
-        &|_| record_each(rt, &shared, target, load.batches),
+        &|_| record_each(rt, &shared, target, load.batches.saturating_mul(BATCH)),
     ) {
         Ok(counts) => Ok(sum_of(counts.as_slice())),
         Err(_) => Err(Fault::OutOfMemory),
     }
-}
-
-/// Has threads record, by workers or under the lock. Returns how many records were made.
-fn made_in_threads<R: Threads + Wait + Sync>(
-    rt: &R,
-    alloc: Global,
-    provider: Provider<Plain>,
-    target: &Target<'_>,
-    load: Load,
-    has_workers: bool,
-) -> Result<u64, Fault> {
-    if has_workers {
-        return by_workers(rt, alloc, provider, target, load);
-    }
-    by_lock(rt, alloc, provider, target, load)
 }
 
 /// The name of a way to record.
@@ -225,7 +191,11 @@ fn time_one<R: Print + Clock + Threads + Wait + Sync>(
     has_workers: bool,
 ) -> Result<(), Error> {
     let start = Instant::now(rt)?;
-    let made = made_in_threads(rt, alloc, provider, target, load, has_workers)?;
+    let made = if has_workers {
+        by_workers(rt, alloc, provider, target, load)?
+    } else {
+        by_lock(rt, alloc, provider, target, load)?
+    };
     let seconds = start.elapsed(rt)?.as_secs_f64();
     let way = way_of(target, has_workers);
     let threads = load.threads;
@@ -250,22 +220,6 @@ fn time_way<R: Print + Clock + Threads + Wait + Sync>(
     timed
 }
 
-/// Times records with attributes and through a handle, by workers and under the lock.
-fn time_ways<R: Print + Clock + Threads + Wait + Sync>(
-    rt: &R,
-    alloc: Global,
-    script: &str,
-    attributes: &[KeyValue],
-    load: Load,
-) -> Result<(), Error> {
-    for name in ["add", "bound"] {
-        for has_workers in [false, true] {
-            time_way(rt, alloc, script, attributes, load, name, has_workers)?;
-        }
-    }
-    Ok(())
-}
-
 /// Prints how many seconds 1, 2 and 4 threads take that make this many records each, in each way. The text is two
 /// scripts: what is done once, and the record.
 pub fn time_threads<R: Print + Clock + Threads + Wait + Sync>(
@@ -279,7 +233,12 @@ pub fn time_threads<R: Print + Clock + Threads + Wait + Sync>(
     let attributes = attributes_of(calls.as_slice());
     let batches = records / BATCH;
     for threads in [1, 2, 4] {
-        time_ways(rt, alloc, script, attributes, Load { threads, batches })?;
+        let load = Load { threads, batches };
+        for name in ["add", "bound"] {
+            for has_workers in [false, true] {
+                time_way(rt, alloc, script, attributes, load, name, has_workers)?;
+            }
+        }
     }
     Ok(())
 }

@@ -1,6 +1,6 @@
 -- Metrics that are put down at the places of their meters.
-use Rattle.std.proofs.Common.{◌≡◌, ℕ, zero, suc, ◌+◌, ◌<◌, ◌≤◌, Bool, true, false, cond, ◌&&◌, List, [], ◌∷◌, ◌++◌, map, filter, length, get_or, set, drop, replicate, Option, Some, None, option_map, refl, sym, ◌∙◌, ap, subst, arith, append_assoc, add-one}
-use Rattle.std.specs.List.{IsDistinct, AllByRecursion, position}
+use Rattle.std.proofs.Common.{◌≡◌, ℕ, zero, suc, ◌+◌, ◌<◌, ◌≤◌, Bool, true, false, cond, ◌&&◌, List, [], ◌∷◌, ◌++◌, map, filter, length, get_or, set, drop, replicate, Option, Some, None, option_map, refl, sym, ◌∙◌, ap, subst, arith, append_assoc, add-one, true≢false}
+use Rattle.std.specs.List.{IsDistinct, AllByRecursion, position, slice_get}
 use Rattle.std.proofs.lemmas.List.{append-nil, drop_all, length-map, length-replicate, nil_from_length}
 use Rattle.otel_common.specs.Scopes.{scope_eq, scope_eq-Decides}
 use Rattle.otel_common.specs.declared.scopes.InstrumentationScope.{InstrumentationScope}
@@ -35,6 +35,23 @@ pub joined-twice : {A B : Type 0} (f g h : B → List A) (xs : List (List A)) (b
 joined-twice f g h [] bs e = refl
 joined-twice f g h (x ∷ xs) [] e = refl
 joined-twice f g h (x ∷ xs) (b ∷ bs) e = λ i. (append_assoc x (f b) (g b) ∙ ap (λ y. x ++ y) (sym (e b))) i ∷ joined-twice f g h xs bs e i
+
+-- ======== a meter that was found ========
+each_at : (P : InstrumentationScope → Type 0) (ms : List InstrumentationScope) (n : ℕ) (s : InstrumentationScope) → AllByRecursion P ms → slice_get ms n ≡ Some s → P s
+each_at P [] n s all at = absurd (cc)
+each_at P (m ∷ ms) zero s all at = subst P (cc) all.0
+each_at P (m ∷ ms) (suc n) s all at = each_at P ms n s all.1 at
+
+-- where a scope stands, since no other meter has it
+pub position-at : (s : InstrumentationScope) (ms : List InstrumentationScope) (n : ℕ) → IsDistinct scope_eq ms → slice_get ms n ≡ Some s → position (scope_eq s) ms ≡ Some n
+unfolding IsDistinct
+position-at s [] n apart at = absurd (cc)
+position-at s (m ∷ ms) zero apart at = position-cons (scope_eq s) m ms ∙ ap (λ b. cond b (Some 0) (option_map suc (position (scope_eq s) ms))) ((scope_eq-Decides s m).1 (cc))
+position-at s (m ∷ ms) (suc n) apart at = by (scope_eq s m) refl (position-at s ms n apart.1 at)
+  where
+    by : (b : Bool) → scope_eq s m ≡ b → position (scope_eq s) ms ≡ Some n → position (scope_eq s) (m ∷ ms) ≡ Some (suc n)
+    by true p rest = absurd (true≢false (sym ((scope_eq-Decides m s).1 (sym ((scope_eq-Decides s m).0 p))) ∙ each_at (λ y. scope_eq m y ≡ false) ms n s apart.0 at))
+    by false p rest = position-cons (scope_eq s) m ms ∙ (ap (λ b. cond b (Some 0) (option_map suc (position (scope_eq s) ms))) p ∙ ap (option_map suc) rest)
 
 -- ======== one metric more ========
 module _ (s : InstrumentationScope) (c : Bool) (x : Metric) where

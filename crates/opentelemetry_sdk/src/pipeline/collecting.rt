@@ -1,7 +1,7 @@
 //! What a collection gives for one reader's streams.
 
-ghost use Rattle.std.specs.Prelude.{◌≡◌, ◌++◌, [], ◌∷◌, map, filter, length, replicate, OnOk, IfOk, IsOkUnless};
-ghost use Rattle.std.specs.List.{IsDistinct};
+ghost use Rattle.std.specs.Prelude.{◌≡◌, ◌++◌, [], ◌∷◌, true, Some, map, filter, length, replicate, slice_get, OnOk, IfOk, IsOkUnless};
+ghost use Rattle.std.specs.List.{IsDistinct, position};
 ghost use Rattle.otel_common.specs.Scopes.{scope_eq};
 ghost use Rattle.otel_model.specs.Collections.{has_metrics};
 ghost use Rattle.opentelemetry_sdk.specs.pipeline.Collections.{append_each, shown_one, shown_in, scopes_shown};
@@ -29,17 +29,52 @@ fn empty_lists(alloc: Global, many: usize) -> Result<Vec<Vec<Metric>>, Fault>
     Ok(lists)
 }
 
-/// Adds the metric of a stream to the list of its scope's meter. A stream that drops, that has no points, or whose
-/// scope has no meter adds nothing.
+/// Whether the meter at this place has this scope.
+fn is_at(
+    meters: &IndexSet<InstrumentationScope>,
+    place: usize,
+    scope: &InstrumentationScope,
+) -> bool
+    ensures { result ≡ true → slice_get meters.now.keys place ≡ Some scope.now }
+{
+    match meters.get_index(place) {
+        Some(found) => found == scope,
+        None => false,
+    }
+}
+
+/// The place of the meter that has this scope. Looks at this place and the one behind it first, and looks the scope up
+/// only if it is at neither.
+fn place_near(
+    meters: &IndexSet<InstrumentationScope>,
+    place: usize,
+    scope: &InstrumentationScope,
+) -> Option<usize>
+    requires apart { IsDistinct scope_eq meters.now.keys }
+    ensures { result ≡ position (scope_eq scope.now) meters.now.keys }
+{
+    if is_at(meters, place, scope) {
+        return Some(place);
+    }
+    let next = place.saturating_add(1);
+    if is_at(meters, next, scope) {
+        return Some(next);
+    }
+    meters.get_index_of(scope)
+}
+
+/// Adds the metric of a stream to the list of its scope's meter, and returns the meter's place. A stream that drops, that
+/// has no points, or whose scope has no meter adds nothing.
 ///
-/// Looks the scope up once.
+/// Looks for the meter near the place of the stream before, since streams of one meter mostly stand together.
 fn push_metric(
     alloc: Global,
     lists: &mut Vec<Vec<Metric>>,
     meters: &IndexSet<InstrumentationScope>,
+    near: usize,
     stream: &MetricStream,
     now: u64,
-) -> Result<(), Fault>
+) -> Result<usize, Fault>
     requires long { length lists.old.items ≡ length meters.now.keys }
     requires apart { IsDistinct scope_eq meters.now.keys }
     ensures long { length lists.new.items ≡ length lists.old.items }
@@ -48,17 +83,17 @@ fn push_metric(
 {
     let demand = stream.demand();
     if is_drop(&demand.aggregation) {
-        return Ok(());
+        return Ok(near);
     }
-    let Some(place) = meters.get_index_of(&demand.identity.scope) else {
-        return Ok(());
+    let Some(place) = place_near(meters, near, &demand.identity.scope) else {
+        return Ok(near);
     };
     if let Some(metric) = stream.metric(alloc, now)? {
         let metrics = &mut lists[place];
         reserve_one(metrics)?;
         metrics.push_reserved(metric);
     }
-    Ok(())
+    Ok(place)
 }
 
 /// The metrics that have points, in one list for each meter.
@@ -74,8 +109,9 @@ fn metrics_by_meter(
     ensures only_memory { IsOkUnless result Fault.OutOfMemory }
 {
     let mut lists = empty_lists(alloc, meters.len())?;
+    let mut place = 0;
     for stream in streams {
-        push_metric(alloc, &mut lists, meters, stream, now)?;
+        place = push_metric(alloc, &mut lists, meters, place, stream, now)?;
     }
     Ok(lists)
 }
@@ -99,7 +135,7 @@ fn push_scope(
 
 /// The scopes that have metrics, in order of their meters.
 ///
-/// Goes once over the streams and their points, and once over the meters; looks each stream's scope up once.
+/// Goes once over the streams and their points, and once over the meters.
 pub(crate) fn scopes_of(
     alloc: Global,
     streams: &[MetricStream],

@@ -13,7 +13,7 @@ loop-stream-init c = record {
 pub loop-stream-preserved : goal.loop-stream-preserved
 loop-stream-preserved c = record {
   long = c.push_metric.ensures.long ∙ c.loop-stream.invariant.long;
-  all = places-more c.args.now _ _ _ c.args.streams.now c.loop-stream.stream-index c.stream-item.result c.args.meters.now.keys c.loop-stream-test.true c.stream-item.is c.in_ok-push_metric.ensures.metrics c.loop-stream.invariant.all;
+  all = places-more c.args.now _ _ _ c.args.streams.now c.loop-stream.stream-index c.stream-item.result c.args.meters.now.keys c.loop-stream-test.true c.stream-item.is c.in_ok-place.ensures.metrics c.loop-stream.invariant.all;
 }
 
 pub returns-clause-metrics : goal.returns-clause-metrics

@@ -16,14 +16,14 @@ pub returns-in_default-clause-metrics : goal.returns-in_default-clause-metrics
 returns-in_default-clause-metrics c =
     let drops : is_drop c.args.stream.now.stream.demand.aggregation ≡ false = ap (λ (d : Demand). is_drop d.aggregation) (sym c.demand-demand.ensures) ∙ (sym c.is_drop.ensures ∙ c.if-is_drop.false) in
     let at : position (scope_eq c.args.stream.now.stream.demand.identity.scope) c.args.meters.now.keys ≡ None =
-    ap (λ (d : Demand). position (scope_eq d.identity.scope) c.args.meters.now.keys) (sym c.demand-demand.ensures) ∙ (sym c.get_index_of.ensures.index ∙ c.in_default.is) in
+    ap (λ (d : Demand). position (scope_eq d.identity.scope) c.args.meters.now.keys) (sym c.demand-demand.ensures) ∙ (sym c.place_near.ensures ∙ c.in_default.is) in
     sym (pushed-nowhere c.args.now c.args.stream.now _ c.args.meters.now.keys (ap not drops) at)
 
 pub returns-in_ok-reserve_one-clause-metrics : goal.returns-in_ok-reserve_one-clause-metrics
 returns-in_ok-reserve_one-clause-metrics c =
     let drops : is_drop c.args.stream.now.stream.demand.aggregation ≡ false = ap (λ (d : Demand). is_drop d.aggregation) (sym c.demand-demand.ensures) ∙ (sym c.is_drop.ensures ∙ c.if-is_drop.false) in
     let at : position (scope_eq c.args.stream.now.stream.demand.identity.scope) c.args.meters.now.keys ≡ Some c.in-Some.place =
-    ap (λ (d : Demand). position (scope_eq d.identity.scope) c.args.meters.now.keys) (sym c.demand-demand.ensures) ∙ (sym c.get_index_of.ensures.index ∙ c.in-Some.is) in
+    ap (λ (d : Demand). position (scope_eq d.identity.scope) c.args.meters.now.keys) (sym c.demand-demand.ensures) ∙ (sym c.place_near.ensures ∙ c.in-Some.is) in
     let shown = pointed (shown_metric c.args.now c.args.stream.now) c.in_ok-metric.field-0 c.in_ok-metric.ensures.metric c.in-Some-2.metric c.in-Some-2.is in
     pushed-at (λ v. v.items) c.args.now c.args.stream.now c.args.lists.now.items c.args.meters.now.keys c.in-Some.place c.index_mut-metrics.result.now c.push_reserved.new.self (ap not drops) shown.0 c.requires.long c.requires.apart at c.index_mut-metrics.ensures.value
     (◌∙◌ {A = List Metric} c.push_reserved.ensures.items (ap (λ l. l ++ c.in-Some-2.metric ∷ []) c.in_ok-reserve_one.ensures.items ∙ ap (λ m. c.index_mut-metrics.result.now.items ++ m ∷ []) shown.1))

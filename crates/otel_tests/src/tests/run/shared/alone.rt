@@ -21,25 +21,13 @@ fn submit<P: Parts, C: Account, S: Account>(
     Ok(())
 }
 
-/// The number of the instrument of a record.
-fn instrument_of(call: &Call) -> Option<usize> {
-    match call {
-        Call::Record { instrument, .. } => Some(*instrument),
-        _ => None,
-    }
-}
-
-/// Takes the first record out of a worker's list. Answers the number of its instrument.
-fn take_first<C: Account, S: Account>(worker: &mut Worker<C, S>) -> Option<usize> {
-    match worker.take_first() {
-        Some(call) => instrument_of(&call),
-        None => None,
-    }
-}
-
-/// The same, and writes the number.
+/// Takes the first record out of a worker's list, and writes the number of its instrument.
 fn take<C: Account, S: Account>(worker: &mut Worker<C, S>, text: &mut String) -> Result<(), Fault> {
-    if let Some(instrument) = take_first(worker) {
+    let taken = match &worker.take_first() {
+        Some(Call::Record { instrument, .. }) => Some(*instrument),
+        _ => None,
+    };
+    if let Some(instrument) = taken {
         write!(text, "taken {instrument}, ")?;
     }
     Ok(())
@@ -101,14 +89,6 @@ pub fn follow<P: Parts, C: Account, S: Account>(
     Ok(workers)
 }
 
-/// Drops the last worker, if there is one.
-fn drop_last<W: Drop>(workers: &mut Vec<W>) {
-    match workers.pop() {
-        Some(_worker) => {}
-        None => {}
-    }
-}
-
 /// Does what one word says.
 fn follow_one<P: Parts, C: Account, S: Account>(
     alloc: Global,
@@ -118,14 +98,15 @@ fn follow_one<P: Parts, C: Account, S: Account>(
     text: &mut String,
 ) -> Result<(), Fault> {
     match word {
-        "open" => open_worker(locked, workers)?,
-        "drop" => drop_last(workers),
-        "call" => record_by_call(alloc, locked, text)?,
-        _ => {
-            if let Some(worker) = workers.last_mut() {
-                work(alloc, locked, worker, word, text)?;
-            }
-        }
+        "open" => open_worker(locked, workers),
+        "drop" => match workers.pop() {
+            Some(_worker) => Ok(()),
+            None => Ok(()),
+        },
+        "call" => record_by_call(alloc, locked, text),
+        _ => match workers.last_mut() {
+            Some(worker) => work(alloc, locked, worker, word, text),
+            None => Ok(()),
+        },
     }
-    Ok(())
 }

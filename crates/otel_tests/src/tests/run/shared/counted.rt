@@ -10,20 +10,15 @@ use otel_data::numbers::NumberValue;
 use std::alloc::Global;
 use std::process::Abort;
 
-/// The number of the fault of a refusal, otherwise 0.
-fn refusal(reply: &Reply) -> u8 {
-    match reply {
-        Reply::Refused(fault) => fault.number(),
-        _ => 0,
-    }
-}
-
 /// The number of the fault of a call that is refused, otherwise 0.
 pub fn fault_of_call<P: Parts, C: Account, S: Account>(
     locked: &mut Locked<P, C, S>,
     call: &Call,
 ) -> u8 {
-    refusal(&locked.call(call))
+    match &locked.call(call) {
+        Reply::Refused(fault) => fault.number(),
+        _ => 0,
+    }
 }
 
 /// Builds the counters `a`, with the number 0, and `b`, with the number 1, of one meter.
