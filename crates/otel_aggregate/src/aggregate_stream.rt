@@ -10,7 +10,7 @@ ghost use Rattle.otel_model_stream.specs.Folds.{wrap};
 ghost use Rattle.otel_model_stream.specs.Totals.{points_total};
 ghost use Rattle.otel_model_stream.specs.Maps.{draining_points, drained_map};
 ghost use Rattle.otel_aggregate.specs.value_map.Numbers.{without_handles};
-ghost use Rattle.otel_aggregate.specs.value_map.Slots.{HasForm, copies};
+ghost use Rattle.otel_aggregate.specs.value_map.Slots.{HasForm};
 ghost use Rattle.otel_aggregate.specs.Data.{temporality_of};
 ghost use Rattle.otel_aggregate.specs.Streams.{new_aggregate, is_known, recorded_set, recorded_attributes, ready_to_bind, stream_after_bind, stream_after_update, stream_after_unbind, stream_after_commit, stream_after_collection, points_now};
 
@@ -26,7 +26,7 @@ use crate::value_map::saved::Saved;
 use otel_common::attributes::KeyValue;
 use otel_common::faults::Fault;
 use otel_common::keys::Key;
-use otel_common::lists::{Items, SharedItems};
+use otel_common::lists::Items;
 use otel_common::metrics::Temporality;
 use std::alloc::{AllocError, Global};
 use std::marker::Model;
@@ -341,15 +341,6 @@ impl<A: Measures> AggregateStream<A> {
         ensures only_memory { IsOkUnless result Fault.OutOfMemory }
     {
         Ok(Items::from(self.map.shown(alloc, maker, !self.resets)?))
-    }
-
-    /// Every set that has an entry, and the empty set if it was updated, with copies of their aggregators. Shares the
-    /// sets.
-    pub(crate) fn every_set(&self, alloc: Global) -> Result<Vec<(SharedItems<KeyValue>, A)>, Fault>
-        ensures points { IfOk result (λ given. copies A.meaning given.items ≡ draining_points self.now.state.map_state) }
-        ensures only_memory { IsOkUnless result Fault.OutOfMemory }
-    {
-        self.map.points(alloc, true)
     }
 
     /// The points that this makes of every set that has an entry, and of the empty set if it was updated. Shares the

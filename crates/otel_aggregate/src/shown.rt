@@ -10,7 +10,6 @@ ghost use Rattle.otel_model_stream.specs.Maps.{draining_points};
 ghost use Rattle.otel_model_stream.specs.Observed.{value_before};
 ghost use Rattle.otel_model_stream.specs.Totals.{value_of};
 ghost use Rattle.otel_model_stream.specs.Data.{sum_point, gauge_point, histogram_point};
-ghost use Rattle.otel_aggregate.specs.value_map.Slots.{copies};
 ghost use Rattle.otel_aggregate.specs.Any.{Spreads as SpreadForm, data_of};
 ghost use Rattle.otel_aggregate.specs.AnyKept.{fold_in};
 ghost use Rattle.otel_aggregate.specs.Kept.{IsWithin, IsWithinIfSome, IsKept, IsKeptStream, AreShowable};
@@ -35,9 +34,6 @@ use otel_data::points::{GaugeDataPoint, HistogramDataPoint, SumDataPoint};
 use otel_data::sums::Sum as SumData;
 use std::alloc::Global;
 use std::marker::PhantomData;
-
-/// A set with what is kept of its records.
-type Kept = (SharedItems<KeyValue>, AnyAggregator);
 
 /// A number type of points.
 pub(crate) trait Shown: Number + Drop {
@@ -114,33 +110,33 @@ fn shown_bits(
     }
 }
 
-/// The point of an observed sum, less the set's value in `reported` if that is given.
-fn observed_sum<T: Shown>(
-    alloc: Global,
-    reported: Option<&ValueMap<AnyAggregator>>,
-    set: SharedItems<KeyValue>,
-    kept: &AnyAggregator,
-) -> SumDataPoint<T>
-    ensures { result ≡ sum_point T.of_bits T.of_wide (since_reported (option_map (λ before. draining_points before.now.state) reported.entry) (set, fold_in kept.now)) }
-{
-    let bits = shown_bits(reported, set.as_slice(), kept);
-    SumDataPoint::new(set, Items::from(Vec::new(alloc)), T::from_bits(bits))
+/// Makes the points of observed sums, each less its set's value in `reported` if that is given.
+#[derive(Drop)]
+struct ObservedSumPoints<'a, T: Shown> {
+    reported: Option<&'a ValueMap<AnyAggregator>>,
+    of: PhantomData<T>,
 }
 
-/// The points of observed sums, each less its set's value in `reported` if that is given.
-fn observed_sums<T: Shown>(
-    alloc: Global,
-    reported: Option<&ValueMap<AnyAggregator>>,
-    given: Vec<Kept>,
-) -> Result<Items<SumDataPoint<T>>, Fault>
-    ensures points { IfOk result (λ made. made ≡ map (λ p. sum_point T.of_bits T.of_wide (since_reported (option_map (λ before. draining_points before.now.state) reported.entry) p)) (copies fold_in given.items)) }
-    ensures only_memory { IsOkUnless result Fault.OutOfMemory }
-{
-    let mut points = Vec::with_capacity(alloc, given.len())?;
-    for (set, kept) in given {
-        points.push(observed_sum(alloc, reported, set, &kept))?;
+impl<'a, T: Shown> PointMaker<AnyAggregator> for ObservedSumPoints<'a, T> {
+    type Point = SumDataPoint<T>;
+
+    ghost Seen = { SumValue T };
+
+    ghost seen = { λ made. made };
+
+    ghost shown = { λ maker p. sum_point T.of_bits T.of_wide (since_reported (option_map (λ before. draining_points before.now.state) maker.reported) p) };
+
+    ghost can_show = { λ _ _. Unit {0} };
+
+    fn point(
+        &self,
+        alloc: Global,
+        set: SharedItems<KeyValue>,
+        kept: &AnyAggregator,
+    ) -> Result<SumDataPoint<T>, Fault> {
+        let bits = shown_bits(self.reported, set.as_slice(), kept);
+        Ok(SumDataPoint::new(set, Items::from(Vec::new(alloc)), T::from_bits(bits)))
     }
-    Ok(Items::from(points))
 }
 
 /// Makes the points of sums.
@@ -338,8 +334,11 @@ pub(crate) fn shown_observed<T: Shown>(
     ensures data { IfOk result (λ given. given ≡ metric.Sum (observed_data T.of_bits T.of_wide now (record { stream = stream.now.state; reported = draining_points reported.now.state }))) }
     ensures only_memory { IsOkUnless result Fault.OutOfMemory }
 {
-    let given = stream.every_set(alloc)?;
-    let points = observed_sums(alloc, compared_with(stream, reported), given)?;
+    let maker: ObservedSumPoints<T> = ObservedSumPoints {
+        reported: compared_with(stream, reported),
+        of: PhantomData,
+    };
+    let points = stream.shown_of_every(alloc, &maker)?;
     let temporality = shown_temporality(stream.resets());
     let start = stream.start();
     let settings = stream.settings();

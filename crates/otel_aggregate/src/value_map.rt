@@ -21,7 +21,7 @@ use crate::sets::allowed_keys::AllowedKeys;
 use crate::sets::references::{References, kept_references};
 use crate::sets::set_attributes::SetAttributes;
 use crate::sets::set_key::SetKey;
-use crate::value_map::hashed_key::{GivenAttributes, HashedSet};
+use crate::value_map::hashed_key::{GivenAttributes, HashedSet, OwnedSet};
 use crate::value_map::hashing::SetHashBuilder;
 use crate::value_map::maker::{Copies, PointMaker};
 use crate::value_map::pending::{Pending, Prepared, led_to, make_ready, plan, take_slot};
@@ -65,7 +65,7 @@ pub struct ValueMap<A: Aggregator> {
     /// An aggregator made in advance for the next new entry.
     unused: Option<A>,
     /// The set of the overflow entry, made in advance as that entry's key, and for looking it up.
-    spare_key: Option<HashedSet<'static>>,
+    spare_key: Option<OwnedSet>,
     pending: Prepared,
 }
 
@@ -248,12 +248,12 @@ impl<A: Aggregator> ValueMap<A> {
         };
         let overflow = self.spare_key.as_ref().unwrap();
         if self.count < self.limit {
-            let lasting = set.set() == overflow.set();
+            let lasting = set.is_same(overflow);
             self.count += 1;
             let slot = take_slot(&mut self.unused, &self.config, true, lasting);
             return self.table.add(set, list, slot);
         }
-        if let Some(number) = self.table.find_set(overflow) {
+        if let Some(number) = self.table.find_set(&overflow.lent()) {
             return number;
         }
         let slot = take_slot(&mut self.unused, &self.config, false, true);
@@ -464,7 +464,7 @@ impl<A: Aggregator> ValueMap<A> {
             return None;
         }
         let overflow = self.spare_key.as_ref()?;
-        self.table.find_set(overflow)
+        self.table.find_set(&overflow.lent())
     }
 
     /// Carries out the prepared bind, and returns the number of the entry: that of the set, or the overflow entry.
@@ -499,7 +499,8 @@ impl<A: Aggregator> ValueMap<A> {
         let Some(overflow) = &self.spare_key else {
             return 0;
         };
-        match self.table.find_set(overflow) {
+        let set = overflow.lent();
+        match self.table.find_set(&set) {
             Some(number) => self.table.handles(number),
             None => 0,
         }

@@ -63,10 +63,11 @@ fn place_near(
     meters.get_index_of(scope)
 }
 
-/// Adds the metric of a stream to the list of its scope's meter, and returns the meter's place. A stream that drops, that
-/// has no points, or whose scope has no meter adds nothing.
+/// Adds the metric of a stream to the list of its scope's meter. A stream that drops, that has no points, or whose scope
+/// has no meter adds nothing.
 ///
-/// Looks for the meter near the place of the stream before, since streams of one meter mostly stand together.
+/// Looks for the meter near a place, that of the meter of the stream before, since streams of one meter mostly stand
+/// together. Returns the place to look near for the next stream: that of the meter, or else the place given.
 fn push_metric(
     alloc: Global,
     lists: &mut Vec<Vec<Metric>>,

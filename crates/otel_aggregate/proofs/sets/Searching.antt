@@ -1,6 +1,5 @@
 -- What a binary search in keys that are in byte order finds.
-use Rattle.std.proofs.Common.{arith, ◌≡◌, ◌∙◌, ℕ, ◌<◌, ◌≤◌, nat_lt, Bool, true, false, true≢false, List, length, slice_index_or, Result, Ok, Err, is_ok, ap, sym, refl}
-use Rattle.std.specs.declared.cmp.Ordering.{Ordering}
+use Rattle.std.proofs.Common.{arith, ◌≡◌, ◌∙◌, ℕ, ◌<◌, nat_lt, Bool, true, false, true≢false, List, length, slice_index_or, Result, Ok, Err, is_ok, ap, sym, refl}
 use Rattle.std.specs.declared.cmp.Ordering.TheVariants.{Equal}
 use Rattle.std.specs.Ordering.{is_eq}
 use Rattle.std.specs.List.{list_any}

@@ -10,7 +10,7 @@ use Rattle.otel_common.specs.declared.attributes.KeyValue.{KeyValue}
 use Rattle.otel_model_stream.specs.Sets.{AttributeSet, AllowList, allowed_part}
 use Rattle.otel_aggregate.specs.declared.sets.set_attributes.SetAttributes.{SetAttributes}
 use Rattle.otel_aggregate.specs.declared.sets.set_key.SetStorage.{SetStorage}
-use Rattle.otel_aggregate.specs.declared.sets.set_key.SetStorage.TheVariants.{Owned, Borrowed, Referenced, Iterated}
+use Rattle.otel_aggregate.specs.declared.sets.set_key.SetStorage.TheVariants.{Borrowed, Referenced, Iterated}
 
 -- the attributes that references lead to
 abbrev pub shown : List (Bor KeyValue) → List KeyValue
@@ -48,9 +48,8 @@ list_part false last l = l
 abbrev pub attributes_left : SetAttributes → AttributeSet
 attributes_left s = shown s.references.now ++ list_part s.by_key (option_copied s.last) (allowed_part (option_copied s.allow) s.list.now)
 
--- the attributes of a key: its own set, or those that it borrows
+-- the attributes of a set that is looked up
 abbrev pub set_in : SetStorage → AttributeSet
-set_in (Owned set) = set
 set_in (Borrowed attributes) = attributes.now
 set_in (Referenced references) = shown references.now.slice.now
 set_in (Iterated attributes) = attributes_left attributes.now

@@ -1,4 +1,4 @@
-//! Keys of a table of sets, which own a set or borrow one.
+//! Sets that are looked up, wherever their attributes stand.
 
 ghost use Rattle.std.specs.Prelude.{◌≡◌, ◌==◌, IfSome, IfOk, IsOkUnless, length};
 ghost use Rattle.std.specs.List.{flat_map, fold};
@@ -24,8 +24,6 @@ use std::marker::Model;
 /// Where a key has its set.
 #[derive(Drop)]
 pub enum SetStorage<'a> {
-    /// The key is an owner of the set, which may have other owners.
-    Owned(SharedItems<KeyValue>),
     /// The key borrows a list, and its set is exactly this list.
     Borrowed(&'a [KeyValue]),
     /// The key borrows references, and its set is the attributes that they lead to.
@@ -34,17 +32,10 @@ pub enum SetStorage<'a> {
     Iterated(&'a SetAttributes<'a>),
 }
 
-/// A key of a table of sets. A key that stands in a table owns its set. A key that is only looked up borrows the
-/// attributes, so a look-up copies nothing.
+/// A set that is looked up. It borrows its attributes, so a look-up copies nothing.
+#[derive(Drop)]
 pub struct SetKey<'a> {
     storage: SetStorage<'a>,
-}
-
-impl<'a> Drop for SetKey<'a> {
-    /// A function of its own, so that no proof about who lets one go looks into it.
-    fn drop(self) {
-        let SetKey { storage: _storage } = self;
-    }
 }
 
 impl<'a> Model for SetKey<'a> {
@@ -58,7 +49,7 @@ impl<'a> Model for SetKey<'a> {
 
 /// Tells whether two lists have the same attributes in the same order.
 #[inline]
-fn same_lists(attributes: &[KeyValue], others: &[KeyValue]) -> bool
+pub(crate) fn same_lists(attributes: &[KeyValue], others: &[KeyValue]) -> bool
     ensures { result ≡ set_eq attributes.now others.now }
 {
     if attributes.len() != others.len() {
@@ -97,15 +88,6 @@ fn hash_references<H: Hasher>(references: &[&KeyValue], state: &mut H)
 }
 
 impl<'a> SetKey<'a> {
-    /// Makes a key that is an owner of this set.
-    pub fn owned(set: SharedItems<KeyValue>) -> SetKey<'a>
-        ensures { result ≡ set }
-    {
-        SetKey {
-            storage: SetStorage::Owned(set),
-        }
-    }
-
     /// Makes a key whose set is this list as it is given: it is neither sorted nor freed of doubled keys. The key
     /// borrows the list.
     #[inline]
@@ -136,27 +118,12 @@ impl<'a> SetKey<'a> {
         }
     }
 
-    /// Makes a key of the same set, which borrows the set from this key.
-    #[inline]
-    pub fn lent(&self) -> SetKey<'_>
-        ensures { result ≡ self.now }
-    {
-        let storage = match &self.storage {
-            SetStorage::Owned(set) => SetStorage::Borrowed(set.as_slice()),
-            SetStorage::Borrowed(attributes) => SetStorage::Borrowed(*attributes),
-            SetStorage::Referenced(references) => SetStorage::Referenced(*references),
-            SetStorage::Iterated(attributes) => SetStorage::Iterated(*attributes),
-        };
-        SetKey { storage }
-    }
-
     /// Returns the set as one list, or `None` if the key has its attributes in another way.
     #[inline]
     fn whole(&self) -> Option<&[KeyValue]>
         ensures { IfSome result (λ set. set.now ≡ self.now) }
     {
         match &self.storage {
-            SetStorage::Owned(set) => Some(set.as_slice()),
             SetStorage::Borrowed(attributes) => Some(*attributes),
             SetStorage::Referenced(_) => None,
             SetStorage::Iterated(_) => None,
@@ -168,17 +135,27 @@ impl<'a> SetKey<'a> {
         ensures { attributes_left result ≡ self.now }
     {
         match &self.storage {
-            SetStorage::Owned(set) => SetAttributes::kept(None, set.as_slice()),
             SetStorage::Borrowed(attributes) => SetAttributes::kept(None, *attributes),
             SetStorage::Referenced(references) => SetAttributes::referenced(references.slice),
             SetStorage::Iterated(attributes) => **attributes,
         }
     }
 
-    /// Tells whether the set has the attributes of a list, in the order of the list. It is kept out of line, since most
-    /// look-ups compare two lists and don't need it.
+    /// Tells whether the set has the attributes of a list, in the order of the list.
+    #[inline]
+    pub fn is_list(&self, list: &[KeyValue]) -> bool
+        ensures { result ≡ set_eq self.now list.now }
+    {
+        match self.whole() {
+            Some(attributes) => same_lists(attributes, list),
+            None => self.is_list_apart(list),
+        }
+    }
+
+    /// Does what `is_list` does for a set that doesn't stand as one list. It is kept out of line, since most look-ups
+    /// compare two lists.
     #[inline(never)]
-    fn is_list(&self, list: &[KeyValue]) -> bool
+    fn is_list_apart(&self, list: &[KeyValue]) -> bool
         ensures { result ≡ set_eq self.now list.now }
     {
         match &self.storage {
@@ -214,7 +191,6 @@ impl<'a> SetKey<'a> {
         ensures { result ≡ (length self.now == 0) }
     {
         match &self.storage {
-            SetStorage::Owned(set) => set.as_slice().is_empty(),
             SetStorage::Borrowed(attributes) => attributes.is_empty(),
             SetStorage::Referenced(references) => references.slice.is_empty(),
             SetStorage::Iterated(attributes) => attributes.is_empty(),
@@ -236,9 +212,8 @@ impl<'a> SetKey<'a> {
         }
     }
 
-    /// Returns a copy of the set. Out of line, as a collection shares the sets that keys own.
-    #[inline(never)]
-    fn copied(&self, alloc: Global) -> Result<SharedItems<KeyValue>, Fault>
+    /// Returns a copy of the set.
+    pub fn copied(&self, alloc: Global) -> Result<SharedItems<KeyValue>, Fault>
         ensures set { IfOk result (λ set. set ≡ self.now) }
         ensures only_memory { IsOkUnless result Fault.OutOfMemory }
     {
@@ -247,19 +222,6 @@ impl<'a> SetKey<'a> {
                 Ok(SharedItems::new(Vec::from_clones(alloc, *attributes)?)?)
             }
             _ => Ok(SharedItems::new(copies_of(alloc, self.attributes())?)?),
-        }
-    }
-
-    /// Returns the set with an owner of its own. If the key owns the set, the caller becomes one more owner of it,
-    /// which copies nothing and takes no memory. Otherwise the attributes are copied.
-    #[inline(always)]
-    pub fn share(&self, alloc: Global) -> Result<SharedItems<KeyValue>, Fault>
-        ensures set { IfOk result (λ set. set ≡ self.now) }
-        ensures only_memory { IsOkUnless result Fault.OutOfMemory }
-    {
-        match &self.storage {
-            SetStorage::Owned(set) => Ok(set.share()?),
-            _ => self.copied(alloc),
         }
     }
 }
@@ -271,11 +233,9 @@ impl<'a> PartialEq for SetKey<'a> {
 
     #[inline]
     fn eq(&self, other: &SetKey<'a>) -> bool {
-        match (self.whole(), other.whole()) {
-            (Some(attributes), Some(others)) => same_lists(attributes, others),
-            (Some(attributes), None) => other.is_list(attributes),
-            (None, Some(others)) => self.is_list(others),
-            (None, None) => self.has_same_attributes(other),
+        match other.whole() {
+            Some(others) => self.is_list(others),
+            None => self.has_same_attributes(other),
         }
     }
 }

@@ -1,21 +1,25 @@
-//! Sets and keys that carry their hash.
+//! Sets and keys that carry their hash, to be looked up in tables and to stand in them.
 
 ghost use Rattle.std.specs.Prelude.{◌≡◌, ◌==◌, IfOk, IsOkUnless, length};
 ghost use Rattle.std.specs.Cmp.{decided, partial_equiv_from_equiv};
 ghost use Rattle.std.specs.Hash as fed;
 ghost use Rattle.std.specs.Hash.{same_Alike};
+ghost use Rattle.otel_common.specs.Equality.{set_eq};
 ghost use Rattle.otel_aggregate.specs.value_map.Hashed.{IsHashedBy, hashed_eq, hashed_eq-Decides};
 
-use crate::sets::set_key::SetKey;
+use crate::sets::set_key::{SetKey, same_lists};
 use crate::value_map::hashing::SetHashBuilder;
+use indexmap::Equivalent;
 use otel_common::attributes::KeyValue;
 use otel_common::faults::Fault;
+use otel_common::lists::SharedItems;
 use std::alloc::Global;
 use std::hash::{BuildHasher, Hash, Hasher};
 use std::marker::Model;
 
-/// A set of attributes, or a list of them as given, with its hash and what it was hashed with. It is hashed once for all
-/// tables in which it is looked up or to which it is added.
+/// A set of attributes, or a list of them as given, that is looked up, with its hash and what it was hashed with. It is
+/// hashed once for all tables in which it is looked up or to which it is added.
+#[derive(Drop)]
 pub struct HashedSet<'a> {
     hasher: SetHashBuilder,
     hash: u64,
@@ -32,17 +36,6 @@ impl<'a> Model for HashedSet<'a> {
     ghost view = { λ h. h.set };
 
     ghost invariant = { λ h. h.hash ≡ (fed_set h.hasher h.set).state };
-}
-
-impl<'a> Drop for HashedSet<'a> {
-    /// A function of its own, so that no proof about who lets one go looks into it.
-    fn drop(self) {
-        let HashedSet {
-            hasher: _,
-            hash: _,
-            set: _set,
-        } = self;
-    }
 }
 
 impl<'a> HashedSet<'a> {
@@ -63,13 +56,13 @@ impl<'a> HashedSet<'a> {
         self.set.is_empty()
     }
 
-    /// The same set in memory of its own, or with another owner if it has some already.
-    pub fn share(&self, alloc: Global) -> Result<HashedSet<'static>, Fault>
+    /// A copy of the set with the same hash.
+    pub fn copied(&self, alloc: Global) -> Result<OwnedSet, Fault>
         ensures copy { IfOk result (λ made. made ≡ self.now) }
         ensures only_memory { IsOkUnless result Fault.OutOfMemory }
     {
-        let set = SetKey::owned(self.set.share(alloc)?);
-        Ok(HashedSet {
+        let set = self.set.copied(alloc)?;
+        Ok(OwnedSet {
             hasher: self.hasher,
             hash: self.hash,
             set,
@@ -84,27 +77,88 @@ impl<'a> HashedSet<'a> {
         &self.set
     }
 
-    /// The same set, which borrows from this one, as a key with the hash of this hasher.
+    /// What the set is looked up by in a table that hashes with this hasher.
     #[inline(always)]
-    pub(crate) fn lent(&self, hasher: SetHashBuilder) -> HashedKey<'_>
+    pub(crate) fn query(&self, hasher: SetHashBuilder) -> SetQuery<'_>
         ensures hashed { IsHashedBy hasher result }
         ensures key { result.key ≡ self.now }
     {
-        if hasher.is_same(&self.hasher) {
-            return HashedKey {
-                hash: self.hash,
-                key: self.set.lent(),
-            };
+        let hash = if hasher.is_same(&self.hasher) {
+            self.hash
+        } else {
+            hasher.hash_one(&self.set)
+        };
+        SetQuery {
+            hash,
+            set: &self.set,
         }
-        HashedKey::new(hasher, self.set.lent())
+    }
+}
+
+/// A set of attributes, or a list of them as given, that is to be added to a table, with its hash and what it was hashed
+/// with.
+pub struct OwnedSet {
+    hasher: SetHashBuilder,
+    hash: u64,
+    set: SharedItems<KeyValue>,
+}
+
+impl Model for OwnedSet {
+    ghost use Rattle.std.specs.Prelude.{◌≡◌};
+    ghost use Rattle.otel_model_stream.specs.Sets.{AttributeSet};
+    ghost use Rattle.otel_aggregate.specs.value_map.Hashed.{fed_set};
+
+    ghost Value = { AttributeSet };
+
+    ghost view = { λ o. o.set };
+
+    ghost invariant = { λ o. o.hash ≡ (fed_set o.hasher o.set).state };
+}
+
+impl Drop for OwnedSet {
+    /// A function of its own, so that no proof about who lets one go looks into it.
+    fn drop(self) {
+        let OwnedSet {
+            hasher: _,
+            hash: _,
+            set: _set,
+        } = self;
+    }
+}
+
+impl OwnedSet {
+    /// Hashes a set.
+    pub fn new(hasher: SetHashBuilder, set: SharedItems<KeyValue>) -> OwnedSet
+        ensures { result ≡ set }
+    {
+        let hash = hasher.hash_one(&SetKey::borrowed(set.as_slice()));
+        OwnedSet { hasher, hash, set }
+    }
+
+    /// The same set, to be looked up.
+    pub fn lent(&self) -> HashedSet<'_>
+        ensures { result ≡ self.now }
+    {
+        HashedSet {
+            hasher: self.hasher,
+            hash: self.hash,
+            set: SetKey::borrowed(self.set.as_slice()),
+        }
+    }
+
+    /// Whether another set has the same attributes in the same order.
+    pub fn is_same(&self, other: &OwnedSet) -> bool
+        ensures { result ≡ set_eq self.now other.now }
+    {
+        same_lists(self.set.as_slice(), other.set.as_slice())
     }
 
     /// The set as a key with the hash of this hasher.
-    pub(crate) fn into_key(self, hasher: SetHashBuilder) -> HashedKey<'a>
+    pub(crate) fn into_key(self, hasher: SetHashBuilder) -> HashedKey
         ensures hashed { IsHashedBy hasher result }
-        ensures key { result.key ≡ self.entry }
+        ensures key { result.key ≡ self }
     {
-        let HashedSet {
+        let OwnedSet {
             hasher: own,
             hash,
             set,
@@ -112,7 +166,8 @@ impl<'a> HashedSet<'a> {
         if hasher.is_same(&own) {
             return HashedKey { hash, key: set };
         }
-        HashedKey::new(hasher, set)
+        let hash = hasher.hash_one(&SetKey::borrowed(set.as_slice()));
+        HashedKey { hash, key: set }
     }
 }
 
@@ -189,14 +244,14 @@ impl<'a> GivenAttributes<'a> {
     }
 }
 
-/// A key of a table with the hash of its set. Two keys are compared attribute by attribute only if their hashes are
-/// equal.
-pub(crate) struct HashedKey<'a> {
+/// A key that stands in a table: a set, or a list as given, with its hash. Two keys are compared attribute by attribute
+/// only if their hashes are equal.
+pub(crate) struct HashedKey {
     hash: u64,
-    key: SetKey<'a>,
+    key: SharedItems<KeyValue>,
 }
 
-impl<'a> Drop for HashedKey<'a> {
+impl Drop for HashedKey {
     /// A function of its own, so that no proof about who lets one go looks into it.
     #[inline(always)]
     fn drop(self) {
@@ -204,40 +259,30 @@ impl<'a> Drop for HashedKey<'a> {
     }
 }
 
-impl<'a> HashedKey<'a> {
-    /// Hashes the set of a key.
-    fn new(hasher: SetHashBuilder, key: SetKey<'a>) -> HashedKey<'a>
-        ensures hashed { IsHashedBy hasher result }
-        ensures key { result.key ≡ key.entry }
-    {
-        let hash = hasher.hash_one(&key);
-        HashedKey { hash, key }
-    }
-
-    /// The key.
-    pub fn key(&self) -> &SetKey<'a>
+impl HashedKey {
+    /// The set or list.
+    pub fn key(&self) -> &SharedItems<KeyValue>
         ensures { result.now ≡ self.now.key }
     {
         &self.key
     }
 }
 
-impl<'a> PartialEq for HashedKey<'a> {
+impl PartialEq for HashedKey {
     ghost eq = { hashed_eq };
 
     ghost laws = { partial_equiv_from_equiv (decided hashed_eq hashed_eq-Decides) };
 
-    #[inline]
-    fn eq(&self, other: &HashedKey<'a>) -> bool {
-        self.hash == other.hash && self.key == other.key
+    fn eq(&self, other: &HashedKey) -> bool {
+        self.hash == other.hash && same_lists(self.key.as_slice(), other.key.as_slice())
     }
 }
 
-impl<'a> Eq for HashedKey<'a> {
+impl Eq for HashedKey {
     ghost laws = { decided hashed_eq hashed_eq-Decides };
 }
 
-impl<'a> Hash for HashedKey<'a> {
+impl Hash for HashedKey {
     ghost hash_input = { λ k. fed.u64 k.hash };
 
     ghost respects_eq = { (same_Alike (λ k. fed.u64 k.hash) hashed_eq-Decides).fed };
@@ -245,5 +290,58 @@ impl<'a> Hash for HashedKey<'a> {
     #[inline]
     fn hash<H: Hasher>(&self, state: &mut H) {
         state.write_u64(self.hash);
+    }
+}
+
+/// What a set is looked up by in a table, where it stands for the key that has its hash and its attributes.
+#[derive(Drop)]
+pub(crate) struct SetQuery<'a> {
+    hash: u64,
+    set: &'a SetKey<'a>,
+}
+
+impl<'a> Model for SetQuery<'a> {
+    ghost use Rattle.otel_aggregate.specs.declared.value_map.hashed_key.HashedKey.{HashedKey};
+
+    ghost Value = { HashedKey };
+
+    ghost view = { λ q. record { hash = q.hash; key = q.set.now } };
+}
+
+impl<'a> PartialEq for SetQuery<'a> {
+    ghost eq = { hashed_eq };
+
+    ghost laws = { partial_equiv_from_equiv (decided hashed_eq hashed_eq-Decides) };
+
+    fn eq(&self, other: &SetQuery<'a>) -> bool {
+        self.hash == other.hash && self.set == other.set
+    }
+}
+
+impl<'a> Eq for SetQuery<'a> {
+    ghost laws = { decided hashed_eq hashed_eq-Decides };
+}
+
+impl<'a> Hash for SetQuery<'a> {
+    ghost hash_input = { λ k. fed.u64 k.hash };
+
+    ghost respects_eq = { (same_Alike (λ k. fed.u64 k.hash) hashed_eq-Decides).fed };
+
+    #[inline]
+    fn hash<H: Hasher>(&self, state: &mut H) {
+        state.write_u64(self.hash);
+    }
+}
+
+impl<'q, 'a> Equivalent<HashedKey> for &'q SetQuery<'a> {
+    ghost equivalent = { λ q. hashed_eq q.now };
+
+    ghost respects_hash = { λ q. (same_Alike (λ k. fed.u64 k.hash) hashed_eq-Decides).fed q.now };
+
+    ghost respects_eq = { λ q. (decided hashed_eq hashed_eq-Decides).congr q.now };
+
+    #[inline]
+    fn equivalent(&self, key: &HashedKey) -> bool {
+        self.hash == key.hash && self.set.is_list(key.key.as_slice())
     }
 }

@@ -11,7 +11,7 @@ ghost use Rattle.otel_aggregate.specs.value_map.Slots.{look_in};
 ghost use Rattle.otel_aggregate.specs.declared.value_map.hashing.SetHashBuilder.{SetHashBuilder};
 
 use crate::aggregators::aggregator::Aggregator;
-use crate::value_map::hashed_key::{HashedKey, HashedSet};
+use crate::value_map::hashed_key::{HashedKey, HashedSet, OwnedSet, SetQuery};
 use crate::value_map::hashing::SetHashBuilder;
 use crate::value_map::key_hasher::KeyHashBuilder;
 use crate::value_map::slots::Slot;
@@ -22,7 +22,7 @@ use std::alloc::{AllocError, Global};
 use std::marker::Model;
 
 /// Keys with the numbers of the slots that they lead to, in order of making.
-type Numbered = IndexMap<HashedKey<'static>, usize, KeyHashBuilder>;
+type Numbered = IndexMap<HashedKey, usize, KeyHashBuilder>;
 
 /// The numbers of slots, by set and by list as given.
 pub struct KeyTable {
@@ -64,10 +64,7 @@ impl Drop for KeyTable {
 
 /// The number that a key leads to, where all keys are hashed alike.
 #[inline(always)]
-fn number_in<'s>(
-    numbers: &'s IndexMap<HashedKey<'s>, usize, KeyHashBuilder>,
-    key: &'s HashedKey<'s>,
-) -> Option<usize>
+fn number_in(numbers: &Numbered, key: &SetQuery) -> Option<usize>
     requires { (b : SetHashBuilder) × IsHashedBy b key.now × AllByRecursion (λ e. IsHashedBy b e.0) numbers.now.entries }
     ensures { result ≡ lookup (set_eq key.now.key) (map plain numbers.now.entries) }
 {
@@ -75,10 +72,10 @@ fn number_in<'s>(
 }
 
 /// Adds a key, for which there is room.
-fn add_key(numbers: &mut Numbered, key: HashedKey<'static>, number: usize)
+fn add_key(numbers: &mut Numbered, key: HashedKey, number: usize)
     requires absent { lookup (hashed_eq key) numbers.old.entries ≡ None }
     requires room { 0 < spare numbers.old }
-    ensures keys { numbers.new.entries ≡ numbers.old.entries ++ (key.entry, number) ∷ [] }
+    ensures keys { numbers.new.entries ≡ numbers.old.entries ++ (key, number) ∷ [] }
 {
     numbers.insert(key, number).unwrap();
 }
@@ -128,7 +125,7 @@ impl KeyTable {
     pub fn find_set(&self, set: &HashedSet) -> Option<usize>
         ensures { result ≡ lookup (set_eq set.now) self.now.sets }
     {
-        number_in(&self.sets, &set.lent(self.hasher))
+        number_in(&self.sets, &set.query(self.hasher))
     }
 
     /// The number that a list leads to, as a set or else as given.
@@ -136,7 +133,7 @@ impl KeyTable {
     pub fn find(&self, list: &HashedSet) -> Option<usize>
         ensures { result ≡ found list.now self.now.sets self.now.aliases }
     {
-        let key = list.lent(self.hasher);
+        let key = list.query(self.hasher);
         match number_in(&self.sets, &key) {
             Some(number) => Some(number),
             None if self.aliases.is_empty() => None,
@@ -152,7 +149,7 @@ impl KeyTable {
     }
 
     /// The sets with their numbers, in order of making.
-    pub fn sets(&self) -> Iter<'_, HashedKey<'static>, usize>
+    pub fn sets(&self) -> Iter<'_, HashedKey, usize>
         ensures sets { map plain result ≡ self.now.sets }
         ensures few { length self.now.sets < 2 ^ 63 }
     {
@@ -178,12 +175,12 @@ impl KeyTable {
     }
 
     /// Adds a set, and the list that admitted it if that is another, as keys of this number.
-    pub fn add(&mut self, set: HashedSet<'static>, list: Option<HashedSet<'static>>, number: usize)
+    pub fn add(&mut self, set: OwnedSet, list: Option<OwnedSet>, number: usize)
         requires new { IsNew self.old.sets set }
         requires spelling { IsSpelling self.old.aliases set list }
         requires room { self.old.room ≡ true }
-        ensures sets { self.new.sets ≡ self.old.sets ++ (set.entry, number) ∷ [] }
-        ensures aliases { self.new.aliases ≡ with_spelling list.entry number self.old.aliases }
+        ensures sets { self.new.sets ≡ self.old.sets ++ (set, number) ∷ [] }
+        ensures aliases { self.new.aliases ≡ with_spelling list number self.old.aliases }
     {
         add_key(&mut self.sets, set.into_key(self.hasher), number);
         if let Some(list) = list {

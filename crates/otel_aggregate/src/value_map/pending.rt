@@ -15,7 +15,7 @@ use crate::sets::allowed_keys::AllowedKeys;
 use crate::sets::references::{References, few_references, many_references};
 use crate::sets::set_attributes::SetAttributes;
 use crate::sets::set_key::SetKey;
-use crate::value_map::hashed_key::HashedSet;
+use crate::value_map::hashed_key::{HashedSet, OwnedSet};
 use crate::value_map::hashing::SetHashBuilder;
 use crate::value_map::sets::overflow_set;
 use crate::value_map::slots::Slot;
@@ -33,7 +33,7 @@ pub enum Pending {
     /// A record or bind for the set whose entry has this number.
     At(usize),
     /// A record or bind for this set, which has no entry, and perhaps another list that is to lead to the entry too.
-    New(HashedSet<'static>, Option<HashedSet<'static>>),
+    New(OwnedSet, Option<OwnedSet>),
 }
 
 impl Pending {
@@ -52,7 +52,7 @@ impl Pending {
 /// A map's prepared record or bind, kept so that one for a set that has an entry is put and taken by its number alone.
 pub struct Prepared {
     number: Option<usize>,
-    added: Option<(HashedSet<'static>, Option<HashedSet<'static>>)>,
+    added: Option<(OwnedSet, Option<OwnedSet>)>,
 }
 
 impl Drop for Prepared {
@@ -167,7 +167,7 @@ impl Prepared {
 
 /// Gives up a set that is to be added. Out of line, as most records are for sets that have an entry.
 #[inline(never)]
-fn give_up_added(added: &mut Option<(HashedSet<'static>, Option<HashedSet<'static>>)>)
+fn give_up_added(added: &mut Option<(OwnedSet, Option<OwnedSet>)>)
     ensures { added.new ≡ None }
 {
     *added = None;
@@ -210,11 +210,11 @@ fn plan_sorted<A: Aggregator>(
     if let Some(number) = overflow {
         return Ok(Pending::At(number));
     }
-    let set = sorted.share(alloc)?;
+    let set = sorted.copied(alloc)?;
     if !few {
         return Ok(Pending::New(set, None));
     }
-    let key = list.share(alloc)?;
+    let key = list.copied(alloc)?;
     Ok(Pending::New(set, Some(key)))
 }
 
@@ -287,7 +287,7 @@ pub fn plan<A: Aggregator>(
         }
         // Tells the prover that the set has no number.
         table.law_of_numbers();
-        let own = list.share(alloc)?;
+        let own = list.copied(alloc)?;
         return Ok(Pending::New(own, None));
     }
     match few_references(allow, attributes) {
@@ -321,11 +321,7 @@ fn make_unused<A: Aggregator>(
 }
 
 /// Makes the set of the overflow entry in advance, unless there is one already.
-fn make_key(
-    key: &mut Option<HashedSet<'static>>,
-    hasher: SetHashBuilder,
-    alloc: Global,
-) -> Result<(), Fault>
+fn make_key(key: &mut Option<OwnedSet>, hasher: SetHashBuilder, alloc: Global) -> Result<(), Fault>
     requires { IfSome key.old (λ made. made ≡ over_set) }
     ensures over { IfSome key.new (λ made. made ≡ over_set) }
     ensures made { OnOk result (is_some key.new ≡ true) }
@@ -334,8 +330,7 @@ fn make_key(
     if key.is_some() {
         return Ok(());
     }
-    let set = SetKey::owned(overflow_set(alloc)?);
-    *key = Some(HashedSet::new(hasher, set));
+    *key = Some(OwnedSet::new(hasher, overflow_set(alloc)?));
     Ok(())
 }
 
@@ -343,7 +338,7 @@ fn make_key(
 pub fn make_ready<A: Aggregator>(
     table: &mut Table<A>,
     unused: &mut Option<A>,
-    key: &mut Option<HashedSet<'static>>,
+    key: &mut Option<OwnedSet>,
     alloc: Global,
     config: &A::InitConfig,
 ) -> Result<(), Fault>

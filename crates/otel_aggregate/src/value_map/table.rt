@@ -18,8 +18,7 @@ ghost use Rattle.otel_aggregate.specs.value_map.Numbers.{number_of, handles_at, 
 ghost use Rattle.otel_aggregate.specs.value_map.Slots.{HasForm, SameLook, look_in, kept_of, changed_each, left_of, entry_of, entry_at, number_updated};
 
 use crate::aggregators::aggregator::Aggregator;
-use crate::sets::set_key::SetKey;
-use crate::value_map::hashed_key::HashedSet;
+use crate::value_map::hashed_key::{HashedSet, OwnedSet};
 use crate::value_map::hashing::SetHashBuilder;
 use crate::value_map::key_table::KeyTable;
 use crate::value_map::maker::PointMaker;
@@ -144,7 +143,7 @@ fn add_points<A: Aggregator, M: PointMaker<A>>(
         if let Some(slot) = slots.get(*number) {
             let is_shown = every || slot.updated;
             if is_shown {
-                let set = set.key().share(alloc)?;
+                let set = set.key().share()?;
                 points.push(maker.point(alloc, set, &slot.aggregator)?)?;
             }
         }
@@ -393,20 +392,15 @@ impl<A: Aggregator> Table<A> {
 
     /// Adds an entry for a set that has none, and returns its number. The entry gets a slot, a key for the set, and a
     /// key for the list that admitted it if that is another. Only the overflow set's slot lasts.
-    pub fn add(
-        &mut self,
-        set: HashedSet<'static>,
-        list: Option<HashedSet<'static>>,
-        slot: Slot<A>,
-    ) -> usize
+    pub fn add(&mut self, set: OwnedSet, list: Option<OwnedSet>, slot: Slot<A>) -> usize
         requires new { IsNew self.old.numbers.sets set }
         requires spelling { IsSpelling self.old.aliases set list }
         requires lasting { slot.lasting ≡ set_eq set over_set }
         requires room { self.old.room ≡ true }
-        ensures table { self.new.table ≡ record self.old.table { entries = self.old.table.entries ++ entry_of set.entry (Some (kept_of A.meaning slot)) ∷ [] } }
+        ensures table { self.new.table ≡ record self.old.table { entries = self.old.table.entries ++ entry_of set (Some (kept_of A.meaning slot)) ∷ [] } }
         ensures none { self.new.numbers.none ≡ self.old.numbers.none }
-        ensures sets { self.new.numbers.sets ≡ self.old.numbers.sets ++ (set.entry, result) ∷ [] }
-        ensures aliases { self.new.aliases ≡ with_spelling list.entry result self.old.aliases }
+        ensures sets { self.new.numbers.sets ≡ self.old.numbers.sets ++ (set, result) ∷ [] }
+        ensures aliases { self.new.aliases ≡ with_spelling list result self.old.aliases }
     {
         let number = fill(&mut self.slots, slot);
         self.keys.add(set, list, number);
@@ -526,8 +520,8 @@ fn copy_entries<A: Aggregator>(
         if let Some(slot) = slots.get(*number) {
             made.make_room()?;
             let slot = copy_slot(alloc, slot)?;
-            let set = SetKey::owned(set.key().share(alloc)?);
-            made.add(HashedSet::new(keys.hasher(), set), None, slot);
+            let set = OwnedSet::new(keys.hasher(), set.key().share()?);
+            made.add(set, None, slot);
         }
     }
     Ok(())

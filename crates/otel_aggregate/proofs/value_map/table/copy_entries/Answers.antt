@@ -16,9 +16,9 @@ add-requires-clause-new g c =
     let look = look_in g.A.Aggregator.meaning c.args.slots.now in
     let s : AttributeSet = c.in-Some.set.now.key in
     let made : List Keyed = c.loop-set.made.numbers.sets in
-    let same : c.new.result ≡ s = c.new.ensures ∙ c.owned-set.ensures ∙ c.in_ok-share.ensures.set ∙ c.key.ensures in
+    let same : c.new-set.result ≡ s = c.new-set.ensures ∙ c.in_ok-share.ensures ∙ c.key.ensures in
     let fit : Fits look (s, c.in-Some.number.now) = (subst (λ (es : List (HashedKey × ℕ)). AllByRecursion (Fits look) (map plain es)) c.in-Some.ensures.steps c.loop-set.invariant.0).0 in
     let whole = ap (λ (es : List (HashedKey × ℕ)). keys_of made ++ keys_of (map plain es)) (sym c.in-Some.ensures.steps) ∙ c.loop-set.invariant.3 in
     let distinct = subst (IsDistinct set_eq) (sym whole) c.requires.unique in
     let new : IsNew made s = record { absent = absent-before made s (keys_of (map plain c.next.new.self)) distinct; canonical = fit.canonical; some = fit.some } in
-    subst (λ (ns : Numbers). IsNew ns.sets c.new.result) (sym c.make_room.ensures.numbers) (subst (IsNew made) (sym same) new)
+    subst (λ (ns : Numbers). IsNew ns.sets c.new-set.result) (sym c.make_room.ensures.numbers) (subst (IsNew made) (sym same) new)
