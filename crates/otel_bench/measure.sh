@@ -165,6 +165,9 @@ case_named() {
         known4_first_order) known $counter "$falling" "$falling" "$one" ;;
         known4_other_order) known $counter "$rising" "$falling" "$one" ;;
         known4_two_readers) known $counter "$rising" "$rising" "$one" "$one" ;;
+        known4_two_streams)
+            known $counter "$rising" "$rising" "$one" "view * name=first" "view * name=second"
+            ;;
         known4_two_kept) known $counter "$rising" "$rising" "$one" "view * keys=attribute00,attribute01" ;;
         bound4) bound "$one" ;;
         bound4_two_readers) bound "$one" "$one" ;;
@@ -263,8 +266,8 @@ threads() {
         }'
 }
 
-for name in known0 known1 known4 known10 known4_first_order known4_other_order known4_two_readers known4_two_kept \
-    bound4 bound4_two_readers; do
+for name in known0 known1 known4 known10 known4_first_order known4_other_order known4_two_readers known4_two_streams \
+    known4_two_kept bound4 bound4_two_readers; do
     row $name 1000 11000 1
     row typed_$name 1000 11000 1
 done

@@ -245,6 +245,17 @@ impl Pipeline {
         self.record_each(instrument, value, attributes)
     }
 
+    /// The attributes of a record, with their hash if several streams are to look them up.
+    fn given_to<'a>(&self, instrument: usize, attributes: &'a [KeyValue]) -> GivenAttributes<'a>
+        ensures { result ≡ attributes.now }
+    {
+        if streams_fed(&self.feeds, instrument).len() > 1 {
+            GivenAttributes::hashed(self.hasher, attributes)
+        } else {
+            GivenAttributes::new(attributes)
+        }
+    }
+
     /// Makes a record with these attributes in all streams that the instrument feeds or in none, in two passes.
     #[inline(never)]
     fn record_each(
@@ -258,7 +269,8 @@ impl Pipeline {
         ensures err { OnErr result (part_of self.new ≡ part_of self.old) }
         ensures known { is_known_at instrument attributes.now (part_of self.old) ≡ true → IsOk result }
     {
-        self.prepare(instrument, &GivenAttributes::new(attributes))?;
+        let given = self.given_to(instrument, attributes);
+        self.prepare(instrument, &given)?;
         self.commit(instrument, value);
         Ok(())
     }
