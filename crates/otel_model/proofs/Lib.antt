@@ -20,7 +20,6 @@ pub mod Handles
 pub mod Apart
 pub mod OfEvents
 pub mod Accepting
-pub mod Sharing
 pub mod Shows
 pub mod Totals
 pub mod Meters

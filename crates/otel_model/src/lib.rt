@@ -9,7 +9,6 @@ ghost use Rattle.otel_model.specs.Lawful.{EachCallKeepsLawful, EachRunKeepsLawfu
 ghost use Rattle.otel_model.specs.Laws.{AreAnsweredFew, AreAnsweredTotals, AreCollectionsOfHistories, AreCountedOfHistories, AreFeedsApart, AreFeedsOfBuilds, AreFeedsStreams, ArePendingPoints, ArePlacesOfHistories, ArePointsFew, AreReadersKept, AreReadersKeptAtOnce, AreStreamsApart, AreStreamsOfBuilds, IsAccepted, IsAllAnswered, IsAllShown, IsAsOnlyReader, IsAsOnlyReaderFromAny, IsBalanceKept, IsConserved, IsExportedTotal, IsRecordedTotal};
 ghost use Rattle.otel_model.specs.Orders.{AreDifferences, BindsInAnyOrder, ObservationsInAnyOrder, RecordsInAnyOrder};
 ghost use Rattle.otel_model.specs.Resources.{GivenOneByOne, GivenValuesWin, MergesAreCanonical, OthersValuesWin, OwnValuesWin, UrlsMergeFromTheLeft, UrlsMergeFromTheRight};
-ghost use Rattle.otel_model.specs.Shares.{BookFollowsCalls, BookedOneByOne, SharesAddUp};
 ghost use Rattle.otel_model.specs.Showing.{BindsByNumber, CollectsAfterObservations, HandlesByNumber, ObservationsByNumber, RecordsByNumber, UnheldRests};
 
 /// For every list of calls each reader is answered as if it were the only one.
@@ -119,14 +118,6 @@ pub fn live_handles()
 pub fn books()
     ensures call { EachCallIsBooked }
     ensures run { EachRunIsBooked }
-{}
-
-/// A book in numbers that do not wrap follows what all instruments together accept, and it is the sum of its shares as
-/// long as each measurement is added to one of them.
-pub fn adds_up()
-    ensures book { BookFollowsCalls }
-    ensures shares { SharesAddUp }
-    ensures one_by_one { BookedOneByOne }
 {}
 
 /// What a program that names streams by number must do to agree with the machine.

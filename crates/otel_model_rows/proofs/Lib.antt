@@ -6,6 +6,11 @@ pub mod RowsEdges
 pub mod RowsChecks
 pub mod RowsResources
 pub mod RowsBooks
+pub mod RowsGiven
+pub mod RowsLawful
+pub mod RowsOrders
+pub mod RowsBuilds
+pub mod RowsShowing
 pub mod RowsHeadings
 pub mod RowsKinds
 pub mod RowsIdentities

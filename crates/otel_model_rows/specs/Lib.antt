@@ -1,2 +1,3 @@
 pub mod StreamRows
 pub mod Rows
+pub mod RunRows

@@ -1,20 +1,25 @@
 //! Rows of single words on a provider: what is checked, said, demanded, refused and left, and what is read off the calls.
 
-ghost use Rattle.std.specs.Prelude.{◌≡◌, ℕ, true, [], ◌∷◌, None, Some, codes};
+ghost use Rattle.std.specs.Prelude.{◌≡◌, ℕ, true, [], ◌∷◌, ◌++◌, None, Some, codes};
 ghost use Rattle.otel_common.specs.declared.attributes.Value.TheVariants as value;
 ghost use Rattle.otel_model_stream.specs.Sets.{over_set};
-ghost use Rattle.otel_model.specs.Calls.{OutOfMemory, Record, Reply, Unbind, UnknownInstrument, UnknownReader, WrongKind};
+ghost use Rattle.otel_model.specs.Books.{added_among, bits_of};
+ghost use Rattle.otel_model.specs.Builds.{AreAlike};
+ghost use Rattle.otel_model.specs.Calls.{Counter, Bind, OutOfMemory, RecordBound, Reply, Unbind, UnknownReader, WrongKind};
 ghost use Rattle.otel_model.specs.Checks.{Empty, name_fault};
 ghost use Rattle.otel_model.specs.Demands.{Views, default_limit};
 ghost use Rattle.otel_model.specs.History.{new_scope};
+ghost use Rattle.otel_model.specs.Lawful.{IsBalanced};
 ghost use Rattle.otel_model.specs.Laws.{KeepsReaders};
 ghost use Rattle.otel_model.specs.Machine.{new_state, with_meter};
+ghost use Rattle.otel_model.specs.Orders.{IsReordered};
 ghost use Rattle.otel_model.specs.Refusals.{first_fault};
 ghost use Rattle.otel_model.specs.Resources.{empty_resource, merged_url};
+ghost use Rattle.otel_model.specs.Showing.{fed_by};
 ghost use Rattle.otel_model.specs.State.{State};
-ghost use Rattle.otel_model.specs.Steps.{Step, collect_reply};
-ghost use Rattle.otel_model.specs.Shares.{booked_by, empty_book};
-ghost use Rattle.otel_model_rows.specs.Rows.{delta, m, u64};
+ghost use Rattle.otel_model.specs.Steps.{Step, collect_reply, replies_of};
+ghost use Rattle.otel_model_rows.specs.Rows.{about, delta, m, u64, x1};
+ghost use Rattle.otel_model_rows.specs.RunRows.{calls, replies, start, stream_a, views};
 
 /// Names, units, bounds, settings of streams, and their texts.
 pub fn checks()
@@ -66,9 +71,28 @@ pub fn resources()
     ensures no_url { merged_url None None ≡ None }
 {}
 
-/// Books in whole numbers, and shares of them.
+/// What instruments accepted, added up over calls.
 pub fn books()
-    ensures row_29 { booked_by (Record 9 (u64 1) []) (Reply.Refused UnknownInstrument)
-        (booked_by (Record 0 (u64 1) []) Reply.Done empty_book)
-        ≡ record { count = 1; sum = 1 } }
+    ensures through_handle { added_among bits_of (Bind 0 [] ∷ RecordBound 0 (u64 7) ∷ Unbind 0 ∷ []) (Reply.Handle 0 ∷ Reply.Done ∷ Reply.Done ∷ []) ≡ 7 }
+{}
+
+/// What a reader was given, and what is pending.
+pub fn given()
+    ensures replies_of_run { replies_of views start calls ≡ replies }
+{}
+
+/// What a lawful provider is, and its balances.
+pub fn lawful()
+    ensures unbalanced { IsBalanced delta (record stream_a { recorded = 8 }) → ⊥ }
+{}
+
+/// Lists in another order, builds that are alike, and differences.
+pub fn orders()
+    ensures key_twice { IsReordered (x1 ++ x1) (x1 ++ x1) → ⊥ }
+    ensures not_good { AreAlike [] (record { scope = Some m; about = about Counter [] }) (record { scope = Some m; about = about Counter [] }) → ⊥ }
+{}
+
+/// What is done to streams by number.
+pub fn showing()
+    ensures fed_nowhere { fed_by (([] ∷ [])) 1 ≡ [] }
 {}
