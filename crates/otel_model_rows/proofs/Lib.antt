@@ -4,6 +4,7 @@ pub mod RowsSums
 pub mod RowsViews
 pub mod RowsEdges
 pub mod RowsChecks
+pub mod RowsCommon
 pub mod RowsResources
 pub mod RowsBooks
 pub mod RowsGiven

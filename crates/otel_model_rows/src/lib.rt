@@ -5,6 +5,7 @@
 //! whole file with it.
 #![tactic(auto)]
 
+pub mod common;
 pub mod providers;
 pub mod streams;
 pub mod words;

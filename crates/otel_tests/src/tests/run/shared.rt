@@ -17,10 +17,12 @@ mod counted;
 mod crossing;
 mod handed;
 mod limits;
+mod parts;
 mod threads;
 mod typed;
 
 use cases::{Case, share_boxes};
+use parts::provider_with_parts;
 use threads::Recording;
 use typed::Instruments;
 
@@ -117,7 +119,7 @@ fn record_with<R: Abort + Threads + Wait + Sync>(
     foreign: &Instruments,
     text: &mut String,
 ) -> Result<(), Fault> {
-    let mut provider = provider_of(rt, alloc, 0)?;
+    let mut provider = provider_of(rt, alloc, 5)?;
     let own = Instruments::build(alloc, &mut provider)?;
     share_boxes(rt, alloc, provider, Case::Typed(foreign, &own), text)
 }
@@ -140,6 +142,17 @@ fn instruments_as_values(rt: HostRuntime) -> Result<(), Fail> {
     record_with_foreign(&rt, rt.alloc(), &mut text)?;
     let wanted =
         "faults 3 3 4, 0 wait, accepted 0, value 0, faults 0 0 0, 3 wait, accepted 3, value 3, refused 14, 3 and 0";
+    assert_eq!(rt; text.as_str(), wanted);
+    Ok(())
+}
+
+/// Under the lock a flush asks the readers, a build the views, and a collection the callbacks.
+#[test]
+fn parts_under_the_lock(rt: HostRuntime) -> Result<(), Fail> {
+    let mut text = String::new(rt.alloc());
+    let provider = provider_with_parts(&rt, rt.alloc())?;
+    share_boxes(&rt, rt.alloc(), provider, Case::Parts, &mut text)?;
+    let wanted = "flush 10, seen 7, renamed 3, refused 14, 0 and 0";
     assert_eq!(rt; text.as_str(), wanted);
     Ok(())
 }

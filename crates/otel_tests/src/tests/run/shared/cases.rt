@@ -7,6 +7,7 @@ ghost use Rattle.opentelemetry_sdk.specs.Providers.{state_of};
 use super::alone::follow;
 use super::counted::build_counters;
 use super::handed::settle_twice;
+use super::parts::use_parts;
 use super::threads::{Recording, record};
 use super::typed::{Instruments, record_typed};
 use opentelemetry_sdk::metrics::provider::{Boxed, Parts, Provider, SdkMeterProvider};
@@ -28,6 +29,8 @@ pub enum Case<'a> {
     Alone(&'a str),
     /// A worker records with instruments of another provider, and with those of its own.
     Typed(&'a Instruments, &'a Instruments),
+    /// Views, readers and callbacks are asked.
+    Parts,
 }
 
 /// Makes two counters, does what the case says, and writes what is answered. The workers come back.
@@ -50,6 +53,7 @@ fn run<
         Case::Typed(foreign, own) => {
             record_typed(alloc, &mut shared.lock(rt), foreign, own, text)
         }
+        Case::Parts => use_parts(alloc, &mut shared.lock(rt), text),
     }
 }
 

@@ -90,6 +90,17 @@ fn values_in(collected: &ResourceMetrics) -> (u64, u64) {
     values
 }
 
+/// Writes the name and the value of each metric.
+pub fn write_metrics(collected: &ResourceMetrics, text: &mut String) -> Result<(), Fault> {
+    for scope in collected.scope_metrics() {
+        for metric in scope.metrics() {
+            let value = value_of(metric);
+            write!(text, "{} {value}, ", metric.name())?;
+        }
+    }
+    Ok(())
+}
+
 /// What the first reader collects of the counters `a` and `b`.
 pub fn read<P: Parts, C: Account, S: Account>(
     alloc: Global,

@@ -1,0 +1,56 @@
+//! Rows of the words of this crate: examples with their expected outcomes, which the prover computes. No working code.
+//!
+//! Each function's contract states one row of a file in `proofs/`. Its proof cites that row, and the prover checks the
+//! whole file with it.
+
+ghost use Rattle.std.specs.Prelude.{◌≡◌, ℕ, true, [], Err, Ok};
+ghost use Rattle.otel_common.specs.declared.faults.Fault.TheVariants.{OutOfMemory, UnknownMeter, LedgerFull};
+ghost use Rattle.otel_model.specs.Calls as model;
+ghost use Rattle.otel_model.specs.Demands.{Views};
+ghost use Rattle.otel_model.specs.Machine.{new_state};
+ghost use Rattle.otel_model.specs.Resources.{empty_resource};
+ghost use Rattle.otel_model.specs.State.{State};
+ghost use Rattle.opentelemetry_sdk.specs.Callbacks.{IsCollected};
+ghost use Rattle.opentelemetry_sdk.specs.Headline.{FromBuilt};
+ghost use Rattle.opentelemetry_sdk.specs.Known.{HasMemory};
+ghost use Rattle.opentelemetry_sdk.specs.Pending.{StopsBy};
+ghost use Rattle.opentelemetry_sdk.specs.Providers.{state_of, identity_of};
+ghost use Rattle.opentelemetry_sdk.specs.Readers.{shut_after};
+ghost use Rattle.opentelemetry_sdk.specs.Typed.{record_reply};
+ghost use Rattle.opentelemetry_sdk.specs.declared.calls.Reply.TheVariants.{Refused};
+ghost use Rattle.opentelemetry_sdk.specs.declared.provider.Provider.{Provider};
+
+/// Which callbacks are registered, and what a collection does with what they gave.
+fn callbacks()
+    ensures fault_changes_nothing { (views : Views) (old new : State) (r now : ℕ) → IsCollected views old r now (Err UnknownMeter) (Err UnknownMeter) new → new ≡ old }
+{}
+
+/// Calls, replies, faults and numbers of the code in the words of the model.
+fn calls()
+    ensures recorded { record_reply (Ok tt) ≡ model.Reply.Done }
+{}
+
+/// What laws say of a provider.
+fn headline()
+    ensures law_of_no_readers { FromBuilt (new_state empty_resource 7 []) (λ resource identity readers. ⊥) → ⊥ }
+{}
+
+/// Calls that are never refused for lack of memory, and what an instrument feeds.
+fn known()
+    ensures refused_for_memory { HasMemory (Refused OutOfMemory) → ⊥ }
+{}
+
+/// What calls do to readers.
+fn readers()
+    ensures shutdown_shuts { shut_after true model.Call.Shutdown ≡ true }
+{}
+
+/// Records that wait, and submissions.
+fn shared()
+    ensures stops_without_records { (st : State) (booked : ℕ) → StopsBy st [] booked LedgerFull → ⊥ }
+{}
+
+/// What belongs to a provider.
+fn typed()
+    ensures identity { {P V R U I : Type 0} (p : Provider P V R U I) → identity_of p ≡ (state_of p).shared.identity }
+{}

@@ -1,0 +1,25 @@
+//! Rows of the words of this crate: examples with their expected outcomes, which the prover computes. No working code.
+//!
+//! Each function's contract states one row of a file in `proofs/`. Its proof cites that row, and the prover checks the
+//! whole file with it.
+
+ghost use Rattle.std.specs.Prelude.{◌≡◌, ℕ, []};
+ghost use Rattle.otel_common.specs.declared.faults.Fault.TheVariants.{WrongNumber};
+ghost use Rattle.otel_stream.specs.Requests.{default_timeout};
+ghost use Rattle.otel_stream.specs.Runs.{EndsWith};
+ghost use Rattle.otel_stream.specs.Settings.{IsLawful, nothing_said};
+
+/// What all readers are asked.
+fn asked()
+    ensures five_seconds { default_timeout ≡ 5000000000 }
+{}
+
+/// Runs of callbacks.
+fn runs()
+    ensures no_fault_of_none { EndsWith {B = ℕ} [] WrongNumber → ⊥ }
+{}
+
+/// What readers want, and what is set for streams.
+fn wants()
+    ensures lawful { IsLawful nothing_said }
+{}
