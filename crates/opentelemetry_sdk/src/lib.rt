@@ -13,9 +13,9 @@
 //! - [`error`]: one error for functions that make streams and call a provider; and the macro [`attributes!`].
 //!
 //! A builder makes a provider from views and readers. Meters, instruments and handles belong to it, and their calls name
-//! it. A refused call changes nothing, except that in a flush or a shutdown in which readers failed each was asked, and
-//! that callbacks which ran before a collection was refused have changed themselves. Here a counter takes in a record and
-//! is collected, which prints `requests path=/cart: 3`:
+//! it. A refused call changes nothing, except that in a flush or a shutdown in which readers failed each was asked, that
+//! such a shutdown has shut the provider down, and that callbacks which ran before a collection was refused keep what they
+//! did to themselves. Here a counter takes in a record and is collected, which prints `requests path=/cart: 3`:
 //!
 //! ```
 //! let mut shop = Provider::<Plain<NoCallback, NoCallback>>::builder(alloc)
