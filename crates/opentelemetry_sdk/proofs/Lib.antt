@@ -7,6 +7,7 @@ pub mod Headlines
 pub mod Held
 pub mod Identities
 pub mod KeptRuns
+pub mod KnownRuns
 pub mod Lists
 pub mod Mapped
 pub mod Outcomes

@@ -13,8 +13,9 @@
 //! - [`error`]: one error for functions that make streams and call a provider; and the macro [`attributes!`].
 //!
 //! A builder makes a provider from views and readers. Meters, instruments and handles belong to it, and their calls name
-//! it. A refused call changes nothing, except for a flush or a shutdown in which readers failed. Here a counter takes in
-//! a record and is collected, which prints `requests path=/cart: 3`:
+//! it. A refused call changes nothing, except that in a flush or a shutdown in which readers failed each was asked, that
+//! such a shutdown has shut the provider down, and that callbacks which ran before a collection was refused keep what they
+//! did to themselves. Here a counter takes in a record and is collected, which prints `requests path=/cart: 3`:
 //!
 //! ```
 //! let mut shop = Provider::<Plain<NoCallback, NoCallback>>::builder(alloc)
@@ -27,6 +28,7 @@
 //! ```
 //!
 //! The same calls can be made as data, one by `step` or a list of them by `run`, on whose clauses the promises stand.
+//! There a collection is handed what was observed, and no callback runs.
 #![tactic(auto)]
 
 mod asking;

@@ -18,7 +18,7 @@ ghost use Rattle.opentelemetry_sdk.specs.Callbacks.{IsCollectionOf, IsCollected}
 ghost use Rattle.opentelemetry_sdk.specs.Headline.{OfReaders, OfStreams, OfAnswers, InAnyOrder};
 ghost use Rattle.opentelemetry_sdk.specs.Providers.{state_of, identity_of, resource_of, identity_of_builder, answers_of_readers, views_of, builder_readers, builder_views, provider_readers, provider_views, callbacks_of, wants_of};
 ghost use Rattle.opentelemetry_sdk.specs.Correspondence.{call_of, reply_of, reply_to};
-ghost use Rattle.opentelemetry_sdk.specs.Known.{IsKnown, HasMemory};
+ghost use Rattle.opentelemetry_sdk.specs.Known.{IsKnown, HasMemory, EachKnownHasMemory};
 ghost use Rattle.opentelemetry_sdk.specs.Readers.{AreReached, ShutsDown, StepReaches, RunReaches};
 ghost use Rattle.opentelemetry_sdk.specs.Typed.{collect_reply, collected_reply};
 ghost use Rattle.otel_stream.specs.Answers.{answers_wanting};
@@ -260,8 +260,15 @@ impl<P: Parts> Provider<P> {
         }
     }
 
+    /// The readers, in the order in which they were added.
+    pub fn readers(&self) -> &[P::Reader]
+        ensures { result.now ≡ provider_readers self.now }
+    {
+        self.readers.as_slice()
+    }
+
     /// Takes the provider apart into its core, views, readers and callbacks. Takes no memory.
-    pub fn into_parts(
+    pub(crate) fn into_parts(
         self,
     ) -> (
         Core,
@@ -284,7 +291,7 @@ impl<P: Parts> Provider<P> {
     }
 
     /// Makes a provider of what `into_parts` gave. Takes no memory.
-    pub fn from_parts(
+    pub(crate) fn from_parts(
         core: Core,
         views: Vec<P::View>,
         readers: Vec<P::Reader>,
@@ -472,7 +479,8 @@ impl<P: Parts> Provider<P> {
     /// each call has its reply, even if it was refused.
     ///
     /// `run` says what is done, call by call, and `reached` what becomes of the readers; if no call asks them, they
-    /// stay as they were (`unasked`). `order` says, for any provider, that with the attributes of a record in another
+    /// stay as they were (`unasked`). `known` says, for any provider, that a record is never refused for want of memory
+    /// if its attributes have an entry in each stream when its turn comes. `order` says, for any provider, that with the attributes of a record in another
     /// order, where no key stands twice, the same replies and state are right. The clauses from `streams` on say, for a
     /// provider as `build` gave it, what can be read off the calls and replies alone. `given` adds up the replies
     /// themselves: under each heading, which is a scope, a name, a description, a unit and a number type, unless an
@@ -480,6 +488,7 @@ impl<P: Parts> Provider<P> {
     /// up to, plus what the streams with this heading hold.
     pub fn run(&mut self, alloc: Global, calls: &[Call]) -> Result<Vec<Reply>, Fault>
         ensures run { IfOk result (λ replies. Run (views_of P.View.answer self.old) (state_of self.old) (map call_of calls.now) (map reply_of replies.items) (state_of self.new)) }
+        ensures known { IfOk result (λ replies. EachKnownHasMemory (views_of P.View.answer self.old) (state_of self.old) calls.now replies.items) }
         ensures unmade { OnErr result (state_of self.new ≡ state_of self.old) }
         ensures only_memory { IsOkUnless result Fault.OutOfMemory }
         ensures balances { Balances (state_of self.new) }

@@ -6,7 +6,7 @@ ghost use Rattle.otel_model.specs.Demands.{Views};
 ghost use Rattle.otel_model.specs.Steps.{Step, Run};
 ghost use Rattle.otel_model.specs.Lawful.{Balances};
 ghost use Rattle.opentelemetry_sdk.specs.Correspondence.{kind_of, is_signed, number_of, observed_of, call_of, reply_of, reply_to};
-ghost use Rattle.opentelemetry_sdk.specs.Known.{is_known, IsKnown, HasMemory};
+ghost use Rattle.opentelemetry_sdk.specs.Known.{is_known, IsKnown, HasMemory, EachKnownHasMemory};
 ghost use Rattle.opentelemetry_sdk.specs.Readers.{AreReachedBy, ShutsDown, StepReaches, RunReaches};
 ghost use Rattle.otel_stream.specs.Requests.{wanted_by};
 
@@ -246,6 +246,7 @@ impl Core {
         calls: &[Call],
     ) -> Result<Vec<Reply>, Fault>
         ensures run { IfOk result (λ replies. Run (map V.answer views.now) self.old (map call_of calls.now) (map reply_of replies.items) self.new) }
+        ensures known { IfOk result (λ replies. EachKnownHasMemory (map V.answer views.now) self.old calls.now replies.items) }
         ensures unmade { OnErr result (self.new ≡ self.old) }
         ensures only_memory { IsOkUnless result Fault.OutOfMemory }
         ensures reached { IfOk result (λ replies. RunReaches R.flushes R.shuts self.old.shared.shut (map call_of calls.now) readers.old (map reply_of replies.items) readers.new) }

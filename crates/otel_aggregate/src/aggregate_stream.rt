@@ -282,9 +282,11 @@ impl<A: Measures> AggregateStream<A> {
         place
     }
 
-    /// Binds a handle with this number to these attributes, unless a live handle has the number (Metrics API,
-    /// "Synchronous Instrument API"). Its records go, for good, to the entry that a record with the attributes would
-    /// go to now.
+    /// Binds a handle with this number to these attributes (Metrics API, "Synchronous Instrument API"). Its records go,
+    /// for good, to the entry that a record with the attributes would go to now.
+    ///
+    /// If a live handle has the number, it stays with its own entry: nothing is bound, what was prepared stays prepared,
+    /// and the answer is `Ok`. Refused only for want of memory.
     pub fn bind(&mut self, handle: u64, attributes: &[KeyValue]) -> Result<(), Fault>
         ensures ok { OnOk result (self.new ≡ stream_after_bind handle (ready_to_bind attributes.now self.old)) }
         ensures err { OnErr result (self.new.state ≡ self.old.state) }
@@ -424,7 +426,7 @@ impl<A: Measures> AggregateStream<A> {
     }
 
     /// A copy of the entries, held by no handle, to be restored later. Takes memory even if there are no entries.
-    pub fn save(&self, alloc: Global) -> Result<Saved<A>, Fault>
+    pub(crate) fn save(&self, alloc: Global) -> Result<Saved<A>, Fault>
         ensures saved { IfOk result (λ saved. saved ≡ without_handles self.now.state.map_state.table) }
         ensures only_memory { IsOkUnless result Fault.OutOfMemory }
     {
@@ -433,7 +435,7 @@ impl<A: Measures> AggregateStream<A> {
 
     /// Puts saved entries in place of the stream's own, and gives up a prepared record. No handle may be live. Takes
     /// no memory.
-    pub fn restore(&mut self, saved: Saved<A>)
+    pub(crate) fn restore(&mut self, saved: Saved<A>)
         requires { self.old.live ≡ [] }
         ensures state { self.new.state ≡ record self.old.state { map_state = record self.old.state.map_state { table = saved } } }
         ensures live { self.new.live ≡ [] }

@@ -17,5 +17,4 @@ pub use crate::sum::Sum;
 pub use crate::value_map::ValueMap;
 pub use crate::value_map::hashed_key::GivenAttributes;
 pub use crate::value_map::hashing::SetHashBuilder;
-pub use crate::value_map::maker::{Copies, PointMaker};
 pub use crate::value_map::saved::Saved;

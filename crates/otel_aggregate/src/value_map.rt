@@ -38,7 +38,7 @@ pub mod hashed_key;
 pub mod hashing;
 mod key_hasher;
 mod key_table;
-pub mod maker;
+pub(crate) mod maker;
 mod pending;
 pub mod saved;
 pub mod sets;
@@ -374,7 +374,8 @@ impl<A: Aggregator> ValueMap<A> {
         self.pending.is_some()
     }
 
-    /// Takes in the prepared record. This is the second phase; it looks nothing up for a set that has an entry.
+    /// Takes in the prepared record; `is_prepared` tells whether there is one. This is the second phase; it looks nothing
+    /// up for a set that has an entry.
     #[inline(always)]
     pub fn commit(&mut self, value: A::PreComputedValue)
         requires { IsSome self.old.pending }
@@ -469,7 +470,7 @@ impl<A: Aggregator> ValueMap<A> {
 
     /// Carries out the prepared bind, and returns the number of the entry: that of the set, or the overflow entry.
     /// This is the second phase; it can't fail.
-    pub fn commit_bind(&mut self) -> usize
+    pub(crate) fn commit_bind(&mut self) -> usize
         requires prepared { IsSome self.old.pending }
         requires few { (s : AttributeSet) → self.old.pending ≡ Some s → handles_at (bound_to s self.old.state) self.old.state.table < 2 ^ 64 - 1 }
         ensures bound { (s : AttributeSet) → self.old.pending ≡ Some s → self.new.state ≡ bound_map s self.old.state }
@@ -608,7 +609,7 @@ impl<A: Aggregator> ValueMap<A> {
 
     /// The points that this makes of the sets and aggregators that `points` gives, without copies of those. They share the
     /// map's sets. Takes memory for the list once.
-    pub fn shown<M: PointMaker<A>>(
+    pub(crate) fn shown<M: PointMaker<A>>(
         &self,
         alloc: Global,
         maker: &M,
@@ -643,6 +644,8 @@ impl<A: Aggregator> ValueMap<A> {
 
     /// Forgets all records, and all entries but that of the empty set. A prepared record is given up. The map keeps
     /// memory for about as many entries as it had, for later ones.
+    ///
+    /// No handle should be live: its entry is gone, and the entry's number may be given to another one.
     pub fn drain(&mut self)
         ensures state { self.new.state ≡ drained_map self.old.state }
         ensures none { self.new.numbers.none ≡ self.old.numbers.none }
@@ -717,6 +720,8 @@ impl<A: Aggregator> ValueMap<A> {
     /// The points of a draining collection: that of the empty set if it was updated, and those of all other entries.
     /// The map then forgets all records and all entries but that of the empty set, and gives up a prepared record. No
     /// set is copied. If it fails, nothing changes.
+    ///
+    /// No handle should be live: its entry is gone, and the entry's number may be given to another one.
     pub fn drain_and_reset(
         &mut self,
         alloc: Global,

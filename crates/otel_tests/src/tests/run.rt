@@ -14,6 +14,7 @@ mod shown;
 mod shutdowns;
 mod support;
 mod texts;
+mod turns;
 mod typed;
 mod vectors;
 mod wholes;

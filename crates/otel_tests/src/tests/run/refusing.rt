@@ -90,9 +90,7 @@ pub fn assert_of_failing(
     let mut text = String::new(alloc);
     let mut provider = failing(rt, alloc, fails);
     write_answers(rt, &mut text, &mut provider, requests);
-    let (core, views, readers, callbacks) = provider.into_parts();
-    write_asked(rt, &mut text, readers.as_slice());
-    let _provider: Provider<Own> = Provider::from_parts(core, views, readers, callbacks);
+    write_asked(rt, &mut text, provider.readers());
     assert_text(rt, text.as_str(), wanted);
 }
 

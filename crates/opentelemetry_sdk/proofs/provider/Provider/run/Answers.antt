@@ -17,6 +17,7 @@ use Rattle.otel_model.specs.Answered.{OfEachMetric, ShowsWindow, ShowsAll, HasFe
 use Rattle.otel_model.specs.Laws.{HasStreamsOfBuilds, HasFeedsOfBuilds, HasPlacesOfHistories, HasCountedOfHistories, IsGivenCollections, IsAnsweredAsOnly, HasRecordedTotal, HasExportedTotal, HasPendingPoints, Conserves, HasAccepted}
 use Rattle.otel_model.specs.Given.{IsGivenOrPending}
 use Rattle.opentelemetry_sdk.specs.Correspondence.{call_of, reply_of}
+use Rattle.opentelemetry_sdk.specs.Known.{EachKnownHasMemory}
 use Rattle.opentelemetry_sdk.specs.Providers.{views_of}
 use Rattle.opentelemetry_sdk.specs.declared.calls.Reply.{Reply}
 use Rattle.opentelemetry_sdk.proofs.KeptRuns.{kept_run}
@@ -76,6 +77,9 @@ returns-clause-all_shown g c = IfOk-weaker c.run-replies.result _ _ (λ replies 
 
 pub returns-clause-few : goal.returns-clause-few
 returns-clause-few g c = IfOk-weaker c.run-replies.result _ _ (λ replies is. of_answers (OfEachMetric HasFewPoints) few_answered_law (views_of g.P.View.View.answer c.args.self.now) c.args.self.now.core c.run-replies.new.self c.args.calls.now replies.items is) (as-run g (goal.at.returns-clause-few g c).After-run-replies)
+
+pub returns-clause-known : goal.returns-clause-known
+returns-clause-known g c = subst (λ vs. IfOk c.run-replies.result (λ (replies : Vec Reply). EachKnownHasMemory (map g.P.View.View.answer vs) c.args.self.now.core c.args.calls.now replies.items)) c.deref.ensures.value c.run-replies.ensures.known
 
 pub returns-clause-readers : goal.returns-clause-readers
 returns-clause-readers g c = kept_run (views_of g.P.View.View.answer c.args.self.now) c.run-replies.result (map call_of c.args.calls.now) (λ (replies : Vec Reply). map reply_of replies.items) c.args.self.now.core c.run-replies.new.self (as-run g (goal.at.returns-clause-readers g c).After-run-replies) c.run-replies.ensures.unmade
