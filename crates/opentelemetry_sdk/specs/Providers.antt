@@ -2,6 +2,7 @@
 -- their views, `R` that of their readers, `U` and `I` those of their callbacks for unsigned and for signed values.
 use Rattle.std.specs.Prelude.{ℕ, List, Option, map}
 use Rattle.otel_stream.specs.declared.registered.Registered.{Registered}
+use Rattle.otel_aggregate.specs.value_map.Hashing.{unseeded}
 use Rattle.otel_common.specs.declared.metrics.Aggregation.{Aggregation}
 use Rattle.otel_common.specs.declared.metrics.Temporality.{Temporality}
 use Rattle.otel_model.specs.Demands.{Instrument, ReaderAnswers, StreamSpec, Views}
@@ -20,17 +21,29 @@ resource_of b = b.resource
 abbrev pub identity_of_builder : {P V R U I : Type 0} → ProviderBuilder P V R U I → ℕ
 identity_of_builder b = b.identity
 
+-- the seed of a builder that was given none
+abbrev pub fixed_hash_seed : ℕ
+fixed_hash_seed = unseeded.seed
+
+-- the seed from which its provider hashes sets
+abbrev pub hash_seed_of_builder : {P V R U I : Type 0} → ProviderBuilder P V R U I → ℕ
+hash_seed_of_builder b = b.hasher.seed
+
 -- what each of a builder's readers answered for each kind of instrument
 abbrev pub answers_of_readers : {P V R U I : Type 0} → ProviderBuilder P V R U I → List ReaderAnswers
 answers_of_readers b = b.answers
 
 -- a provider's state: all of it but the views, the readers and the callbacks
 abbrev pub state_of : {P V R U I : Type 0} → Provider P V R U I → State
-state_of p = p.core
+state_of p = p.core.state
 
 -- a provider's identity
 abbrev pub identity_of : {P V R U I : Type 0} → Provider P V R U I → ℕ
-identity_of p = p.core.shared.identity
+identity_of p = p.core.state.shared.identity
+
+-- the seed from which a provider hashes sets of attributes, on which no reply depends
+abbrev pub hash_seed_of : {P V R U I : Type 0} → Provider P V R U I → ℕ
+hash_seed_of p = p.core.hash_seed
 
 -- the readers of a builder
 abbrev pub builder_readers : {P V R U I : Type 0} → ProviderBuilder P V R U I → List R

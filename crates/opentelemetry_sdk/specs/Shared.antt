@@ -9,7 +9,11 @@ use Rattle.opentelemetry_sdk.specs.declared.metrics.shared.locked.Locked.{Locked
 
 -- the provider's state: all of it but the views, the readers and the callbacks
 abbrev pub state_in : {P C S V R U I : Type 0} {c : account.Ghosts C} {s : account.Ghosts S} → Locked P C S V R U I c s → State
-state_in l = l.booked.core
+state_in l = l.booked.core.state
+
+-- the seed from which it hashes sets of attributes
+abbrev pub hash_seed_in : {P C S V R U I : Type 0} {c : account.Ghosts C} {s : account.Ghosts S} → Locked P C S V R U I c s → ℕ
+hash_seed_in l = l.booked.core.hash_seed
 
 -- the provider's views, readers and callbacks
 abbrev pub views_in : {P C S V R U I : Type 0} {c : account.Ghosts C} {s : account.Ghosts S} → Locked P C S V R U I c s → List V

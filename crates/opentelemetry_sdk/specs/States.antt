@@ -49,6 +49,14 @@ IsNamed fault.UseWorker = Unit {0}
 IsNamed fault.WorkersMissing = Unit {0}
 IsNamed (fault.InternalFailure f) = Unit {0}
 
+-- ======== cores ========
+-- the core of a provider: the provider's state, the seed from which builds have sets hashed, and that from which each
+-- reader's part hashes them. No reply depends on these
+pub record CoreContents : Type 0 where
+  pub state : State
+  pub hash_seed : ℕ
+  pub reader_seeds : List ℕ
+
 -- ======== builds ========
 -- a build's meter is known, and this is its scope, if it has one
 pub record IsScopeOf (meters : List InstrumentationScope) (meter : Option ℕ) (scope : Option InstrumentationScope) : Type 0 where

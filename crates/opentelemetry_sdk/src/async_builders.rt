@@ -9,7 +9,7 @@ ghost use Rattle.otel_model.specs.Steps.{Step};
 ghost use Rattle.otel_model.specs.Lawful.{Balances};
 ghost use Rattle.opentelemetry_sdk.specs.Callbacks.{registered_callback, added_callbacks};
 ghost use Rattle.opentelemetry_sdk.specs.Correspondence.{about};
-ghost use Rattle.opentelemetry_sdk.specs.Providers.{state_of, views_of, provider_readers, provider_views, callbacks_of};
+ghost use Rattle.opentelemetry_sdk.specs.Providers.{state_of, hash_seed_of, views_of, provider_readers, provider_views, callbacks_of};
 ghost use Rattle.opentelemetry_sdk.specs.Typed.{IsMeterOf, IsObservableOf, meter_number, meter_observed, about_observed, builder_callbacks, observable_number, observed_reply};
 
 use crate::asynchronous::Asynchronous;
@@ -117,6 +117,7 @@ impl<K, T, P: Parts> AsyncInstrumentBuilder<K, T, P> {
         ensures registered { IfOk result (λ i. callbacks_of provider.new ≡ callbacks_of provider.old ++ added_callbacks (observable_number i) (state_of provider.new) (builder_callbacks self)) }
         ensures unregistered { OnErr result (callbacks_of provider.new ≡ callbacks_of provider.old) }
         ensures balances { Balances (state_of provider.new) }
+        ensures seeded { hash_seed_of provider.new ≡ hash_seed_of provider.old }
         ensures readers { KeepsReaders (state_of provider.old) (state_of provider.new) }
         ensures kept { provider_readers provider.new ≡ provider_readers provider.old }
         ensures views { provider_views provider.new ≡ provider_views provider.old }

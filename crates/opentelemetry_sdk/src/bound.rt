@@ -6,7 +6,7 @@ ghost use Rattle.otel_model.specs.Laws.{KeepsReaders};
 ghost use Rattle.otel_model.specs.Steps.{Step};
 ghost use Rattle.otel_model.specs.Lawful.{Balances};
 ghost use Rattle.opentelemetry_sdk.specs.Correspondence.{number_of, reply_to};
-ghost use Rattle.opentelemetry_sdk.specs.Providers.{state_of, views_of, provider_readers, provider_views, callbacks_of};
+ghost use Rattle.opentelemetry_sdk.specs.Providers.{state_of, hash_seed_of, views_of, provider_readers, provider_views, callbacks_of};
 ghost use Rattle.opentelemetry_sdk.specs.Typed.{IsInstrumentOf, IsBoundOf, instrument_number, handle_number, handle_identity, record_reply, bind_reply, unbind_reply};
 
 use crate::handles::BoundHandle;
@@ -52,6 +52,7 @@ impl<K, T: NumberType> Synchronous<K, T> {
         ensures foreign { ¬ IsInstrumentOf self.now provider.old → (result ≡ Err Fault.UnknownInstrument) × (state_of provider.new ≡ state_of provider.old) }
         ensures own { IfOk result (λ b. IsBoundOf b provider.new) }
         ensures balances { Balances (state_of provider.new) }
+        ensures seeded { hash_seed_of provider.new ≡ hash_seed_of provider.old }
         ensures readers { KeepsReaders (state_of provider.old) (state_of provider.new) }
         ensures kept { provider_readers provider.new ≡ provider_readers provider.old }
         ensures views { provider_views provider.new ≡ provider_views provider.old }
@@ -83,6 +84,7 @@ impl<T: NumberType> Bound<T> {
         ensures step { IsBoundOf self.now provider.old → Step (views_of P.View.answer provider.old) (state_of provider.old) (model.Call.RecordBound (handle_number self.now) (number_of (T.value value))) (record_reply result) (state_of provider.new) }
         ensures foreign { ¬ IsBoundOf self.now provider.old → (result ≡ Err Fault.UnknownHandle) × (state_of provider.new ≡ state_of provider.old) }
         ensures balances { Balances (state_of provider.new) }
+        ensures seeded { hash_seed_of provider.new ≡ hash_seed_of provider.old }
         ensures readers { KeepsReaders (state_of provider.old) (state_of provider.new) }
         ensures kept { provider_readers provider.new ≡ provider_readers provider.old }
         ensures views { provider_views provider.new ≡ provider_views provider.old }
@@ -98,6 +100,7 @@ impl<T: NumberType> Bound<T> {
         ensures step { IsBoundOf self.now provider.old → Step (views_of P.View.answer provider.old) (state_of provider.old) (model.Call.RecordBound (handle_number self.now) (number_of (T.value value))) (record_reply result) (state_of provider.new) }
         ensures foreign { ¬ IsBoundOf self.now provider.old → (result ≡ Err Fault.UnknownHandle) × (state_of provider.new ≡ state_of provider.old) }
         ensures balances { Balances (state_of provider.new) }
+        ensures seeded { hash_seed_of provider.new ≡ hash_seed_of provider.old }
         ensures readers { KeepsReaders (state_of provider.old) (state_of provider.new) }
         ensures kept { provider_readers provider.new ≡ provider_readers provider.old }
         ensures views { provider_views provider.new ≡ provider_views provider.old }
@@ -143,6 +146,7 @@ impl<T> Bound<T> {
         ensures foreign { ¬ IsBoundOf self provider.old → (result ≡ Err (self, Fault.UnknownHandle)) × (state_of provider.new ≡ state_of provider.old) }
         ensures back { IfErr result (λ e. e.0 ≡ self) }
         ensures balances { Balances (state_of provider.new) }
+        ensures seeded { hash_seed_of provider.new ≡ hash_seed_of provider.old }
         ensures readers { KeepsReaders (state_of provider.old) (state_of provider.new) }
         ensures kept { provider_readers provider.new ≡ provider_readers provider.old }
         ensures views { provider_views provider.new ≡ provider_views provider.old }
@@ -163,6 +167,7 @@ impl<T> Bound<T> {
         ensures step { IsBoundOf self provider.old → Step (views_of P.View.answer provider.old) (state_of provider.old) (model.Call.Unbind (handle_number self)) (reply_to result) (state_of provider.new) }
         ensures foreign { ¬ IsBoundOf self provider.old → (result ≡ Err Fault.UnknownHandle) × (state_of provider.new ≡ state_of provider.old) }
         ensures balances { Balances (state_of provider.new) }
+        ensures seeded { hash_seed_of provider.new ≡ hash_seed_of provider.old }
         ensures readers { KeepsReaders (state_of provider.old) (state_of provider.new) }
         ensures kept { provider_readers provider.new ≡ provider_readers provider.old }
         ensures views { provider_views provider.new ≡ provider_views provider.old }

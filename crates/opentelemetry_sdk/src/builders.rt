@@ -7,7 +7,7 @@ ghost use Rattle.otel_model.specs.Laws.{KeepsReaders};
 ghost use Rattle.otel_model.specs.Steps.{Step};
 ghost use Rattle.otel_model.specs.Lawful.{Balances};
 ghost use Rattle.opentelemetry_sdk.specs.Correspondence.{about, reply_from};
-ghost use Rattle.opentelemetry_sdk.specs.Providers.{state_of, views_of, provider_readers, provider_views, callbacks_of};
+ghost use Rattle.opentelemetry_sdk.specs.Providers.{state_of, hash_seed_of, views_of, provider_readers, provider_views, callbacks_of};
 ghost use Rattle.opentelemetry_sdk.specs.Typed.{IsMeterOf, IsInstrumentOf, meter_number, meter_of, about_of, build_reply};
 
 use crate::meters::Meter;
@@ -113,6 +113,7 @@ impl<K, T> InstrumentBuilder<K, T> {
         ensures foreign { ¬ IsMeterOf (meter_of self) provider.old → (result ≡ Err Fault.UnknownMeter) × (state_of provider.new ≡ state_of provider.old) }
         ensures own { IfOk result (λ i. IsInstrumentOf i provider.new) }
         ensures balances { Balances (state_of provider.new) }
+        ensures seeded { hash_seed_of provider.new ≡ hash_seed_of provider.old }
         ensures readers { KeepsReaders (state_of provider.old) (state_of provider.new) }
         ensures kept { provider_readers provider.new ≡ provider_readers provider.old }
         ensures views { provider_views provider.new ≡ provider_views provider.old }
@@ -135,11 +136,12 @@ impl<K, T> InstrumentBuilder<K, T> {
         views: &[V],
         now: u64,
     ) -> Result<usize, Fault>
-        ensures step { (meter_of self.now).identity ≡ core.old.shared.identity → Step (map V.answer views.now) core.old (model.Call.Build (meter_number (meter_of self.now)) (about_of self.now) now) (reply_from model.Reply.Instrument result) core.new }
-        ensures foreign { ¬ ((meter_of self.now).identity ≡ core.old.shared.identity) → (result ≡ Err Fault.UnknownMeter) × (core.new ≡ core.old) }
-        ensures identity { core.new.shared.identity ≡ core.old.shared.identity }
-        ensures balances { Balances core.new }
-        ensures readers { KeepsReaders core.old core.new }
+        ensures step { (meter_of self.now).identity ≡ core.old.state.shared.identity → Step (map V.answer views.now) core.old.state (model.Call.Build (meter_number (meter_of self.now)) (about_of self.now) now) (reply_from model.Reply.Instrument result) core.new.state }
+        ensures foreign { ¬ ((meter_of self.now).identity ≡ core.old.state.shared.identity) → (result ≡ Err Fault.UnknownMeter) × (core.new.state ≡ core.old.state) }
+        ensures identity { core.new.state.shared.identity ≡ core.old.state.shared.identity }
+        ensures balances { Balances core.new.state }
+        ensures seeded { core.new.hash_seed ≡ core.old.hash_seed }
+        ensures readers { KeepsReaders core.old.state core.new.state }
     {
         let about = About {
             kind: self.sort.kind(),

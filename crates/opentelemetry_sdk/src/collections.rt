@@ -19,9 +19,9 @@ impl Core {
     /// Checks that a collection of this reader is not refused before what was observed is checked. `balances` says that
     /// the streams balance before a call too.
     pub fn check_collection(&self, reader: usize) -> Result<(), Fault>
-        ensures ok { OnOk result (collect_refusal self.now reader ≡ None) }
-        ensures fault { IfErr result (λ f. collect_refusal self.now reader ≡ Some (fault_of f)) }
-        ensures balances { Balances self.now }
+        ensures ok { OnOk result (collect_refusal self.now.state reader ≡ None) }
+        ensures fault { IfErr result (λ f. collect_refusal self.now.state reader ≡ Some (fault_of f)) }
+        ensures balances { Balances self.now.state }
     {
         if reader >= self.pipelines.len() {
             return Err(Fault::UnknownReader);
@@ -40,9 +40,10 @@ impl Core {
         now: u64,
         observations: &[Observed],
     ) -> Result<ResourceMetrics, Fault>
-        ensures step { (views : Views) → Step views self.old (model.Call.Collect reader now (map observed_of observations.now)) (reply_from (λ c. model.Reply.Collected c) result) self.new }
-        ensures balances { Balances self.new }
-        ensures readers { KeepsReaders self.old self.new }
+        ensures step { (views : Views) → Step views self.old.state (model.Call.Collect reader now (map observed_of observations.now)) (reply_from (λ c. model.Reply.Collected c) result) self.new.state }
+        ensures balances { Balances self.new.state }
+        ensures seeded { self.new.hash_seed ≡ self.old.hash_seed }
+        ensures readers { KeepsReaders self.old.state self.new.state }
     {
         if reader >= self.pipelines.len() {
             return Err(Fault::UnknownReader);

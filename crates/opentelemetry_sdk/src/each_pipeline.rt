@@ -1,6 +1,6 @@
 //! What is done to the streams of all readers, one reader after another.
 
-ghost use Rattle.std.specs.Prelude.{◌≡◌, [], true, false, All, map, IsOk, OnOk, OnErr, IsOkUnless};
+ghost use Rattle.std.specs.Prelude.{◌≡◌, ℕ, [], true, false, All, map, IsOk, OnOk, OnErr, IsOkUnless};
 ghost use Rattle.std.specs.List.{list_any, list_all, AllByRecursion as EachOf};
 ghost use Rattle.std.specs.Option.{option_map};
 ghost use Rattle.otel_model.specs.Calls as model;
@@ -8,7 +8,7 @@ ghost use Rattle.otel_model.specs.Machine as machine;
 ghost use Rattle.otel_model.specs.Machine.{part_after_call};
 ghost use Rattle.opentelemetry_sdk.specs.pipeline.Handles.{FeedsSynchronous, IsNewAt, IsHeldByFed, IsReadyToBindAt, part_after_bind};
 ghost use Rattle.opentelemetry_sdk.specs.pipeline.Known.{is_known_at};
-ghost use Rattle.opentelemetry_sdk.specs.pipeline.Pipelines.{part_of, has_stream_at, piped_after_build, part_after_record, IsBuildableIn, IsPlanned, IsReadyFor, IsPreparedFor};
+ghost use Rattle.opentelemetry_sdk.specs.pipeline.Pipelines.{part_of, has_stream_at, piped_after_build, part_after_record, HashesFrom, IsBuildableIn, IsPlanned, IsReadyFor, IsPreparedFor};
 ghost use Rattle.opentelemetry_sdk.specs.pipeline.Views.{views_answering};
 ghost use Rattle.opentelemetry_sdk.specs.Correspondence.{number_of};
 ghost use Rattle.opentelemetry_sdk.specs.States.{IsGoodIn, FeedType};
@@ -24,9 +24,11 @@ use otel_data::numbers::NumberValue;
 use otel_stream::stream::Stream;
 use std::alloc::AllocError;
 
-/// Plans a build at all readers, given each view's answer. What the readers have doesn't change.
+/// Plans a build at all readers, given each view's answer. What the readers have doesn't change, but that all hash with
+/// this hasher.
 fn plan_all(
     pipelines: &mut [Pipeline],
+    hasher: SetHashBuilder,
     scope: Option<&InstrumentationScope>,
     about: &About<'_>,
     answered: &[Option<Stream>],
@@ -35,10 +37,11 @@ fn plan_all(
     requires { IsBuildableIn (option_map (λ s. s.now) scope) about.now }
     ensures same { map part_of pipelines.new ≡ map part_of pipelines.old }
     ensures ready { OnOk result (All (IsReadyFor (views_answering answered.now) (option_map (λ s. s.now) scope.entry) about.now now) pipelines.new) }
+    ensures seeded { OnOk result (All (HashesFrom hasher.seed) pipelines.new) }
     ensures only_memory { IsOkUnless result Fault.OutOfMemory }
 {
     for i in 0..pipelines.len() {
-        pipelines[i].plan(scope, about, answered, now)?;
+        pipelines[i].plan(hasher, scope, about, answered, now)?;
     }
     Ok(())
 }
@@ -46,7 +49,8 @@ fn plan_all(
 /// Carries out the planned build at all readers.
 fn build_all(pipelines: &mut [Pipeline])
     requires { All IsPlanned pipelines.old }
-    ensures { map part_of pipelines.new ≡ map (λ p. part_of (piped_after_build p)) pipelines.old }
+    ensures built { map part_of pipelines.new ≡ map (λ p. part_of (piped_after_build p)) pipelines.old }
+    ensures seeded { (seed : ℕ) → All (HashesFrom seed) pipelines.old → All (HashesFrom seed) pipelines.new }
 {
     for i in 0..pipelines.len() {
         pipelines[i].build();
@@ -120,15 +124,6 @@ fn commit_bind_all(pipelines: &mut [Pipeline], instrument: usize, handle: u64) -
     place
 }
 
-/// Makes new streams of all readers hash sets with this builder from now on.
-pub(crate) fn set_hashers(pipelines: &mut [Pipeline], hasher: SetHashBuilder)
-    ensures { pipelines.new ≡ pipelines.old }
-{
-    for i in 0..pipelines.len() {
-        pipelines[i].set_hasher(hasher);
-    }
-}
-
 /// Whether an instrument feeds a stream of some reader.
 pub(crate) fn any_stream(pipelines: &[Pipeline], instrument: usize) -> bool
     ensures { result ≡ list_any (λ p. has_stream_at instrument (part_of p)) pipelines.now }
@@ -138,9 +133,11 @@ pub(crate) fn any_stream(pipelines: &[Pipeline], instrument: usize) -> bool
         .any(|pipeline| pipeline.has_stream(instrument))
 }
 
-/// Builds an instrument at all readers or at none, given each view's answer. Without a scope it demands no stream.
+/// Builds an instrument at all readers or at none, given each view's answer. New streams hash sets with this hasher.
+/// Without a scope it demands no stream.
 pub(crate) fn build_or_none(
     pipelines: &mut [Pipeline],
+    hasher: SetHashBuilder,
     scope: Option<&InstrumentationScope>,
     about: &About<'_>,
     answered: &[Option<Stream>],
@@ -148,10 +145,11 @@ pub(crate) fn build_or_none(
 ) -> Result<(), Fault>
     requires { IsGoodIn (option_map (λ s. s.now) scope) about.now }
     ensures ok { OnOk result (map part_of pipelines.new ≡ map (machine.part_after_build (views_answering answered.now) (option_map (λ s. s.now) scope.entry) about.now now) (map part_of pipelines.old)) }
+    ensures seeded { OnOk result (All (HashesFrom hasher.seed) pipelines.new) }
     ensures err { OnErr result (map part_of pipelines.new ≡ map part_of pipelines.old) }
     ensures only_memory { IsOkUnless result Fault.OutOfMemory }
 {
-    plan_all(pipelines, scope, about, answered, now)?;
+    plan_all(pipelines, hasher, scope, about, answered, now)?;
     build_all(pipelines);
     Ok(())
 }

@@ -47,11 +47,12 @@ impl Core {
         instrument: usize,
         attributes: &[KeyValue],
     ) -> Result<BoundHandle, Fault>
-        ensures step { identity ≡ self.old.shared.identity → (views : Views) → Step views self.old (model.Call.Bind instrument attributes.now) (reply_from (λ (h : BoundHandle). model.Reply.Handle h.number) result) self.new }
-        ensures foreign { ¬ (identity ≡ self.old.shared.identity) → (result ≡ Err Fault.UnknownInstrument) × (self.new ≡ self.old) }
-        ensures identity { self.new.shared.identity ≡ self.old.shared.identity }
-        ensures balances { Balances self.new }
-        ensures readers { KeepsReaders self.old self.new }
+        ensures step { identity ≡ self.old.state.shared.identity → (views : Views) → Step views self.old.state (model.Call.Bind instrument attributes.now) (reply_from (λ (h : BoundHandle). model.Reply.Handle h.number) result) self.new.state }
+        ensures foreign { ¬ (identity ≡ self.old.state.shared.identity) → (result ≡ Err Fault.UnknownInstrument) × (self.new.state ≡ self.old.state) }
+        ensures identity { self.new.state.shared.identity ≡ self.old.state.shared.identity }
+        ensures balances { Balances self.new.state }
+        ensures seeded { self.new.hash_seed ≡ self.old.hash_seed }
+        ensures readers { KeepsReaders self.old.state self.new.state }
     {
         if identity != self.identity {
             return Err(Fault::UnknownInstrument);
@@ -80,10 +81,11 @@ impl Core {
         handle: BoundHandle,
         value: NumberValue,
     ) -> Result<(), Fault>
-        ensures step { identity ≡ self.old.shared.identity → (views : Views) → Step views self.old (model.Call.RecordBound handle.number (number_of value)) (reply_from (λ _. model.Reply.Done) result) self.new }
-        ensures foreign { ¬ (identity ≡ self.old.shared.identity) → (result ≡ Err Fault.UnknownHandle) × (self.new ≡ self.old) }
-        ensures balances { Balances self.new }
-        ensures readers { KeepsReaders self.old self.new }
+        ensures step { identity ≡ self.old.state.shared.identity → (views : Views) → Step views self.old.state (model.Call.RecordBound handle.number (number_of value)) (reply_from (λ _. model.Reply.Done) result) self.new.state }
+        ensures foreign { ¬ (identity ≡ self.old.state.shared.identity) → (result ≡ Err Fault.UnknownHandle) × (self.new.state ≡ self.old.state) }
+        ensures balances { Balances self.new.state }
+        ensures seeded { self.new.hash_seed ≡ self.old.hash_seed }
+        ensures readers { KeepsReaders self.old.state self.new.state }
     {
         if identity != self.identity {
             return Err(Fault::UnknownHandle);
@@ -108,10 +110,11 @@ impl Core {
 
     /// Ends a handle of a provider of this identity, in all the streams that its instrument feeds. Takes no memory.
     pub fn unbind(&mut self, identity: u64, handle: u64) -> Result<(), Fault>
-        ensures step { identity ≡ self.old.shared.identity → (views : Views) → Step views self.old (model.Call.Unbind handle) (reply_from (λ _. model.Reply.Done) result) self.new }
-        ensures foreign { ¬ (identity ≡ self.old.shared.identity) → (result ≡ Err Fault.UnknownHandle) × (self.new ≡ self.old) }
-        ensures balances { Balances self.new }
-        ensures readers { KeepsReaders self.old self.new }
+        ensures step { identity ≡ self.old.state.shared.identity → (views : Views) → Step views self.old.state (model.Call.Unbind handle) (reply_from (λ _. model.Reply.Done) result) self.new.state }
+        ensures foreign { ¬ (identity ≡ self.old.state.shared.identity) → (result ≡ Err Fault.UnknownHandle) × (self.new.state ≡ self.old.state) }
+        ensures balances { Balances self.new.state }
+        ensures seeded { self.new.hash_seed ≡ self.old.hash_seed }
+        ensures readers { KeepsReaders self.old.state self.new.state }
     {
         if identity != self.identity {
             return Err(Fault::UnknownHandle);

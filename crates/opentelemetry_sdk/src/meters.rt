@@ -8,7 +8,7 @@ ghost use Rattle.otel_model.specs.Sent.{has_scope};
 ghost use Rattle.otel_model.specs.Steps.{Step};
 ghost use Rattle.otel_model.specs.Lawful.{Balances};
 ghost use Rattle.opentelemetry_sdk.specs.Correspondence.{about};
-ghost use Rattle.opentelemetry_sdk.specs.Providers.{state_of, views_of, provider_readers, provider_views, callbacks_of};
+ghost use Rattle.opentelemetry_sdk.specs.Providers.{state_of, hash_seed_of, views_of, provider_readers, provider_views, callbacks_of};
 ghost use Rattle.opentelemetry_sdk.specs.Typed.{IsMeterOf, meter_number, named_scope, meter_of, about_of, meter_observed, about_observed, builder_callbacks, meter_reply};
 ghost use Rattle.opentelemetry_sdk.specs.declared.sorts.InstrumentSort.{InstrumentSort};
 
@@ -148,6 +148,7 @@ impl<P: Parts> Provider<P> {
         ensures shut { (state_of self.old).shared.shut ≡ true → IfOk result (λ m. meter_number m ≡ None) }
         ensures known { has_scope scope (state_of self.old).shared.meters ≡ true → IsOk result }
         ensures balances { Balances (state_of self.new) }
+        ensures seeded { hash_seed_of self.new ≡ hash_seed_of self.old }
         ensures readers { KeepsReaders (state_of self.old) (state_of self.new) }
         ensures kept { provider_readers self.new ≡ provider_readers self.old }
         ensures views { provider_views self.new ≡ provider_views self.old }
@@ -171,6 +172,7 @@ impl<P: Parts> Provider<P> {
         ensures own { IfOk result (λ m. IsMeterOf m self.new) }
         ensures shut { (state_of self.old).shared.shut ≡ true → IfOk result (λ m. meter_number m ≡ None) }
         ensures balances { Balances (state_of self.new) }
+        ensures seeded { hash_seed_of self.new ≡ hash_seed_of self.old }
         ensures readers { KeepsReaders (state_of self.old) (state_of self.new) }
         ensures kept { provider_readers self.new ≡ provider_readers self.old }
         ensures views { provider_views self.new ≡ provider_views self.old }

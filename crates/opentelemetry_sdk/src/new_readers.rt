@@ -5,7 +5,6 @@ ghost use Rattle.otel_model.specs.Machine.{new_part};
 ghost use Rattle.opentelemetry_sdk.specs.pipeline.Pipelines.{part_of};
 ghost use Rattle.otel_stream.specs.Answers.{answers_wanting};
 
-use crate::each_pipeline::set_hashers;
 use crate::pipeline::Pipeline;
 use otel_aggregate::value_map::hashing::SetHashBuilder;
 use otel_common::faults::Fault;
@@ -58,12 +57,11 @@ impl NewReaders {
         Ok(())
     }
 
-    /// Returns the streams of each reader, of which there are none yet, and which will hash sets with this builder.
-    pub(crate) fn into_pipelines(self, hasher: SetHashBuilder) -> Vec<Pipeline>
+    /// Returns the streams of each reader, of which there are none yet.
+    pub(crate) fn into_pipelines(self) -> Vec<Pipeline>
         ensures { map part_of result.items ≡ map new_part self }
     {
-        let NewReaders { mut pipelines } = self;
-        set_hashers(&mut pipelines, hasher);
+        let NewReaders { pipelines } = self;
         pipelines
     }
 }

@@ -8,7 +8,7 @@ ghost use Rattle.opentelemetry_sdk.specs.pipeline.Collections.{IsCollectedFrom};
 ghost use Rattle.opentelemetry_sdk.specs.pipeline.Handles.{AreObservableFor, FeedsSynchronous, IsHeldByFed, IsReadyToBindAt, part_after_bind};
 ghost use Rattle.opentelemetry_sdk.specs.pipeline.Known.{is_known_at};
 ghost use Rattle.opentelemetry_sdk.specs.pipeline.Observations.{AreTypedFor, observed_of};
-ghost use Rattle.opentelemetry_sdk.specs.pipeline.Pipelines.{part_of, has_stream_at, number_of, piped_after_build, part_after_record, FeedsType, IsBuildableIn, IsPlanned, IsReadyFor, IsPreparedFor};
+ghost use Rattle.opentelemetry_sdk.specs.pipeline.Pipelines.{part_of, has_stream_at, number_of, piped_after_build, part_after_record, FeedsType, HashesFrom, IsBuildableIn, IsPlanned, IsReadyFor, IsPreparedFor};
 ghost use Rattle.otel_aggregate.specs.Any.{is_signed_value};
 ghost use Rattle.opentelemetry_sdk.specs.pipeline.Views.{views_answering};
 
@@ -78,6 +78,7 @@ impl Model for Pipeline {
       streams = p.streams.items;
       feeds = p.feeds.items;
       plan = p.plan;
+      hash_seed = p.hasher.seed;
       room = nat_le (many_added p.plan) (spare p.identities) && (nat_le (vec_len p.streams + many_added p.plan) (vec_capacity p.streams) && nat_lt (vec_len p.feeds) (vec_capacity p.feeds));
     } };
 
@@ -117,20 +118,15 @@ impl Pipeline {
         }
     }
 
-    /// Sets the hasher of sets for streams made from now on. It has no visible effect. Takes no memory.
-    pub fn set_hasher(&mut self, hasher: SetHashBuilder)
-        ensures { self.new ≡ self.old }
-    {
-        self.hasher = hasher;
-    }
-
     /// Plans a build of this instrument at the moment `now`, in nanoseconds since 1970. `answered` has the answer of
-    /// each view; without a scope the instrument demands nothing. What the reader has stays unchanged.
+    /// each view; without a scope the instrument demands nothing. What the reader has stays unchanged, except that sets
+    /// are hashed with this hasher, in the new streams too.
     ///
     /// For each answer, and for the instrument's own stream if that is demanded, copies texts, keys and bounds, looks
     /// up the identity, and takes memory for a new stream.
     pub fn plan(
         &mut self,
+        hasher: SetHashBuilder,
         scope: Option<&InstrumentationScope>,
         about: &About<'_>,
         answered: &[Option<Stream>],
@@ -139,12 +135,14 @@ impl Pipeline {
         requires { IsBuildableIn (option_map (λ s. s.now) scope) about.now }
         ensures same { part_of self.new ≡ part_of self.old }
         ensures ready { OnOk result (IsReadyFor (views_answering answered.now) (option_map (λ s. s.now) scope.entry) about.now now self.new) }
+        ensures seeded { OnOk result (HashesFrom hasher.seed self.new) }
         ensures only_memory { IsOkUnless result Fault.OutOfMemory }
     {
-        let plan = self.plan_in(scope, about, answered, now)?;
+        let plan = self.plan_in(hasher, scope, about, answered, now)?;
         kind_laws();
         let many = plan.added.len();
         self.plan = Some(plan);
+        self.hasher = hasher;
         self.identities.reserve(many)?;
         self.streams.reserve(many)?;
         self.feeds.reserve(1)?;
@@ -154,7 +152,8 @@ impl Pipeline {
     /// Carries out the planned build. Takes no memory.
     pub fn build(&mut self)
         requires { IsPlanned self.old }
-        ensures { part_of self.new ≡ part_of (piped_after_build self.old) }
+        ensures built { part_of self.new ≡ part_of (piped_after_build self.old) }
+        ensures seeded { self.new.hash_seed ≡ self.old.hash_seed }
     {
         kind_laws();
         let Some(plan) = self.plan.take() else {
@@ -171,7 +170,7 @@ impl Pipeline {
         self.feeds.push_reserved(Items::from(feeds));
     }
 
-    /// What sets of attributes are hashed with.
+    /// What sets of attributes are hashed with, as the last build said.
     pub fn hasher(&self) -> SetHashBuilder {
         self.hasher
     }

@@ -16,7 +16,7 @@ ghost use Rattle.otel_model.specs.Lawful.{Balances, IsLawful};
 ghost use Rattle.opentelemetry_sdk.specs.Checks.{collect_refusal};
 ghost use Rattle.opentelemetry_sdk.specs.Callbacks.{IsCollectionOf, IsCollected};
 ghost use Rattle.opentelemetry_sdk.specs.Headline.{OfReaders, OfStreams, OfAnswers, InAnyOrder};
-ghost use Rattle.opentelemetry_sdk.specs.Providers.{state_of, identity_of, resource_of, identity_of_builder, answers_of_readers, views_of, builder_readers, builder_views, provider_readers, provider_views, callbacks_of, wants_of};
+ghost use Rattle.opentelemetry_sdk.specs.Providers.{state_of, identity_of, resource_of, identity_of_builder, fixed_hash_seed, hash_seed_of, hash_seed_of_builder, answers_of_readers, views_of, builder_readers, builder_views, provider_readers, provider_views, callbacks_of, wants_of};
 ghost use Rattle.opentelemetry_sdk.specs.Correspondence.{call_of, reply_of, reply_to};
 ghost use Rattle.opentelemetry_sdk.specs.Known.{IsKnown, HasMemory, EachKnownHasMemory};
 ghost use Rattle.opentelemetry_sdk.specs.Readers.{AreReached, ShutsDown, StepReaches, RunReaches};
@@ -27,6 +27,7 @@ use crate::calls::{Call, Reply};
 use crate::new_readers::NewReaders;
 use crate::parts::{Boxed, Parts};
 use crate::provider_core::Core;
+use otel_aggregate::value_map::hashing::SetHashBuilder;
 use otel_common::faults::{Fault, OTelSdkResult};
 use otel_common::resource::Resource;
 use otel_data::collections::ResourceMetrics;
@@ -39,7 +40,7 @@ use std::time::Duration;
 pub struct ProviderBuilder<P: Parts> {
     resource: Resource,
     identity: u64,
-    hash_seed: Option<u64>,
+    hasher: SetHashBuilder,
     /// What each of the readers answered.
     answers: NewReaders,
     views: Vec<P::View>,
@@ -52,7 +53,7 @@ impl<P: Parts> Drop for ProviderBuilder<P> {
         let ProviderBuilder {
             resource: _resource,
             identity: _,
-            hash_seed: _,
+            hasher: _,
             answers: _answers,
             views: _views,
             readers: _readers,
@@ -94,6 +95,7 @@ impl<P: Parts> ProviderBuilder<P> {
         ensures answers { answers_of_readers result ≡ [] }
         ensures resource { resource_of result ≡ empty_resource }
         ensures identity { identity_of_builder result ≡ 0 }
+        ensures seeded { hash_seed_of_builder result ≡ fixed_hash_seed }
         ensures kept { builder_readers result ≡ [] }
         ensures views { builder_views result ≡ [] }
     {
@@ -108,6 +110,7 @@ impl<P: Parts> ProviderBuilder<P> {
         ensures answers { IfOk result (λ b. answers_of_readers b ≡ answers_of_readers self) }
         ensures resource { IfOk result (λ b. resource_of b ≡ merged_resource (resource_of self) resource) }
         ensures identity { IfOk result (λ b. identity_of_builder b ≡ identity_of_builder self) }
+        ensures seeded { IfOk result (λ b. hash_seed_of_builder b ≡ hash_seed_of_builder self) }
         ensures kept { IfOk result (λ b. builder_readers b ≡ builder_readers self) }
         ensures views { IfOk result (λ b. builder_views b ≡ builder_views self) }
         ensures only_memory { IsOkUnless result Fault.OutOfMemory }
@@ -115,7 +118,7 @@ impl<P: Parts> ProviderBuilder<P> {
         let ProviderBuilder {
             resource: old,
             identity,
-            hash_seed,
+            hasher,
             answers,
             views,
             readers,
@@ -123,7 +126,7 @@ impl<P: Parts> ProviderBuilder<P> {
         Ok(ProviderBuilder {
             resource: old.merged_with(resource)?,
             identity,
-            hash_seed,
+            hasher,
             answers,
             views,
             readers,
@@ -139,6 +142,7 @@ impl<P: Parts> ProviderBuilder<P> {
         ensures answers { IfOk result (λ b. answers_of_readers b ≡ answers_of_readers self ++ answers_wanting (P.Reader.preference reader) (P.Reader.limit reader) (P.Reader.aggregation reader) ∷ []) }
         ensures resource { IfOk result (λ b. resource_of b ≡ resource_of self) }
         ensures identity { IfOk result (λ b. identity_of_builder b ≡ identity_of_builder self) }
+        ensures seeded { IfOk result (λ b. hash_seed_of_builder b ≡ hash_seed_of_builder self) }
         ensures kept { IfOk result (λ b. builder_readers b ≡ builder_readers self ++ reader ∷ []) }
         ensures views { IfOk result (λ b. builder_views b ≡ builder_views self) }
         ensures only_memory { IsOkUnless result Fault.OutOfMemory }
@@ -155,6 +159,7 @@ impl<P: Parts> ProviderBuilder<P> {
         ensures answers { IfOk result (λ b. answers_of_readers b ≡ answers_of_readers self) }
         ensures resource { IfOk result (λ b. resource_of b ≡ resource_of self) }
         ensures identity { IfOk result (λ b. identity_of_builder b ≡ identity_of_builder self) }
+        ensures seeded { IfOk result (λ b. hash_seed_of_builder b ≡ hash_seed_of_builder self) }
         ensures kept { IfOk result (λ b. builder_readers b ≡ builder_readers self) }
         ensures views { IfOk result (λ b. builder_views b ≡ builder_views self ++ view ∷ []) }
         ensures only_memory { IsOkUnless result Fault.OutOfMemory }
@@ -170,6 +175,7 @@ impl<P: Parts> ProviderBuilder<P> {
         ensures answers { answers_of_readers result ≡ answers_of_readers self }
         ensures resource { resource_of result ≡ resource_of self }
         ensures identity { identity_of_builder result ≡ identity }
+        ensures seeded { hash_seed_of_builder result ≡ hash_seed_of_builder self }
         ensures kept { builder_readers result ≡ builder_readers self }
         ensures views { builder_views result ≡ builder_views self }
     {
@@ -186,18 +192,20 @@ impl<P: Parts> ProviderBuilder<P> {
         ensures answers { answers_of_readers result ≡ answers_of_readers self }
         ensures resource { resource_of result ≡ resource_of self }
         ensures identity { identity_of_builder result ≡ identity_of_builder self }
+        ensures seeded { hash_seed_of_builder result ≡ seed }
         ensures kept { builder_readers result ≡ builder_readers self }
         ensures views { builder_views result ≡ builder_views self }
     {
         let mut builder = self;
-        builder.hash_seed = Some(seed);
+        builder.hasher = SetHashBuilder::new(seed);
         builder
     }
 
-    /// Makes the provider, with the resource, the identity and the readers of the builder, and without meters and
-    /// instruments. Always succeeds, and takes no memory.
+    /// Makes the provider, with the resource, the identity, the seed and the readers of the builder, and without meters
+    /// and instruments. Always succeeds, and takes no memory.
     pub fn build(self) -> Result<Provider<P>, Fault>
         ensures state { IsOkAnd result (λ p. state_of p ≡ new_state (resource_of self) (identity_of_builder self) (answers_of_readers self)) }
+        ensures seeded { IfOk result (λ p. hash_seed_of p ≡ hash_seed_of_builder self) }
         ensures kept { IfOk result (λ p. provider_readers p ≡ builder_readers self) }
         ensures views { IfOk result (λ p. provider_views p ≡ builder_views self) }
         ensures callbacks { IfOk result (λ p. callbacks_of p ≡ []) }
@@ -205,14 +213,14 @@ impl<P: Parts> ProviderBuilder<P> {
         let ProviderBuilder {
             resource,
             identity,
-            hash_seed,
+            hasher,
             answers,
             views,
             readers,
         } = self;
         let alloc = *readers.allocator();
         Ok(Provider {
-            core: Core::new(alloc, hash_seed, resource, identity, answers),
+            core: Core::new(alloc, hasher, resource, identity, answers),
             views,
             readers,
             callbacks: Vec::new(alloc),
@@ -226,13 +234,14 @@ impl<P: Parts> Provider<P> {
         ensures answers { answers_of_readers result ≡ [] }
         ensures resource { resource_of result ≡ empty_resource }
         ensures identity { identity_of_builder result ≡ 0 }
+        ensures seeded { hash_seed_of_builder result ≡ fixed_hash_seed }
         ensures kept { builder_readers result ≡ [] }
         ensures views { builder_views result ≡ [] }
     {
         ProviderBuilder {
             resource: Resource::builder_empty(alloc).build(),
             identity: 0,
-            hash_seed: None,
+            hasher: SetHashBuilder::default(),
             answers: NewReaders::new(alloc),
             views: Vec::new(alloc),
             readers: Vec::new(alloc),
@@ -242,6 +251,7 @@ impl<P: Parts> Provider<P> {
     /// Makes a provider with the empty resource and the identity 0, and without readers. Takes no memory.
     pub fn default(alloc: Global) -> Provider<P>
         ensures state { state_of result ≡ new_state empty_resource 0 [] }
+        ensures seeded { hash_seed_of result ≡ fixed_hash_seed }
         ensures kept { provider_readers result ≡ [] }
         ensures views { provider_views result ≡ [] }
         ensures callbacks { callbacks_of result ≡ [] }
@@ -249,7 +259,7 @@ impl<P: Parts> Provider<P> {
         Provider {
             core: Core::new(
                 alloc,
-                None,
+                SetHashBuilder::default(),
                 Resource::builder_empty(alloc).build(),
                 0,
                 NewReaders::new(alloc),
@@ -276,7 +286,8 @@ impl<P: Parts> Provider<P> {
         Vec<P::Reader>,
         Vec<Registered<P::ObserveU64, P::ObserveI64>>,
     )
-        ensures core { result.0 ≡ state_of self }
+        ensures core { result.0.state ≡ state_of self }
+        ensures seeded { result.0.hash_seed ≡ hash_seed_of self }
         ensures views { result.1.items ≡ provider_views self }
         ensures readers { result.2.items ≡ provider_readers self }
         ensures callbacks { result.3.items ≡ callbacks_of self }
@@ -297,7 +308,8 @@ impl<P: Parts> Provider<P> {
         readers: Vec<P::Reader>,
         callbacks: Vec<Registered<P::ObserveU64, P::ObserveI64>>,
     ) -> Provider<P>
-        ensures core { state_of result ≡ core }
+        ensures core { state_of result ≡ core.state }
+        ensures seeded { hash_seed_of result ≡ core.hash_seed }
         ensures views { provider_views result ≡ views.items }
         ensures readers { provider_readers result ≡ readers.items }
         ensures callbacks { callbacks_of result ≡ callbacks.items }
@@ -361,6 +373,7 @@ impl<P: Parts> Provider<P> {
         ensures step { Step (views_of P.View.answer self.old) (state_of self.old) (call_of call.now) (reply_of result) (state_of self.new) }
         ensures known { IsKnown (state_of self.old) (call_of call.now) → HasMemory result }
         ensures balances { Balances (state_of self.new) }
+        ensures seeded { hash_seed_of self.new ≡ hash_seed_of self.old }
         ensures readers { KeepsReaders (state_of self.old) (state_of self.new) }
         ensures reached { StepReaches P.Reader.flushes P.Reader.shuts (state_of self.old).shared.shut (call_of call.now) (provider_readers self.old) (reply_of result) (provider_readers self.new) }
         ensures wants { wants_of P.Reader.preference P.Reader.limit P.Reader.aggregation self.new ≡ wants_of P.Reader.preference P.Reader.limit P.Reader.aggregation self.old }
@@ -383,6 +396,7 @@ impl<P: Parts> Provider<P> {
         ensures unrun { (fault : model.Fault) → collect_refusal (state_of self.old) reader ≡ Some fault → (collected_reply result ≡ model.Reply.Refused fault) × (state_of self.new ≡ state_of self.old) × (callbacks_of self.new ≡ callbacks_of self.old) }
         ensures ran { collect_refusal (state_of self.old) reader ≡ None → (given : Result (List Observed) Fault) × RanAll (Ran P.ObserveU64.observes P.ObserveI64.observes) (callbacks_of self.old) (callbacks_of self.new) given × IsCollected (views_of P.View.answer self.old) (state_of self.old) reader now given result (state_of self.new) }
         ensures balances { Balances (state_of self.new) }
+        ensures seeded { hash_seed_of self.new ≡ hash_seed_of self.old }
         ensures readers { KeepsReaders (state_of self.old) (state_of self.new) }
         ensures kept { provider_readers self.new ≡ provider_readers self.old }
         ensures views { provider_views self.new ≡ provider_views self.old }
@@ -408,6 +422,7 @@ impl<P: Parts> Provider<P> {
         ensures ran { collect_refusal (state_of self.old) reader ≡ None → (given : Result (List Observed) Fault) × RanAll (Ran P.ObserveU64.observes P.ObserveI64.observes) (callbacks_of self.old) (callbacks_of self.new) given × IsCollectionOf (views_of P.View.answer self.old) (state_of self.old) reader now given result metrics.new (state_of self.new) }
         ensures held { OnErr result (metrics.new ≡ metrics.old) }
         ensures balances { Balances (state_of self.new) }
+        ensures seeded { hash_seed_of self.new ≡ hash_seed_of self.old }
         ensures readers { KeepsReaders (state_of self.old) (state_of self.new) }
         ensures kept { provider_readers self.new ≡ provider_readers self.old }
         ensures views { provider_views self.new ≡ provider_views self.old }
@@ -431,6 +446,7 @@ impl<P: Parts> Provider<P> {
         ensures asked { AreReached P.Reader.flushes (state_of self.old).shared.shut (provider_readers self.old) (provider_readers self.new) result }
         ensures shut { (state_of self.new).shared.shut ≡ (state_of self.old).shared.shut }
         ensures balances { Balances (state_of self.new) }
+        ensures seeded { hash_seed_of self.new ≡ hash_seed_of self.old }
         ensures readers { KeepsReaders (state_of self.old) (state_of self.new) }
         ensures wants { wants_of P.Reader.preference P.Reader.limit P.Reader.aggregation self.new ≡ wants_of P.Reader.preference P.Reader.limit P.Reader.aggregation self.old }
         ensures views { provider_views self.new ≡ provider_views self.old }
@@ -450,6 +466,7 @@ impl<P: Parts> Provider<P> {
         ensures asked { AreReached (ShutsDown P.Reader.shuts) (state_of self.old).shared.shut (provider_readers self.old) (provider_readers self.new) result }
         ensures shut { (state_of self.new).shared.shut ≡ true }
         ensures balances { Balances (state_of self.new) }
+        ensures seeded { hash_seed_of self.new ≡ hash_seed_of self.old }
         ensures readers { KeepsReaders (state_of self.old) (state_of self.new) }
         ensures wants { wants_of P.Reader.preference P.Reader.limit P.Reader.aggregation self.new ≡ wants_of P.Reader.preference P.Reader.limit P.Reader.aggregation self.old }
         ensures views { provider_views self.new ≡ provider_views self.old }
@@ -464,6 +481,7 @@ impl<P: Parts> Provider<P> {
         ensures asked { AreReached (ShutsDown P.Reader.shuts) (state_of self.old).shared.shut (provider_readers self.old) (provider_readers self.new) result }
         ensures shut { (state_of self.new).shared.shut ≡ true }
         ensures balances { Balances (state_of self.new) }
+        ensures seeded { hash_seed_of self.new ≡ hash_seed_of self.old }
         ensures readers { KeepsReaders (state_of self.old) (state_of self.new) }
         ensures wants { wants_of P.Reader.preference P.Reader.limit P.Reader.aggregation self.new ≡ wants_of P.Reader.preference P.Reader.limit P.Reader.aggregation self.old }
         ensures views { provider_views self.new ≡ provider_views self.old }
@@ -492,6 +510,7 @@ impl<P: Parts> Provider<P> {
         ensures unmade { OnErr result (state_of self.new ≡ state_of self.old) }
         ensures only_memory { IsOkUnless result Fault.OutOfMemory }
         ensures balances { Balances (state_of self.new) }
+        ensures seeded { hash_seed_of self.new ≡ hash_seed_of self.old }
         ensures readers { KeepsReaders (state_of self.old) (state_of self.new) }
         ensures reached { IfOk result (λ replies. RunReaches P.Reader.flushes P.Reader.shuts (state_of self.old).shared.shut (map call_of calls.now) (provider_readers self.old) (map reply_of replies.items) (provider_readers self.new)) }
         ensures unreached { OnErr result (provider_readers self.new ≡ provider_readers self.old) }

@@ -33,6 +33,8 @@ use std::marker::Model;
 #[derive(Drop)]
 pub struct Core {
     pub(crate) alloc: Global,
+    /// Hashes sets of attributes in the maps of all streams.
+    pub(crate) hasher: SetHashBuilder,
     pub(crate) shut: bool,
     pub(crate) resource: Resource,
     pub(crate) identity: u64,
@@ -46,14 +48,13 @@ pub struct Core {
 }
 
 impl Model for Core {
-    ghost use Rattle.otel_model.specs.State.{State};
+    ghost use Rattle.opentelemetry_sdk.specs.States.{CoreContents, IsSound};
 
-    ghost Value = { State };
+    ghost Value = { CoreContents };
 
-    ghost use Rattle.opentelemetry_sdk.specs.Cores.{state_in};
-    ghost use Rattle.opentelemetry_sdk.specs.States.{IsSound};
+    ghost use Rattle.opentelemetry_sdk.specs.Cores.{contents_in, state_in};
 
-    ghost view = { state_in };
+    ghost view = { contents_in };
 
     ghost invariant = { λ c. IsSound (state_in c) };
 }
@@ -61,29 +62,27 @@ impl Model for Core {
 impl Core {
     /// Makes the core of a provider before its first call. Takes no memory.
     ///
-    /// All hashes of sets start from the seed, on which no result depends; without one it is fixed. The map of handles
-    /// has a fixed one, since its keys are the provider's own.
+    /// The maps of its streams hash sets with this hasher, on whose seed no result depends. The map of handles has a fixed
+    /// one, since its keys are the provider's own.
     pub fn new(
         alloc: Global,
-        hash_seed: Option<u64>,
+        hasher: SetHashBuilder,
         resource: Resource,
         identity: u64,
         readers: NewReaders,
     ) -> Core
-        ensures { result ≡ new_state resource identity readers }
+        ensures state { result.state ≡ new_state resource identity readers }
+        ensures seeded { result.hash_seed ≡ hasher.seed }
     {
-        let hasher = match hash_seed {
-            Some(seed) => SetHashBuilder::new(seed),
-            None => SetHashBuilder::default(),
-        };
         Core {
             alloc,
+            hasher,
             shut: false,
             resource,
             identity,
             meters: IndexSet::new(alloc),
             instruments: Vec::new(alloc),
-            pipelines: readers.into_pipelines(hasher),
+            pipelines: readers.into_pipelines(),
             handles: Links::new(alloc, SetHashBuilder::default()),
             next: 0,
         }
@@ -91,25 +90,26 @@ impl Core {
 
     /// Returns the allocator. The clauses say what holds before a call too.
     pub fn allocator(&self) -> Global
-        ensures balances { Balances self.now }
-        ensures lawful { IsLawful self.now }
+        ensures balances { Balances self.now.state }
+        ensures lawful { IsLawful self.now.state }
     {
         self.alloc
     }
 
     /// Returns the identity.
     pub fn identity(&self) -> u64
-        ensures { result ≡ self.now.shared.identity }
+        ensures { result ≡ self.now.state.shared.identity }
     {
         self.identity
     }
 
     /// Asks each reader to flush, unless the provider was shut down.
     pub fn force_flush<R: MetricReader>(&mut self, readers: &mut [R]) -> OTelSdkResult
-        ensures step { (views : Views) → Step views self.old model.Call.Flush (reply_to result) self.new }
-        ensures asked { AreReached R.flushes self.old.shared.shut readers.old readers.new result }
-        ensures shut { self.new.shared.shut ≡ self.old.shared.shut }
-        ensures balances { Balances self.new }
+        ensures step { (views : Views) → Step views self.old.state model.Call.Flush (reply_to result) self.new.state }
+        ensures asked { AreReached R.flushes self.old.state.shared.shut readers.old readers.new result }
+        ensures shut { self.new.state.shared.shut ≡ self.old.state.shared.shut }
+        ensures balances { Balances self.new.state }
+        ensures seeded { self.new.hash_seed ≡ self.old.hash_seed }
         ensures wants { map (wanted_by R.preference R.limit R.aggregation) readers.new ≡ map (wanted_by R.preference R.limit R.aggregation) readers.old }
     {
         if self.shut {
@@ -120,10 +120,11 @@ impl Core {
 
     /// Shuts the provider down and asks each reader to shut down, unless it was shut down before.
     pub fn shutdown<R: MetricReader>(&mut self, readers: &mut [R]) -> OTelSdkResult
-        ensures step { (views : Views) → Step views self.old model.Call.Shutdown (reply_to result) self.new }
-        ensures asked { AreReached (ShutsDown R.shuts) self.old.shared.shut readers.old readers.new result }
-        ensures shut { self.new.shared.shut ≡ true }
-        ensures balances { Balances self.new }
+        ensures step { (views : Views) → Step views self.old.state model.Call.Shutdown (reply_to result) self.new.state }
+        ensures asked { AreReached (ShutsDown R.shuts) self.old.state.shared.shut readers.old readers.new result }
+        ensures shut { self.new.state.shared.shut ≡ true }
+        ensures balances { Balances self.new.state }
+        ensures seeded { self.new.hash_seed ≡ self.old.hash_seed }
         ensures wants { map (wanted_by R.preference R.limit R.aggregation) readers.new ≡ map (wanted_by R.preference R.limit R.aggregation) readers.old }
     {
         if self.shut {

@@ -28,11 +28,12 @@ impl Core {
         value: NumberValue,
         attributes: &[KeyValue],
     ) -> Result<(), Fault>
-        ensures step { identity ≡ self.old.shared.identity → (views : Views) → Step views self.old (model.Call.Record instrument (number_of value) attributes.now) (reply_from (λ _. model.Reply.Done) result) self.new }
-        ensures foreign { ¬ (identity ≡ self.old.shared.identity) → (result ≡ Err Fault.UnknownInstrument) × (self.new ≡ self.old) }
-        ensures known { is_known instrument attributes.now self.old ≡ true → IfErr result IsNamed }
-        ensures balances { Balances self.new }
-        ensures readers { KeepsReaders self.old self.new }
+        ensures step { identity ≡ self.old.state.shared.identity → (views : Views) → Step views self.old.state (model.Call.Record instrument (number_of value) attributes.now) (reply_from (λ _. model.Reply.Done) result) self.new.state }
+        ensures foreign { ¬ (identity ≡ self.old.state.shared.identity) → (result ≡ Err Fault.UnknownInstrument) × (self.new.state ≡ self.old.state) }
+        ensures known { is_known instrument attributes.now self.old.state ≡ true → IfErr result IsNamed }
+        ensures balances { Balances self.new.state }
+        ensures seeded { self.new.hash_seed ≡ self.old.hash_seed }
+        ensures readers { KeepsReaders self.old.state self.new.state }
     {
         if identity != self.identity {
             return Err(Fault::UnknownInstrument);

@@ -37,8 +37,9 @@ fn replied(answer: OTelSdkResult) -> Reply
 impl Core {
     #[inline(never)]
     fn step_meter(&mut self, scope: &InstrumentationScope) -> Reply
-        ensures step { (views : Views) → Step views self.old (model.Call.Meter scope.now) (reply_of result) self.new }
-        ensures balances { Balances self.new }
+        ensures step { (views : Views) → Step views self.old.state (model.Call.Meter scope.now) (reply_of result) self.new.state }
+        ensures balances { Balances self.new.state }
+        ensures seeded { self.new.hash_seed ≡ self.old.hash_seed }
     {
         match self.meter(scope) {
             Ok(number) => Reply::Meter(number),
@@ -57,8 +58,9 @@ impl Core {
     ) -> Reply
         requires kind { about.now.kind ≡ kind_of sort }
         requires signed { about.now.signed ≡ is_signed sort }
-        ensures step { Step (map V.answer views.now) self.old (model.Call.Build meter about.now now) (reply_of result) self.new }
-        ensures balances { Balances self.new }
+        ensures step { Step (map V.answer views.now) self.old.state (model.Call.Build meter about.now now) (reply_of result) self.new.state }
+        ensures balances { Balances self.new.state }
+        ensures seeded { self.new.hash_seed ≡ self.old.hash_seed }
     {
         let identity = self.identity();
         match self.build(views, identity, meter, sort, about, now) {
@@ -74,9 +76,10 @@ impl Core {
         value: NumberValue,
         attributes: &[KeyValue],
     ) -> Reply
-        ensures step { (views : Views) → Step views self.old (model.Call.Record instrument (number_of value) attributes.now) (reply_of result) self.new }
-        ensures balances { Balances self.new }
-        ensures known { is_known instrument attributes.now self.old ≡ true → HasMemory result }
+        ensures step { (views : Views) → Step views self.old.state (model.Call.Record instrument (number_of value) attributes.now) (reply_of result) self.new.state }
+        ensures balances { Balances self.new.state }
+        ensures seeded { self.new.hash_seed ≡ self.old.hash_seed }
+        ensures known { is_known instrument attributes.now self.old.state ≡ true → HasMemory result }
     {
         let identity = self.identity();
         match self.record(identity, instrument, value, attributes) {
@@ -87,8 +90,9 @@ impl Core {
 
     #[inline(never)]
     fn step_bind(&mut self, instrument: usize, attributes: &[KeyValue]) -> Reply
-        ensures step { (views : Views) → Step views self.old (model.Call.Bind instrument attributes.now) (reply_of result) self.new }
-        ensures balances { Balances self.new }
+        ensures step { (views : Views) → Step views self.old.state (model.Call.Bind instrument attributes.now) (reply_of result) self.new.state }
+        ensures balances { Balances self.new.state }
+        ensures seeded { self.new.hash_seed ≡ self.old.hash_seed }
     {
         let identity = self.identity();
         match self.bind(identity, instrument, attributes) {
@@ -99,8 +103,9 @@ impl Core {
 
     #[inline(always)]
     fn step_record_bound(&mut self, handle: u64, value: NumberValue) -> Reply
-        ensures step { (views : Views) → Step views self.old (model.Call.RecordBound handle (number_of value)) (reply_of result) self.new }
-        ensures balances { Balances self.new }
+        ensures step { (views : Views) → Step views self.old.state (model.Call.RecordBound handle (number_of value)) (reply_of result) self.new.state }
+        ensures balances { Balances self.new.state }
+        ensures seeded { self.new.hash_seed ≡ self.old.hash_seed }
     {
         let identity = self.identity();
         match self.record_bound(identity, BoundHandle::numbered(handle), value) {
@@ -111,8 +116,9 @@ impl Core {
 
     #[inline(never)]
     fn step_unbind(&mut self, handle: u64) -> Reply
-        ensures step { (views : Views) → Step views self.old (model.Call.Unbind handle) (reply_of result) self.new }
-        ensures balances { Balances self.new }
+        ensures step { (views : Views) → Step views self.old.state (model.Call.Unbind handle) (reply_of result) self.new.state }
+        ensures balances { Balances self.new.state }
+        ensures seeded { self.new.hash_seed ≡ self.old.hash_seed }
     {
         let identity = self.identity();
         match self.unbind(identity, handle) {
@@ -123,8 +129,9 @@ impl Core {
 
     #[inline(never)]
     fn step_collect(&mut self, reader: usize, now: u64, observations: &[Observed]) -> Reply
-        ensures step { (views : Views) → Step views self.old (model.Call.Collect reader now (map observed_of observations.now)) (reply_of result) self.new }
-        ensures balances { Balances self.new }
+        ensures step { (views : Views) → Step views self.old.state (model.Call.Collect reader now (map observed_of observations.now)) (reply_of result) self.new.state }
+        ensures balances { Balances self.new.state }
+        ensures seeded { self.new.hash_seed ≡ self.old.hash_seed }
     {
         match self.collect(reader, now, observations) {
             Ok(metrics) => Reply::Collected(metrics),
@@ -134,9 +141,10 @@ impl Core {
 
     #[inline(never)]
     fn step_flush<R: MetricReader>(&mut self, readers: &mut [R]) -> Reply
-        ensures step { (views : Views) → Step views self.old model.Call.Flush (reply_of result) self.new }
-        ensures balances { Balances self.new }
-        ensures reached { AreReachedBy R.flushes self.old.shared.shut readers.old (reply_of result) readers.new }
+        ensures step { (views : Views) → Step views self.old.state model.Call.Flush (reply_of result) self.new.state }
+        ensures balances { Balances self.new.state }
+        ensures seeded { self.new.hash_seed ≡ self.old.hash_seed }
+        ensures reached { AreReachedBy R.flushes self.old.state.shared.shut readers.old (reply_of result) readers.new }
         ensures wants { map (wanted_by R.preference R.limit R.aggregation) readers.new ≡ map (wanted_by R.preference R.limit R.aggregation) readers.old }
     {
         replied(self.force_flush(readers))
@@ -144,9 +152,10 @@ impl Core {
 
     #[inline(never)]
     fn step_shutdown<R: MetricReader>(&mut self, readers: &mut [R]) -> Reply
-        ensures step { (views : Views) → Step views self.old model.Call.Shutdown (reply_of result) self.new }
-        ensures balances { Balances self.new }
-        ensures reached { AreReachedBy (ShutsDown R.shuts) self.old.shared.shut readers.old (reply_of result) readers.new }
+        ensures step { (views : Views) → Step views self.old.state model.Call.Shutdown (reply_of result) self.new.state }
+        ensures balances { Balances self.new.state }
+        ensures seeded { self.new.hash_seed ≡ self.old.hash_seed }
+        ensures reached { AreReachedBy (ShutsDown R.shuts) self.old.state.shared.shut readers.old (reply_of result) readers.new }
         ensures wants { map (wanted_by R.preference R.limit R.aggregation) readers.new ≡ map (wanted_by R.preference R.limit R.aggregation) readers.old }
     {
         replied(self.shutdown(readers))
@@ -159,10 +168,11 @@ impl Core {
         readers: &mut [R],
         call: &Call,
     ) -> Reply
-        ensures step { Step (map V.answer views.now) self.old (call_of call.now) (reply_of result) self.new }
-        ensures balances { Balances self.new }
-        ensures known { IsKnown self.old (call_of call.now) → HasMemory result }
-        ensures reached { StepReaches R.flushes R.shuts self.old.shared.shut (call_of call.now) readers.old (reply_of result) readers.new }
+        ensures step { Step (map V.answer views.now) self.old.state (call_of call.now) (reply_of result) self.new.state }
+        ensures balances { Balances self.new.state }
+        ensures seeded { self.new.hash_seed ≡ self.old.hash_seed }
+        ensures known { IsKnown self.old.state (call_of call.now) → HasMemory result }
+        ensures reached { StepReaches R.flushes R.shuts self.old.state.shared.shut (call_of call.now) readers.old (reply_of result) readers.new }
         ensures wants { map (wanted_by R.preference R.limit R.aggregation) readers.new ≡ map (wanted_by R.preference R.limit R.aggregation) readers.old }
     {
         if let Call::Record {
@@ -189,10 +199,11 @@ impl Core {
         readers: &mut [R],
         call: &Call,
     ) -> Reply
-        ensures step { Step (map V.answer views.now) self.old (call_of call.now) (reply_of result) self.new }
-        ensures balances { Balances self.new }
-        ensures known { IsKnown self.old (call_of call.now) → HasMemory result }
-        ensures reached { StepReaches R.flushes R.shuts self.old.shared.shut (call_of call.now) readers.old (reply_of result) readers.new }
+        ensures step { Step (map V.answer views.now) self.old.state (call_of call.now) (reply_of result) self.new.state }
+        ensures balances { Balances self.new.state }
+        ensures seeded { self.new.hash_seed ≡ self.old.hash_seed }
+        ensures known { IsKnown self.old.state (call_of call.now) → HasMemory result }
+        ensures reached { StepReaches R.flushes R.shuts self.old.state.shared.shut (call_of call.now) readers.old (reply_of result) readers.new }
         ensures wants { map (wanted_by R.preference R.limit R.aggregation) readers.new ≡ map (wanted_by R.preference R.limit R.aggregation) readers.old }
     {
         match call {
@@ -245,11 +256,12 @@ impl Core {
         alloc: Global,
         calls: &[Call],
     ) -> Result<Vec<Reply>, Fault>
-        ensures run { IfOk result (λ replies. Run (map V.answer views.now) self.old (map call_of calls.now) (map reply_of replies.items) self.new) }
-        ensures known { IfOk result (λ replies. EachKnownHasMemory (map V.answer views.now) self.old calls.now replies.items) }
-        ensures unmade { OnErr result (self.new ≡ self.old) }
+        ensures run { IfOk result (λ replies. Run (map V.answer views.now) self.old.state (map call_of calls.now) (map reply_of replies.items) self.new.state) }
+        ensures known { IfOk result (λ replies. EachKnownHasMemory (map V.answer views.now) self.old.state calls.now replies.items) }
+        ensures unmade { OnErr result (self.new.state ≡ self.old.state) }
+        ensures seeded { self.new.hash_seed ≡ self.old.hash_seed }
         ensures only_memory { IsOkUnless result Fault.OutOfMemory }
-        ensures reached { IfOk result (λ replies. RunReaches R.flushes R.shuts self.old.shared.shut (map call_of calls.now) readers.old (map reply_of replies.items) readers.new) }
+        ensures reached { IfOk result (λ replies. RunReaches R.flushes R.shuts self.old.state.shared.shut (map call_of calls.now) readers.old (map reply_of replies.items) readers.new) }
         ensures unreached { OnErr result (readers.new ≡ readers.old) }
         ensures wants { map (wanted_by R.preference R.limit R.aggregation) readers.new ≡ map (wanted_by R.preference R.limit R.aggregation) readers.old }
     {

@@ -7,7 +7,7 @@ ghost use Rattle.otel_model.specs.Steps.{Step};
 ghost use Rattle.otel_model.specs.Lawful.{Balances};
 ghost use Rattle.opentelemetry_sdk.specs.Correspondence.{number_of};
 ghost use Rattle.opentelemetry_sdk.specs.Known.{is_known};
-ghost use Rattle.opentelemetry_sdk.specs.Providers.{state_of, views_of, provider_readers, provider_views, callbacks_of};
+ghost use Rattle.opentelemetry_sdk.specs.Providers.{state_of, hash_seed_of, views_of, provider_readers, provider_views, callbacks_of};
 ghost use Rattle.opentelemetry_sdk.specs.States.{IsNamed};
 ghost use Rattle.opentelemetry_sdk.specs.Typed.{IsInstrumentOf, instrument_number, instrument_identity, record_reply};
 
@@ -103,6 +103,7 @@ impl<K: Adds, T: NumberType> Synchronous<K, T> {
         ensures foreign { ¬ IsInstrumentOf self.now provider.old → (result ≡ Err Fault.UnknownInstrument) × (state_of provider.new ≡ state_of provider.old) }
         ensures known { is_known (instrument_number self.now) attributes.now (state_of provider.old) ≡ true → IfErr result IsNamed }
         ensures balances { Balances (state_of provider.new) }
+        ensures seeded { hash_seed_of provider.new ≡ hash_seed_of provider.old }
         ensures readers { KeepsReaders (state_of provider.old) (state_of provider.new) }
         ensures kept { provider_readers provider.new ≡ provider_readers provider.old }
         ensures views { provider_views provider.new ≡ provider_views provider.old }
@@ -127,6 +128,7 @@ impl<K: Records, T: NumberType> Synchronous<K, T> {
         ensures foreign { ¬ IsInstrumentOf self.now provider.old → (result ≡ Err Fault.UnknownInstrument) × (state_of provider.new ≡ state_of provider.old) }
         ensures known { is_known (instrument_number self.now) attributes.now (state_of provider.old) ≡ true → IfErr result IsNamed }
         ensures balances { Balances (state_of provider.new) }
+        ensures seeded { hash_seed_of provider.new ≡ hash_seed_of provider.old }
         ensures readers { KeepsReaders (state_of provider.old) (state_of provider.new) }
         ensures kept { provider_readers provider.new ≡ provider_readers provider.old }
         ensures views { provider_views provider.new ≡ provider_views provider.old }

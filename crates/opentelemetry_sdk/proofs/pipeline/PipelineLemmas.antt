@@ -76,7 +76,7 @@ lawful-keys same law keys p unique sound = record {
 
 -- a reader with these streams, without a plan
 abbrev pub reader_of : ReaderAnswers → List StreamContents → List (List ℕ) → Piped
-reader_of answers streams feeds = record { answers = answers; streams = streams; feeds = feeds; plan = None; room = false }
+reader_of answers streams feeds = record { answers = answers; streams = streams; feeds = feeds; plan = None; hash_seed = 0; room = false }
 
 pub all_true : (a b c : Bool) → a ≡ true → b ≡ true → c ≡ true → (a && (b && c)) ≡ true
 all_true a b c p q r = λ i. p i && (q i && r i)

@@ -640,9 +640,9 @@ pub room-parts : (a b c : Bool) → IsTrue (a && (b && c)) → (a ≡ true) × (
 room-parts a b c e = let p = and_parts a (b && c) e in let q = and_parts b c p.1 in (p.0, q.0, q.1)
 
 -- carrying out a plan
-pub built-is : (answers : ReaderAnswers) (ks : List StreamContents) (feeds : List (List ℕ)) (o : Option Planned) (room : Bool) (plan : Planned) → Some plan ≡ o
-    → part_by answers (ks ++ plan.added) (feeds ++ plan.feeds ∷ []) ≡ part_of (piped_after_build (record { answers = answers; streams = ks; feeds = feeds; plan = o; room = room }))
-built-is answers ks feeds o room plan took = ap (λ (q : Option Planned). part_of (piped_after_build (record { answers = answers; streams = ks; feeds = feeds; plan = q; room = room }))) took
+pub built-is : (answers : ReaderAnswers) (ks : List StreamContents) (feeds : List (List ℕ)) (o : Option Planned) (seed : ℕ) (room : Bool) (plan : Planned) → Some plan ≡ o
+    → part_by answers (ks ++ plan.added) (feeds ++ plan.feeds ∷ []) ≡ part_of (piped_after_build (record { answers = answers; streams = ks; feeds = feeds; plan = o; hash_seed = seed; room = room }))
+built-is answers ks feeds o seed room plan took = ap (λ (q : Option Planned). part_of (piped_after_build (record { answers = answers; streams = ks; feeds = feeds; plan = q; hash_seed = seed; room = room }))) took
 
 pub some_plan : (a b : Planned) → Some a ≡ Some b → a ≡ b
 some_plan a b e = cc

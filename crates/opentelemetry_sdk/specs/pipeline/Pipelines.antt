@@ -21,13 +21,14 @@ pub record Planned : Type 0 where
   pub added : List StreamContents
 
 -- a reader's answers; its streams, in order of making; for each instrument the numbers of those that it feeds; what is
--- planned, if anything; and whether there is room for that. A demand that drops is kept among the streams, so that it
--- is known
+-- planned, if anything; the seed from which it hashes the sets of records; and whether there is room for the plan. A
+-- demand that drops is kept among the streams, so that it is known
 pub record Piped : Type 0 where
   pub answers : ReaderAnswers
   pub streams : List StreamContents
   pub feeds : List (List ℕ)
   pub plan : Option Planned
+  pub hash_seed : ℕ
   pub room : Bool
 
 -- how many streams the plan adds, if there is one
@@ -164,6 +165,10 @@ pub record IsPlanOf (answers : ReaderAnswers) (made : List StreamContents) (now 
   pub streams : part_by answers (made ++ plan.added) [] ≡ fold (part_after_demand now) (part_by answers made []) demands
   pub feeds : named_identities (made ++ plan.added) plan.feeds ≡ fed_identities (is_dropped (fates_of (made ++ plan.added))) demands
 
+-- the reader's part hashes sets from this seed
+abbrev pub HashesFrom : ℕ → Piped → Type 0
+HashesFrom seed p = p.hash_seed ≡ seed
+
 -- there is a plan for some demands, and room to carry it out
 pub record IsPlanned (p : Piped) : Type 0 where
   pub planned : Planned
@@ -184,7 +189,7 @@ pub record IsReadyFor (views : Views) (scope : Option InstrumentationScope) (abo
 
 abbrev pub built_by : Option Planned → Piped → Piped
 built_by None p = p
-built_by (Some plan) p = record { answers = p.answers; streams = p.streams ++ plan.added; feeds = p.feeds ++ plan.feeds ∷ []; plan = None; room = p.room }
+built_by (Some plan) p = record { answers = p.answers; streams = p.streams ++ plan.added; feeds = p.feeds ++ plan.feeds ∷ []; plan = None; hash_seed = p.hash_seed; room = p.room }
 
 -- after the plan, if there is one, is carried out
 abbrev pub piped_after_build : Piped → Piped

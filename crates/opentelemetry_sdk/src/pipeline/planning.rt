@@ -14,6 +14,7 @@ use crate::pipeline::about::About;
 use crate::pipeline::defaults::fits;
 use crate::pipeline::demands::{demand_of, own_demand};
 use crate::pipeline::plan::Plan;
+use otel_aggregate::value_map::hashing::SetHashBuilder;
 use otel_common::faults::Fault;
 use otel_common::scopes::InstrumentationScope;
 use otel_stream::demand::Demand;
@@ -68,14 +69,14 @@ impl Plan {
 }
 
 impl Pipeline {
-    /// Makes a plan that demands no stream.
-    fn plan_nothing(&self) -> Plan
+    /// Makes a plan that demands no stream, whose new streams will hash sets with this hasher.
+    fn plan_nothing(&self, hasher: SetHashBuilder) -> Plan
         ensures { (now : ℕ) → IsPlanOf self.now.answers self.now.streams now [] result }
     {
         // These two tell the prover that no identity occurs twice.
         kind_laws();
         let _ = self.identities.len();
-        Plan::new(self.alloc, self.hasher)
+        Plan::new(self.alloc, hasher)
     }
 
     /// Adds one more demand to the plan. If the reader or the plan has a stream of the same identity already, the
@@ -139,6 +140,7 @@ impl Pipeline {
     /// aggregations can't be used.
     fn plan_views(
         &self,
+        hasher: SetHashBuilder,
         scope: &InstrumentationScope,
         about: &About<'_>,
         answered: &[Option<Stream>],
@@ -148,7 +150,7 @@ impl Pipeline {
         ensures plan { IfOk result (IsPlanOf self.now.answers self.now.streams now (usable_demands self.now.answers scope.now about.now answered.now)) }
         ensures only_memory { IsOkUnless result Fault.OutOfMemory }
     {
-        let mut plan = self.plan_nothing();
+        let mut plan = self.plan_nothing(hasher);
         for answer in answered {
             self.plan_answer(&mut plan, scope, about, answer, now)?;
         }
@@ -159,6 +161,7 @@ impl Pipeline {
     /// stream.
     pub(crate) fn plan_in(
         &self,
+        hasher: SetHashBuilder,
         scope: Option<&InstrumentationScope>,
         about: &About<'_>,
         answered: &[Option<Stream>],
@@ -169,9 +172,9 @@ impl Pipeline {
         ensures only_memory { IsOkUnless result Fault.OutOfMemory }
     {
         let Some(scope) = scope else {
-            return Ok(self.plan_nothing());
+            return Ok(self.plan_nothing(hasher));
         };
-        let mut plan = self.plan_views(scope, about, answered, now)?;
+        let mut plan = self.plan_views(hasher, scope, about, answered, now)?;
         if !plan.demands_own(about.kind, answered) {
             return Ok(plan);
         }

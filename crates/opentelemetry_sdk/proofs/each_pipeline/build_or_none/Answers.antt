@@ -13,6 +13,9 @@ build_all-requires c = λ k d h. ready-planned (views_answering c.args.answered.
 
 pub returns-clause-ok : goal.returns-clause-ok
 returns-clause-ok c =
-    c.build_all.ensures
+    c.build_all.ensures.built
     ∙ (all_built (views_answering c.args.answered.now) _ c.args.about.now c.args.now c.plan_all.new.pipelines (good-or-none _ c.args.about.now c.requires) c.in_ok-plan_all.ensures.ready
     ∙ ap (map (part_after_build (views_answering c.args.answered.now) _ c.args.about.now c.args.now)) c.plan_all.ensures.same)
+
+pub returns-clause-seeded : goal.returns-clause-seeded
+returns-clause-seeded c = c.build_all.ensures.seeded _ c.in_ok-plan_all.ensures.seeded

@@ -53,8 +53,8 @@ pub struct Booked<C: Account, S: Account> {
     spare_records: Share<C>,
     spare_values: Share<S>,
     ghost counted: { records.total ≡ accepted },
-    ghost count_kept: { count_in core % 2 ^ 64 ≡ (C.before + records.total) % 2 ^ 64 },
-    ghost sum_kept: { sum_in core % 2 ^ 64 ≡ (S.before + values.total) % 2 ^ 64 },
+    ghost count_kept: { count_in core.state % 2 ^ 64 ≡ (C.before + records.total) % 2 ^ 64 },
+    ghost sum_kept: { sum_in core.state % 2 ^ 64 ≡ (S.before + values.total) % 2 ^ 64 },
     ghost record_parts: { spare_records.parts + opened ≡ 4294967295 },
     ghost value_parts: { spare_values.parts + opened ≡ 4294967295 },
     ghost no_spare_record: { spare_records.amount ≡ 0 },
@@ -78,8 +78,9 @@ impl<C: Account, S: Account> Drop for Booked<C, S> {
 
 /// Makes a record, and answers what the core does.
 fn answer_to(core: &mut Core, pending: &PendingRecord) -> Result<(), Fault>
-    ensures step { (views : Views) → Step views core.old (call_in pending.now) (reply_from (λ _. model.Reply.Done) result) core.new }
-    ensures known { IsKnown core.old (call_in pending.now) → IfErr result IsNamed }
+    ensures step { (views : Views) → Step views core.old.state (call_in pending.now) (reply_from (λ _. model.Reply.Done) result) core.new.state }
+    ensures seeded { core.new.hash_seed ≡ core.old.hash_seed }
+    ensures known { IsKnown core.old.state (call_in pending.now) → IfErr result IsNamed }
 {
     let identity = core.identity();
     match pending {
@@ -96,11 +97,12 @@ fn answer_to(core: &mut Core, pending: &PendingRecord) -> Result<(), Fault>
 
 /// Makes a record. What all instruments accepted grows by it, unless it is refused.
 fn make(core: &mut Core, pending: &PendingRecord) -> Result<(), Fault>
-    ensures done { OnOk result (IsDone core.old (call_in pending.now) core.new) }
-    ensures count { OnOk result (count_in core.new % 2 ^ 64 ≡ (count_in core.old + 1) % 2 ^ 64) }
-    ensures sum { OnOk result (sum_in core.new % 2 ^ 64 ≡ (sum_in core.old + bits_in pending.now) % 2 ^ 64) }
-    ensures refused { IfErr result (λ f. IsRefused core.old (call_in pending.now) f × (core.new ≡ core.old)) }
-    ensures known { IsKnown core.old (call_in pending.now) → IfErr result IsNamed }
+    ensures done { OnOk result (IsDone core.old.state (call_in pending.now) core.new.state) }
+    ensures seeded { core.new.hash_seed ≡ core.old.hash_seed }
+    ensures count { OnOk result (count_in core.new.state % 2 ^ 64 ≡ (count_in core.old.state + 1) % 2 ^ 64) }
+    ensures sum { OnOk result (sum_in core.new.state % 2 ^ 64 ≡ (sum_in core.old.state + bits_in pending.now) % 2 ^ 64) }
+    ensures refused { IfErr result (λ f. IsRefused core.old.state (call_in pending.now) f × (core.new.state ≡ core.old.state)) }
+    ensures known { IsKnown core.old.state (call_in pending.now) → IfErr result IsNamed }
 {
     answer_to(core, pending)
 }
@@ -113,11 +115,12 @@ fn make_other<V: View, R: MetricReader>(
     call: &Call,
 ) -> Reply
     requires { is_record (call_of call.now) ≡ false }
-    ensures step { Step (map V.answer views.now) core.old (call_of call.now) (reply_of result) core.new }
-    ensures count { count_in core.new % 2 ^ 64 ≡ count_in core.old % 2 ^ 64 }
-    ensures sum { sum_in core.new % 2 ^ 64 ≡ sum_in core.old % 2 ^ 64 }
-    ensures readers { KeepsReaders core.old core.new }
-    ensures reached { StepReaches R.flushes R.shuts core.old.shared.shut (call_of call.now) readers.old (reply_of result) readers.new }
+    ensures step { Step (map V.answer views.now) core.old.state (call_of call.now) (reply_of result) core.new.state }
+    ensures seeded { core.new.hash_seed ≡ core.old.hash_seed }
+    ensures count { count_in core.new.state % 2 ^ 64 ≡ count_in core.old.state % 2 ^ 64 }
+    ensures sum { sum_in core.new.state % 2 ^ 64 ≡ sum_in core.old.state % 2 ^ 64 }
+    ensures readers { KeepsReaders core.old.state core.new.state }
+    ensures reached { StepReaches R.flushes R.shuts core.old.state.shared.shut (call_of call.now) readers.old (reply_of result) readers.new }
     ensures wants { map (wanted_by R.preference R.limit R.aggregation) readers.new ≡ map (wanted_by R.preference R.limit R.aggregation) readers.old }
 {
     core.step(views, readers, call)
@@ -130,11 +133,12 @@ fn make_collection(
     now: u64,
     observations: &[Observed],
 ) -> Result<ResourceMetrics, Fault>
-    ensures step { (views : Views) → Step views core.old (model.Call.Collect reader now (map observed_of observations.now)) (reply_from (λ c. model.Reply.Collected c) result) core.new }
-    ensures count { count_in core.new % 2 ^ 64 ≡ count_in core.old % 2 ^ 64 }
-    ensures sum { sum_in core.new % 2 ^ 64 ≡ sum_in core.old % 2 ^ 64 }
-    ensures readers { KeepsReaders core.old core.new }
-    ensures balances { Balances core.new }
+    ensures step { (views : Views) → Step views core.old.state (model.Call.Collect reader now (map observed_of observations.now)) (reply_from (λ c. model.Reply.Collected c) result) core.new.state }
+    ensures seeded { core.new.hash_seed ≡ core.old.hash_seed }
+    ensures count { count_in core.new.state % 2 ^ 64 ≡ count_in core.old.state % 2 ^ 64 }
+    ensures sum { sum_in core.new.state % 2 ^ 64 ≡ sum_in core.old.state % 2 ^ 64 }
+    ensures readers { KeepsReaders core.old.state core.new.state }
+    ensures balances { Balances core.new.state }
 {
     core.collect(reader, now, observations)
 }
@@ -158,8 +162,8 @@ fn makes_record(call: &Call) -> bool
 impl<C: Account, S: Account> Booked<C, S> {
     /// An empty book beside a core, and no workers.
     pub(crate) fn new(core: Core, records: Blank, values: Blank) -> Booked<C, S>
-        requires records { (records.name ≡ C.name) × (records.parts ≡ C.parts) × (records.parts ≡ 4294967295) × (C.before ≡ count_in core % 2 ^ 64) }
-        requires values { (values.name ≡ S.name) × (values.parts ≡ S.parts) × (values.parts ≡ 4294967295) × (S.before ≡ sum_in core % 2 ^ 64) }
+        requires records { (records.name ≡ C.name) × (records.parts ≡ C.parts) × (records.parts ≡ 4294967295) × (C.before ≡ count_in core.state % 2 ^ 64) }
+        requires values { (values.name ≡ S.name) × (values.parts ≡ S.parts) × (values.parts ≡ 4294967295) × (S.before ≡ sum_in core.state % 2 ^ 64) }
         ensures core { result.core ≡ core }
         ensures book { (result.records.total ≡ 0) × (result.values.total ≡ 0) }
         ensures opened { result.opened ≡ 0 }
@@ -179,9 +183,9 @@ impl<C: Account, S: Account> Booked<C, S> {
 
     /// Does nothing. The clauses say what holds whatever was called before.
     pub(crate) fn balances(&self)
-        ensures balances { Balances self.now.core }
-        ensures count { count_in self.now.core % 2 ^ 64 ≡ (C.before + self.now.records.total) % 2 ^ 64 }
-        ensures sum { sum_in self.now.core % 2 ^ 64 ≡ (S.before + self.now.values.total) % 2 ^ 64 }
+        ensures balances { Balances self.now.core.state }
+        ensures count { count_in self.now.core.state % 2 ^ 64 ≡ (C.before + self.now.records.total) % 2 ^ 64 }
+        ensures sum { sum_in self.now.core.state % 2 ^ 64 ≡ (S.before + self.now.values.total) % 2 ^ 64 }
     {
         let _ = self.core.allocator();
     }
@@ -194,7 +198,7 @@ impl<C: Account, S: Account> Booked<C, S> {
     /// Opens a worker.
     pub(crate) fn open_worker(&mut self) -> Result<Worker<C, S>, Fault>
         ensures variant { is_ok result ≡ (if self.old.opened == 4294967295 then false else true) }
-        ensures worker { IfOk result (λ w. (pending_of w ≡ []) × (records_of w ≡ 0) × (values_of w ≡ 0) × (worker_identity w ≡ self.old.core.shared.identity)) }
+        ensures worker { IfOk result (λ w. (pending_of w ≡ []) × (records_of w ≡ 0) × (values_of w ≡ 0) × (worker_identity w ≡ self.old.core.state.shared.identity)) }
         ensures opened { OnOk result (self.new.opened ≡ self.old.opened + 1) }
         ensures fault { IfErr result (λ f. (f ≡ Fault.Exhausted) × (self.new ≡ self.old)) }
         ensures kept { (self.new.core ≡ self.old.core) × (self.new.records.total ≡ self.old.records.total) × (self.new.values.total ≡ self.old.values.total) }
@@ -221,9 +225,10 @@ impl<C: Account, S: Account> Booked<C, S> {
         call: &Call,
     ) -> Reply
         ensures refused { is_record (call_of call.now) ≡ true → (result ≡ Reply.Refused Fault.UseWorker) × (self.new ≡ self.old) × (readers.new ≡ readers.old) }
-        ensures step { is_record (call_of call.now) ≡ false → Step (map T.answer views.now) self.old.core (call_of call.now) (reply_of result) self.new.core }
-        ensures readers { KeepsReaders self.old.core self.new.core }
-        ensures reached { is_record (call_of call.now) ≡ false → StepReaches R.flushes R.shuts self.old.core.shared.shut (call_of call.now) readers.old (reply_of result) readers.new }
+        ensures step { is_record (call_of call.now) ≡ false → Step (map T.answer views.now) self.old.core.state (call_of call.now) (reply_of result) self.new.core.state }
+        ensures seeded { self.new.core.hash_seed ≡ self.old.core.hash_seed }
+        ensures readers { KeepsReaders self.old.core.state self.new.core.state }
+        ensures reached { is_record (call_of call.now) ≡ false → StepReaches R.flushes R.shuts self.old.core.state.shared.shut (call_of call.now) readers.old (reply_of result) readers.new }
         ensures wants { map (wanted_by R.preference R.limit R.aggregation) readers.new ≡ map (wanted_by R.preference R.limit R.aggregation) readers.old }
         ensures kept { (self.new.opened ≡ self.old.opened) × (self.new.records.total ≡ self.old.records.total) × (self.new.values.total ≡ self.old.values.total) }
     {
@@ -235,9 +240,9 @@ impl<C: Account, S: Account> Booked<C, S> {
 
     /// Checks that a collection of this reader is not refused before its callbacks run.
     pub(crate) fn check_collection(&self, reader: usize) -> Result<(), Fault>
-        ensures ok { OnOk result (collect_refusal self.now.core reader ≡ None) }
-        ensures fault { IfErr result (λ f. collect_refusal self.now.core reader ≡ Some (fault_of f)) }
-        ensures balances { Balances self.now.core }
+        ensures ok { OnOk result (collect_refusal self.now.core.state reader ≡ None) }
+        ensures fault { IfErr result (λ f. collect_refusal self.now.core.state reader ≡ Some (fault_of f)) }
+        ensures balances { Balances self.now.core.state }
     {
         self.core.check_collection(reader)
     }
@@ -249,9 +254,10 @@ impl<C: Account, S: Account> Booked<C, S> {
         now: u64,
         observations: &[Observed],
     ) -> Result<ResourceMetrics, Fault>
-        ensures step { (views : Views) → Step views self.old.core (model.Call.Collect reader now (map observed_of observations.now)) (reply_from (λ c. model.Reply.Collected c) result) self.new.core }
-        ensures readers { KeepsReaders self.old.core self.new.core }
-        ensures balances { Balances self.new.core }
+        ensures step { (views : Views) → Step views self.old.core.state (model.Call.Collect reader now (map observed_of observations.now)) (reply_from (λ c. model.Reply.Collected c) result) self.new.core.state }
+        ensures seeded { self.new.core.hash_seed ≡ self.old.core.hash_seed }
+        ensures readers { KeepsReaders self.old.core.state self.new.core.state }
+        ensures balances { Balances self.new.core.state }
         ensures kept { (self.new.opened ≡ self.old.opened) × (self.new.records.total ≡ self.old.records.total) × (self.new.values.total ≡ self.old.values.total) }
     {
         make_collection(&mut self.core, reader, now, observations)
@@ -260,12 +266,13 @@ impl<C: Account, S: Account> Booked<C, S> {
     /// Makes the records of a worker, in order, up to the first that is refused. Frees none.
     pub(crate) fn submit(&mut self, worker: &mut Worker<C, S>) -> Result<Receipt, Fault>
         ensures grew { (records_of worker.old ≤ records_of worker.new) × (values_of worker.old ≤ values_of worker.new) }
-        ensures made { Submits self.old.core (pending_of worker.old) self.new.core (pending_of worker.new) (records_of worker.new - records_of worker.old) (values_of worker.new - values_of worker.old) }
+        ensures made { Submits self.old.core.state (pending_of worker.old) self.new.core.state (pending_of worker.new) (records_of worker.new - records_of worker.old) (values_of worker.new - values_of worker.old) }
         ensures book { (self.new.records.total + records_of worker.old ≡ self.old.records.total + records_of worker.new) × (self.new.values.total + values_of worker.old ≡ self.old.values.total + values_of worker.new) }
         ensures ok { IfOk result (λ r. (pending_of worker.new ≡ []) × (r.accepted ≡ self.new.records.total) × (records_of worker.new ≤ r.accepted)) }
-        ensures fault { IfErr result (λ f. StopsBy self.new.core (pending_of worker.new) self.new.records.total f) }
+        ensures fault { IfErr result (λ f. StopsBy self.new.core.state (pending_of worker.new) self.new.records.total f) }
         ensures full { IfErr result (λ f. f ≡ Fault.LedgerFull → self.new.records.total ≡ 18446744073709551615) }
-        ensures known { IfErr result (λ f. IsKnownFirst self.new.core (pending_of worker.new) → IsNamed f) }
+        ensures seeded { self.new.core.hash_seed ≡ self.old.core.hash_seed }
+        ensures known { IfErr result (λ f. IsKnownFirst self.new.core.state (pending_of worker.new) → IsNamed f) }
         ensures kept { (self.new.opened ≡ self.old.opened) × (worker_identity worker.new ≡ worker_identity worker.old) }
     {
         while self.make_first(worker)? {}
@@ -278,11 +285,12 @@ impl<C: Account, S: Account> Booked<C, S> {
     /// Makes the first record of a worker, if there is one, and answers whether there was.
     #[tactic(auto, using(crate::proofs::Lists::first_left, crate::proofs::Lists::stops_refused, crate::proofs::Lists::stops_full))]
     fn make_first(&mut self, worker: &mut Worker<C, S>) -> Result<bool, Fault>
-        ensures none { IfOk result (λ more. more ≡ false → (pending_of worker.old ≡ []) × (pending_of worker.new ≡ []) × (self.new.core ≡ self.old.core) × (records_of worker.new ≡ records_of worker.old) × (values_of worker.new ≡ values_of worker.old)) }
-        ensures made { IfOk result (λ more. more ≡ true → Makes self.old.core (pending_of worker.old) self.new.core (pending_of worker.new) (values_of worker.old) (values_of worker.new) × (records_of worker.new ≡ records_of worker.old + 1)) }
-        ensures fault { IfErr result (λ f. StopsBy self.new.core (pending_of worker.new) self.new.records.total f × (pending_of worker.new ≡ pending_of worker.old) × (self.new.core ≡ self.old.core) × (records_of worker.new ≡ records_of worker.old) × (values_of worker.new ≡ values_of worker.old)) }
+        ensures none { IfOk result (λ more. more ≡ false → (pending_of worker.old ≡ []) × (pending_of worker.new ≡ []) × (self.new.core.state ≡ self.old.core.state) × (records_of worker.new ≡ records_of worker.old) × (values_of worker.new ≡ values_of worker.old)) }
+        ensures made { IfOk result (λ more. more ≡ true → Makes self.old.core.state (pending_of worker.old) self.new.core.state (pending_of worker.new) (values_of worker.old) (values_of worker.new) × (records_of worker.new ≡ records_of worker.old + 1)) }
+        ensures fault { IfErr result (λ f. StopsBy self.new.core.state (pending_of worker.new) self.new.records.total f × (pending_of worker.new ≡ pending_of worker.old) × (self.new.core.state ≡ self.old.core.state) × (records_of worker.new ≡ records_of worker.old) × (values_of worker.new ≡ values_of worker.old)) }
         ensures full { IfErr result (λ f. f ≡ Fault.LedgerFull → self.new.records.total ≡ 18446744073709551615) }
-        ensures known { IfErr result (λ f. IsKnownFirst self.new.core (pending_of worker.new) → IsNamed f) }
+        ensures seeded { self.new.core.hash_seed ≡ self.old.core.hash_seed }
+        ensures known { IfErr result (λ f. IsKnownFirst self.new.core.state (pending_of worker.new) → IsNamed f) }
         ensures book { (self.new.records.total + records_of worker.old ≡ self.old.records.total + records_of worker.new) × (self.new.values.total + values_of worker.old ≡ self.old.values.total + values_of worker.new) }
         ensures kept { (self.new.opened ≡ self.old.opened) × (worker_identity worker.new ≡ worker_identity worker.old) }
     {

@@ -14,10 +14,10 @@ ghost use Rattle.otel_model.specs.Steps.{Step};
 ghost use Rattle.otel_model.specs.Books.{count_in, sum_in};
 ghost use Rattle.otel_model.specs.Lawful.{Balances};
 ghost use Rattle.opentelemetry_sdk.specs.Callbacks.{IsCollectionOf};
-ghost use Rattle.opentelemetry_sdk.specs.Providers.{state_of, provider_views, provider_readers, callbacks_of};
+ghost use Rattle.opentelemetry_sdk.specs.Providers.{state_of, hash_seed_of, provider_views, provider_readers, callbacks_of};
 ghost use Rattle.opentelemetry_sdk.specs.Typed.{collect_reply};
 ghost use Rattle.opentelemetry_sdk.specs.Pending.{is_record, IsKnownFirst, StopsBy, Submits};
-ghost use Rattle.opentelemetry_sdk.specs.Shared.{state_in, views_in, readers_in, callbacks_in, records_in, values_in, workers_in};
+ghost use Rattle.opentelemetry_sdk.specs.Shared.{state_in, hash_seed_in, views_in, readers_in, callbacks_in, records_in, values_in, workers_in};
 ghost use Rattle.opentelemetry_sdk.specs.Workers.{pending_of, records_of, values_of, worker_identity};
 ghost use Rattle.otel_stream.specs.Requests.{wanted_by};
 
@@ -75,6 +75,7 @@ impl<P: Parts, C: Account, S: Account> Locked<P, C, S> {
         requires records { (records.name ≡ C.name) × (records.parts ≡ C.parts) × (records.parts ≡ 4294967295) × (C.before ≡ count_in (state_of provider) % 2 ^ 64) }
         requires values { (values.name ≡ S.name) × (values.parts ≡ S.parts) × (values.parts ≡ 4294967295) × (S.before ≡ sum_in (state_of provider) % 2 ^ 64) }
         ensures state { state_in result ≡ state_of provider }
+        ensures seeded { hash_seed_in result ≡ hash_seed_of provider }
         ensures views { views_in result ≡ provider_views provider }
         ensures kept { readers_in result ≡ provider_readers provider }
         ensures callbacks { callbacks_in result ≡ callbacks_of provider }
@@ -115,6 +116,7 @@ impl<P: Parts, C: Account, S: Account> Locked<P, C, S> {
         ensures opened { OnOk result (workers_in self.new ≡ workers_in self.old + 1) }
         ensures fault { IfErr result (λ f. (f ≡ Fault.Exhausted) × (self.new ≡ self.old)) }
         ensures state { state_in self.new ≡ state_in self.old }
+        ensures seeded { hash_seed_in self.new ≡ hash_seed_in self.old }
         ensures book { (records_in self.new ≡ records_in self.old) × (values_in self.new ≡ values_in self.old) }
         ensures kept { readers_in self.new ≡ readers_in self.old }
         ensures views { views_in self.new ≡ views_in self.old }
@@ -129,6 +131,7 @@ impl<P: Parts, C: Account, S: Account> Locked<P, C, S> {
         ensures refused { is_record (call_of call.now) ≡ true → (result ≡ Reply.Refused Fault.UseWorker) × (state_in self.new ≡ state_in self.old) × (readers_in self.new ≡ readers_in self.old) }
         ensures step { is_record (call_of call.now) ≡ false → Step (map P.View.answer (views_in self.old)) (state_in self.old) (call_of call.now) (reply_of result) (state_in self.new) }
         ensures balances { Balances (state_in self.new) }
+        ensures seeded { hash_seed_in self.new ≡ hash_seed_in self.old }
         ensures readers { KeepsReaders (state_in self.old) (state_in self.new) }
         ensures reached { is_record (call_of call.now) ≡ false → StepReaches P.Reader.flushes P.Reader.shuts (state_in self.old).shared.shut (call_of call.now) (readers_in self.old) (reply_of result) (readers_in self.new) }
         ensures wants { map (wanted_by P.Reader.preference P.Reader.limit P.Reader.aggregation) (readers_in self.new) ≡ map (wanted_by P.Reader.preference P.Reader.limit P.Reader.aggregation) (readers_in self.old) }
@@ -154,6 +157,7 @@ impl<P: Parts, C: Account, S: Account> Locked<P, C, S> {
         ensures ran { collect_refusal (state_in self.old) reader ≡ None → (given : Result (List Observed) Fault) × RanAll (Ran P.ObserveU64.observes P.ObserveI64.observes) (callbacks_in self.old) (callbacks_in self.new) given × IsCollectionOf (map P.View.answer (views_in self.old)) (state_in self.old) reader now given result metrics.new (state_in self.new) }
         ensures held { OnErr result (metrics.new ≡ metrics.old) }
         ensures balances { Balances (state_in self.new) }
+        ensures seeded { hash_seed_in self.new ≡ hash_seed_in self.old }
         ensures readers { KeepsReaders (state_in self.old) (state_in self.new) }
         ensures kept { readers_in self.new ≡ readers_in self.old }
         ensures views { views_in self.new ≡ views_in self.old }
@@ -192,6 +196,7 @@ impl<P: Parts, C: Account, S: Account> Locked<P, C, S> {
         ensures full { IfErr result (λ f. f ≡ Fault.LedgerFull → records_in self.new ≡ 18446744073709551615) }
         ensures known { IfErr result (λ f. IsKnownFirst (state_in self.new) (pending_of worker.new) → IsNamed f) }
         ensures balances { Balances (state_in self.new) }
+        ensures seeded { hash_seed_in self.new ≡ hash_seed_in self.old }
         ensures worker { worker_identity worker.new ≡ worker_identity worker.old }
         ensures workers { workers_in self.new ≡ workers_in self.old }
         ensures kept { readers_in self.new ≡ readers_in self.old }
@@ -215,6 +220,7 @@ impl<P: Parts, C: Account, S: Account> Locked<P, C, S> {
         requires { (C.parts ≡ 4294967295) × (S.parts ≡ 4294967295) }
         ensures variant { is_ok result ≡ (vec_len workers == workers_in self) }
         ensures state { IfOk result (λ p. state_of p ≡ state_in self) }
+        ensures seeded { IfOk result (λ p. hash_seed_of p ≡ hash_seed_in self) }
         ensures views { IfOk result (λ p. provider_views p ≡ views_in self) }
         ensures kept { IfOk result (λ p. provider_readers p ≡ readers_in self) }
         ensures callbacks { IfOk result (λ p. callbacks_of p ≡ callbacks_in self) }

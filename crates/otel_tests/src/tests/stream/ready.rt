@@ -39,7 +39,7 @@ fn attributes_and_observations(rt: HostRuntime) {
     );
 }
 
-/// A clock that stands still, and a source that gives ones.
+/// A clock that stands still, and a source that gives the bytes 1, 2, 3 and so on.
 #[derive(Drop)]
 struct Still {
     since_1970: Duration,
@@ -57,12 +57,14 @@ impl Clock for Still {
 
 impl RandomSource for Still {
     fn fill_bytes(&self, buf: &mut [u8]) -> io::Result<()> {
-        buf.fill(1);
+        for (byte, number) in buf.iter_mut().zip(1u8..) {
+            *byte = number;
+        }
         Ok(())
     }
 }
 
-/// A moment is counted in nanoseconds, up to the greatest number. A seed of ones is 0x0101_0101_0101_0101.
+/// A moment is counted in nanoseconds, up to the greatest number. A seed of the bytes 1 to 8 is 0x0807_0605_0403_0201.
 #[test]
 fn moments_and_seeds(rt: HostRuntime) {
     let rt = &rt;
@@ -77,6 +79,6 @@ fn moments_and_seeds(rt: HostRuntime) {
         now_nanos(&late).expect(rt, "a moment"),
         random_seed(&early).expect(rt, "a seed"),
     );
-    let text = "(2000000005, 18446744073709551615, 72340172838076673)";
+    let text = "(2000000005, 18446744073709551615, 578437695752307201)";
     assert_shows(rt, rt.alloc(), &found, text);
 }

@@ -52,10 +52,10 @@ invariant_of-self-2 c =
     )
 
 -- what is carried out is what was planned
-pub returns : goal.returns
-returns c =
+pub returns-clause-built : goal.returns-clause-built
+returns-clause-built c =
     let streams : c.append.new.self.items ≡ c.self.inside.streams.items ++ c.plan.inside.added.items = rw c.unwrap.ensures at c.append.ensures.items in
     let seen : record { feeds = c.plan.inside.feeds.items; added = c.plan.inside.added.items } ≡ c.in-Some.plan = c.plan.view_is in
     rw (← c.self.view_is)
     (part-same _ _ _ _ _ (streams ∙ ap (λ (p : Planned). c.self.inside.streams.items ++ p.added) seen) (c.push_reserved.ensures.items ∙ (ap (λ ns. c.self.inside.feeds.items ++ ns ∷ []) c.from.ensures ∙ ap (λ (p : Planned). c.self.inside.feeds.items ++ p.feeds ∷ []) seen))
-    ∙ built-is c.self.inside.answers c.self.inside.streams.items c.self.inside.feeds.items c.self.inside.plan _ c.in-Some.plan c.in-Some.ensures.value)
+    ∙ built-is c.self.inside.answers c.self.inside.streams.items c.self.inside.feeds.items c.self.inside.plan c.self.inside.hasher.seed _ c.in-Some.plan c.in-Some.ensures.value)

@@ -26,5 +26,5 @@ returns-clause-ran g c = λ none.
       Ok c.in-Ok.observations.items,
       subst (λ cs. RanAll (Ran g.P.ObserveU64.ObserveU64.observes g.P.ObserveI64.ObserveI64.observes) c.args.self.now.callbacks.items cs (Ok c.in-Ok.observations.items)) (sym lent)
           (subst (λ cs. RanAll (Ran g.P.ObserveU64.ObserveU64.observes g.P.ObserveI64.ObserveI64.observes) cs c.run_callbacks.new.callbacks (Ok c.in-Ok.observations.items)) c.deref_mut.ensures.value c.in-Ok.ensures),
-      subst (λ os. Step views c.args.self.now.core (model.Call.Collect c.args.reader c.args.now (map observed_of os)) (collected_reply c.collect.result) c.collect.new.self) c.deref.ensures.value (c.collect.ensures.step views),
+      subst (λ os. Step views c.args.self.now.core.state (model.Call.Collect c.args.reader c.args.now (map observed_of os)) (collected_reply c.collect.result) c.collect.new.self.state) c.deref.ensures.value (c.collect.ensures.step views),
     )

@@ -15,13 +15,13 @@ returns-clause-step g c = c.force_flush.ensures.step (views_of g.P.View.View.ans
 pub returns-clause-asked : goal.returns-clause-asked
 returns-clause-asked g c =
     let lent = lent_back c.args.self.now.readers.len c.force_flush.new.readers _ (omega arith) in
-    subst (λ rs. AreReached g.P.Reader.MetricReader.flushes c.args.self.now.core.shared.shut c.args.self.now.readers.items rs c.force_flush.result) (sym lent)
-    (subst (λ rs. AreReached g.P.Reader.MetricReader.flushes c.args.self.now.core.shared.shut rs c.force_flush.new.readers c.force_flush.result) c.deref_mut.ensures.value c.force_flush.ensures.asked)
+    subst (λ rs. AreReached g.P.Reader.MetricReader.flushes c.args.self.now.core.state.shared.shut c.args.self.now.readers.items rs c.force_flush.result) (sym lent)
+    (subst (λ rs. AreReached g.P.Reader.MetricReader.flushes c.args.self.now.core.state.shared.shut rs c.force_flush.new.readers c.force_flush.result) c.deref_mut.ensures.value c.force_flush.ensures.asked)
 
 pub returns-clause-readers : goal.returns-clause-readers
 returns-clause-readers g c =
     let views = views_of g.P.View.View.answer c.args.self.now in
-    kept_at_once views c.args.self.now.core model.Call.Flush (reply_to c.force_flush.result) c.force_flush.new.self (c.force_flush.ensures.step views)
+    kept_at_once views c.args.self.now.core.state model.Call.Flush (reply_to c.force_flush.result) c.force_flush.new.self.state (c.force_flush.ensures.step views)
 
 pub returns-clause-wants : goal.returns-clause-wants
 returns-clause-wants g c =

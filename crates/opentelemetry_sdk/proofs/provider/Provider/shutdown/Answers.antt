@@ -15,13 +15,13 @@ returns-clause-step g c = c.shutdown.ensures.step (views_of g.P.View.View.answer
 pub returns-clause-asked : goal.returns-clause-asked
 returns-clause-asked g c =
     let lent = lent_back c.args.self.now.readers.len c.shutdown.new.readers _ (omega arith) in
-    subst (λ rs. AreReached (ShutsDown g.P.Reader.MetricReader.shuts) c.args.self.now.core.shared.shut c.args.self.now.readers.items rs c.shutdown.result) (sym lent)
-    (subst (λ rs. AreReached (ShutsDown g.P.Reader.MetricReader.shuts) c.args.self.now.core.shared.shut rs c.shutdown.new.readers c.shutdown.result) c.deref_mut.ensures.value c.shutdown.ensures.asked)
+    subst (λ rs. AreReached (ShutsDown g.P.Reader.MetricReader.shuts) c.args.self.now.core.state.shared.shut c.args.self.now.readers.items rs c.shutdown.result) (sym lent)
+    (subst (λ rs. AreReached (ShutsDown g.P.Reader.MetricReader.shuts) c.args.self.now.core.state.shared.shut rs c.shutdown.new.readers c.shutdown.result) c.deref_mut.ensures.value c.shutdown.ensures.asked)
 
 pub returns-clause-readers : goal.returns-clause-readers
 returns-clause-readers g c =
     let views = views_of g.P.View.View.answer c.args.self.now in
-    kept_at_once views c.args.self.now.core model.Call.Shutdown (reply_to c.shutdown.result) c.shutdown.new.self (c.shutdown.ensures.step views)
+    kept_at_once views c.args.self.now.core.state model.Call.Shutdown (reply_to c.shutdown.result) c.shutdown.new.self.state (c.shutdown.ensures.step views)
 
 pub returns-clause-wants : goal.returns-clause-wants
 returns-clause-wants g c =

@@ -10,8 +10,8 @@ use Rattle.opentelemetry_sdk.proofs.provider.Provider.step.Goals as goal
 pub returns-clause-reached : goal.returns-clause-reached
 returns-clause-reached g c =
     let lent = lent_back c.args.self.now.readers.len c.step.new.readers _ (omega arith) in
-    subst (λ rs. StepReaches g.P.Reader.MetricReader.flushes g.P.Reader.MetricReader.shuts c.args.self.now.core.shared.shut (call_of c.args.call.now) c.args.self.now.readers.items (reply_of c.step.result) rs) (sym lent)
-    (subst (λ rs. StepReaches g.P.Reader.MetricReader.flushes g.P.Reader.MetricReader.shuts c.args.self.now.core.shared.shut (call_of c.args.call.now) rs (reply_of c.step.result) c.step.new.readers) c.deref_mut.ensures.value c.step.ensures.reached)
+    subst (λ rs. StepReaches g.P.Reader.MetricReader.flushes g.P.Reader.MetricReader.shuts c.args.self.now.core.state.shared.shut (call_of c.args.call.now) c.args.self.now.readers.items (reply_of c.step.result) rs) (sym lent)
+    (subst (λ rs. StepReaches g.P.Reader.MetricReader.flushes g.P.Reader.MetricReader.shuts c.args.self.now.core.state.shared.shut (call_of c.args.call.now) rs (reply_of c.step.result) c.step.new.readers) c.deref_mut.ensures.value c.step.ensures.reached)
 
 pub returns-clause-wants : goal.returns-clause-wants
 returns-clause-wants g c =
@@ -19,4 +19,4 @@ returns-clause-wants g c =
     ap (map (wanted_by g.P.Reader.MetricReader.preference g.P.Reader.MetricReader.limit g.P.Reader.MetricReader.aggregation)) lent ∙ (c.step.ensures.wants ∙ ap (map (wanted_by g.P.Reader.MetricReader.preference g.P.Reader.MetricReader.limit g.P.Reader.MetricReader.aggregation)) c.deref_mut.ensures.value)
 
 pub returns-clause-readers : goal.returns-clause-readers
-returns-clause-readers g c = kept_at_once (map g.P.View.View.answer c.deref.result.now) c.args.self.now.core (call_of c.args.call.now) (reply_of c.step.result) c.step.new.self c.step.ensures.step
+returns-clause-readers g c = kept_at_once (map g.P.View.View.answer c.deref.result.now) c.args.self.now.core.state (call_of c.args.call.now) (reply_of c.step.result) c.step.new.self.state c.step.ensures.step

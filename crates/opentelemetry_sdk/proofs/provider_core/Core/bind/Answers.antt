@@ -14,7 +14,7 @@ use Rattle.opentelemetry_sdk.specs.pipeline.Pipelines.{part_of}
 use Rattle.opentelemetry_sdk.specs.Cores.{state_in}
 use Rattle.opentelemetry_sdk.specs.declared.handles.BoundHandle.{BoundHandle}
 use Rattle.opentelemetry_sdk.specs.Correspondence.{fault_of}
-use Rattle.opentelemetry_sdk.specs.States.{IsBindable, IsFault, IsSound, AreTyped}
+use Rattle.opentelemetry_sdk.specs.States.{CoreContents, IsBindable, IsFault, IsSound, AreTyped}
 use Rattle.opentelemetry_sdk.proofs.Held.{feeds-synchronous, next-new, next-absent, bind-made}
 use Rattle.opentelemetry_sdk.proofs.Sound.{sound-balances, sound-step, balances-step}
 use Rattle.opentelemetry_sdk.proofs.Stepped.{refused-step, memory-result}
@@ -23,16 +23,16 @@ use Rattle.opentelemetry_sdk.proofs.provider_core.Core.bind.Goals.{After-add-pla
 use Rattle.opentelemetry_sdk.proofs.provider_core.Core.bind.Goals as goal
 
 pub returns-then-identity-self-clause-balances : goal.returns-then-identity-self-clause-balances
-returns-then-identity-self-clause-balances c = subst Balances c.self.view_is (sound-balances (state_in c.self.inside) c.self.invariant)
+returns-then-identity-self-clause-balances c = subst (λ (k : CoreContents). Balances k.state) c.self.view_is (sound-balances (state_in c.self.inside) c.self.invariant)
 
 pub returns-in-Err-clause-step : goal.returns-in-Err-clause-step
 returns-in-Err-clause-step c =
     let old : State = state_in c.self.inside in
-    λ own views. subst (λ st. Step views st (model.Call.Bind c.args.instrument c.args.attributes.now) (model.Reply.Refused (fault_of c.in-Err.fault)) st) c.self.view_is (refused-step views old old (model.Call.Bind c.args.instrument c.args.attributes.now) c.in-Err.fault (λ _. refl)
+    λ own views. subst (λ (k : CoreContents). Step views k.state (model.Call.Bind c.args.instrument c.args.attributes.now) (model.Reply.Refused (fault_of c.in-Err.fault)) k.state) c.self.view_is (refused-step views old old (model.Call.Bind c.args.instrument c.args.attributes.now) c.in-Err.fault (λ _. refl)
     (subst (λ is. IsFault (bind_refusal c.self.inside.next (slice_get is c.args.instrument)) c.in-Err.fault) c.deref.ensures.value c.in-Err.ensures.fault) refl)
 
 pub returns-in-Err-clause-balances : goal.returns-in-Err-clause-balances
-returns-in-Err-clause-balances c = subst Balances c.self.view_is (sound-balances (state_in c.self.inside) c.self.invariant)
+returns-in-Err-clause-balances c = subst (λ (k : CoreContents). Balances k.state) c.self.view_is (sound-balances (state_in c.self.inside) c.self.invariant)
 
 -- there is no memory for one more handle
 pub invariant_of-self : goal.invariant_of-self

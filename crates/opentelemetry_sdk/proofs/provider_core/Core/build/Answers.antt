@@ -1,6 +1,7 @@
-use Rattle.std.proofs.Common.{◌≡◌, ◌∙◌, rules, refl, ap, sym, subst, map, arith}
-use Rattle.std.specs.Prelude.{OnOk, OnErr}
+use Rattle.std.proofs.Common.{ℕ, List, [], ◌∷◌, ◌≡◌, ◌∙◌, rules, refl, ap, sym, subst, map, arith}
+use Rattle.std.specs.Prelude.{All, OnOk, OnErr}
 use Rattle.std.specs.Option.{option_map}
+use Rattle.std.proofs.lemmas.List.Elements.{All-head, All-same, All-tail}
 use Rattle.otel_model.specs.Calls as model
 use Rattle.otel_model.specs.Demands.{is_good}
 use Rattle.otel_model.specs.Machine.{part_after_build}
@@ -8,30 +9,30 @@ use Rattle.otel_model.specs.Steps.{Step}
 use Rattle.otel_model.specs.State.{State}
 use Rattle.otel_model.proofs.Kept.{kept_at_once}
 use Rattle.otel_model.specs.Lawful.{Balances}
-use Rattle.opentelemetry_sdk.specs.pipeline.Pipelines.{part_of}
+use Rattle.opentelemetry_sdk.specs.pipeline.Pipelines.{HashesFrom, Piped, part_of}
 use Rattle.opentelemetry_sdk.specs.pipeline.Views.{views_answering}
 use Rattle.opentelemetry_sdk.specs.Cores.{state_in}
 use Rattle.opentelemetry_sdk.specs.Correspondence.{fault_of, reply_from}
-use Rattle.opentelemetry_sdk.specs.States.{AreAsked, IsGoodIn}
+use Rattle.opentelemetry_sdk.specs.States.{CoreContents, AreAsked, IsGoodIn}
 use Rattle.opentelemetry_sdk.proofs.Outcomes.{OnOk-weaker, OnErr-weaker}
 use Rattle.opentelemetry_sdk.proofs.Sound.{sound-balances, sound-step, balances-step}
 use Rattle.opentelemetry_sdk.proofs.Stepped.{refused-step, memory-result}
-use Rattle.opentelemetry_sdk.proofs.StepLemmas.{no_meter-fault, good-in, lent-parts, build-step}
+use Rattle.opentelemetry_sdk.proofs.StepLemmas.{no_meter-fault, good-in, lent_back, lent-parts, build-step}
 use Rattle.opentelemetry_sdk.proofs.provider_core.Core.build.Given as given
 use Rattle.opentelemetry_sdk.proofs.provider_core.Core.build.Goals.{After-make}
 use Rattle.opentelemetry_sdk.proofs.provider_core.Core.build.Goals as goal
 
 pub returns-then-identity-self-clause-balances : goal.returns-then-identity-self-clause-balances
-returns-then-identity-self-clause-balances g c = subst Balances c.self.view_is (sound-balances (state_in c.self.inside) c.self.invariant)
+returns-then-identity-self-clause-balances g c = subst (λ (k : CoreContents). Balances k.state) c.self.view_is (sound-balances (state_in c.self.inside) c.self.invariant)
 
 -- there is no such meter
 pub returns-in-Err-clause-step : goal.returns-in-Err-clause-step
 returns-in-Err-clause-step g c =
     let old : State = state_in c.self.inside in
-    λ own. subst (λ st. Step (map g.V.View.answer c.args.views.now) st (model.Call.Build c.args.meter c.args.about.now c.args.now) (model.Reply.Refused (fault_of c.in-Err.fault)) st) c.self.view_is (refused-step (map g.V.View.answer c.args.views.now) old old (model.Call.Build c.args.meter c.args.about.now c.args.now) c.in-Err.fault (λ _. refl) (no_meter-fault old.shared c.args.meter c.in-Err.fault c.in-Err.ensures) refl)
+    λ own. subst (λ (k : CoreContents). Step (map g.V.View.answer c.args.views.now) k.state (model.Call.Build c.args.meter c.args.about.now c.args.now) (model.Reply.Refused (fault_of c.in-Err.fault)) k.state) c.self.view_is (refused-step (map g.V.View.answer c.args.views.now) old old (model.Call.Build c.args.meter c.args.about.now c.args.now) c.in-Err.fault (λ _. refl) (no_meter-fault old.shared c.args.meter c.in-Err.fault c.in-Err.ensures) refl)
 
 pub returns-in-Err-clause-balances : goal.returns-in-Err-clause-balances
-returns-in-Err-clause-balances g c = subst Balances c.self.view_is (sound-balances (state_in c.self.inside) c.self.invariant)
+returns-in-Err-clause-balances g c = subst (λ (k : CoreContents). Balances k.state) c.self.view_is (sound-balances (state_in c.self.inside) c.self.invariant)
 
 -- there is no memory for what the views answer
 pub returns-in_err-answered-clause-step : goal.returns-in_err-answered-clause-step
@@ -40,7 +41,7 @@ returns-in_err-answered-clause-step g c =
     rw (← c.self.view_is) (λ own. memory-result model.Reply.Instrument (map g.V.View.answer c.args.views.now) old old (model.Call.Build c.args.meter c.args.about.now c.args.now) c.from_residual.result refl (search rules) (c.in-Ok.ensures.known old.shared refl) refl)
 
 pub returns-in_err-answered-clause-balances : goal.returns-in_err-answered-clause-balances
-returns-in_err-answered-clause-balances g c = subst Balances c.self.view_is (sound-balances (state_in c.self.inside) c.self.invariant)
+returns-in_err-answered-clause-balances g c = subst (λ (k : CoreContents). Balances k.state) c.self.view_is (sound-balances (state_in c.self.inside) c.self.invariant)
 
 pub make-requires-clause-good : goal.make-requires-clause-good
 make-requires-clause-good g c = subst (λ s. IsGoodIn s c.args.about.now) (sym c.good_scope-scope.ensures) (good-in _ c.args.about.now (is_good c.args.about.now) refl)
@@ -81,3 +82,14 @@ returns-clause-readers g c =
     let old : State = state_in c.self.inside in
     rw (← c.self.view_is) (kept_at_once (map g.V.View.answer c.args.views.now) old (model.Call.Build c.args.meter c.args.about.now c.args.now) (reply_from model.Reply.Instrument c.make.result) _
     (build-step old (map g.V.View.answer c.args.views.now) c.deref.result.now _ _ c.args.meter _ _ c.args.about.now c.args.now c.make.result c.in-Ok.ensures c.good_scope-scope.ensures (asked g w) c.make.ensures.number c.make.ensures.instruments (OnOk-weaker c.make.result (λ is. lent-parts c.self.inside.pipelines.len c.make.new.pipelines _ _ (omega arith) is) (built g w)) c.make.ensures.same (OnErr-weaker c.make.result (λ is. lent-parts c.self.inside.pipelines.len c.make.new.pipelines _ _ (omega arith) is) (same g w)) c.make.ensures.only_memory))
+
+-- the readers' parts come back as they were lent, and hash from the core's seed
+seeds-alike : (seed : ℕ) (ps : List Piped) → All (HashesFrom seed) ps → map (λ (p : Piped). p.hash_seed) ps ≡ map (λ _. seed) (map part_of ps)
+seeds-alike seed [] all = refl
+seeds-alike seed (p ∷ ps) all = λ i. All-head (HashesFrom seed) p ps all i ∷ seeds-alike seed ps (All-tail (HashesFrom seed) p ps all) i
+
+pub returns-clause-hashed : goal.returns-clause-hashed
+returns-clause-hashed g c =
+    let seed : ℕ = c.self.inside.hasher.seed in
+    let lent = lent_back c.self.inside.pipelines.len c.make.new.pipelines _ (omega arith) in
+    rw (← c.self.view_is) (OnOk-weaker c.make.result (λ all. seeds-alike seed _ (All-same (HashesFrom seed) _ _ lent all)) c.make.ensures.seeded)

@@ -8,6 +8,7 @@ use Rattle.otel_model.specs.State.{State}
 use Rattle.otel_model.proofs.Kept.{kept_at_once}
 use Rattle.otel_model.specs.Lawful.{Balances}
 use Rattle.opentelemetry_sdk.specs.Cores.{state_in}
+use Rattle.opentelemetry_sdk.specs.States.{CoreContents}
 use Rattle.opentelemetry_sdk.proofs.Sound.{sound-balances, sound-step, balances-step}
 use Rattle.opentelemetry_sdk.proofs.Stepped.{memory-result}
 use Rattle.opentelemetry_sdk.proofs.StepLemmas.{meter-made, meter-known, meter-none, meter-unknown, has_scope-flip}
@@ -19,14 +20,14 @@ pub returns-then-self-clause-step : goal.returns-then-self-clause-step
 returns-then-self-clause-step c = rw (← c.self.view_is) (meter-none (state_in c.self.inside) c.args.scope.now c.if-self.true)
 
 pub returns-then-self-clause-balances : goal.returns-then-self-clause-balances
-returns-then-self-clause-balances c = subst Balances c.self.view_is (sound-balances (state_in c.self.inside) c.self.invariant)
+returns-then-self-clause-balances c = subst (λ (k : CoreContents). Balances k.state) c.self.view_is (sound-balances (state_in c.self.inside) c.self.invariant)
 
 -- a known one is found
 pub returns-in-Some-clause-step : goal.returns-in-Some-clause-step
 returns-in-Some-clause-step c = rw (← c.self.view_is) (meter-known (state_in c.self.inside) c.args.scope.now c.in-Some.number c.if-self.false (sym c.get_index_of.ensures.index ∙ c.in-Some.is))
 
 pub returns-in-Some-clause-balances : goal.returns-in-Some-clause-balances
-returns-in-Some-clause-balances c = subst Balances c.self.view_is (sound-balances (state_in c.self.inside) c.self.invariant)
+returns-in-Some-clause-balances c = subst (λ (k : CoreContents). Balances k.state) c.self.view_is (sound-balances (state_in c.self.inside) c.self.invariant)
 
 -- one that is known was found
 pub returns-in_err-copy_scope-clause-known : goal.returns-in_err-copy_scope-clause-known

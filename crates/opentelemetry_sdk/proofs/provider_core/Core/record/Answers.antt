@@ -11,7 +11,7 @@ use Rattle.opentelemetry_sdk.specs.pipeline.Pipelines.{part_of}
 use Rattle.opentelemetry_sdk.proofs.pipeline.Writes.{set-changed}
 use Rattle.opentelemetry_sdk.specs.Cores.{state_in}
 use Rattle.opentelemetry_sdk.specs.Correspondence.{fault_of, number_of}
-use Rattle.opentelemetry_sdk.specs.States.{IsTakenBy, IsFault, IsNamed, IsSound, AreTyped}
+use Rattle.opentelemetry_sdk.specs.States.{CoreContents, IsTakenBy, IsFault, IsNamed, IsSound, AreTyped}
 use Rattle.opentelemetry_sdk.proofs.Sound.{sound-balances, sound-step, balances-step}
 use Rattle.opentelemetry_sdk.proofs.Stepped.{refused-step, memory-result, record-takes}
 use Rattle.opentelemetry_sdk.proofs.StepLemmas.{lent-parts, record-made, get-inside}
@@ -20,16 +20,16 @@ use Rattle.opentelemetry_sdk.proofs.provider_core.Core.record.Goals.{After-accep
 use Rattle.opentelemetry_sdk.proofs.provider_core.Core.record.Goals as goal
 
 pub returns-then-identity-self-clause-balances : goal.returns-then-identity-self-clause-balances
-returns-then-identity-self-clause-balances c = subst Balances c.self.view_is (sound-balances (state_in c.self.inside) c.self.invariant)
+returns-then-identity-self-clause-balances c = subst (λ (k : CoreContents). Balances k.state) c.self.view_is (sound-balances (state_in c.self.inside) c.self.invariant)
 
 pub returns-in-Err-clause-step : goal.returns-in-Err-clause-step
 returns-in-Err-clause-step c =
     let old : State = state_in c.self.inside in
-    λ own views. subst (λ st. Step views st (model.Call.Record c.args.instrument (number_of c.args.value) c.args.attributes.now) (model.Reply.Refused (fault_of c.in-Err.fault)) st) c.self.view_is (refused-step views old old (model.Call.Record c.args.instrument (number_of c.args.value) c.args.attributes.now) c.in-Err.fault (λ e. absurd (subst IsNamed e c.in-Err.ensures.named))
+    λ own views. subst (λ (k : CoreContents). Step views k.state (model.Call.Record c.args.instrument (number_of c.args.value) c.args.attributes.now) (model.Reply.Refused (fault_of c.in-Err.fault)) k.state) c.self.view_is (refused-step views old old (model.Call.Record c.args.instrument (number_of c.args.value) c.args.attributes.now) c.in-Err.fault (λ e. absurd (subst IsNamed e c.in-Err.ensures.named))
     (subst (λ is. IsFault (record_refusal (slice_get is c.args.instrument) (number_of c.args.value).signed) c.in-Err.fault) c.deref.ensures.value c.in-Err.ensures.fault) refl)
 
 pub returns-in-Err-clause-balances : goal.returns-in-Err-clause-balances
-returns-in-Err-clause-balances c = subst Balances c.self.view_is (sound-balances (state_in c.self.inside) c.self.invariant)
+returns-in-Err-clause-balances c = subst (λ (k : CoreContents). Balances k.state) c.self.view_is (sound-balances (state_in c.self.inside) c.self.invariant)
 
 -- the instrument feeds streams of its number type, which is the value's
 pub record_or_none-requires : goal.record_or_none-requires

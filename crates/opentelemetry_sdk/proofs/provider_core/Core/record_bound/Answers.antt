@@ -12,7 +12,7 @@ use Rattle.opentelemetry_sdk.specs.pipeline.Pipelines.{part_of}
 use Rattle.opentelemetry_sdk.proofs.pipeline.Writes.{set-changed}
 use Rattle.opentelemetry_sdk.specs.Cores.{state_in}
 use Rattle.opentelemetry_sdk.specs.Correspondence.{fault_of, number_of}
-use Rattle.opentelemetry_sdk.specs.States.{IsFault, IsNamed, IsTakenBy, AreTyped}
+use Rattle.opentelemetry_sdk.specs.States.{CoreContents, IsFault, IsNamed, IsTakenBy, AreTyped}
 use Rattle.opentelemetry_sdk.proofs.Held.{held-as, held-fed, synchronous-held, update-made}
 use Rattle.opentelemetry_sdk.proofs.Sound.{sound-balances, sound-step, balances-step}
 use Rattle.opentelemetry_sdk.proofs.Stepped.{named-step, refused-step}
@@ -22,7 +22,7 @@ use Rattle.opentelemetry_sdk.proofs.provider_core.Core.record_bound.Goals.{After
 use Rattle.opentelemetry_sdk.proofs.provider_core.Core.record_bound.Goals as goal
 
 pub returns-then-identity-self-clause-balances : goal.returns-then-identity-self-clause-balances
-returns-then-identity-self-clause-balances c = subst Balances c.self.view_is (sound-balances (state_in c.self.inside) c.self.invariant)
+returns-then-identity-self-clause-balances c = subst (λ (k : CoreContents). Balances k.state) c.self.view_is (sound-balances (state_in c.self.inside) c.self.invariant)
 
 -- there is no such handle
 pub returns-in-None-clause-step : goal.returns-in-None-clause-step
@@ -31,19 +31,19 @@ returns-in-None-clause-step c =
     rw (← c.self.view_is) (λ own views. named-step views old old (model.Call.RecordBound c.args.handle.number (number_of c.args.value)) model.Fault.UnknownHandle (ap (λ o. handle_refusal o old.shared.instruments (number_of c.args.value).signed) (held-as c.args.handle.number old.shared.live None c.in-None.ensures)) refl)
 
 pub returns-in-None-clause-balances : goal.returns-in-None-clause-balances
-returns-in-None-clause-balances c = subst Balances c.self.view_is (sound-balances (state_in c.self.inside) c.self.invariant)
+returns-in-None-clause-balances c = subst (λ (k : CoreContents). Balances k.state) c.self.view_is (sound-balances (state_in c.self.inside) c.self.invariant)
 
 -- the value is of the other number type
 pub returns-in-Err-clause-step : goal.returns-in-Err-clause-step
 returns-in-Err-clause-step c =
     let old : State = state_in c.self.inside in
-    λ own views. subst (λ st. Step views st (model.Call.RecordBound c.args.handle.number (number_of c.args.value)) (model.Reply.Refused (fault_of c.in-Err.fault)) st) c.self.view_is (refused-step views old old (model.Call.RecordBound c.args.handle.number (number_of c.args.value)) c.in-Err.fault (λ e. absurd (subst IsNamed e c.in-Err.ensures.named))
+    λ own views. subst (λ (k : CoreContents). Step views k.state (model.Call.RecordBound c.args.handle.number (number_of c.args.value)) (model.Reply.Refused (fault_of c.in-Err.fault)) k.state) c.self.view_is (refused-step views old old (model.Call.RecordBound c.args.handle.number (number_of c.args.value)) c.in-Err.fault (λ e. absurd (subst IsNamed e c.in-Err.ensures.named))
     (subst (λ o. IsFault o c.in-Err.fault)
     (ap (λ is. held_refusal (slice_get is c.in-Some.instrument) (number_of c.args.value).signed) c.deref.ensures.value ∙ ap (λ o. handle_refusal o old.shared.instruments (number_of c.args.value).signed) (sym (held-as c.args.handle.number old.shared.live (Some c.in-Some.instrument) c.in-Some.ensures)))
     c.in-Err.ensures.fault) refl)
 
 pub returns-in-Err-clause-balances : goal.returns-in-Err-clause-balances
-returns-in-Err-clause-balances c = subst Balances c.self.view_is (sound-balances (state_in c.self.inside) c.self.invariant)
+returns-in-Err-clause-balances c = subst (λ (k : CoreContents). Balances k.state) c.self.view_is (sound-balances (state_in c.self.inside) c.self.invariant)
 
 -- the instrument feeds streams of its number type, which is the value's
 pub record_held-requires-clause-typed : goal.record_held-requires-clause-typed

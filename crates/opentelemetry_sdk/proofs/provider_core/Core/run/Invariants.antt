@@ -12,8 +12,9 @@ abbrev pub invariant-loop-call : goal.invariant-loop-call
 invariant-loop-call g l = record {
   many : vec_len l.replies ≡ l.call-index;
   room : length l.calls ≤ vec_capacity l.replies;
-  so_far : Run (map g.V.View.answer l.views) l.initial.self (map call_of (take l.call-index l.calls)) (map reply_of l.replies.items) l.self;
-  known : KnownRun (map g.V.View.answer l.views) l.initial.self (take l.call-index l.calls) l.replies.items l.self;
-  reached : RunReaches g.R.MetricReader.flushes g.R.MetricReader.shuts l.initial.self.shared.shut (map call_of (take l.call-index l.calls)) l.initial.readers (map reply_of l.replies.items) l.readers;
+  so_far : Run (map g.V.View.answer l.views) l.initial.self.state (map call_of (take l.call-index l.calls)) (map reply_of l.replies.items) l.self.state;
+  known : KnownRun (map g.V.View.answer l.views) l.initial.self.state (take l.call-index l.calls) l.replies.items l.self.state;
+  reached : RunReaches g.R.MetricReader.flushes g.R.MetricReader.shuts l.initial.self.state.shared.shut (map call_of (take l.call-index l.calls)) l.initial.readers (map reply_of l.replies.items) l.readers;
+  seeded : l.self.hash_seed ≡ l.initial.self.hash_seed;
   wants : map (wanted_by g.R.MetricReader.preference g.R.MetricReader.limit g.R.MetricReader.aggregation) l.readers ≡ map (wanted_by g.R.MetricReader.preference g.R.MetricReader.limit g.R.MetricReader.aggregation) l.initial.readers;
 }

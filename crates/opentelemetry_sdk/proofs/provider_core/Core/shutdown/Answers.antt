@@ -7,6 +7,7 @@ use Rattle.otel_model.specs.Lawful.{Balances}
 use Rattle.opentelemetry_sdk.specs.Cores.{state_in}
 use Rattle.opentelemetry_sdk.specs.Correspondence.{reply_to}
 use Rattle.opentelemetry_sdk.specs.Readers.{ShutsDown}
+use Rattle.opentelemetry_sdk.specs.States.{CoreContents}
 use Rattle.opentelemetry_sdk.proofs.Reached.{shutdown-step, shutdown-refused, reached-open, reached-closed}
 use Rattle.opentelemetry_sdk.proofs.Sound.{sound-balances, sound-step, balances-step}
 use Rattle.opentelemetry_sdk.proofs.provider_core.Core.shutdown.Goals as goal
@@ -19,7 +20,7 @@ pub returns-then-self-clause-asked : goal.returns-then-self-clause-asked
 returns-then-self-clause-asked g c = rw (← c.self.view_is) (reached-closed (ShutsDown g.R.MetricReader.shuts) c.self.inside.shut c.args.readers.now c.if-self.true)
 
 pub returns-then-self-clause-balances : goal.returns-then-self-clause-balances
-returns-then-self-clause-balances g c = subst Balances c.self.view_is (sound-balances (state_in c.self.inside) c.self.invariant)
+returns-then-self-clause-balances g c = subst (λ (k : CoreContents). Balances k.state) c.self.view_is (sound-balances (state_in c.self.inside) c.self.invariant)
 
 -- it was not
 pub invariant_of-self : goal.invariant_of-self

@@ -9,6 +9,7 @@ use Rattle.otel_model.specs.Lawful.{Balances}
 use Rattle.opentelemetry_sdk.specs.pipeline.Handles.{FeedsSynchronous, IsHeldByFed}
 use Rattle.opentelemetry_sdk.specs.pipeline.Pipelines.{part_of}
 use Rattle.opentelemetry_sdk.specs.Cores.{state_in}
+use Rattle.opentelemetry_sdk.specs.States.{CoreContents}
 use Rattle.opentelemetry_sdk.proofs.Held.{held-as, held-fed, without-removed, synchronous-held, unbind-made}
 use Rattle.opentelemetry_sdk.proofs.Sound.{sound-balances, sound-step, balances-step}
 use Rattle.opentelemetry_sdk.proofs.Stepped.{named-step}
@@ -17,7 +18,7 @@ use Rattle.opentelemetry_sdk.proofs.provider_core.Core.unbind.Goals.{After-take_
 use Rattle.opentelemetry_sdk.proofs.provider_core.Core.unbind.Goals as goal
 
 pub returns-then-identity-self-clause-balances : goal.returns-then-identity-self-clause-balances
-returns-then-identity-self-clause-balances c = subst Balances c.self.view_is (sound-balances (state_in c.self.inside) c.self.invariant)
+returns-then-identity-self-clause-balances c = subst (λ (k : CoreContents). Balances k.state) c.self.view_is (sound-balances (state_in c.self.inside) c.self.invariant)
 
 -- there is no such handle
 pub returns-in-None-clause-step : goal.returns-in-None-clause-step
@@ -26,7 +27,7 @@ returns-in-None-clause-step c =
     rw (← c.self.view_is) (λ own views. named-step views old old (model.Call.Unbind c.args.handle) model.Fault.UnknownHandle (ap unbind_refusal (held-as c.args.handle old.shared.live None c.in-None.ensures)) refl)
 
 pub returns-in-None-clause-balances : goal.returns-in-None-clause-balances
-returns-in-None-clause-balances c = subst Balances c.self.view_is (sound-balances (state_in c.self.inside) c.self.invariant)
+returns-in-None-clause-balances c = subst (λ (k : CoreContents). Balances k.state) c.self.view_is (sound-balances (state_in c.self.inside) c.self.invariant)
 
 -- the instrument feeds no observable stream, and no other stream has the handle
 pub unbind_held-requires-clause-synchronous : goal.unbind_held-requires-clause-synchronous

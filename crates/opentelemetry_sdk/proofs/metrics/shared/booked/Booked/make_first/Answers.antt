@@ -11,7 +11,7 @@ returns-in-Err-clause-fault g c =
     let refused = c.in-Err.ensures.refused in
     let stops = stops_refused _ _ _ _ _ _ c.in-Some.ensures.item.3.0 c.in-Some.ensures.lookup c.in_ok-check_book.ensures.room refused.0 in (
       subst (λ st. StopsBy st (pending_of c.args.worker.now) c.args.self.now.records.total c.in-Err.fault) (sym refused.1)
-          (subst (λ n. StopsBy c.args.self.now.core (pending_of c.args.worker.now) n c.in-Err.fault) (sym c.args.self.now.counted) stops),
+          (subst (λ n. StopsBy c.args.self.now.core.state (pending_of c.args.worker.now) n c.in-Err.fault) (sym c.args.self.now.counted) stops),
       refl,
       refused.1,
       refl,

@@ -15,6 +15,7 @@ loop-preserved g c =
       made = submits-on _ _ _ _ _ _ _ _ _ _ _ _ so_far.count_grew so_far.value_grew so_far.made made.0 made.1;
       records = omega (arith, book.0);
       values = omega (arith, book.1);
+      seeded = cc;
       opened = cc;
       identity = cc;
     }

@@ -7,9 +7,10 @@ abbrev pub invariant-loop : goal.invariant-loop
 invariant-loop g l = record {
   count_grew : records_of l.fn.worker ≤ records_of l.worker;
   value_grew : values_of l.fn.worker ≤ values_of l.worker;
-  made : Submits l.fn.self.core (pending_of l.fn.worker) l.self.core (pending_of l.worker) (records_of l.worker - records_of l.fn.worker) (values_of l.worker - values_of l.fn.worker);
+  made : Submits l.fn.self.core.state (pending_of l.fn.worker) l.self.core.state (pending_of l.worker) (records_of l.worker - records_of l.fn.worker) (values_of l.worker - values_of l.fn.worker);
   records : l.self.records.total + records_of l.fn.worker ≡ l.fn.self.records.total + records_of l.worker;
   values : l.self.values.total + values_of l.fn.worker ≡ l.fn.self.values.total + values_of l.worker;
+  seeded : l.self.core.hash_seed ≡ l.fn.self.core.hash_seed;
   opened : l.self.opened ≡ l.fn.self.opened;
   identity : worker_identity l.worker ≡ worker_identity l.fn.worker;
 }

@@ -10,13 +10,13 @@ pub returns-clause-refused : goal.returns-clause-refused
 returns-clause-refused g c = λ is.
     let lent = lent_back c.args.self.now.readers.len c.call-reply.new.readers _ (omega arith) in
     let refused = c.call-reply.ensures.refused is in
-    (refused.0, ap (λ b. b.core) refused.1, lent ∙ (refused.2 ∙ c.deref_mut.ensures.value))
+    (refused.0, ap (λ b. b.core.state) refused.1, lent ∙ (refused.2 ∙ c.deref_mut.ensures.value))
 
 pub returns-clause-reached : goal.returns-clause-reached
 returns-clause-reached g c = λ other.
     let lent = lent_back c.args.self.now.readers.len c.call-reply.new.readers _ (omega arith) in
-    subst (λ rs. StepReaches g.P.Reader.MetricReader.flushes g.P.Reader.MetricReader.shuts c.args.self.now.booked.core.shared.shut (call_of c.args.call.now) c.args.self.now.readers.items (reply_of c.call-reply.result) rs) (sym lent)
-    (subst (λ rs. StepReaches g.P.Reader.MetricReader.flushes g.P.Reader.MetricReader.shuts c.args.self.now.booked.core.shared.shut (call_of c.args.call.now) rs (reply_of c.call-reply.result) c.call-reply.new.readers) c.deref_mut.ensures.value (c.call-reply.ensures.reached other))
+    subst (λ rs. StepReaches g.P.Reader.MetricReader.flushes g.P.Reader.MetricReader.shuts c.args.self.now.booked.core.state.shared.shut (call_of c.args.call.now) c.args.self.now.readers.items (reply_of c.call-reply.result) rs) (sym lent)
+    (subst (λ rs. StepReaches g.P.Reader.MetricReader.flushes g.P.Reader.MetricReader.shuts c.args.self.now.booked.core.state.shared.shut (call_of c.args.call.now) rs (reply_of c.call-reply.result) c.call-reply.new.readers) c.deref_mut.ensures.value (c.call-reply.ensures.reached other))
 
 pub returns-clause-wants : goal.returns-clause-wants
 returns-clause-wants g c =

@@ -24,7 +24,7 @@ returns-in-Ok-collect-clause-ran g c = λ none.
       Ok c.in-Ok.observations.items,
       subst (λ cs. RanAll (Ran g.P.ObserveU64.ObserveU64.observes g.P.ObserveI64.ObserveI64.observes) c.args.self.now.callbacks.items cs (Ok c.in-Ok.observations.items)) (sym lent)
           (subst (λ cs. RanAll (Ran g.P.ObserveU64.ObserveU64.observes g.P.ObserveI64.ObserveI64.observes) cs c.run_callbacks.new.callbacks (Ok c.in-Ok.observations.items)) c.deref_mut.ensures.value c.in-Ok.ensures),
-      subst (λ os. Step views c.args.self.now.booked.core (model.Call.Collect c.args.reader c.args.now (map observed_of os)) (model.Reply.Collected c.in-Ok-collect.collected) c.collect.new.self.core) c.deref.ensures.value (c.in-Ok-collect.ensures.step views),
+      subst (λ os. Step views c.args.self.now.booked.core.state (model.Call.Collect c.args.reader c.args.now (map observed_of os)) (model.Reply.Collected c.in-Ok-collect.collected) c.collect.new.self.core.state) c.deref.ensures.value (c.in-Ok-collect.ensures.step views),
     )
 
 -- or none
@@ -35,5 +35,5 @@ returns-clause-ran g c = λ none.
       Ok c.in-Ok.observations.items,
       subst (λ cs. RanAll (Ran g.P.ObserveU64.ObserveU64.observes g.P.ObserveI64.ObserveI64.observes) c.args.self.now.callbacks.items cs (Ok c.in-Ok.observations.items)) (sym lent)
           (subst (λ cs. RanAll (Ran g.P.ObserveU64.ObserveU64.observes g.P.ObserveI64.ObserveI64.observes) cs c.run_callbacks.new.callbacks (Ok c.in-Ok.observations.items)) c.deref_mut.ensures.value c.in-Ok.ensures),
-      subst (λ os. Step views c.args.self.now.booked.core (model.Call.Collect c.args.reader c.args.now (map observed_of os)) (model.Reply.Refused (fault_of c.in-Err-collect.fault)) c.collect.new.self.core) c.deref.ensures.value (c.in-Err-collect.ensures.step views),
+      subst (λ os. Step views c.args.self.now.booked.core.state (model.Call.Collect c.args.reader c.args.now (map observed_of os)) (model.Reply.Refused (fault_of c.in-Err-collect.fault)) c.collect.new.self.core.state) c.deref.ensures.value (c.in-Err-collect.ensures.step views),
     )
