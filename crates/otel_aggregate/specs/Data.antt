@@ -6,7 +6,7 @@ use Rattle.otel_data.specs.declared.gauges.Gauge.{Gauge}
 use Rattle.otel_data.specs.declared.histograms.Histogram.{Histogram}
 use Rattle.otel_data.specs.declared.sums.Sum.{Sum}
 use Rattle.otel_model_stream.specs.Data.{sum, gauge, histogram}
-use Rattle.otel_model_stream.specs.Folds.{bounds_of}
+use Rattle.otel_model_stream.specs.Folds.{bounds_of, keeps_sum}
 use Rattle.otel_aggregate.specs.Streams.{AggregateState, points_now}
 
 abbrev pub temporality_of : AggregateState → Temporality
@@ -21,4 +21,4 @@ module _ {T : Type 0} (of_bits : ℕ → T) (of_whole : ℤ → T) where
   gauge_data now a = gauge of_bits of_whole a.start now (points_now a)
 
   abbrev pub histogram_data : ℕ → AggregateState → Histogram T
-  histogram_data now a = histogram of_bits of_whole (temporality_of a) (bounds_of a.aggregate) a.start now (points_now a)
+  histogram_data now a = histogram of_bits of_whole (temporality_of a) (bounds_of a.aggregate) (keeps_sum a.aggregate) a.start now (points_now a)

@@ -478,7 +478,7 @@ impl<A: Shows> AggregateStream<A> {
     /// stream stays unchanged. Shares the sets that it shows, and copies none.
     pub fn points(&self, alloc: Global, now: u64) -> Result<A::Data, Fault>
         ensures kind { (s : A.Settings) × (self.now.state.aggregate ≡ A.aggregate s) }
-        ensures points { IfOk result (λ given. given ≡ A.collection self.now.state.is_monotonic (temporality_of self.now.state) self.now.state.start now (map (A.point self.now.state.aggregate) (points_now self.now.state))) }
+        ensures points { IfOk result (λ given. given ≡ A.collection self.now.state.aggregate self.now.state.is_monotonic (temporality_of self.now.state) self.now.state.start now (map (A.point self.now.state.aggregate) (points_now self.now.state))) }
         ensures only_memory { IsOkUnless result Fault.OutOfMemory }
     {
         let maker = ShownPoints {
@@ -493,7 +493,7 @@ impl<A: Shows> AggregateStream<A> {
     /// nothing changes, and a prepared record stays prepared.
     pub fn collect(&mut self, alloc: Global, now: u64) -> Result<A::Data, Fault>
         ensures kind { (s : A.Settings) × (self.old.state.aggregate ≡ A.aggregate s) }
-        ensures points { IfOk result (λ given. given ≡ A.collection self.old.state.is_monotonic (temporality_of self.old.state) self.old.state.start now (map (A.point self.old.state.aggregate) (points_now self.old.state))) }
+        ensures points { IfOk result (λ given. given ≡ A.collection self.old.state.aggregate self.old.state.is_monotonic (temporality_of self.old.state) self.old.state.start now (map (A.point self.old.state.aggregate) (points_now self.old.state))) }
         ensures ok { OnOk result (self.new.state ≡ stream_after_collection now self.old.state) }
         ensures err { OnErr result (self.new.state ≡ self.old.state) }
         ensures live { self.new.live ≡ self.old.live }

@@ -2,7 +2,7 @@
 
 ghost use Rattle.std.specs.Prelude.{◌≡◌, false};
 ghost use Rattle.std.specs.Option.{option_map};
-ghost use Rattle.otel_model_stream.specs.Folds.{Histogram as HistogramAggregate, bounds_of};
+ghost use Rattle.otel_model_stream.specs.Folds.{Histogram as HistogramAggregate, bounds_of, keeps_sum};
 ghost use Rattle.otel_model_stream.specs.Data.{histogram_point};
 
 use crate::aggregate_stream::AggregateStream;
@@ -67,7 +67,7 @@ impl<T: Number + Drop> Shows for Buckets<T> {
 
     ghost point = { λ aggregate p. histogram_point T.of_bits T.of_wide (bounds_of aggregate) p };
 
-    ghost collection = { λ _ temporality start now points. record { data_points = points; start_time = start; time = now; temporality = temporality } };
+    ghost collection = { λ aggregate _ temporality start now points. record { data_points = points; start_time = start; time = now; temporality = temporality; has_sum = keeps_sum aggregate } };
 
     fn to_point(
         &self,
@@ -89,14 +89,14 @@ impl<T: Number + Drop> Shows for Buckets<T> {
     }
 
     fn into_data(
-        _settings: &HistogramSettings,
+        settings: &HistogramSettings,
         points: Items<HistogramDataPoint<T>>,
         temporality: Temporality,
         start: u64,
         now: u64,
     ) -> HistogramData<T>
-        ensures { result ≡ record { data_points = points; start_time = start; time = now; temporality = temporality } }
+        ensures { result ≡ record { data_points = points; start_time = start; time = now; temporality = temporality; has_sum = settings.now.has_sum } }
     {
-        HistogramData::new(points, start, now, temporality)
+        HistogramData::new(points, start, now, temporality, settings.has_sum)
     }
 }

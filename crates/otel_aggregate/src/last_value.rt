@@ -45,7 +45,7 @@ impl<T: Number + Drop> Shows for Assign<T> {
 
     ghost point = { λ _ p. gauge_point T.of_bits T.of_wide p };
 
-    ghost collection = { λ _ _ start now points. record { data_points = points; start_time = start; time = now } };
+    ghost collection = { λ _ _ _ start now points. record { data_points = points; start_time = start; time = now } };
 
     fn to_point(
         &self,

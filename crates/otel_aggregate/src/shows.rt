@@ -25,7 +25,7 @@ pub trait Shows: Measures {
     ghost point: { Aggregate → Point → Self.Point };
 
     /// The data of points that count from one moment and are collected at another.
-    ghost collection: { Bool → TemporalityValue → ℕ → ℕ → List Self.Point → Self.Data };
+    ghost collection: { Aggregate → Bool → TemporalityValue → ℕ → ℕ → List Self.Point → Self.Data };
 
     /// Makes the point of a set. Shares the set and the settings' lists, and copies nothing but counts.
     fn to_point(
@@ -45,7 +45,7 @@ pub trait Shows: Measures {
         start: u64,
         now: u64,
     ) -> Self::Data
-        ensures { result ≡ collection (Self.is_monotonic settings.now) temporality start now points };
+        ensures { result ≡ collection (Self.aggregate settings.now) (Self.is_monotonic settings.now) temporality start now points };
 }
 
 /// Makes points of aggregators with these settings.

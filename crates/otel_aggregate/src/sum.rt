@@ -46,7 +46,7 @@ impl<T: Number + Drop> Shows for Increment<T> {
 
     ghost point = { λ _ p. sum_point T.of_bits T.of_wide p };
 
-    ghost collection = { λ is_monotonic temporality start now points. record { data_points = points; start_time = start; time = now; temporality = temporality; is_monotonic = is_monotonic } };
+    ghost collection = { λ _ is_monotonic temporality start now points. record { data_points = points; start_time = start; time = now; temporality = temporality; is_monotonic = is_monotonic } };
 
     fn to_point(
         &self,

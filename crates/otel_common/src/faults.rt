@@ -16,7 +16,7 @@ pub type OTelSdkResult = Result<(), Fault>;
 /// A refused call changes nothing, with two exceptions. In a flush or a shutdown in which readers failed, every reader
 /// was asked, and the shutdown has shut the provider down. In a refused collection, the callbacks that ran keep the
 /// changes that they made to themselves.
-#[derive(Clone, Copy, Debug)]
+#[derive(Clone, Copy, Debug, PartialEq)]
 pub enum Fault {
     /// There was no memory for the call.
     OutOfMemory,
@@ -49,7 +49,7 @@ pub enum Fault {
 }
 
 /// What readers failed to do.
-#[derive(Clone, Copy, Debug, thiserror::Error)]
+#[derive(Clone, Copy, Debug, PartialEq, thiserror::Error)]
 pub enum InternalFault {
     /// A collection from a provider that was already shut down.
     #[error("reader is shut down or not registered")]

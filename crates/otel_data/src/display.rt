@@ -25,13 +25,18 @@ fn write_line<W: Write, D: Display>(
 #[derive(Drop)]
 struct Buckets<'a, T> {
     point: &'a HistogramDataPoint<T>,
+    has_sum: bool,
 }
 
 impl<'a, T: Copy + Display> Display for Buckets<'a, T> {
-    /// How many records there are, their sum, and how many fell into each bucket.
+    /// How many records there are, their sum if one is kept, and how many fell into each bucket.
     fn fmt<W: Write>(&self, f: &mut Formatter<W>) -> Result {
         let point = self.point;
-        write!(f, "count {} sum {} buckets", point.count(), point.sum())?;
+        write!(f, "count {}", point.count())?;
+        if self.has_sum {
+            write!(f, " sum {}", point.sum())?;
+        }
+        f.write_str(" buckets")?;
         for count in point.bucket_counts() {
             write!(f, " {count}")?;
         }
@@ -57,8 +62,9 @@ fn write_points<W: Write, T: Copy + Display>(
             }
         }
         MetricData::Histogram(histogram) => {
+            let has_sum = histogram.has_sum();
             for point in histogram.data_points() {
-                write_line(f, name, point.attributes(), &Buckets { point })?;
+                write_line(f, name, point.attributes(), &Buckets { point, has_sum })?;
             }
         }
     }
@@ -66,8 +72,8 @@ fn write_points<W: Write, T: Copy + Display>(
 }
 
 impl Display for Metric {
-    /// A line for each point: the name of the metric, the attributes, and the value, or the count, the sum and the
-    /// buckets of a histogram.
+    /// A line for each point: the name of the metric, the attributes, and the value, or the count, the sum (if one is
+    /// kept) and the buckets of a histogram.
     fn fmt<W: Write>(&self, f: &mut Formatter<W>) -> Result {
         match self.data() {
             AggregatedMetrics::U64(data) => write_points(f, self.name(), data),

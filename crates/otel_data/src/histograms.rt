@@ -23,10 +23,11 @@ pub struct Histogram<T> {
     start_time: u64,
     time: u64,
     temporality: Temporality,
+    has_sum: bool,
 }
 
 impl<T: Clone> Clone for Histogram<T> {
-    ghost is_clone = { λ histogram copy. ⟦<Items<HistogramDataPoint<T>> as Clone>⟧.is_clone histogram.data_points copy.data_points × (copy.start_time ≡ histogram.start_time) × (copy.time ≡ histogram.time) × (copy.temporality ≡ histogram.temporality) };
+    ghost is_clone = { λ histogram copy. ⟦<Items<HistogramDataPoint<T>> as Clone>⟧.is_clone histogram.data_points copy.data_points × (copy.start_time ≡ histogram.start_time) × (copy.time ≡ histogram.time) × (copy.temporality ≡ histogram.temporality) × (copy.has_sum ≡ histogram.has_sum) };
 
     fn clone(&self) -> Result<Histogram<T>, AllocError> {
         Ok(Histogram {
@@ -34,25 +35,29 @@ impl<T: Clone> Clone for Histogram<T> {
             start_time: self.start_time,
             time: self.time,
             temporality: self.temporality,
+            has_sum: self.has_sum,
         })
     }
 }
 
 impl<T> Histogram<T> {
-    /// Makes a histogram of its parts, with its moments in nanoseconds since 1970.
+    /// Makes a histogram of its parts, with its moments in nanoseconds since 1970. `has_sum` tells whether the sums of the
+    /// points are kept.
     pub fn new(
         data_points: Items<HistogramDataPoint<T>>,
         start_time: u64,
         time: u64,
         temporality: Temporality,
+        has_sum: bool,
     ) -> Self
-        ensures { result ≡ record { data_points = data_points; start_time = start_time; time = time; temporality = temporality } }
+        ensures { result ≡ record { data_points = data_points; start_time = start_time; time = time; temporality = temporality; has_sum = has_sum } }
     {
         Histogram {
             data_points,
             start_time,
             time,
             temporality,
+            has_sum,
         }
     }
 
@@ -91,5 +96,14 @@ impl<T> Histogram<T> {
         ensures { result ≡ self.now.temporality }
     {
         self.temporality
+    }
+
+    /// Whether the sums of the points are kept. They are not for instruments whose values can fall or are no amounts:
+    /// up-down counters, observable or not, and observable gauges; there `sum` of each point is 0 and says nothing
+    /// (Metrics SDK, "Histogram Aggregations").
+    pub fn has_sum(&self) -> bool
+        ensures { result ≡ self.now.has_sum }
+    {
+        self.has_sum
     }
 }

@@ -248,8 +248,8 @@ impl<T> HistogramDataPoint<T> {
         self.max
     }
 
-    /// The sum of the values, modulo 2^64; a signed sum wraps around into the range of `i64`. It is 0 for up-down
-    /// counters, observable or not, and for observable gauges.
+    /// The sum of the values, modulo 2^64; a signed sum wraps around into the range of `i64`. It is 0 where no
+    /// sum is kept, as `Histogram::has_sum` tells.
     pub fn sum(&self) -> T
     where
         T: Copy,

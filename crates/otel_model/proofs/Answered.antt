@@ -29,7 +29,7 @@ use Rattle.otel_model.specs.Refusals.{refusal}
 use Rattle.otel_model.specs.Sent.{observed_events}
 use Rattle.otel_model.specs.State.{State, ReaderPart}
 use Rattle.otel_model.specs.Steps.{collect_from, collect_reply, answer_of, reply_by, Run}
-use Rattle.otel_model.specs.Streams.{is_drained, is_delta, kind_of, is_monotonic_kind, has_sum, aggregate_from}
+use Rattle.otel_model.specs.Streams.{is_drained, is_delta, kind_of, has_sum, aggregate_from}
 use Rattle.otel_model.proofs.Runs.{run_agrees, agrees_new, collect_is}
 use Rattle.otel_model.proofs.Shown.{all_shown_law, few_law}
 
@@ -88,22 +88,22 @@ of_metrics P holds views resource identity readers calls replies new run r answe
     )
 
 -- ======== few points ========
-module _ {T : Type 0} (of_bits : ℕ → T) (of_whole : ℤ → T) (t : Temporality) (m : Bool) (start now : ℕ) where
-  as_many : (a : Aggregation) (ps : List Point) → points_in (data_by of_bits of_whole t m a start now ps) ≡ length ps
+module _ {T : Type 0} (of_bits : ℕ → T) (of_whole : ℤ → T) (t : Temporality) (kind : InstrumentKind) (start now : ℕ) where
+  as_many : (a : Aggregation) (ps : List Point) → points_in (data_by of_bits of_whole t kind a start now ps) ≡ length ps
   as_many Aggregation.Drop ps = length-map ps _
   as_many Aggregation.Default ps = length-map ps _
   as_many Aggregation.Sum ps = length-map ps _
   as_many Aggregation.LastValue ps = length-map ps _
   as_many (Aggregation.ExplicitBucketHistogram bounds k) ps = length-map ps _
 
-as_many_of : (signed : Bool) (t : Temporality) (m : Bool) (a : Aggregation) (start now : ℕ) (ps : List Point) → number_of_points (aggregated_metrics signed t m a start now ps) ≡ length ps
-as_many_of false t m a start now ps = as_many (λ n. n) natural_of t m start now a ps
-as_many_of true t m a start now ps = as_many signed_of (λ z. z) t m start now a ps
+as_many_of : (signed : Bool) (t : Temporality) (kind : InstrumentKind) (a : Aggregation) (start now : ℕ) (ps : List Point) → number_of_points (aggregated_metrics signed t kind a start now ps) ≡ length ps
+as_many_of false t kind a start now ps = as_many (λ n. n) natural_of t kind start now a ps
+as_many_of true t kind a start now ps = as_many signed_of (λ z. z) t kind start now a ps
 
 few_metric : (views : Views) (answers : ReaderAnswers) (r : ℕ) (before : List Call) (now : ℕ) (os : List Observed) (d : Demand) → HasFewPoints views answers r before os d (metric_at views answers r before now os d)
 few_metric views answers r before now os d =
     let P : ℕ → Type 0 = λ n. n ≤ d.limit + 2 in
-    subst P (sym (as_many_of d.identity.signed (exported_temporality answers d) (is_monotonic_kind d.identity.kind) d.aggregation (start_of views answers r d before) now (differences answers d (reported_of views answers r d before) (points_with views answers r d before os))))
+    subst P (sym (as_many_of d.identity.signed (exported_temporality answers d) d.identity.kind d.aggregation (start_of views answers r d before) now (differences answers d (reported_of views answers r d before) (points_with views answers r d before os))))
     (few_law views answers r d before (observed_events (feeds_by views answers before) d os))
 
 pub few_answered_law : AreAnsweredFew
@@ -126,7 +126,7 @@ no_sums : {X Y : Type 0} (g : Y → ℕ) (k : X → Y) → ((x : X) → g (k x) 
 no_sums g k none n [] = refl
 no_sums g k none n (x ∷ xs) = ap (λ j. fold (λ a y. a + g y) j (map k xs)) (ap (λ j. n + j) (none x) ∙ plus_zero n) ∙ no_sums g k none n xs
 
-module _ {T : Type 0} (of_bits : ℕ → T) (of_whole : ℤ → T) (bits : T → ℕ) (told : (n : ℕ) → n < 2 ^ 64 → bits (of_bits n) ≡ n) (t : Temporality) (m : Bool) (start now : ℕ) (kind : InstrumentKind) (rs : List (AttributeSet × Amount)) where
+module _ {T : Type 0} (of_bits : ℕ → T) (of_whole : ℤ → T) (bits : T → ℕ) (told : (n : ℕ) → n < 2 ^ 64 → bits (of_bits n) ≡ n) (t : Temporality) (start now : ℕ) (kind : InstrumentKind) (rs : List (AttributeSet × Amount)) where
   -- the points of sets, of what the aggregation keeps
   abbrev points_for : Aggregation → List AttributeSet → List Point
   points_for a xs = map (point (aggregate_from false kind a) rs) xs
@@ -134,7 +134,7 @@ module _ {T : Type 0} (of_bits : ℕ → T) (of_whole : ℤ → T) (bits : T →
   of_sums : (xs : List AttributeSet) → fold (λ a (p : SumDataPoint T). a + bits p.value) 0 (map (sum_point of_bits of_whole) (map (point Aggregate.Sum rs) xs)) ≡ points_total (map (point Aggregate.Sum rs) xs)
   of_sums xs = same_sums (λ (p : SumDataPoint T). bits p.value) (λ (q : Point). weight q.1) (sum_point of_bits of_whole) (point Aggregate.Sum rs) (λ x. told _ (wrapped_fits _)) 0 xs
 
-  total_by : (a : Aggregation) (xs : List AttributeSet) → data_total bits (data_by of_bits of_whole t m a start now (points_for a xs)) ≡ wrap (points_total (points_for a xs))
+  total_by : (a : Aggregation) (xs : List AttributeSet) → data_total bits (data_by of_bits of_whole t kind a start now (points_for a xs)) ≡ wrap (points_total (points_for a xs))
   total_by Aggregation.Drop xs = ap wrap (of_sums xs)
   total_by Aggregation.Default xs = ap wrap (of_sums xs)
   total_by Aggregation.Sum xs = ap wrap (of_sums xs)
@@ -142,10 +142,10 @@ module _ {T : Type 0} (of_bits : ℕ → T) (of_whole : ℤ → T) (bits : T →
   total_by (Aggregation.ExplicitBucketHistogram bounds k) xs = ap wrap
       (same_sums (λ (p : HistogramDataPoint T). p.count) (λ (q : Point). weight q.1) (histogram_point of_bits of_whole bounds) (point (Aggregate.Histogram bounds k (has_sum kind)) rs) (λ x. refl) 0 xs)
 
-total_of : (signed : Bool) (t : Temporality) (m : Bool) (start now : ℕ) (kind : InstrumentKind) (rs : List (AttributeSet × Amount)) (a : Aggregation) (xs : List AttributeSet)
-    → content_total (aggregated_metrics signed t m a start now (map (point (aggregate_from false kind a) rs) xs)) ≡ wrap (points_total (map (point (aggregate_from false kind a) rs) xs))
-total_of false t m start now kind rs a xs = total_by (λ n. n) natural_of (λ n. n) (λ n h. refl) t m start now kind rs a xs
-total_of true t m start now kind rs a xs = total_by signed_of (λ z. z) (cast_unsigned w64) (λ n h. of_z-to_z w64 n h) t m start now kind rs a xs
+total_of : (signed : Bool) (t : Temporality) (start now : ℕ) (kind : InstrumentKind) (rs : List (AttributeSet × Amount)) (a : Aggregation) (xs : List AttributeSet)
+    → content_total (aggregated_metrics signed t kind a start now (map (point (aggregate_from false kind a) rs) xs)) ≡ wrap (points_total (map (point (aggregate_from false kind a) rs) xs))
+total_of false t start now kind rs a xs = total_by (λ n. n) natural_of (λ n. n) (λ n h. refl) t start now kind rs a xs
+total_of true t start now kind rs a xs = total_by signed_of (λ z. z) (cast_unsigned w64) (λ n h. of_z-to_z w64 n h) t start now kind rs a xs
 
 -- what is not drained is not shown as differences
 undiffered : (answers : ReaderAnswers) (d : Demand) (before ps : List Point) → is_drained d ≡ false → differences answers d before ps ≡ ps
@@ -154,7 +154,7 @@ undiffered answers d before ps e = ap (λ b. cond (b && is_delta answers d) (map
 pub window_metric : (views : Views) (answers : ReaderAnswers) (r : ℕ) (before : List Call) (now : ℕ) (os : List Observed) (d : Demand) → ShowsWindow views answers r before os d (metric_at views answers r before now os d)
 window_metric views answers r before now os d e =
     ap (λ ps. content_total (of_points ps)) (undiffered answers d (reported_of views answers r d before) (points_with views answers r d before os) e)
-    ∙ subst Claim (sym e) (total_of d.identity.signed (exported_temporality answers d) (is_monotonic_kind d.identity.kind) (start_of views answers r d before) now d.identity.kind records d.aggregation sets)
+    ∙ subst Claim (sym e) (total_of d.identity.signed (exported_temporality answers d) (start_of views answers r d before) now d.identity.kind records d.aggregation sets)
   where
     w : Window
     w = window_of answers d (history views answers r d before ++ observed_events (feeds_by views answers before) d os)
@@ -166,7 +166,7 @@ window_metric views answers r before now os d e =
     sets = filter (is_hit records) (none_set ∷ []) ++ shown_places (kind_of answers d) d.limit w
 
     of_points : List Point → AggregatedMetrics
-    of_points ps = aggregated_metrics d.identity.signed (exported_temporality answers d) (is_monotonic_kind d.identity.kind) d.aggregation (start_of views answers r d before) now ps
+    of_points ps = aggregated_metrics d.identity.signed (exported_temporality answers d) d.identity.kind d.aggregation (start_of views answers r d before) now ps
 
     Claim : Bool → Type 0
     Claim drained =

@@ -17,13 +17,13 @@ use Rattle.otel_model_stream.specs.Folds.{wrap}
 use Rattle.otel_model_stream.specs.Events.{Point}
 use Rattle.otel_model_stream.specs.Totals.{points_total}
 use Rattle.otel_model.specs.Answered.{data_total, content_total}
-use Rattle.otel_model.specs.Calls.{Observed, Call, Meter, Build, Record, Bind, RecordBound, Unbind, Collect, Flush, Shutdown}
+use Rattle.otel_model.specs.Calls.{InstrumentKind, Observed, Call, Meter, Build, Record, Bind, RecordBound, Unbind, Collect, Flush, Shutdown}
 use Rattle.otel_model.specs.Collections.{natural_of, signed_of, data_by, exported_temporality, aggregated_metrics, points_in, number_of_points, has_points, ScopedMetric, in_scope, has_metrics, collection, differences}
 use Rattle.otel_model.specs.Demands.{Aggregation, Demand, Views, ReaderAnswers, Temporality, Cumulative, Delta, is_drop, is_known}
 use Rattle.otel_model.specs.History.{gather, made_calls, Built, build_in, builds_in, demands_after, demands_of, demands_by, new_demand, firsts, streams_of, is_demanded, concerns, history, window_points, points_with, start_of, reported_of, shown_by, shown_at, shown_points, meters_in, collection_of, made_by, collections_of}
 use Rattle.otel_model.specs.Sent.{has_scope}
 use Rattle.otel_model.specs.State.{Stream, ReaderPart}
-use Rattle.otel_model.specs.Streams.{is_drained, is_delta, is_monotonic_kind}
+use Rattle.otel_model.specs.Streams.{is_drained, is_delta}
 use Rattle.otel_model.specs.Totals.{recorded_in}
 use Rattle.otel_model.proofs.Answered.{metric_at, window_metric}
 use Rattle.otel_model.proofs.Follow.{stream_in, part_of, points_run}
@@ -110,9 +110,9 @@ module _ (h : Heading) where
       ∙ total_each _ _ ms (each_once meters ms a b)))))))
 
 -- ======== the metric of a stream ========
-module _ {T : Type 0} (of_bits : ℕ → T) (of_whole : ℤ → T) (bits : T → ℕ) (m : Bool) (start now : ℕ) (ps : List Point) where
-  data_gives : (b : Bool) (a : Aggregation) → cond (is_delta_data (data_by of_bits of_whole (cond b Delta Cumulative) m a start now ps)) (data_total bits (data_by of_bits of_whole (cond b Delta Cumulative) m a start now ps)) 0
-      ≡ cond b (data_total bits (data_by of_bits of_whole (cond b Delta Cumulative) m a start now ps)) 0
+module _ {T : Type 0} (of_bits : ℕ → T) (of_whole : ℤ → T) (bits : T → ℕ) (kind : InstrumentKind) (start now : ℕ) (ps : List Point) where
+  data_gives : (b : Bool) (a : Aggregation) → cond (is_delta_data (data_by of_bits of_whole (cond b Delta Cumulative) kind a start now ps)) (data_total bits (data_by of_bits of_whole (cond b Delta Cumulative) kind a start now ps)) 0
+      ≡ cond b (data_total bits (data_by of_bits of_whole (cond b Delta Cumulative) kind a start now ps)) 0
   data_gives true Aggregation.Drop = refl
   data_gives true Aggregation.Default = refl
   data_gives true Aggregation.Sum = refl
@@ -124,14 +124,14 @@ module _ {T : Type 0} (of_bits : ℕ → T) (of_whole : ℤ → T) (bits : T →
   data_gives false Aggregation.LastValue = refl
   data_gives false (Aggregation.ExplicitBucketHistogram bounds k) = refl
 
-content_gives : (signed b m : Bool) (a : Aggregation) (start now : ℕ) (ps : List Point) → cond (are_deltas (aggregated_metrics signed (cond b Delta Cumulative) m a start now ps)) (content_total (aggregated_metrics signed (cond b Delta Cumulative) m a start now ps)) 0
-    ≡ cond b (content_total (aggregated_metrics signed (cond b Delta Cumulative) m a start now ps)) 0
-content_gives false b m a start now ps = data_gives (λ n. n) natural_of (λ n. n) m start now ps b a
-content_gives true b m a start now ps = data_gives signed_of (λ z. z) (cast_unsigned w64) m start now ps b a
+content_gives : (signed b : Bool) (kind : InstrumentKind) (a : Aggregation) (start now : ℕ) (ps : List Point) → cond (are_deltas (aggregated_metrics signed (cond b Delta Cumulative) kind a start now ps)) (content_total (aggregated_metrics signed (cond b Delta Cumulative) kind a start now ps)) 0
+    ≡ cond b (content_total (aggregated_metrics signed (cond b Delta Cumulative) kind a start now ps)) 0
+content_gives false b kind a start now ps = data_gives (λ n. n) natural_of (λ n. n) kind start now ps b a
+content_gives true b kind a start now ps = data_gives signed_of (λ z. z) (cast_unsigned w64) kind start now ps b a
 
-content_signed : (signed : Bool) (t : Temporality) (m : Bool) (a : Aggregation) (start now : ℕ) (ps : List Point) → are_signed (aggregated_metrics signed t m a start now ps) ≡ signed
-content_signed false t m a start now ps = refl
-content_signed true t m a start now ps = refl
+content_signed : (signed : Bool) (t : Temporality) (kind : InstrumentKind) (a : Aggregation) (start now : ℕ) (ps : List Point) → are_signed (aggregated_metrics signed t kind a start now ps) ≡ signed
+content_signed false t kind a start now ps = refl
+content_signed true t kind a start now ps = refl
 
 wrapped_if : (b : Bool) (n : ℕ) → wrap (cond b (wrap n) 0) ≡ wrap (cond b n 0)
 wrapped_if true n = mod-mod n (2 ^ 64)
@@ -157,7 +157,7 @@ module _ (views : Views) (resource : Resource) (answers : ReaderAnswers) (r : �
 
   metric_gives : (before : List Call) (now : ℕ) (os : List Observed) (d : Demand) → NotDrained d → given_by (metric_at views answers r before now os d) ≡ cond (is_delta answers d) (wrap (points_total (points_with views answers r d before os))) 0
   metric_gives before now os d u =
-      content_gives d.identity.signed (is_delta answers d) (is_monotonic_kind d.identity.kind) d.aggregation _ now _
+      content_gives d.identity.signed (is_delta answers d) d.identity.kind d.aggregation _ now _
       ∙ ap (λ n. cond (is_delta answers d) n 0) (window_metric views answers r before now os d u)
 
   metrics_give : (before : List Call) (now : ℕ) (os : List Observed) (ds : List Demand) → EachOf NotDrained ds
@@ -170,7 +170,7 @@ module _ (views : Views) (resource : Resource) (answers : ReaderAnswers) (r : �
 
   metric_signed : (before : List Call) (now : ℕ) (os : List Observed) (d : Demand) → are_signed (metric_at views answers r before now os d).content ≡ d.identity.signed
   metric_signed before now os d =
-      content_signed d.identity.signed (exported_temporality answers d) (is_monotonic_kind d.identity.kind) d.aggregation (start_of views answers r d before) now
+      content_signed d.identity.signed (exported_temporality answers d) d.identity.kind d.aggregation (start_of views answers r d before) now
       (differences answers d (reported_of views answers r d before) (points_with views answers r d before os))
 
   same_heading : (before : List Call) (now : ℕ) (os : List Observed) (d : Demand) → counted h d.identity.scope (metric_at views answers r before now os d) ≡ cond (is_headed d) (given_by (metric_at views answers r before now os d)) 0

@@ -13,8 +13,9 @@ use Rattle.otel_data.specs.declared.collections.ScopeMetrics.{ScopeMetrics}
 use Rattle.otel_model_stream.specs.Events.{Point}
 pub use Rattle.otel_model_stream.specs.Observed.{value_before, less, difference}
 pub use Rattle.otel_model_stream.specs.Data.{value_of, spread_of, natural_of, signed_of, gauge_point, sum_point, histogram_point, gauge_of, sum_of, histogram_of}
+use Rattle.otel_model.specs.Calls.{InstrumentKind}
 use Rattle.otel_model.specs.Demands.{Aggregation, ReaderAnswers, Demand}
-use Rattle.otel_model.specs.Streams.{is_drained, is_delta, is_monotonic_kind}
+use Rattle.otel_model.specs.Streams.{is_drained, is_delta, has_sum, is_monotonic_kind}
 
 -- ======== differences ========
 -- whether a stream shows differences: an observed sum in a delta stream shows what was added since the last collection
@@ -28,13 +29,14 @@ differences answers d before ps = cond (shows_differences answers d) (map (diffe
 -- ======== points ========
 -- the points of a metric, with numbers of one type
 module _ {T : Type 0} (of_bits : ℕ → T) (of_whole : ℤ → T) where
-  -- the data in the form of the aggregation. `Drop` and `Default`, which make no stream, count as sums
-  abbrev pub data_by : Temporality → Bool → Aggregation → ℕ → ℕ → List Point → MetricData T
-  data_by temporality is_monotonic Aggregation.Drop start now ps = sum_of of_bits of_whole temporality is_monotonic start now ps
-  data_by temporality is_monotonic Aggregation.Default start now ps = sum_of of_bits of_whole temporality is_monotonic start now ps
-  data_by temporality is_monotonic Aggregation.Sum start now ps = sum_of of_bits of_whole temporality is_monotonic start now ps
-  data_by temporality is_monotonic Aggregation.LastValue start now ps = gauge_of of_bits of_whole start now ps
-  data_by temporality is_monotonic (Aggregation.ExplicitBucketHistogram bounds m) start now ps = histogram_of of_bits of_whole temporality bounds start now ps
+  -- the data of an instrument of this kind in the form of the aggregation. `Drop` and `Default`, which make no stream,
+  -- count as sums
+  abbrev pub data_by : Temporality → InstrumentKind → Aggregation → ℕ → ℕ → List Point → MetricData T
+  data_by temporality kind Aggregation.Drop start now ps = sum_of of_bits of_whole temporality (is_monotonic_kind kind) start now ps
+  data_by temporality kind Aggregation.Default start now ps = sum_of of_bits of_whole temporality (is_monotonic_kind kind) start now ps
+  data_by temporality kind Aggregation.Sum start now ps = sum_of of_bits of_whole temporality (is_monotonic_kind kind) start now ps
+  data_by temporality kind Aggregation.LastValue start now ps = gauge_of of_bits of_whole start now ps
+  data_by temporality kind (Aggregation.ExplicitBucketHistogram bounds m) start now ps = histogram_of of_bits of_whole temporality bounds (has_sum kind) start now ps
 
 -- ======== metrics ========
 -- the aggregation temporality that a collection reports for a stream
@@ -42,13 +44,13 @@ abbrev pub exported_temporality : ReaderAnswers → Demand → Temporality
 exported_temporality answers d = cond (is_delta answers d) Delta Cumulative
 
 -- the points of a stream, with numbers of its type: `i64` if signed, otherwise `u64`
-abbrev pub aggregated_metrics : Bool → Temporality → Bool → Aggregation → ℕ → ℕ → List Point → AggregatedMetrics
-aggregated_metrics false temporality is_monotonic a start now ps = AggregatedMetrics.U64 (data_by (λ n. n) natural_of temporality is_monotonic a start now ps)
-aggregated_metrics true temporality is_monotonic a start now ps = AggregatedMetrics.I64 (data_by signed_of (λ z. z) temporality is_monotonic a start now ps)
+abbrev pub aggregated_metrics : Bool → Temporality → InstrumentKind → Aggregation → ℕ → ℕ → List Point → AggregatedMetrics
+aggregated_metrics false temporality kind a start now ps = AggregatedMetrics.U64 (data_by (λ n. n) natural_of temporality kind a start now ps)
+aggregated_metrics true temporality kind a start now ps = AggregatedMetrics.I64 (data_by signed_of (λ z. z) temporality kind a start now ps)
 
 -- the data of the stream of a demand
 abbrev pub content_of : ReaderAnswers → Demand → ℕ → ℕ → List Point → AggregatedMetrics
-content_of answers d start now ps = aggregated_metrics d.identity.signed (exported_temporality answers d) (is_monotonic_kind d.identity.kind) d.aggregation start now ps
+content_of answers d start now ps = aggregated_metrics d.identity.signed (exported_temporality answers d) d.identity.kind d.aggregation start now ps
 
 -- the metric of a stream: its name as spelled by the demand, the description and unit of its identity, and its points
 -- with their start and time, as differences from the points `before` if the stream shows differences

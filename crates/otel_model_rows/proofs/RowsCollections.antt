@@ -62,7 +62,7 @@ abbrev seven : List Point
 seven = (x1, Total 7) ∷ []
 
 -- `Drop` and `Default` count as sums
-pub data_of_aggregations : map (λ aggregation. data_by (λ n. n) natural_of Delta true aggregation 100 200 seven) (Drop ∷ Default ∷ Sum ∷ LastValue ∷ [])
+pub data_of_aggregations : map (λ aggregation. data_by (λ n. n) natural_of Delta Counter aggregation 100 200 seven) (Drop ∷ Default ∷ Sum ∷ LastValue ∷ [])
     ≡ sums Delta true (value 7 ∷ []) ∷ sums Delta true (value 7 ∷ []) ∷ sums Delta true (value 7 ∷ []) ∷ gauges ∷ []
 data_of_aggregations = refl
 
@@ -73,10 +73,16 @@ abbrev bucket_point : HistogramDataPoint ℕ
 bucket_point = record { attributes = x1; exemplars = []; bounds = pos 5 ∷ []; bucket_counts = 1 ∷ 1 ∷ []; count = 2; min = Some 3; max = Some 7; sum = 10 }
 
 abbrev buckets : MetricData ℕ
-buckets = data_of.Histogram (record { data_points = bucket_point ∷ []; start_time = 100; time = 200; temporality = Delta })
+buckets = data_of.Histogram (record { data_points = bucket_point ∷ []; start_time = 100; time = 200; temporality = Delta; has_sum = true })
 
-pub data_of_histogram : data_by (λ n. n) natural_of Delta true (ExplicitBucketHistogram (pos 5 ∷ []) false) 100 200 ((x1, Spreads spread) ∷ []) ≡ buckets
+pub data_of_histogram : data_by (λ n. n) natural_of Delta Counter (ExplicitBucketHistogram (pos 5 ∷ []) false) 100 200 ((x1, Spreads spread) ∷ []) ≡ buckets
 data_of_histogram = refl
+
+-- which sums rise and which histograms keep a sum follows from the kind
+pub data_of_kind : (data_by (λ n. n) natural_of Delta UpDownCounter Sum 100 200 seven ≡ sums Delta false (value 7 ∷ []))
+    × (data_by (λ n. n) natural_of Delta UpDownCounter (ExplicitBucketHistogram [] false) 100 200 [] ≡ data_of.Histogram (record { data_points = []; start_time = 100; time = 200; temporality = Delta; has_sum = false }))
+    × (data_by (λ n. n) natural_of Delta Gauge (ExplicitBucketHistogram [] false) 100 200 [] ≡ data_of.Histogram (record { data_points = []; start_time = 100; time = 200; temporality = Delta; has_sum = true }))
+data_of_kind = (refl, refl, refl)
 
 pub exported : (exported_temporality delta (demand Counter Sum) ≡ Delta) × (exported_temporality delta (demand UpDownCounter Sum) ≡ Cumulative) × (exported_temporality cumulative (demand Counter Sum) ≡ Cumulative) × (exported_temporality low_memory (demand Gauge LastValue) ≡ Cumulative)
 exported = (refl, refl, refl, refl)
@@ -85,8 +91,8 @@ exported = (refl, refl, refl, refl)
 abbrev greatest : List Point
 greatest = (x1, Total 18446744073709551615) ∷ []
 
-pub of_number_type : (aggregated_metrics false Delta true Sum 100 200 greatest ≡ U64 (sums Delta true (value 18446744073709551615 ∷ [])))
-    × (aggregated_metrics true Delta true Sum 100 200 greatest ≡ I64 (data_of.Sum (record { data_points = record { attributes = x1; exemplars = []; value = negsuc 0 } ∷ []; start_time = 100; time = 200; temporality = Delta; is_monotonic = true })))
+pub of_number_type : (aggregated_metrics false Delta Counter Sum 100 200 greatest ≡ U64 (sums Delta true (value 18446744073709551615 ∷ [])))
+    × (aggregated_metrics true Delta Counter Sum 100 200 greatest ≡ I64 (data_of.Sum (record { data_points = record { attributes = x1; exemplars = []; value = negsuc 0 } ∷ []; start_time = 100; time = 200; temporality = Delta; is_monotonic = true })))
 of_number_type = (refl, refl)
 
 pub contents : (content_of delta (demand Counter Sum) 100 200 seven ≡ U64 (sums Delta true (value 7 ∷ []))) × (content_of delta (demand UpDownCounter Sum) 100 200 seven ≡ U64 (sums Cumulative false (value 7 ∷ [])))
@@ -163,7 +169,7 @@ pub totals_of_data : map (data_total (λ n. n)) (gauges ∷ sums Delta true (val
     ≡ 0 ∷ 7 ∷ 3 ∷ 2 ∷ []
 totals_of_data = refl
 
-pub total_of_counts : data_total (λ n. n) (data_of.Histogram (record { data_points = record bucket_point { count = 18446744073709551615 } ∷ bucket_point ∷ []; start_time = 100; time = 200; temporality = Delta })) ≡ 1
+pub total_of_counts : data_total (λ n. n) (data_of.Histogram (record { data_points = record bucket_point { count = 18446744073709551615 } ∷ bucket_point ∷ []; start_time = 100; time = 200; temporality = Delta; has_sum = true })) ≡ 1
 total_of_counts = refl
 
 -- signed values count by their bits

@@ -6,7 +6,7 @@ use Rattle.otel_data.specs.declared.aggregated.MetricData.TheVariants as data_of
 use Rattle.otel_model_stream.specs.Data.{spread_of, natural_of, signed_of, gauge_point, sum_point, histogram_point, gauge_of, sum_of, histogram_of}
 use Rattle.otel_model_stream.specs.Events.{Event, Bind, RecordBound, Unbind, Collect, Point}
 use Rattle.otel_model_stream.specs.Folds as folds
-use Rattle.otel_model_stream.specs.Folds.{Aggregate, Sum, LastValue, Amount, Sample, Spread, Fold, Total, Last, Spreads, wrap, lesser, greater, counted_in, record_spread, record_fold, no_spread, clear_fold, buckets_of, empty_of, bounds_below, bounds_of, sample_of, counts_from, last_bits, least_of, greatest_of, fold_samples, fold_of}
+use Rattle.otel_model_stream.specs.Folds.{Aggregate, Sum, LastValue, Amount, Sample, Spread, Fold, Total, Last, Spreads, wrap, lesser, greater, counted_in, record_spread, record_fold, no_spread, clear_fold, buckets_of, empty_of, bounds_below, bounds_of, keeps_sum, sample_of, counts_from, last_bits, least_of, greatest_of, fold_samples, fold_of}
 use Rattle.otel_model_stream.specs.Observed.{fold_in, value_before, less, difference}
 use Rattle.otel_model_stream.specs.Totals.{size, has_number, without_number, recorded_from, recorded_total, weight, value_of, points_total}
 use Rattle.otel_model_rows.specs.StreamRows.{x1, y1, z1, amount, add, bounds}
@@ -94,6 +94,9 @@ below = refl
 
 pub bounds_of_each : map bounds_of (Sum ∷ LastValue ∷ plain ∷ []) ≡ [] ∷ [] ∷ five_ten ∷ []
 bounds_of_each = refl
+
+pub sums_kept : map keeps_sum (Sum ∷ LastValue ∷ plain ∷ folds.Histogram [] false true ∷ []) ≡ false ∷ false ∷ false ∷ true ∷ []
+sums_kept = refl
 
 -- the values -3 and 7
 abbrev minus_three : Amount
@@ -230,5 +233,7 @@ gauge_data = refl
 pub sum_data : sum_of (λ n. n) natural_of temporality.Delta true 100 200 ((x1, Total 7) ∷ []) ≡ data_of.Sum (record { data_points = record { attributes = x1; exemplars = []; value = 7 } ∷ []; start_time = 100; time = 200; temporality = temporality.Delta; is_monotonic = true })
 sum_data = refl
 
-pub histogram_data : histogram_of (λ n. n) natural_of temporality.Cumulative five_ten 100 200 [] ≡ data_of.Histogram (record { data_points = []; start_time = 100; time = 200; temporality = temporality.Cumulative })
+pub histogram_data : map (λ has_sum. histogram_of (λ n. n) natural_of temporality.Cumulative five_ten has_sum 100 200 []) (true ∷ false ∷ [])
+    ≡ data_of.Histogram (record { data_points = []; start_time = 100; time = 200; temporality = temporality.Cumulative; has_sum = true })
+    ∷ data_of.Histogram (record { data_points = []; start_time = 100; time = 200; temporality = temporality.Cumulative; has_sum = false }) ∷ []
 histogram_data = refl

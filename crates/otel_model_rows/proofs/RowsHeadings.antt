@@ -59,10 +59,13 @@ module _ {T : Type 0} where
   rising_delta_data start now points = Sum (record { data_points = points; start_time = start; time = now; temporality = Delta; is_monotonic = true })
 
   abbrev histogram_data : ℕ → ℕ → List (HistogramDataPoint T) → MetricData T
-  histogram_data start now points = Histogram (record { data_points = points; start_time = start; time = now; temporality = Cumulative })
+  histogram_data start now points = Histogram (record { data_points = points; start_time = start; time = now; temporality = Cumulative; has_sum = true })
+
+  abbrev histogram_without_sums : ℕ → ℕ → List (HistogramDataPoint T) → MetricData T
+  histogram_without_sums start now points = Histogram (record { data_points = points; start_time = start; time = now; temporality = Cumulative; has_sum = false })
 
   abbrev delta_histogram_data : ℕ → ℕ → List (HistogramDataPoint T) → MetricData T
-  delta_histogram_data start now points = Histogram (record { data_points = points; start_time = start; time = now; temporality = Delta })
+  delta_histogram_data start now points = Histogram (record { data_points = points; start_time = start; time = now; temporality = Delta; has_sum = true })
 
 abbrev metric_of : Text → Text → Text → AggregatedMetrics → Metric
 metric_of name description unit content = record { name = name; description = description; unit = unit; content = content }
@@ -244,12 +247,12 @@ pub view_says : Gives product (if_named (codes "g") renamed ∷ []) cumulative (
 unfolding canon
 view_says = (refl, refl)
 
--- what a view leaves out is the instrument's; a histogram of values that may fall has the sum 0
+-- what a view leaves out is the instrument's; a histogram of values that may fall keeps no sum
 pub view_leaves : Gives product (if_named (codes "ud") (aggregating (ExplicitBucketHistogram zero_ten true)) ∷ []) cumulative (on up_down (Record 0 (i64 18446744073709551613 (negsuc 2)) [] ∷ Record 0 (i64 12 (pos 12)) [] ∷ Collect 0 200 [] ∷ []))
     (record {
       resource = product;
       scope_metrics =
-          record { scope = m; metrics = metric_of (codes "ud") (codes "level") (codes "By") (I64 (histogram_data 100 200 (wide_value zero_ten [] 2 (pos 0) (negsuc 2) (pos 12) (1 ∷ 0 ∷ 1 ∷ []) ∷ []))) ∷ [] }
+          record { scope = m; metrics = metric_of (codes "ud") (codes "level") (codes "By") (I64 (histogram_without_sums 100 200 (wide_value zero_ten [] 2 (pos 0) (negsuc 2) (pos 12) (1 ∷ 0 ∷ 1 ∷ []) ∷ []))) ∷ [] }
           ∷ [];
     }
     ∷ [])

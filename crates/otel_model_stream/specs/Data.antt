@@ -60,8 +60,8 @@ module _ {T : Type 0} (of_bits : ℕ → T) (of_whole : ℤ → T) where
   abbrev pub sum : Temporality → Bool → ℕ → ℕ → List Point → Sum T
   sum temporality is_monotonic start now ps = record { data_points = map sum_point ps; start_time = start; time = now; temporality = temporality; is_monotonic = is_monotonic }
 
-  abbrev pub histogram : Temporality → List ℤ → ℕ → ℕ → List Point → Histogram T
-  histogram temporality bounds start now ps = record { data_points = map (histogram_point bounds) ps; start_time = start; time = now; temporality = temporality }
+  abbrev pub histogram : Temporality → List ℤ → Bool → ℕ → ℕ → List Point → Histogram T
+  histogram temporality bounds has_sum start now ps = record { data_points = map (histogram_point bounds) ps; start_time = start; time = now; temporality = temporality; has_sum = has_sum }
 
   -- the same as `MetricData`
   abbrev pub gauge_of : ℕ → ℕ → List Point → MetricData T
@@ -70,5 +70,5 @@ module _ {T : Type 0} (of_bits : ℕ → T) (of_whole : ℤ → T) where
   abbrev pub sum_of : Temporality → Bool → ℕ → ℕ → List Point → MetricData T
   sum_of temporality is_monotonic start now ps = MetricData.Sum (sum temporality is_monotonic start now ps)
 
-  abbrev pub histogram_of : Temporality → List ℤ → ℕ → ℕ → List Point → MetricData T
-  histogram_of temporality bounds start now ps = MetricData.Histogram (histogram temporality bounds start now ps)
+  abbrev pub histogram_of : Temporality → List ℤ → Bool → ℕ → ℕ → List Point → MetricData T
+  histogram_of temporality bounds has_sum start now ps = MetricData.Histogram (histogram temporality bounds has_sum start now ps)

@@ -1,5 +1,5 @@
 -- What measurements are aggregated to (Metrics SDK, "Aggregation"). All numbers that wrap do so modulo 2^64.
-use Rattle.std.specs.Prelude.{ℕ, zero, suc, ◌+◌, ◌%◌, ◌^◌, nat_eq, ℤ, Bool, cond, List, [], ◌∷◌, replicate, length, map, count_by, sum_by, int_lt, Option, Some, None, ◌≡◌, refl}
+use Rattle.std.specs.Prelude.{ℕ, zero, suc, ◌+◌, ◌%◌, ◌^◌, nat_eq, ℤ, Bool, false, cond, List, [], ◌∷◌, replicate, length, map, count_by, sum_by, int_lt, Option, Some, None, ◌≡◌, refl}
 use Rattle.std.proofs.Common.{ap}
 use Rattle.std.proofs.lemmas.List.{length-replicate}
 use Rattle.std.specs.Int.{int_min, int_max}
@@ -108,6 +108,12 @@ abbrev pub bounds_of : Aggregate → List ℤ
 bounds_of Sum = []
 bounds_of LastValue = []
 bounds_of (Histogram bounds has_min_max has_sum) = bounds
+
+-- whether an aggregate is a histogram that keeps the sum of its values
+abbrev pub keeps_sum : Aggregate → Bool
+keeps_sum Sum = false
+keeps_sum LastValue = false
+keeps_sum (Histogram bounds has_min_max has_sum) = has_sum
 
 -- a value with its bucket in this aggregate
 abbrev pub sample_of : Aggregate → Amount → Sample

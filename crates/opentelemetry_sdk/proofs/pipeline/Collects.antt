@@ -11,7 +11,7 @@ use Rattle.otel_model.specs.Collections.{metric, aggregated_metrics, in_scope, h
 use Rattle.otel_model.specs.Demands.{Identity, ReaderAnswers}
 use Rattle.otel_model.specs.Machine.{part_after_call, points_at, stream_after}
 use Rattle.otel_model.specs.State.{Stream}
-use Rattle.otel_model.specs.Streams.{is_delta, is_monotonic_kind}
+use Rattle.otel_model.specs.Streams.{is_delta}
 use Rattle.opentelemetry_sdk.specs.pipeline.Collections.{scoped_metric, all_scoped, scopes_shown, IsCollectedFrom}
 use Rattle.opentelemetry_sdk.specs.pipeline.Pipelines.{part_by, fates_of, named_identities, is_streamed, model_streams, AreAnswered, all_without_pending, all_after_collection}
 use Rattle.opentelemetry_sdk.specs.pipeline.Streams.{StreamContents, shown_metric, shown_values, without_pending, contents_after_collection}
@@ -25,7 +25,7 @@ module _ (answers : ReaderAnswers) (feeds : List (List Identity)) (now : ℕ) wh
     name = k.stream.demand.spelling;
     description = k.stream.demand.identity.description;
     unit = k.stream.demand.identity.unit;
-    content = aggregated_metrics k.stream.demand.identity.signed (cond delta temporality.Delta temporality.Cumulative) (is_monotonic_kind k.stream.demand.identity.kind) k.stream.demand.aggregation k.stream.start now
+    content = aggregated_metrics k.stream.demand.identity.signed (cond delta temporality.Delta temporality.Cumulative) k.stream.demand.identity.kind k.stream.demand.aggregation k.stream.start now
         (shown_values (record { stream = k.stream; resets = delta; pending = k.pending; room = k.room }));
   }
 

@@ -232,7 +232,7 @@ shown_metric now h = record {
   name = h.stream.demand.spelling;
   description = h.stream.demand.identity.description;
   unit = h.stream.demand.identity.unit;
-  content = aggregated_metrics h.stream.demand.identity.signed (cond h.resets Delta Cumulative) (is_monotonic_kind h.stream.demand.identity.kind) h.stream.demand.aggregation h.stream.start now (shown_values h);
+  content = aggregated_metrics h.stream.demand.identity.signed (cond h.resets Delta Cumulative) h.stream.demand.identity.kind h.stream.demand.aggregation h.stream.start now (shown_values h);
 }
 
 -- the metric, if it has points

@@ -77,7 +77,7 @@ fn histogram(rt: &impl Abort, alloc: Global) -> Histogram<u64> {
         267,
     );
     let points = Items::from(list_of(rt, alloc, [point]));
-    Histogram::new(points, 100, 200, Temporality::Cumulative)
+    Histogram::new(points, 100, 200, Temporality::Cumulative, true)
 }
 
 /// The metric that is given, described by `"all" of` and `them` on two lines.

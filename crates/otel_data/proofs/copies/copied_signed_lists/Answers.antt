@@ -22,4 +22,5 @@ returns-clause-histogram c = λ x y k i. record {
   start_time = k.1 i;
   time = k.2 i;
   temporality = k.3 i;
+  has_sum = k.4 i;
 }

@@ -66,7 +66,7 @@ fn histograms(rt: HostRuntime) {
     let set = set_of(&rt, alloc);
     let point = HistogramDataPoint::new(set, none, bounds, counts, 3, least, greatest, 20);
     let points = vec![in alloc; point].expect(&rt, "a point");
-    let histogram = Histogram::new(Items::from(points), 1, 2, Temporality::Cumulative);
+    let histogram = Histogram::new(Items::from(points), 1, 2, Temporality::Cumulative, true);
     let data = AggregatedMetrics::from(MetricData::from(histogram));
     let line = "point s m histogram cumulative 1 2 a=i:1 3 20 4 9 1,2\n";
     assert_line(&rt, alloc, data, line);
@@ -81,7 +81,7 @@ fn empty_histograms(rt: HostRuntime) {
     let set = set_of(&rt, alloc);
     let point = HistogramDataPoint::new(set, none, bounds, counts, 1, None, None, -5i64);
     let points = vec![in alloc; point].expect(&rt, "a point");
-    let histogram = Histogram::new(Items::from(points), 1, 2, Temporality::Delta);
+    let histogram = Histogram::new(Items::from(points), 1, 2, Temporality::Delta, true);
     let data = AggregatedMetrics::from(MetricData::from(histogram));
     assert_line(
         &rt,

@@ -146,7 +146,7 @@ fn contents(rt: &impl Abort, alloc: Global) -> [AggregatedMetrics; 3] {
     let points = Items::from(list_of(rt, alloc, [gauge_point(rt, alloc, -7)]));
     let gauge = Gauge::new(points, 300, 400);
     let points = Items::from(list_of(rt, alloc, [histogram_point(rt, alloc, 30)]));
-    let histogram = Histogram::new(points, 500, 600, Temporality::LowMemory);
+    let histogram = Histogram::new(points, 500, 600, Temporality::LowMemory, true);
     let parts = (
         sum.data_points().count(),
         sum.start_time(),
@@ -233,7 +233,7 @@ const PARTS: &str = "(true, 2, 1, None, \"\", 3, \"sum\", \"all of them\", \"1\"
     trace_id: Id { bytes: [2, 2, 2, 2, 2, 2, 2, 2, 2, 2, 2, 2, 2, 2, 2, 2] } }] }, \
     bounds: SharedItems { items: [-5, 10] }, bucket_counts: Items { items: [1, 0, 2] }, \
     count: 3, min: Some(2), max: Some(30), sum: 44 }] }, \
-    start_time: 500, time: 600, temporality: LowMemory })) }), \
+    start_time: 500, time: 600, temporality: LowMemory, has_sum: true })) }), \
     None)";
 
 /// Asserts that a collection has its parts: a scope without a name and, in it, three metrics, which are found by their
