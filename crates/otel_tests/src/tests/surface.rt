@@ -1,5 +1,5 @@
-//! Every public path of `opentelemetry_sdk`, and the marks of its types. Nothing here runs: the module builds only if each
-//! path is there and each type has the bounds of the tables in which it stands.
+//! Every public path of `opentelemetry_sdk`, and the marks of its types. Nothing here runs: the module builds only if
+//! each path is there and each type has the bounds of the tables in which it stands.
 
 use std::error::Error;
 use std::fmt::{Debug, Display};
@@ -79,7 +79,7 @@ mod root {
 }
 
 mod common {
-    use super::{Failure, Hashed, Made, Ordered, Printed, Shown, Small};
+    use super::{Compared, Failure, Hashed, Made, Ordered, Printed, Shown, Small};
     use opentelemetry_sdk::common::{
         Array, Fault, InstrumentationScope, InstrumentationScopeBuilder, InternalFault, Items, Key,
         KeyValue, OTelSdkResult, SharedItems, StringValue, Value, canonical, canonical_laws,
@@ -109,9 +109,11 @@ mod common {
         scope_builder: Shown<InstrumentationScopeBuilder>,
         fault: Failure<Fault>,
         copied_fault: Small<Fault>,
+        compared_fault: Compared<Fault>,
         fault_of_memory: Made<Fault, AllocError>,
         internal_fault: Failure<InternalFault>,
         copied_internal_fault: Small<InternalFault>,
+        compared_internal_fault: Compared<InternalFault>,
         outcome: OTelSdkResult,
     }
 }

@@ -159,9 +159,9 @@ fn contents(rt: &impl Abort, alloc: Global) -> [AggregatedMetrics; 3] {
         histogram.data_points().count(),
         histogram.start_time(),
         histogram.time(),
-        histogram.temporality(),
+        (histogram.temporality(), histogram.has_sum()),
     );
-    let text = "(1, 100, 200, Delta, true, 1, Some(300), 400, 1, 500, 600, LowMemory)";
+    let text = "(1, 100, 200, Delta, true, 1, Some(300), 400, 1, 500, 600, (LowMemory, true))";
     assert_shows(rt, alloc, &parts, text);
     [
         MetricData::from(sum).into(),
@@ -186,7 +186,7 @@ fn scope_named(rt: &impl Abort, alloc: Global, name: &str) -> InstrumentationSco
     scope.expect(rt, "memory")
 }
 
-/// A collection of a scope without a name and, in it, three metrics; and of the scope `more` with one metric.
+/// A collection of a scope without a name, with three metrics, and of the scope `more`, with a histogram without sums.
 fn collection(rt: &impl Abort, alloc: Global) -> ResourceMetrics {
     let [sum, gauge, histogram] = contents(rt, alloc);
     let metrics = [
@@ -196,9 +196,9 @@ fn collection(rt: &impl Abort, alloc: Global) -> ResourceMetrics {
     ];
     let metrics = Items::from(list_of(rt, alloc, metrics));
     let scope = ScopeMetrics::new(InstrumentationScope::default(alloc), metrics);
-    let points = Items::from(list_of(rt, alloc, [sum_point(rt, alloc, 8)]));
-    let more = MetricData::from(Sum::new(points, 700, 800, Temporality::Cumulative, false));
-    let more = metric(rt, alloc, "sum", more.into());
+    let points = Items::from(list_of(rt, alloc, [histogram_point(rt, alloc, 30)]));
+    let more = Histogram::new(points, 700, 800, Temporality::Cumulative, false);
+    let more = metric(rt, alloc, "more", MetricData::from(more).into());
     let more = ScopeMetrics::new(
         scope_named(rt, alloc, "more"),
         Items::from(list_of(rt, alloc, [more])),
@@ -207,9 +207,9 @@ fn collection(rt: &impl Abort, alloc: Global) -> ResourceMetrics {
     ResourceMetrics::new(Resource::builder_empty(alloc).build(), scopes)
 }
 
-/// The parts of the collection: no attributes, two scopes, one metric in the second, no other, no name, three metrics, the parts of the first, the
-/// others as they are found, and no other.
-const PARTS: &str = "(true, 2, 1, None, \"\", 3, \"sum\", \"all of them\", \"1\", \
+/// The parts of the collection: no attributes, two scopes, one metric in the second, no other, no name, three metrics,
+/// the parts of the first, the others as they are found, and no other.
+const PARTS: &str = "(true, (2, 1), None, \"\", 3, \"sum\", \"all of them\", \"1\", \
     U64(Sum(Sum { data_points: Items { items: [SumDataPoint { attributes: SharedItems { items: [KeyValue { \
     key: Key { name: StringValue { text: \"key\" } }, value: String(StringValue { text: \"value\" }) }] }, \
     exemplars: Items { items: [Exemplar { filtered_attributes: Items { items: [] }, time: 50, value: 7, \
@@ -244,8 +244,7 @@ fn assert_collection(rt: &impl Abort, alloc: Global, all: &ResourceMetrics) {
     let sum = scope.metric("sum").expect(rt, "the sum");
     let parts = (
         all.resource().is_empty(),
-        all.scope_metrics().count(),
-        more.metrics().count(),
+        (all.scope_metrics().count(), more.metrics().count()),
         all.scope("other"),
         scope.scope().name(),
         scope.metrics().count(),
@@ -260,7 +259,7 @@ fn assert_collection(rt: &impl Abort, alloc: Global, all: &ResourceMetrics) {
     assert_shows(rt, alloc, &parts, PARTS);
     assert_prints(rt, alloc, sum, "sum key=value: 7\n");
     assert_prints(rt, alloc, scope, FIRST);
-    assert_prints(rt, alloc, more, "sum key=value: 8\n");
+    assert_prints(rt, alloc, more, "more key=value: count 3 buckets 1 0 2\n");
 }
 
 /// What the first scope prints.
@@ -280,7 +279,7 @@ fn collections(rt: HostRuntime) {
     let lines = "sum key=value: 7\n\
                  gauge key=value: -7\n\
                  histogram key=value: count 3 sum 44 buckets 1 0 2\n\
-                 sum key=value: 8\n";
+                 more key=value: count 3 buckets 1 0 2\n";
     assert_prints(rt, alloc, &all, lines);
 }
 

@@ -76,7 +76,7 @@ fn row_2(rt: HostRuntime) {
         script,
         "resource None attributes=0\n\
          scope app None None attributes=0\n\
-         metric h description= unit= u64 points=1 \
+         metric h description= unit= u64 points=1 sums=true \
          bounds=[0, 5, 10, 25, 50, 75, 100, 250, 500, 750, 1000, 2500, 5000, 7500, 10000]\n\
          resource None attributes=0\n",
     );

@@ -191,7 +191,7 @@ fn row_48(rt: HostRuntime) {
          metric h description= unit= u64 points=1\n\
          resource None attributes=0\n\
          scope m None None attributes=0\n\
-         metric h description= unit= u64 points=1 bounds=[5]\n",
+         metric h description= unit= u64 points=1 sums=true bounds=[5]\n",
     );
 }
 
@@ -231,7 +231,7 @@ fn row_49(rt: HostRuntime) {
          metric h description= unit= u64 points=1\n\
          resource None attributes=0\n\
          scope m None None attributes=0\n\
-         metric h description= unit= u64 points=1 bounds=[10]\n",
+         metric h description= unit= u64 points=1 sums=true bounds=[10]\n",
     );
 }
 
