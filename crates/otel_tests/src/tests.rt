@@ -5,3 +5,4 @@ mod prometheus;
 mod run;
 mod scripts;
 mod stream;
+mod surface;

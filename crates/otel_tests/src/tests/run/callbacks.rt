@@ -75,9 +75,8 @@ fn in_turn(alloc: Global, values: [u64; 3]) -> Result<Box<dyn ObserveU64>, Fault
     )?)
 }
 
-/// A callback that answers this fault first.
-fn failing(alloc: Global, fault: Fault) -> Result<Box<dyn ObserveI64>, Fault> {
-    let fault = Some(fault);
+/// A callback that answers this fault first, if there is one.
+fn failing(alloc: Global, fault: Option<Fault>) -> Result<Box<dyn ObserveI64>, Fault> {
     Ok(Box::new(alloc, FailsFirst { alloc, fault })?)
 }
 
@@ -110,18 +109,31 @@ fn middle(
     meter: Meter,
     fault: Fault,
 ) -> Result<AsyncInstrumentBuilder<ObservableUpDownCounterKind, i64, Boxed>, Fault> {
-    let callback = failing(alloc, fault)?;
+    let callback = failing(alloc, Some(fault))?;
     meter
         .i64_observable_up_down_counter(String::from_str(alloc, "middle")?)
         .with_callback(callback)
 }
 
-/// The builder of the observable gauge `heat`, whose callback answers a fault first.
+/// The builder of the observable gauge `load`, whose callback observes these values in turn.
+fn load(
+    alloc: Global,
+    meter: Meter,
+    values: [u64; 3],
+) -> Result<AsyncInstrumentBuilder<ObservableGaugeKind, u64, Boxed>, Fault> {
+    let callback = in_turn(alloc, values)?;
+    meter
+        .u64_observable_gauge(String::from_str(alloc, "load")?)
+        .with_callback(callback)
+}
+
+/// The builder of the observable gauge `heat`, whose callback answers this fault first, if there is one.
 fn heat(
     alloc: Global,
     meter: Meter,
+    fault: Option<Fault>,
 ) -> Result<AsyncInstrumentBuilder<ObservableGaugeKind, i64, Boxed>, Fault> {
-    let callback = failing(alloc, Fault::WrongKind)?;
+    let callback = failing(alloc, fault)?;
     meter
         .i64_observable_gauge(String::from_str(alloc, "heat")?)
         .with_callback(callback)
@@ -151,8 +163,11 @@ pub trait Observing: Metered {
     /// Makes the observable up-down counter `middle`, whose callback answers this fault first, at 110.
     fn make_middle(&mut self, alloc: Global, meter: Meter, fault: Fault) -> Result<(), Fault>;
 
-    /// Makes the observable gauge `heat`, whose callback answers a fault first, at 100.
-    fn make_heat(&mut self, alloc: Global, meter: Meter) -> Result<(), Fault>;
+    /// Makes the observable gauge `load`, whose callback observes these values in turn, at 100.
+    fn make_load(&mut self, alloc: Global, meter: Meter, values: [u64; 3]) -> Result<(), Fault>;
+
+    /// Makes the observable gauge `heat`, whose callback answers this fault first, if there is one, at 110.
+    fn make_heat(&mut self, alloc: Global, meter: Meter, fault: Option<Fault>) -> Result<(), Fault>;
 }
 
 impl Observing for SdkMeterProvider {
@@ -170,8 +185,17 @@ impl Observing for SdkMeterProvider {
         make(self, middle(alloc, meter, fault), 110)
     }
 
-    fn make_heat(&mut self, alloc: Global, meter: Meter) -> Result<(), Fault> {
-        make(self, heat(alloc, meter), 100)
+    fn make_load(&mut self, alloc: Global, meter: Meter, values: [u64; 3]) -> Result<(), Fault> {
+        make(self, load(alloc, meter, values), 100)
+    }
+
+    fn make_heat(
+        &mut self,
+        alloc: Global,
+        meter: Meter,
+        fault: Option<Fault>,
+    ) -> Result<(), Fault> {
+        make(self, heat(alloc, meter, fault), 110)
     }
 }
 
@@ -244,12 +268,45 @@ pub fn assert_in_order<M: Observing>(rt: &impl Abort, alloc: Global, provider: &
     let load = provider.make_counted(alloc, meter, texts, callbacks);
     load.expect(rt, "a counter");
     assert_collected(rt, alloc, provider, 0, 200, LOAD);
-    let heat = provider.make_heat(alloc, meter);
+    let heat = provider.make_heat(alloc, meter, Some(Fault::WrongKind));
     heat.expect(rt, "a gauge");
     assert_collected(rt, alloc, provider, 6, 200, "refused 5\n");
     let shut = provider.request(&Request::Shutdown);
     shut.expect(rt, "a shutdown");
     assert_collected(rt, alloc, provider, 0, 300, "refused 9\n");
+}
+
+/// What is collected from a gauge of each number type.
+const GAUGES: &str = "resource -\n\
+     scope app - -\n\
+     metric load ()  u64 gauge 100 200 exemplars=0\n\
+     load k=1: 7\n\
+     metric heat ()  i64 gauge 110 200 exemplars=0\n\
+     heat k=1: -5\n";
+
+/// What is collected from them later.
+const GAUGES_LATER: &str = "resource -\n\
+     scope app - -\n\
+     metric load ()  u64 gauge 200 300 exemplars=0\n\
+     load k=1: 3\n\
+     metric heat ()  i64 gauge 200 300 exemplars=0\n\
+     heat k=1: -5\n";
+
+/// Asserts what is collected from a gauge of each number type.
+pub fn assert_gauges<M: Observing>(rt: &impl Abort, alloc: Global, provider: &mut M) {
+    let meter = provider.meter_named("app").expect(rt, "a meter");
+    let load = provider.make_load(alloc, meter, [7, 3, 9]);
+    load.expect(rt, "a gauge");
+    let heat = provider.make_heat(alloc, meter, None);
+    heat.expect(rt, "a gauge");
+    assert_collected(rt, alloc, provider, 0, 200, GAUGES);
+    assert_collected(rt, alloc, provider, 0, 300, GAUGES_LATER);
+}
+
+/// Observable gauges of both number types show what was observed last, since the previous collection.
+#[test]
+fn observable_gauges(rt: HostRuntime) {
+    assert_of_provider(&rt, rt.alloc(), None, &Case::Gauges);
 }
 
 /// Of two delta readers one drops observable counters; the callback runs in each collection, of either.

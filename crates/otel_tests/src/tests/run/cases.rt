@@ -1,6 +1,8 @@
 //! What tests do with a provider that has a reader of each sort.
 
-use super::callbacks::{Observing, assert_dropped, assert_in_order, assert_second_fails};
+use super::callbacks::{
+    Observing, assert_dropped, assert_gauges, assert_in_order, assert_second_fails,
+};
 use super::numbers::assert_numbers;
 use super::seeds::assert_replies;
 use super::shutdowns::assert_shut_down;
@@ -24,6 +26,7 @@ pub enum Case {
     Refused,
     WithoutMemory,
     InOrder,
+    Gauges,
 }
 
 /// Asserts what a case says.
@@ -42,6 +45,7 @@ fn assert_case<M: Observing>(rt: &impl Abort, alloc: Global, provider: &mut M, c
             assert_second_fails(rt, alloc, provider, Fault::OutOfMemory, "refused 1\n");
         }
         Case::InOrder => assert_in_order(rt, alloc, provider),
+        Case::Gauges => assert_gauges(rt, alloc, provider),
     }
 }
 

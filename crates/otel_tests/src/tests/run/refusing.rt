@@ -4,7 +4,7 @@ ghost use Rattle.std.specs.Prelude.{Some};
 
 use super::metered::{Metered, Request, answer};
 use super::readers::OwnReader;
-use super::seeds::call;
+use super::seeds::{call, write_replies};
 use super::shown::assert_collected;
 use super::support::{assert_text, build_faults, fault_of, manual, string, with_manual};
 use opentelemetry_sdk::common::Fault;
@@ -12,7 +12,7 @@ use opentelemetry_sdk::metrics::SdkMeterProvider;
 use opentelemetry_sdk::metrics::Temporality::Cumulative;
 use opentelemetry_sdk::metrics::callback::NoCallback;
 use opentelemetry_sdk::metrics::instrument::{Instrument, SelectorView, Stream};
-use opentelemetry_sdk::metrics::provider::{MeterProviderBuilder, Parts, Provider};
+use opentelemetry_sdk::metrics::provider::{Call, MeterProviderBuilder, Parts, Provider};
 use opentelemetry_sdk::metrics::view::View;
 use std::alloc::Global;
 use std::process::Abort;
@@ -90,6 +90,22 @@ pub fn assert_of_failing(
     let mut text = String::new(alloc);
     let mut provider = failing(rt, alloc, fails);
     write_answers(rt, &mut text, &mut provider, requests);
+    write_asked(rt, &mut text, provider.readers());
+    assert_text(rt, text.as_str(), wanted);
+}
+
+/// Asserts what one run of calls is answered, and how often each reader was asked, at such a provider.
+pub fn assert_run_of_failing(
+    rt: &impl Abort,
+    alloc: Global,
+    fails: &[bool],
+    calls: &[Call],
+    wanted: &str,
+) {
+    let mut text = String::new(alloc);
+    let mut provider = failing(rt, alloc, fails);
+    let replies = provider.run(alloc, calls).expect(rt, "replies");
+    write_replies(rt, &mut text, replies.as_slice());
     write_asked(rt, &mut text, provider.readers());
     assert_text(rt, text.as_str(), wanted);
 }

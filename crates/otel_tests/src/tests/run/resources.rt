@@ -2,7 +2,7 @@
 
 use super::shown::{write_collection, write_resource};
 use super::support::{assert_text, attributes, string};
-use opentelemetry_sdk::common::{StringValue, Value};
+use opentelemetry_sdk::common::{Key, StringValue, Value};
 use opentelemetry_sdk::metrics::ManualReader;
 use opentelemetry_sdk::metrics::callback::NoCallback;
 use opentelemetry_sdk::metrics::provider::{Plain, Provider};
@@ -152,6 +152,26 @@ fn service(rt: &impl Abort, alloc: Global) -> Provider<Plain<NoCallback, NoCallb
         .expect(rt, "a provider")
 }
 
+/// What is found at the key `service.name`, and at one that isn't there.
+const FOUND: &str = "Ok(Some(String(StringValue { text: \"test_service\" }))) \
+     Some(String(StringValue { text: \"test_service\" })) Ok(None) None 1";
+
+/// Asserts what is found in the resource of a service.
+fn assert_found(rt: &impl Abort, alloc: Global, service: &Resource) {
+    let name = Key::new(alloc, "service.name").expect(rt, "memory");
+    let other = Key::new(alloc, "service").expect(rt, "memory");
+    let text = format!(in alloc;
+        "{:?} {:?} {:?} {:?} {}",
+        service.get(&name),
+        service.get_ref(&name),
+        service.get(&other),
+        service.get_ref(&other),
+        service.len()
+    );
+    assert_text(rt, text.expect(rt, "memory").as_str(), FOUND);
+}
+
+/// The name of a service is found in the resource of each collection.
 #[test]
 fn test_meter_provider_resource(rt: HostRuntime) {
     let mut provider = service(&rt, rt.alloc());
@@ -160,4 +180,5 @@ fn test_meter_provider_resource(rt: HostRuntime) {
     write_collection(&rt, &mut text, &collected);
     let wanted = "resource service.name=test_service -\n";
     assert_text(&rt, text.as_str(), wanted);
+    assert_found(&rt, rt.alloc(), collected.resource());
 }

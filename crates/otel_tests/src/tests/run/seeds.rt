@@ -78,7 +78,7 @@ const REPLIES: &str = "Meter(Some(0))\n\
      requests d=1: 8\n";
 
 /// Writes replies as text.
-fn write_replies(rt: &impl Abort, text: &mut String, replies: &[Reply]) {
+pub fn write_replies(rt: &impl Abort, text: &mut String, replies: &[Reply]) {
     for reply in replies {
         match reply {
             Reply::Collected(collected) => write_collection(rt, text, collected),

@@ -1,4 +1,4 @@
-//! A provider that threads share: with threads, with one worker and no thread, and what threads may be handed.
+//! A provider that threads share: with threads, and with one worker and no thread.
 
 use super::support::{fault_of, with_manual};
 use opentelemetry_sdk::metrics::ManualReader;
@@ -14,7 +14,6 @@ use std::thread::Threads;
 mod alone;
 mod cases;
 mod counted;
-mod crossing;
 mod handed;
 mod limits;
 mod parts;
@@ -74,7 +73,7 @@ fn watched_while_two_record(rt: HostRuntime) -> Result<(), Fail> {
 fn row_29(rt: HostRuntime) -> Result<(), Fail> {
     let words = "open 1 unknown 1 submit count take submit count";
     let wanted =
-        "refused 3, 2 wait, 1 submitted, taken 9, accepted 2, 0 wait, 2 submitted, refused 14, 2 and 0";
+        "refused 3, 2 wait, 1 submitted, taken 9 U64(1) k=1, accepted 2, 0 wait, 2 submitted, refused 14, 2 and 0";
     assert_case(&rt, rt.alloc(), Case::Alone(words), wanted)
 }
 
@@ -85,8 +84,8 @@ fn row_30(rt: HostRuntime) -> Result<(), Fail> {
     assert_case(&rt, rt.alloc(), Case::Alone("call open open"), wanted)
 }
 
-/// A worker that submits nothing, before and after a record; one that is dropped before another is opened; and one that
-/// comes back with a record of 7 in its list.
+/// A worker that submits nothing, before and after a record; one that is dropped before another is opened; one that comes
+/// back with a record of 7 in its list; and one with a record through a handle that isn't there.
 #[test]
 fn workers_without_threads(rt: HostRuntime) -> Result<(), Fail> {
     let alloc = rt.alloc();
@@ -109,6 +108,12 @@ fn workers_without_threads(rt: HostRuntime) -> Result<(), Fail> {
         alloc,
         waiting,
         "accepted 1, 1 wait, 1 submitted, refused 14, 5 and 0",
+    )?;
+    assert_case(
+        &rt,
+        alloc,
+        Case::Alone("open bound submit take count"),
+        "refused 4, taken through 9 U64(1), 0 wait, 0 submitted, refused 14, 0 and 0",
     )
 }
 

@@ -1,22 +1,22 @@
 //! Worked rows that no script can say.
 
-use super::metered::Request;
-use super::refusing::assert_of_failing;
+use super::refusing::assert_run_of_failing;
 use super::resources::{Way, assert_made};
 use super::support::assert_text;
 use super::texts::{Setting, assert_each};
 use opentelemetry_sdk::metrics::instrument::{Stream, StreamFault};
+use opentelemetry_sdk::metrics::provider::Call;
 use std::alloc::Global;
 use std::process::Abort;
 
 /// With three readers, of which two fail, the provider is shut down all the same.
 #[test]
 fn row_26(rt: HostRuntime) {
-    let requests = &[Request::Shutdown, Request::Shutdown];
-    let wanted = "Err(InternalFailure(Readers { failed: 2, first: 1 }))\n\
-         Err(AlreadyShutdown)\n\
+    let calls = &[Call::Shutdown, Call::Shutdown];
+    let wanted = "Refused(InternalFailure(Readers { failed: 2, first: 1 }))\n\
+         Refused(AlreadyShutdown)\n\
          | 0 1 | 0 1 | 0 1 ";
-    assert_of_failing(&rt, rt.alloc(), &[false, true, true], requests, wanted);
+    assert_run_of_failing(&rt, rt.alloc(), &[false, true, true], calls, wanted);
 }
 
 const EMPTY: &str = "Invalid instrument configuration: name must be non-empty";

@@ -1,5 +1,5 @@
-//! What a script collects but doesn't print: scopes, and of each metric the number type, the description, the unit and the
-//! bounds.
+//! What a script collects but doesn't print: scopes, and of each metric the number type, the description, the unit,
+//! whether sums are kept, and the bounds.
 
 use super::assert_text;
 use metrics_script::script::replies_to;
@@ -17,11 +17,13 @@ fn points_of<T>(data: &MetricData<T>) -> usize {
     }
 }
 
-/// Writes the number type, how many points there are, and the bounds of each point of a histogram.
+/// Writes the number type, how many points there are, and of a histogram whether it keeps sums, and the bounds of each
+/// point.
 fn write_data<T>(text: &mut String, number: &str, data: &MetricData<T>) -> Result<(), AllocError> {
     let points = points_of(data);
     write!(text, " {number} points={points}")?;
     if let MetricData::Histogram(histogram) = data {
+        write!(text, " sums={}", histogram.has_sum())?;
         for point in histogram.data_points() {
             write!(text, " bounds={:?}", point.bounds().as_slice())?;
         }

@@ -148,9 +148,54 @@ fn kinds(rt: HostRuntime) {
     assert_each_prints(&rt, rt.alloc(), KINDS);
 }
 
-/// What is collected of each sort besides its points.
+/// A histogram of each sort, by a view or as the reader wants it.
+const AS_HISTOGRAMS: &str = "reader cumulative agg:gauge=hist:0 agg:observablecounter=hist:0 \
+                             agg:observableupdowncounter=hist:0 agg:observablegauge=hist:0\n\
+                             view hits agg=hist:0\n\
+                             view open agg=hist:0\n\
+                             view size agg=hist:0\n\
+                             view full agg=plain:0\n\
+                             go\n\
+                             meter app\n\
+                             build 0 u64_counter hits 100\n\
+                             build 0 i64_up_down_counter open 100\n\
+                             build 0 u64_gauge load 100\n\
+                             build 0 i64_gauge heat 100\n\
+                             build 0 u64_histogram size 100\n\
+                             build 0 u64_observable_counter seen 100\n\
+                             build 0 i64_observable_up_down_counter held 100\n\
+                             build 0 u64_observable_gauge full 100\n\
+                             build 0 i64_observable_gauge cold 100\n\
+                             record 0 u:1 -\n\
+                             record 1 i:2 -\n\
+                             record 2 u:3 -\n\
+                             record 3 i:-4 -\n\
+                             record 4 u:5 -\n\
+                             observe 5 u:6 -\n\
+                             observe 6 i:-7 -\n\
+                             observe 7 u:8 -\n\
+                             observe 8 i:-9 -\n\
+                             collect 0 200\n";
+
+/// What is collected of each sort besides its points. Up-down counters and observable gauges keep no sums as histograms.
 #[test]
 fn collected(rt: HostRuntime) {
+    assert_collects(
+        &rt,
+        rt.alloc(),
+        AS_HISTOGRAMS,
+        "resource None attributes=0\n\
+         scope app None None attributes=0\n\
+         metric hits description= unit= u64 points=1 sums=true bounds=[0]\n\
+         metric open description= unit= i64 points=1 sums=false bounds=[0]\n\
+         metric load description= unit= u64 points=1 sums=true bounds=[0]\n\
+         metric heat description= unit= i64 points=1 sums=true bounds=[0]\n\
+         metric size description= unit= u64 points=1 sums=true bounds=[0]\n\
+         metric seen description= unit= u64 points=1 sums=true bounds=[0]\n\
+         metric held description= unit= i64 points=1 sums=false bounds=[0]\n\
+         metric full description= unit= u64 points=1 sums=false bounds=[0]\n\
+         metric cold description= unit= i64 points=1 sums=false bounds=[0]\n",
+    );
     assert_collects(
         &rt,
         rt.alloc(),
@@ -161,25 +206,25 @@ fn collected(rt: HostRuntime) {
          metric open description= unit=1 i64 points=1\n\
          metric load description= unit=% u64 points=1\n\
          metric heat description= unit=K i64 points=1\n\
-         metric size description= unit=By u64 points=1 bounds=[-1, 5]\n\
+         metric size description= unit=By u64 points=1 sums=true bounds=[-1, 5]\n\
          resource None attributes=0\n\
          scope app None None attributes=0\n\
          metric hits description= unit= u64 points=1\n\
          metric open description= unit=1 i64 points=1\n\
          metric load description= unit=% u64 points=1\n\
          metric heat description= unit=K i64 points=1\n\
-         metric size description= unit=By u64 points=1 bounds=[-1, 5]\n\
+         metric size description= unit=By u64 points=1 sums=true bounds=[-1, 5]\n\
          resource None attributes=0\n\
          scope app None None attributes=0\n\
          metric hits description= unit= u64 points=1\n\
          metric open description= unit=1 i64 points=1\n\
          metric load description= unit=% u64 points=1\n\
          metric heat description= unit=K i64 points=1\n\
-         metric size description= unit=By u64 points=1 bounds=[-1, 5]\n\
+         metric size description= unit=By u64 points=1 sums=true bounds=[-1, 5]\n\
          resource None attributes=0\n\
          scope app None None attributes=0\n\
          metric open description= unit=1 i64 points=1\n\
          metric heat description= unit=K i64 points=1\n\
-         metric size description= unit=By u64 points=1 bounds=[-1, 5]\n",
+         metric size description= unit=By u64 points=1 sums=true bounds=[-1, 5]\n",
     );
 }

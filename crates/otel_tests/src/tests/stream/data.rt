@@ -1,6 +1,6 @@
 //! Tests each getter, copy and comparison once.
 
-use super::{are_distinct, assert_prints, assert_shows, list_of, string_value};
+use super::{are_distinct, assert_prints, assert_shows, list_of, string, string_value};
 use otel_common::attributes::KeyValue;
 use otel_common::lists::{Items, SharedItems};
 use otel_common::metrics::Temporality;
@@ -159,9 +159,9 @@ fn contents(rt: &impl Abort, alloc: Global) -> [AggregatedMetrics; 3] {
         histogram.data_points().count(),
         histogram.start_time(),
         histogram.time(),
-        histogram.temporality(),
+        (histogram.temporality(), histogram.has_sum()),
     );
-    let text = "(1, 100, 200, Delta, true, 1, Some(300), 400, 1, 500, 600, LowMemory)";
+    let text = "(1, 100, 200, Delta, true, 1, Some(300), 400, 1, 500, 600, (LowMemory, true))";
     assert_shows(rt, alloc, &parts, text);
     [
         MetricData::from(sum).into(),
@@ -180,7 +180,13 @@ fn metric(rt: &impl Abort, alloc: Global, name: &str, data: AggregatedMetrics) -
     )
 }
 
-/// A collection of a scope without a name and, in it, three metrics.
+/// A scope of this name.
+fn scope_named(rt: &impl Abort, alloc: Global, name: &str) -> InstrumentationScope {
+    let scope = InstrumentationScope::builder(alloc, string(rt, alloc, name)).build();
+    scope.expect(rt, "memory")
+}
+
+/// A collection of a scope without a name, with three metrics, and of the scope `more`, with a histogram without sums.
 fn collection(rt: &impl Abort, alloc: Global) -> ResourceMetrics {
     let [sum, gauge, histogram] = contents(rt, alloc);
     let metrics = [
@@ -190,13 +196,20 @@ fn collection(rt: &impl Abort, alloc: Global) -> ResourceMetrics {
     ];
     let metrics = Items::from(list_of(rt, alloc, metrics));
     let scope = ScopeMetrics::new(InstrumentationScope::default(alloc), metrics);
-    let scopes = Items::from(list_of(rt, alloc, [scope]));
+    let points = Items::from(list_of(rt, alloc, [histogram_point(rt, alloc, 30)]));
+    let more = Histogram::new(points, 700, 800, Temporality::Cumulative, false);
+    let more = metric(rt, alloc, "more", MetricData::from(more).into());
+    let more = ScopeMetrics::new(
+        scope_named(rt, alloc, "more"),
+        Items::from(list_of(rt, alloc, [more])),
+    );
+    let scopes = Items::from(list_of(rt, alloc, [scope, more]));
     ResourceMetrics::new(Resource::builder_empty(alloc).build(), scopes)
 }
 
-/// The parts of the collection: no attributes, one scope, no other, no name, three metrics, the parts of the first, the
-/// others as they are found, and no other.
-const PARTS: &str = "(true, 1, None, \"\", 3, \"sum\", \"all of them\", \"1\", \
+/// The parts of the collection: no attributes, two scopes, one metric in the second, no other, no name, three metrics,
+/// the parts of the first, the others as they are found, and no other.
+const PARTS: &str = "(true, (2, 1), None, \"\", 3, \"sum\", \"all of them\", \"1\", \
     U64(Sum(Sum { data_points: Items { items: [SumDataPoint { attributes: SharedItems { items: [KeyValue { \
     key: Key { name: StringValue { text: \"key\" } }, value: String(StringValue { text: \"value\" }) }] }, \
     exemplars: Items { items: [Exemplar { filtered_attributes: Items { items: [] }, time: 50, value: 7, \
@@ -227,10 +240,11 @@ const PARTS: &str = "(true, 1, None, \"\", 3, \"sum\", \"all of them\", \"1\", \
 /// names.
 fn assert_collection(rt: &impl Abort, alloc: Global, all: &ResourceMetrics) {
     let scope = all.scope("").expect(rt, "the scope");
+    let more = all.scope("more").expect(rt, "the second scope");
     let sum = scope.metric("sum").expect(rt, "the sum");
     let parts = (
         all.resource().is_empty(),
-        all.scope_metrics().count(),
+        (all.scope_metrics().count(), more.metrics().count()),
         all.scope("other"),
         scope.scope().name(),
         scope.metrics().count(),
@@ -243,9 +257,17 @@ fn assert_collection(rt: &impl Abort, alloc: Global, all: &ResourceMetrics) {
         scope.metric("other"),
     );
     assert_shows(rt, alloc, &parts, PARTS);
+    assert_prints(rt, alloc, sum, "sum key=value: 7\n");
+    assert_prints(rt, alloc, scope, FIRST);
+    assert_prints(rt, alloc, more, "more key=value: count 3 buckets 1 0 2\n");
 }
 
-/// A collection and its copy have the same parts, and print a line for each point.
+/// What the first scope prints.
+const FIRST: &str = "sum key=value: 7\n\
+     gauge key=value: -7\n\
+     histogram key=value: count 3 sum 44 buckets 1 0 2\n";
+
+/// A collection and its copy have the same parts, and print a line for each point of each scope.
 #[test]
 fn collections(rt: HostRuntime) {
     let rt = &rt;
@@ -254,8 +276,10 @@ fn collections(rt: HostRuntime) {
     let all = collection(rt, alloc);
     assert_collection(rt, alloc, &all);
     assert_collection(rt, alloc, &all.clone().expect(rt, "memory"));
-    let lines = "sum key=value: 7\ngauge key=value: -7\n\
-                 histogram key=value: count 3 sum 44 buckets 1 0 2\n";
+    let lines = "sum key=value: 7\n\
+                 gauge key=value: -7\n\
+                 histogram key=value: count 3 sum 44 buckets 1 0 2\n\
+                 more key=value: count 3 buckets 1 0 2\n";
     assert_prints(rt, alloc, &all, lines);
 }
 

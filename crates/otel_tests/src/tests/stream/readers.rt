@@ -292,4 +292,6 @@ fn kinds_are_equal_to_themselves(rt: HostRuntime) {
     let kind = InstrumentKind::ObservableCounter;
     let copy = kind.clone().expect(&rt, "a copy");
     assert!(rt; are_distinct(&[kind, copy, InstrumentKind::Counter]));
+    let preferred = kind.temporality_preference(Temporality::LowMemory);
+    assert!(rt; preferred == Temporality::Cumulative);
 }

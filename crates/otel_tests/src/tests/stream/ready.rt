@@ -1,6 +1,6 @@
 //! What saves programs a line: attributes, observations, moments and seeds ready to use, and how they print.
 
-use super::{assert_prints, assert_shows, list_of};
+use super::{assert_prints, assert_shows, list_of, string_value};
 use otel_common::attributes::{Array, KeyValue, Value};
 use otel_common::keys::Key;
 use otel_common::lists::Items;
@@ -9,6 +9,32 @@ use otel_stream::observation::Observation;
 use std::io;
 use std::random::RandomSource;
 use std::time::{Clock, Duration};
+
+/// Keys, values of each kind and attributes print as they are; arrays between brackets.
+#[test]
+fn keys_values_and_arrays(rt: HostRuntime) {
+    let rt = &rt;
+    let alloc = rt.alloc();
+    let text = string_value(rt, alloc, "a b");
+    let key = Key::new(alloc, "k").expect(rt, "memory");
+    let flags = Array::Bool(Items::from(list_of(rt, alloc, [true, false])));
+    let texts = [
+        text.clone().expect(rt, "memory"),
+        string_value(rt, alloc, "c"),
+    ];
+    let texts = Array::String(Items::from(list_of(rt, alloc, texts)));
+    let numbers = Array::I64(Items::from(list_of(rt, alloc, [7, -8, 9])));
+    let none = Array::Bool(Items::from(Vec::new(alloc)));
+    let arrays = format_args!("{text} {key} {flags} {texts} {numbers} {none}");
+    assert_prints(rt, alloc, &arrays, "a b k [true,false] [a b,c] [7,-8,9] []");
+    let flag = Value::Bool(false);
+    let number = Value::I64(-7);
+    let text = Value::String(text);
+    let texts = Value::Array(texts);
+    let flags = KeyValue::new(key, Value::Array(flags));
+    let values = format_args!("{flag} {number} {text} {texts} {flags}");
+    assert_prints(rt, alloc, &values, "false -7 a b [a b,c] k=[true,false]");
+}
 
 /// Attributes of each kind print their keys and their values. Observations have their values and their attributes.
 #[test]

@@ -40,9 +40,26 @@ const ERRORS: &[(MetricError, &str)] = &[
     ),
 ];
 
+const INTERNAL: &[(InternalFault, &str)] = &[
+    (
+        InternalFault::ReaderShutDown,
+        "reader is shut down or not registered",
+    ),
+    (
+        InternalFault::Readers {
+            failed: 3,
+            first: 0,
+        },
+        "3 readers failed, the first is 0",
+    ),
+];
+
 #[test]
 fn faults_and_errors(rt: HostRuntime) {
     let alloc = rt.alloc();
+    for (fault, text) in INTERNAL {
+        assert_prints(&rt, alloc, fault, text);
+    }
     for (fault, text) in FAULTS {
         let number = fault.number();
         assert_prints(&rt, alloc, &format_args!("{number} {fault}"), text);

@@ -218,6 +218,7 @@ fn row_31(rt: HostRuntime) {
         keys => 0
         count => 0
         knows b=1 a=2 => false
+        knows a=2 b=1 => false
     ";
     assert_script(&rt, rt.alloc(), script);
 }

@@ -3,6 +3,7 @@
 use super::counted::{add, fault_of_call, open_worker};
 use opentelemetry_sdk::metrics::provider::{Call, Parts};
 use opentelemetry_sdk::metrics::shared::{Account, Locked, Worker};
+use otel_common::attributes::KeyValue;
 use otel_common::faults::Fault;
 use otel_common::lists::Items;
 use otel_data::numbers::NumberValue;
@@ -21,14 +22,31 @@ fn submit<P: Parts, C: Account, S: Account>(
     Ok(())
 }
 
-/// Takes the first record out of a worker's list, and writes the number of its instrument.
+/// Writes a record: its instrument, its value and its attributes, or its handle and its value.
+fn write_record(call: &Call, text: &mut String) -> Result<(), Fault> {
+    match call {
+        Call::Record {
+            instrument,
+            value,
+            attributes,
+        } => {
+            write!(text, "{instrument} {value:?}")?;
+            for attribute in attributes.as_slice() {
+                write!(text, " {attribute}")?;
+            }
+        }
+        Call::RecordBound { handle, value } => write!(text, "through {handle} {value:?}")?,
+        _ => text.push_str("no record")?,
+    }
+    Ok(())
+}
+
+/// Takes the first record out of a worker's list, and writes it.
 fn take<C: Account, S: Account>(worker: &mut Worker<C, S>, text: &mut String) -> Result<(), Fault> {
-    let taken = match &worker.take_first() {
-        Some(Call::Record { instrument, .. }) => Some(*instrument),
-        _ => None,
-    };
-    if let Some(instrument) = taken {
-        write!(text, "taken {instrument}, ")?;
+    if let Some(call) = worker.take_first() {
+        text.push_str("taken ")?;
+        write_record(&call, text)?;
+        text.push_str(", ")?;
     }
     Ok(())
 }
@@ -68,7 +86,11 @@ fn work<P: Parts, C: Account, S: Account>(
             write!(text, "{pending} wait, {submitted} submitted, ")?;
             Ok(())
         }
-        "unknown" => add(alloc, worker, 9, 1),
+        "unknown" => {
+            let attributes = vec![in alloc; KeyValue::int(alloc, "k", 1)?]?;
+            worker.add(9, NumberValue::U64(1), attributes)
+        }
+        "bound" => worker.add_bound(9, NumberValue::U64(1)),
         value => add(alloc, worker, 0, value.parse::<u64>().unwrap_or(0)),
     }
 }

@@ -160,16 +160,16 @@ fn row_13(rt: HostRuntime) {
         "reader cumulative\n\
          go\n\
          meter app\n\
-         build 0 i64_up_down_counter u 1\n\
+         build 0 i64_up_down_counter u 100\n\
          record 0 i:9223372036854775807 -\n\
          record 0 i:1 -\n\
-         collect 0 2\n",
+         collect 0 200\n",
         "meter 0\n\
          instrument 0\n\
          ok\n\
          ok\n\
          collected 1\n\
-         point app u sum cumulative plain 1 2 - -9223372036854775808\n",
+         point app u sum cumulative plain 100 200 - -9223372036854775808\n",
     );
 }
 
@@ -296,26 +296,26 @@ fn row_19(rt: HostRuntime) {
         "reader lowmemory\n\
          go\n\
          meter app\n\
-         build 0 u64_counter c 1\n\
+         build 0 u64_counter c 100\n\
+         build 0 i64_up_down_counter u 100\n\
          record 0 u:1 -\n\
-         collect 0 2\n\
-         collect 0 3\n\
-         build 0 i64_up_down_counter u 4\n\
+         collect 0 200\n\
+         collect 0 300\n\
          record 1 i:1 -\n\
-         collect 0 5\n\
-         collect 0 6\n",
+         collect 0 400\n\
+         collect 0 500\n",
         "meter 0\n\
          instrument 0\n\
-         ok\n\
-         collected 1\n\
-         point app c sum delta monotonic 1 2 - 1\n\
-         collected 0\n\
          instrument 1\n\
          ok\n\
          collected 1\n\
-         point app u sum cumulative plain 4 5 - 1\n\
+         point app c sum delta monotonic 100 200 - 1\n\
+         collected 0\n\
+         ok\n\
          collected 1\n\
-         point app u sum cumulative plain 4 6 - 1\n",
+         point app u sum cumulative plain 100 400 - 1\n\
+         collected 1\n\
+         point app u sum cumulative plain 100 500 - 1\n",
     );
 }
 

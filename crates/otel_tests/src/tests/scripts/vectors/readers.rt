@@ -18,7 +18,7 @@ fn row_42(rt: HostRuntime) {
          record 0 u:1 x=i:1\n\
          record 0 u:2 y=i:1\n\
          collect 0 200\n\
-         collect 1 200\n",
+         collect 1 300\n",
         "meter 0\n\
          instrument 0\n\
          ok\n\
@@ -27,8 +27,8 @@ fn row_42(rt: HostRuntime) {
          point m c sum delta monotonic 100 200 x=i:1 1\n\
          point m c sum delta monotonic 100 200 otel.metric.overflow=b:true 2\n\
          collected 2\n\
-         point m c sum delta monotonic 100 200 x=i:1 1\n\
-         point m c sum delta monotonic 100 200 y=i:1 2\n",
+         point m c sum delta monotonic 100 300 x=i:1 1\n\
+         point m c sum delta monotonic 100 300 y=i:1 2\n",
     );
 }
 
@@ -119,13 +119,13 @@ fn row_46(rt: HostRuntime) {
          build 0 u64_counter c 100\n\
          record 0 u:5 -\n\
          collect 0 200\n\
-         collect 1 200\n",
+         collect 1 300\n",
         "meter 0\n\
          instrument 0\n\
          ok\n\
          collected 0\n\
          collected 1\n\
-         point m c sum cumulative monotonic 100 200 - 5\n",
+         point m c sum cumulative monotonic 100 300 - 5\n",
     );
 }
 
@@ -144,7 +144,7 @@ fn row_47(rt: HostRuntime) {
          record 0 u:10 -\n\
          record 0 u:11 -\n\
          collect 0 200\n\
-         collect 1 200\n",
+         collect 1 300\n",
         "meter 0\n\
          instrument 0\n\
          ok\n\
@@ -152,7 +152,7 @@ fn row_47(rt: HostRuntime) {
          collected 1\n\
          point m h sum cumulative monotonic 100 200 - 21\n\
          collected 1\n\
-         point m h histogram cumulative 100 200 - 2 21 none none 1,1\n",
+         point m h histogram cumulative 100 300 - 2 21 none none 1,1\n",
     );
 }
 
@@ -167,7 +167,7 @@ fn row_48(rt: HostRuntime) {
                   record 0 u:10 -\n\
                   record 0 u:11 -\n\
                   collect 0 200\n\
-                  collect 1 200\n";
+                  collect 1 300\n";
     assert_prints(
         &rt,
         rt.alloc(),
@@ -180,7 +180,7 @@ fn row_48(rt: HostRuntime) {
          collected 1\n\
          point m h sum cumulative monotonic 100 200 - 21\n\
          collected 1\n\
-         point m h histogram cumulative 100 200 - 2 21 none none 0,2\n",
+         point m h histogram cumulative 100 300 - 2 21 none none 0,2\n",
     );
     assert_collects(
         &rt,
@@ -191,7 +191,7 @@ fn row_48(rt: HostRuntime) {
          metric h description= unit= u64 points=1\n\
          resource None attributes=0\n\
          scope m None None attributes=0\n\
-         metric h description= unit= u64 points=1 bounds=[5]\n",
+         metric h description= unit= u64 points=1 sums=true bounds=[5]\n",
     );
 }
 
@@ -207,7 +207,7 @@ fn row_49(rt: HostRuntime) {
                   record 0 u:10 -\n\
                   record 0 u:11 -\n\
                   collect 0 200\n\
-                  collect 1 200\n";
+                  collect 1 300\n";
     assert_prints(
         &rt,
         rt.alloc(),
@@ -220,7 +220,7 @@ fn row_49(rt: HostRuntime) {
          collected 1\n\
          point m h sum cumulative monotonic 100 200 - 21\n\
          collected 1\n\
-         point m h histogram cumulative 100 200 - 2 21 none none 1,1\n",
+         point m h histogram cumulative 100 300 - 2 21 none none 1,1\n",
     );
     assert_collects(
         &rt,
@@ -231,7 +231,7 @@ fn row_49(rt: HostRuntime) {
          metric h description= unit= u64 points=1\n\
          resource None attributes=0\n\
          scope m None None attributes=0\n\
-         metric h description= unit= u64 points=1 bounds=[10]\n",
+         metric h description= unit= u64 points=1 sums=true bounds=[10]\n",
     );
 }
 
