@@ -1,7 +1,8 @@
 //! What a `build` line may add about its instrument.
 
-ghost use Rattle.std.specs.Prelude.{◌≡◌, None, Some, map, OkIff, IfOk, OnOk, IsOkUnless};
+ghost use Rattle.std.specs.Prelude.{◌≡◌, None, Some, map, OkIff, IfOk, IfErr, OnOk, IsOkUnless};
 ghost use Rattle.metrics_script.specs.Options.{AddsWord, ReadsOptions};
+ghost use Rattle.metrics_script.specs.declared.options.Options as declared;
 
 use crate::boundaries::boundaries_of;
 use crate::refusals::Refusal;
@@ -21,6 +22,7 @@ pub struct Options {
 /// Reads the options of a `build` line, each of which may be given at most once.
 pub fn options_of(alloc: Global, words: &[&str]) -> Result<Options, Refusal>
     ensures options { IfOk result (ReadsOptions (map (λ word. word.now) words.now)) }
+    ensures meaningless { IfErr result (λ refusal. refusal ≡ Refusal.BadCommand → (options : declared.Options) → ¬ ReadsOptions (map (λ word. word.now) words.now) options) }
 {
     let mut options = Options {
         description: None,
@@ -37,6 +39,7 @@ impl Options {
     /// Takes in another word.
     fn add_word(&mut self, alloc: Global, word: &str) -> Result<(), Refusal>
         ensures added { OnOk result (AddsWord word.now self.old self.new) }
+        ensures meaningless { IfErr result (λ refusal. refusal ≡ Refusal.BadCommand → (options : declared.Options) → ¬ AddsWord word.now self.old options) }
     {
         let Some((name, value)) = word.split_once('=') else {
             return Err(Refusal::BadCommand);
