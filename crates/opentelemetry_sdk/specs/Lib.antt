@@ -1,5 +1,6 @@
--- What a provider, its parts, its calls, a shared provider and its workers are, and words of the crates below, for the
--- contracts of programs.
+-- What a provider, its parts, its calls, a shared provider and its workers are, for the contracts of programs. The words
+-- of the crates below are passed on: those that programs use most by short paths, all of them by the crate's name and
+-- their path in it, as `otel_stream.Settings` and `otel_common.declared.metrics.Temporality`.
 pub mod Callbacks
 pub mod Checks
 pub mod Cores
@@ -28,3 +29,11 @@ pub use Rattle.otel_model.specs.State
 pub use Rattle.otel_model.specs.Steps
 pub use Rattle.otel_model.specs.Books
 pub use Rattle.otel_model.specs.Lawful
+pub use Rattle.otel_common.specs as otel_common
+pub use Rattle.otel_data.specs as otel_data
+pub use Rattle.otel_stream.specs as otel_stream
+pub use Rattle.otel_model_stream.specs as otel_model_stream
+pub use Rattle.otel_model.specs as otel_model
+pub use Rattle.otel_aggregate.specs as otel_aggregate
+pub use Rattle.otel_prometheus.specs as otel_prometheus
+pub use Rattle.otel_otlp.specs as otel_otlp

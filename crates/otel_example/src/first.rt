@@ -1,33 +1,15 @@
 //! A counter, a histogram with a handle, and an observable gauge of a service.
 
-ghost use Rattle.std.specs.Prelude.{◌≡◌, ◌∷◌, [], map, IfOk};
-
 use crate::calls::{counter, print_collection};
 use crate::parts::provider_with;
 use anyhow::Error;
 use opentelemetry_sdk::common::{Fault, KeyValue};
-use opentelemetry_sdk::metrics::callback::{Observation, ObserveU64};
 use opentelemetry_sdk::metrics::meter::{Bound, Histogram, ObservableGauge};
 use opentelemetry_sdk::metrics::provider::{Parts, Provider};
 use std::alloc::Global;
 
-/// Observes how many requests wait.
-#[derive(Drop)]
-pub struct Waiting {
-    pub alloc: Global,
-    pub requests: u64,
-}
-
-impl ObserveU64 for Waiting {
-    ghost observes = { λ before after left answer. (after ≡ before) × IfOk answer (λ _. map (λ o. o.value) left ≡ before.requests ∷ []) };
-
-    fn observe(&mut self, out: &mut Vec<Observation<u64>>) -> Result<(), Fault> {
-        Ok(out.push(Observation::new(self.alloc, self.requests))?)
-    }
-}
-
 /// Has each collection observe how many requests wait.
-fn watch_queue<P: Parts>(
+pub fn watch_queue<P: Parts>(
     alloc: Global,
     provider: &mut Provider<P>,
     waiting: P::ObserveU64,

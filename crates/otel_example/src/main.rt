@@ -6,6 +6,9 @@ mod calls;
 mod counted;
 mod first;
 mod hello;
+mod listed;
+mod own;
+mod owned;
 mod parts;
 mod service;
 mod shop;
@@ -17,12 +20,15 @@ use anyhow::Error;
 use balances::count_any;
 use calls::{counter, print_collection};
 use counted::count_batch;
-use first::{Waiting, first_program};
+use first::first_program;
 use hello::hello;
+use listed::with_list;
 use opentelemetry_sdk::metrics::callback::ObserveU64;
 use opentelemetry_sdk::metrics::provider::{Boxed, Parts, Provider};
 use opentelemetry_sdk::metrics::reader::MetricReader;
 use opentelemetry_sdk::metrics::{ManualReader, Temporality};
+use own::Waiting;
+use owned::with_own;
 use parts::{OnlyManual, provider_with};
 use service::with_service;
 use shop::Shop;
@@ -87,6 +93,8 @@ fn main(rt: HostRuntime) -> Result<(), Error> {
     without_boxes(&rt, rt.alloc())?;
     with_views(&rt, rt.alloc())?;
     in_batches::<OnlyManual>(&rt, rt.alloc(), ManualReader::default())?;
+    with_list::<OnlyManual>(&rt, rt.alloc(), ManualReader::default())?;
+    with_own(&rt, rt.alloc())?;
     in_threads::<OnlyManual, HostRuntime>(&rt, rt.alloc(), ManualReader::default())?;
     with_service(&rt, rt.alloc())
 }

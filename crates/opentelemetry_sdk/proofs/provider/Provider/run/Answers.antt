@@ -79,7 +79,7 @@ pub returns-clause-few : goal.returns-clause-few
 returns-clause-few g c = IfOk-weaker c.run-replies.result _ _ (λ replies is. of_answers (OfEachMetric HasFewPoints) few_answered_law (views_of g.P.View.View.answer c.args.self.now) c.args.self.now.core.state c.run-replies.new.self.state c.args.calls.now replies.items is) (as-run g (goal.at.returns-clause-few g c).After-run-replies)
 
 pub returns-clause-known : goal.returns-clause-known
-returns-clause-known g c = subst (λ vs. IfOk c.run-replies.result (λ (replies : Vec Reply). EachKnownHasMemory (map g.P.View.View.answer vs) c.args.self.now.core c.args.calls.now replies.items)) c.deref.ensures.value c.run-replies.ensures.known
+returns-clause-known g c = subst (λ vs. IfOk c.run-replies.result (λ (replies : Vec Reply). EachKnownHasMemory (map g.P.View.View.answer vs) c.args.self.now.core.state c.args.calls.now replies.items)) c.deref.ensures.value c.run-replies.ensures.known
 
 pub returns-clause-readers : goal.returns-clause-readers
 returns-clause-readers g c = kept_run (views_of g.P.View.View.answer c.args.self.now) c.run-replies.result (map call_of c.args.calls.now) (λ (replies : Vec Reply). map reply_of replies.items) c.args.self.now.core.state c.run-replies.new.self.state (as-run g (goal.at.returns-clause-readers g c).After-run-replies) c.run-replies.ensures.unmade
