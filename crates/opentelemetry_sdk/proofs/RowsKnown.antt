@@ -10,12 +10,15 @@ use Rattle.otel_data.specs.declared.numbers.NumberValue.TheVariants as number
 use Rattle.otel_model.specs.Calls as model
 use Rattle.otel_model.specs.Calls.{Meter, Build, Record, Bind, RecordBound, Unbind, Collect, Flush, Shutdown, Counter, ObservableCounter}
 use Rattle.otel_model.specs.Demands.{Identity, own_demand}
-use Rattle.otel_model.specs.State.{ReaderPart, Stream}
+use Rattle.otel_model.specs.State.{ReaderPart, State, Stream}
+use Rattle.otel_model.specs.Steps.{after}
 use Rattle.otel_stream.specs.Runs.{concat_lists}
 use Rattle.opentelemetry_sdk.specs.Checks.{has_stream, collect_refusal}
-use Rattle.opentelemetry_sdk.specs.Known.{is_known, IsKnown, HasMemory}
+use Rattle.opentelemetry_sdk.specs.Known.{is_known, IsKnown, HasMemory, EachKnownHasMemory}
 use Rattle.opentelemetry_sdk.specs.Pending.{IsKnownFirst}
 use Rattle.opentelemetry_sdk.specs.States.{IsNamed}
+use Rattle.opentelemetry_sdk.specs.declared.calls.Call.{Call}
+use Rattle.opentelemetry_sdk.specs.declared.calls.Call.TheVariants as call
 use Rattle.opentelemetry_sdk.specs.declared.calls.Reply.TheVariants as reply
 use Rattle.opentelemetry_sdk.specs.declared.metrics.shared.pending.PendingRecord.{PendingRecord}
 use Rattle.opentelemetry_sdk.specs.declared.metrics.shared.pending.PendingRecord.TheVariants as pending
@@ -74,6 +77,22 @@ record_unknown e = true≢false (sym e)
 pub others_unknown : (IsKnown used (Meter m) → ⊥) × (IsKnown used (Build None (about Counter) 100) → ⊥) × (IsKnown used (Bind 0 x1) → ⊥) × (IsKnown used (RecordBound 0 (u64 1)) → ⊥) × (IsKnown used (Unbind 0) → ⊥) × (IsKnown used (Collect 0 200 []) → ⊥) × (IsKnown used Flush → ⊥) × (IsKnown used Shutdown → ⊥)
 others_unknown = (λ h. h, λ h. h, λ h. h, λ h. h, λ h. h, λ h. h, λ h. h, λ h. h)
 
+-- ======== runs ========
+abbrev again : Call
+again = call.Record 0 (number.U64 2) x1
+
+-- a known call is refused, as the first of a list or behind another one
+pub known_refused_first : EachKnownHasMemory [] used (again ∷ []) (reply.Refused fault.OutOfMemory ∷ []) → ⊥
+unfolding canon
+known_refused_first h = h [] [] again [] [] (reply.Refused fault.OutOfMemory) used refl refl refl refl
+
+pub known_refused_later : EachKnownHasMemory [] used (again ∷ again ∷ []) (reply.Done ∷ reply.Refused fault.OutOfMemory ∷ []) → ⊥
+unfolding canon
+known_refused_later h =
+    let mid : State = after [] used (Record 0 (u64 2) x1) in
+    h (again ∷ []) [] again (reply.Done ∷ []) [] (reply.Refused fault.OutOfMemory) mid refl refl (mid, (refl, refl), refl) refl
+
+-- ======== records that wait ========
 abbrev waiting : List KeyValue → PendingRecord
 waiting l = pending.Plain 0 (number.U64 2) l
 
