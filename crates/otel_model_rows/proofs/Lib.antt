@@ -28,4 +28,5 @@ pub mod RowsHistories
 pub mod RowsWindows
 pub mod RowsCollections
 pub mod RowsLaws
+pub mod RowsRuns
 pub mod RowsStreamLaws

@@ -1,5 +1,5 @@
 -- Worked rows on how many measurements a provider's instruments accepted, and on the sum of their values.
-use Rattle.std.specs.Prelude.{◌≡◌, ℕ, ◌+◌, pos, negsuc, List, [], ◌∷◌, ◌++◌, map, replicate, Some, None}
+use Rattle.std.specs.Prelude.{◌≡◌, ◌+◌, negsuc, List, [], ◌∷◌, ◌++◌, map, replicate, Some}
 use Rattle.std.proofs.Common.{refl}
 use Rattle.otel_model_stream.specs.Folds.{wrap}
 use Rattle.otel_model.specs.Books.{count_in, sum_in, one_each, bits_of, added_by, if_done, added_among, EachCallIsBooked, EachRunIsBooked}

@@ -1,10 +1,10 @@
 -- Worked rows on builds that feed the same streams.
-use Rattle.std.specs.Prelude.{◌≡◌, ℕ, pos, false, true, Bool, cond, is_some, List, [], ◌∷◌, Option, Some, None, slice_get}
+use Rattle.std.specs.Prelude.{◌≡◌, pos, false, true, Bool, cond, is_some, List, [], ◌∷◌, Option, Some, None, slice_get}
 use Rattle.std.proofs.Common.{refl, sym, ◌∙◌, ap, true≢false}
 use Rattle.otel_common.specs.Equality.{bytes_eq}
 use Rattle.otel_common.specs.declared.scopes.InstrumentationScope.{InstrumentationScope}
 use Rattle.otel_model.specs.Builds.{AreAlike, AlikeFeedTheSame}
-use Rattle.otel_model.specs.Calls.{Text, InstrumentKind, ascii_lowercase, kind_eq, Counter, UpDownCounter, About, Call, Meter, Build, Flush, Reply}
+use Rattle.otel_model.specs.Calls.{Text, ascii_lowercase, kind_eq, Counter, UpDownCounter, Call, Meter, Build, Flush, Reply}
 use Rattle.otel_model.specs.Demands.{StreamSpec, Views, nothing_said}
 use Rattle.otel_model.specs.History.{Built}
 use Rattle.otel_model.specs.Laws.{IsRun}

@@ -1,5 +1,5 @@
 -- Worked rows on headings, on what a reader was given under one, and on what that leaves pending.
-use Rattle.std.specs.Prelude.{◌≡◌, ℕ, nat_eq, ◌+◌, ℤ, false, true, [], ◌∷◌, map, Some, slice_get}
+use Rattle.std.specs.Prelude.{◌≡◌, ℕ, nat_eq, ◌+◌, ℤ, false, true, List, [], ◌∷◌, map, Some, slice_get}
 use Rattle.std.proofs.Common.{refl, ap, true≢false}
 use Rattle.otel_common.specs.Canonical.{canon}
 use Rattle.otel_common.specs.Temporalities.{resets}
@@ -9,14 +9,15 @@ use Rattle.otel_data.specs.declared.aggregated.MetricData.TheVariants as data_of
 use Rattle.otel_data.specs.declared.collections.Metric.{Metric}
 use Rattle.otel_data.specs.declared.collections.ResourceMetrics.{ResourceMetrics}
 use Rattle.otel_model_stream.specs.Folds.{Total, wrap}
-use Rattle.otel_model.specs.Demands.{Cumulative, Delta, LowMemory}
+use Rattle.otel_model.specs.Calls.{ObservableCounter, Call, Collect}
+use Rattle.otel_model.specs.Demands.{ExplicitBucketHistogram, Cumulative, Delta, LowMemory, Views}
 use Rattle.otel_model.specs.Given.{Heading, heading_eq, metric_heading, stream_heading, are_signed, is_delta_data, are_deltas, given_by, given_under, total_given, demanded_under, total_recorded, streams_under, pending_in, total_pending, IsGivenOrPending, AllIsGivenOrPending, GivesOrHolds, EachGivesOrHolds}
 use Rattle.otel_model.specs.History.{made_calls}
 use Rattle.otel_model.specs.Laws.{IsRun}
 use Rattle.otel_model.specs.State.{Stream, ReaderPart, State}
 use Rattle.otel_model.specs.Steps.{replies_of, state_of}
-use Rattle.otel_model_rows.specs.Rows.{a, b, m, scope_named, x1, cumulative, delta}
-use Rattle.otel_model_rows.specs.RunRows.{c, unit_1, product, views, readers, start, calls, replies, collected, point, metric, demand_a, demand_b, demand_c, heading_a, heading_b, entry, machine_of, stream_a, stream_b, stream_c, total_a, total_b, total_c, part_of, totals_part, deltas_part, state, state_with}
+use Rattle.otel_model_rows.specs.Rows.{a, b, m, scope_named, about, x1, if_named, aggregating, cumulative, delta, on, observe}
+use Rattle.otel_model_rows.specs.RunRows.{c, unit_1, product, views, readers, start, calls, replies, point, metric, demand_a, demand_b, heading_a, heading_b, entry, machine_of, stream_a, stream_b, stream_c, total_a, total_b, total_c, part_of, totals_part, deltas_part, state, state_with}
 
 -- ======== the run ========
 pub replies_of_run : replies_of views start calls ≡ replies
@@ -98,6 +99,19 @@ demanded = (refl, refl, refl)
 pub recorded : (total_recorded views delta 1 (made_calls calls replies) heading_a ≡ 7) × (total_recorded views delta 1 (made_calls calls replies) heading_b ≡ 8)
 unfolding canon
 recorded = (refl, refl)
+
+-- what is observed for one reader is not recorded for the other
+abbrev counts : Views
+counts = if_named a (aggregating (ExplicitBucketHistogram [] true)) ∷ []
+
+abbrev observing : List Call
+observing = on (about ObservableCounter a) (Collect 0 200 (observe 0 1 [] ∷ []) ∷ Collect 1 300 (observe 0 2 [] ∷ observe 0 3 [] ∷ []) ∷ [])
+
+abbrev plain_heading : Heading
+plain_heading = record heading_a { description = []; unit = [] }
+
+pub recorded_of_readers : (total_recorded counts delta 0 observing plain_heading ≡ 1) × (total_recorded counts delta 1 observing plain_heading ≡ 2)
+recorded_of_readers = (refl, refl)
 
 pub streams_there : (streams_under heading_a deltas_part ≡ stream_a ∷ []) × (streams_under (record heading_a { name = c }) deltas_part ≡ [])
     × (streams_under heading_b (part_of delta stream_b stream_a stream_b) ≡ stream_b ∷ stream_b ∷ [])

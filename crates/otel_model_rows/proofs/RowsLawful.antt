@@ -1,12 +1,12 @@
 -- Worked rows on the balances of streams, and on what each call to a provider preserves.
-use Rattle.std.specs.Prelude.{◌≡◌, ℕ, nat_eq, ◌<◌, pos, false, true, Bool, List, [], ◌∷◌, length, Option, Some, None, is_some, slice_get}
+use Rattle.std.specs.Prelude.{◌≡◌, ℕ, nat_eq, ◌<◌, pos, false, true, Bool, List, [], ◌∷◌, Option, Some, None, is_some, slice_get}
 use Rattle.std.proofs.Common.{refl, sym, ◌∙◌, ap, arith, subst, true≢false}
 use Rattle.otel_common.specs.declared.attributes.KeyValue.{KeyValue}
 use Rattle.otel_model_stream.specs.Events.{Event, held_by}
-use Rattle.otel_model_stream.specs.Folds.{Fold, Spread, Spreads, Total, Last, wrap}
+use Rattle.otel_model_stream.specs.Folds.{Spread, Spreads, Total, Last, wrap}
 use Rattle.otel_model_stream.specs.Machine.{Machine, begin, run}
-use Rattle.otel_model.specs.Calls.{InstrumentKind, Counter, ObservableCounter, Gauge, is_observable, Call, Meter, Build, Record, Bind, RecordBound, Unbind, Collect, Flush, Shutdown}
-use Rattle.otel_model.specs.Demands.{ExplicitBucketHistogram, LastValue, Identity, Demand, is_known}
+use Rattle.otel_model.specs.Calls.{Counter, ObservableCounter, Gauge, is_observable, Call, Meter, Build, Record, Bind, RecordBound, Unbind, Collect, Flush, Shutdown}
+use Rattle.otel_model.specs.Demands.{ExplicitBucketHistogram, LastValue}
 use Rattle.otel_model.specs.Lawful.{EachOf, IsBalanced, IsPaidFor, Balances, handles_of, AreDistinct, TakesRecords, HandlesAreSound, numbers, held_for, IsAccounted, IsOfEvents, kinds_of, PartIsLawful, IsLawful, IsLawfulAtFirst, EachCallKeepsLawful, EachRunKeepsLawful, LawfulBalances, HandlesAreOfFeeds, NextIsUnheld, ObservableIsUnheld}
 use Rattle.otel_model.specs.Machine.{new_state}
 use Rattle.otel_model.specs.Refusals.{instrument_held}
@@ -15,7 +15,7 @@ use Rattle.otel_model.specs.State.{InstrumentState, LiveHandle, Shared, Stream, 
 use Rattle.otel_model.specs.Steps.{after, Run}
 use Rattle.otel_model.specs.Streams.{kind_of, aggregate_of}
 use Rattle.otel_model_rows.specs.Rows.{a, m, about, add, observe, u64, x1, y1, cumulative, delta}
-use Rattle.otel_model_rows.specs.RunRows.{product, views, readers, calls, replies, demand_a, demand_b, demand_c, entry, machine_of, stream_a, stream_b, stream_c, total_a, total_b, total_c, fed, part_of, totals_part, deltas_part, accepting, instruments, shared, state, state_with}
+use Rattle.otel_model_rows.specs.RunRows.{product, views, readers, calls, replies, demand_a, demand_b, demand_c, entry, machine_of, stream_a, stream_b, stream_c, total_a, total_b, fed, part_of, deltas_part, accepting, instruments, shared, state, state_with}
 
 -- ======== balances ========
 pub balanced : Balances state

@@ -1,14 +1,15 @@
 -- Worked rows on lists in another order, and on the differences that a stream of observed sums shows.
-use Rattle.std.specs.Prelude.{◌≡◌, ℕ, ◌+◌, true, false, List, [], ◌∷◌, ◌++◌, length, Some, slice_get}
+use Rattle.std.specs.Prelude.{◌≡◌, ℕ, nat_eq, ◌+◌, sum_by, List, [], ◌∷◌, ◌++◌, Some, slice_get}
 use Rattle.std.specs.List.{IsDistinct}
 use Rattle.std.specs.List.Sorted.{IsPermutation}
-use Rattle.std.proofs.Common.{refl, sym, ap, arith, true≢false}
+use Rattle.std.proofs.Common.{refl, ap, arith, true≢false}
+use Rattle.std.proofs.lemmas.List.Sorted.{sum_by-IsPermutation}
 use Rattle.otel_common.specs.Canonical.{HasDistinctKeys, canon}
 use Rattle.otel_common.specs.declared.attributes.KeyValue.{KeyValue}
 use Rattle.otel_model_stream.specs.Events.{Event}
-use Rattle.otel_model_stream.specs.Folds.{Fold, Last, wrap}
+use Rattle.otel_model_stream.specs.Folds.{Fold, wrap}
 use Rattle.otel_model.specs.Calls.{ObservableCounter, Call, Meter, Build, Record, Bind, Collect, Flush, Reply}
-use Rattle.otel_model.specs.Collections.{value_of, value_before, differences}
+use Rattle.otel_model.specs.Collections.{value_of, differences}
 use Rattle.otel_model.specs.Demands.{Demand, own_demand}
 use Rattle.otel_model.specs.History.{history, window_points, reported_of}
 use Rattle.otel_model.specs.Orders.{IsReordered, RecordsInAnyOrder, BindsInAnyOrder, ObservationsInAnyOrder, last_observed, AreDifferences}
@@ -42,7 +43,7 @@ reordered = (
 pub any_reordered : (l o : List KeyValue) → HasDistinctKeys l → IsPermutation l o → IsReordered l o
 any_reordered l o d p = (d, p)
 
--- not with a key that occurs twice, nor a list that is shorter
+-- not with a key that occurs twice
 pub key_twice : IsReordered (x1 ++ x1) (x1 ++ x1) → ⊥
 unfolding IsDistinct
 key_twice h = true≢false h.0.0.0
@@ -51,8 +52,15 @@ pub key_twice_of_three : IsReordered with_key with_key → ⊥
 unfolding IsDistinct
 key_twice_of_three h = true≢false h.0.0.1.0
 
-pub of_others : IsReordered (x1 ++ y1) (x1 ++ z1) → IsPermutation (x1 ++ y1) (x1 ++ z1)
-of_others h = h.1
+-- not a list with another element, nor one with fewer
+abbrev bytes_in : KeyValue → ℕ
+bytes_in p = sum_by (λ n. n) p.key
+
+pub of_others : IsReordered (x1 ++ y1) (x1 ++ z1) → ⊥
+of_others h = true≢false (ap (λ k. nat_eq k 242) (sum_by-IsPermutation bytes_in (x1 ++ y1) (x1 ++ z1) h.1))
+
+pub of_fewer : IsReordered (x1 ++ y1) x1 → ⊥
+of_fewer h = true≢false (ap (λ k. nat_eq k 120) (sum_by-IsPermutation bytes_in (x1 ++ y1) x1 h.1))
 
 -- ======== what another order changes ========
 abbrev before : List Call

@@ -1,6 +1,6 @@
 -- Worked rows on what a program that names streams by number must do: streams by themselves, and in a list.
-use Rattle.std.specs.Prelude.{◌≡◌, ℕ, nat_eq, false, true, cond, ◌==◌, List, [], ◌∷◌, map, Option, Some, None, is_some, slice_get}
-use Rattle.std.proofs.Common.{refl, sym, ap, true≢false}
+use Rattle.std.specs.Prelude.{◌≡◌, ℕ, false, true, cond, ◌==◌, List, [], ◌∷◌, ◌++◌, map, Option, Some, None, is_some}
+use Rattle.std.proofs.Common.{refl, ap, true≢false}
 use Rattle.otel_common.specs.Canonical.{canon}
 use Rattle.otel_common.specs.declared.attributes.KeyValue.{KeyValue}
 use Rattle.otel_model_stream.specs.Events.{Event, held_by}
@@ -33,6 +33,15 @@ after_record = refl
 pub after_bind : stream_bound delta 3 x1 stream_a ≡ record stream_a { machine = machine_of (Total 0) false (entry x1 4 2 ∷ []) ((0, x1) ∷ (3, x1) ∷ []) }
 unfolding canon
 after_bind = refl
+
+-- of two attributes the stream keeps one
+abbrev keeping : Stream
+keeping = record stream_a { demand = record demand_a { allow = Some ((120 ∷ []) ∷ []) } }
+
+pub after_allowed : (stream_recorded delta (u64 5) (y1 ++ x1) keeping ≡ record keeping { machine = machine_of (Total 0) false (entry x1 9 1 ∷ []) ((0, x1) ∷ []); recorded = 12 })
+    × (stream_bound delta 3 (y1 ++ x1) keeping ≡ record keeping { machine = machine_of (Total 0) false (entry x1 4 2 ∷ []) ((0, x1) ∷ (3, x1) ∷ []) })
+unfolding canon
+after_allowed = (refl, refl)
 
 -- an instrument that is not there feeds nothing
 pub fed_by_each : map (fed_by ((demand_a.identity ∷ demand_b.identity ∷ []) ∷ [] ∷ (demand_c.identity ∷ []) ∷ [])) (0 ∷ 1 ∷ 2 ∷ 3 ∷ []) ≡ (demand_a.identity ∷ demand_b.identity ∷ []) ∷ [] ∷ (demand_c.identity ∷ []) ∷ [] ∷ []

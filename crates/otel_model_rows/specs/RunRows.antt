@@ -12,7 +12,7 @@ use Rattle.otel_model_stream.specs.Entries.{Entry}
 use Rattle.otel_model_stream.specs.Events.{Handles}
 use Rattle.otel_model_stream.specs.Machine.{Machine}
 use Rattle.otel_model.specs.Calls.{Text, InstrumentKind, Counter, ObservableCounter, About, Call, Meter, Build, Record, Bind, RecordBound, Collect, UnknownInstrument, Reply}
-use Rattle.otel_model.specs.Demands.{Sum, Cumulative, Delta, Temporality, Identity, Demand, Views, ReaderAnswers, nothing_said}
+use Rattle.otel_model.specs.Demands.{Sum, Delta, Temporality, Identity, Demand, Views, ReaderAnswers, nothing_said}
 use Rattle.otel_model.specs.Given.{Heading}
 use Rattle.otel_model.specs.Machine.{new_state}
 use Rattle.otel_model.specs.Resources.{Resource}

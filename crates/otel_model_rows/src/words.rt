@@ -1,6 +1,6 @@
 //! Rows of single words on a provider: what is checked, said, demanded, refused and left, and what is read off the calls.
 
-ghost use Rattle.std.specs.Prelude.{◌≡◌, ℕ, true, [], ◌∷◌, ◌++◌, None, Some, codes};
+ghost use Rattle.std.specs.Prelude.{◌≡◌, ℕ, true, List, [], ◌∷◌, ◌++◌, None, Some, codes};
 ghost use Rattle.otel_common.specs.declared.attributes.Value.TheVariants as value;
 ghost use Rattle.otel_model_stream.specs.Sets.{over_set};
 ghost use Rattle.otel_model.specs.Books.{added_among, bits_of};
@@ -10,14 +10,15 @@ ghost use Rattle.otel_model.specs.Checks.{Empty, name_fault};
 ghost use Rattle.otel_model.specs.Demands.{Views, default_limit};
 ghost use Rattle.otel_model.specs.History.{new_scope};
 ghost use Rattle.otel_model.specs.Lawful.{IsBalanced};
-ghost use Rattle.otel_model.specs.Laws.{KeepsReaders};
+ghost use Rattle.otel_model.specs.Laws.{IsAsOnlyReaderFromAny, KeepsReaders};
 ghost use Rattle.otel_model.specs.Machine.{new_state, with_meter};
+ghost use Rattle.otel_model.specs.Only.{EachAsAlone};
 ghost use Rattle.otel_model.specs.Orders.{IsReordered};
 ghost use Rattle.otel_model.specs.Refusals.{first_fault};
 ghost use Rattle.otel_model.specs.Resources.{empty_resource, merged_url};
 ghost use Rattle.otel_model.specs.Showing.{fed_by};
 ghost use Rattle.otel_model.specs.State.{State};
-ghost use Rattle.otel_model.specs.Steps.{Step, collect_reply, replies_of};
+ghost use Rattle.otel_model.specs.Steps.{Run, Step, collect_reply, replies_of};
 ghost use Rattle.otel_model_rows.specs.Rows.{about, delta, m, u64, x1};
 ghost use Rattle.otel_model_rows.specs.RunRows.{calls, replies, start, stream_a, views};
 
@@ -64,6 +65,7 @@ pub fn collections()
 /// Statements of laws about runs.
 pub fn laws()
     ensures lost_reader { KeepsReaders (new_state empty_resource 0 (delta ∷ [])) (new_state empty_resource 0 []) → ⊥ }
+    ensures as_only_from_any { IsAsOnlyReaderFromAny → (old new : State) (given : List Reply) → Run views old calls given new → EachAsAlone views old calls given }
 {}
 
 /// Merges of resources, and their builders.
