@@ -1,5 +1,6 @@
 mod Added
 mod Built
+mod Lines
 mod Names
 mod Pairs
 mod PerKind

@@ -1,6 +1,7 @@
 pub mod Aggregations
 pub mod Attributes
 pub mod Boundaries
+pub mod CallLines
 pub mod Calls
 pub mod Failures
 pub mod Keys

@@ -1,8 +1,9 @@
 //! The lines of a script that are calls.
 
-ghost use Rattle.std.specs.Prelude.{◌≡◌, None, [], IfSome, IfOk, IfErr, OnErr, IsOkUnless};
+ghost use Rattle.std.specs.Prelude.{◌≡◌, None, [], map, IfSome, IfOk, IfErr, OnOk, OnErr, IsOkUnless};
 ghost use Rattle.std.specs.Option.{option_map};
 ghost use Rattle.std.specs.Str.{IsUtf8};
+ghost use Rattle.metrics_script.specs.CallLines.{IsBuildOf, IsCallLine};
 ghost use Rattle.metrics_script.specs.Calls.{IsMeterWord, IsSortWord, IsCollectOf, IsObservedOf};
 ghost use Rattle.metrics_script.specs.Refusals.{StandsForNothing};
 ghost use Rattle.metrics_script.specs.Texts.{text_of_word};
@@ -19,7 +20,10 @@ use opentelemetry_sdk::metrics::provider::{Call, InstrumentSort, Observed};
 use std::alloc::Global;
 
 /// Reads the call of the words of a line, unless it is a collection.
-pub fn call_of(alloc: Global, words: &[&str]) -> Result<Call, Refusal> {
+pub fn call_of(alloc: Global, words: &[&str]) -> Result<Call, Refusal>
+    ensures call { IfOk result (IsCallLine (map (λ word. word.now) words.now)) }
+    ensures meaningless { IfErr result (λ refusal. refusal ≡ Refusal.BadCommand → (call : Call) → ¬ IsCallLine (map (λ word. word.now) words.now) call) }
+{
     match words {
         ["meter", name] => Ok(Call::Meter {
             scope: scope_of(alloc, name, None)?,
@@ -27,7 +31,8 @@ pub fn call_of(alloc: Global, words: &[&str]) -> Result<Call, Refusal> {
         ["meter", name, version] => Ok(Call::Meter {
             scope: scope_of(alloc, name, Some(version))?,
         }),
-        ["build", meter, sort, name, now, options @ ..] => {
+        ["build", meter, sort, name, now, ..] => {
+            let (_, options) = words.split_at(5);
             build_of(alloc, meter, sort, name, now, options)
         }
         ["record", instrument, number, attributes] => Ok(Call::Record {
@@ -90,7 +95,10 @@ fn build_of(
     name: &str,
     now: &str,
     options: &[&str],
-) -> Result<Call, Refusal> {
+) -> Result<Call, Refusal>
+    ensures build { IfOk result (IsBuildOf meter.now sort.now name.now now.now (map (λ word. word.now) options.now)) }
+    ensures meaningless { IfErr result (λ refusal. refusal ≡ Refusal.BadCommand → (call : Call) → ¬ IsBuildOf meter.now sort.now name.now now.now (map (λ word. word.now) options.now) call) }
+{
     let meter = meter_of(meter)?;
     let sort = sort_of(sort)?;
     let name = text_of_word(alloc, name)?;
@@ -118,6 +126,7 @@ fn scope_of(
     version: Option<&str>,
 ) -> Result<InstrumentationScope, Refusal>
     ensures scope { IfOk result (λ scope. scope ≡ record { name = text_of_word name.now; version = option_map (λ word. text_of_word word.now) version.entry; schema_url = None; attributes = [] }) }
+    ensures only_utf8 { OnOk result (IsUtf8 (text_of_word name.now) × IfSome version.entry (λ word. IsUtf8 (text_of_word word.now))) }
     ensures utf8 { IsUtf8 (text_of_word name.now) → IfSome version.entry (λ word. IsUtf8 (text_of_word word.now)) → IsOkUnless result Refusal.OutOfMemory }
 {
     let builder = InstrumentationScope::builder(alloc, text_of_word(alloc, name)?);

@@ -1,5 +1,7 @@
 //! Reads a script, runs it and prints its replies, with any reader and writers.
 
+ghost use Rattle.std.specs.Prelude.{◌≡◌, ◌≢◌, ◌⊎◌, IfErr, IsOkUnless};
+
 use crate::failures::Failure;
 use crate::printing::write_reply;
 use crate::script_lines::{Script, script_of};
@@ -58,12 +60,16 @@ pub(crate) fn replies_to_input<R: Read + Drop>(
 
 /// Makes the calls of a script on a new provider with the script's readers and views, and returns the replies. All lines
 /// are checked before any call is made.
-pub fn replies_to(alloc: Global, script: &[u8]) -> Result<Vec<Reply>, Failure> {
+pub fn replies_to(alloc: Global, script: &[u8]) -> Result<Vec<Reply>, Failure>
+    ensures refused { IfErr result (λ failure. failure ≢ Failure.InputOrOutput) }
+{
     replies_of(alloc, script_of(alloc, script)?)
 }
 
 /// The same for a script that has been read.
-fn replies_of(alloc: Global, script: Script) -> Result<Vec<Reply>, Failure> {
+fn replies_of(alloc: Global, script: Script) -> Result<Vec<Reply>, Failure>
+    ensures refused { IsOkUnless result Failure.OutOfMemory }
+{
     let Script {
         readers,
         views,
@@ -81,7 +87,9 @@ fn replies_of(alloc: Global, script: Script) -> Result<Vec<Reply>, Failure> {
 }
 
 /// Reads all that the reader has.
-fn read_all<R: Read + Drop>(alloc: Global, mut input: R) -> Result<Vec<u8>, Failure> {
+fn read_all<R: Read + Drop>(alloc: Global, mut input: R) -> Result<Vec<u8>, Failure>
+    ensures refused { IfErr result (λ failure. (failure ≡ Failure.OutOfMemory) ⊎ (failure ≡ Failure.InputOrOutput)) }
+{
     let mut bytes = Vec::new(alloc);
     match input.read_to_end(&mut bytes) {
         Ok(_) => Ok(bytes),
@@ -97,7 +105,9 @@ fn write_replies<W: Write + Drop>(
     alloc: Global,
     output: W,
     replies: &[Reply],
-) -> Result<(), Failure> {
+) -> Result<(), Failure>
+    ensures refused { IfErr result (λ failure. (failure ≡ Failure.OutOfMemory) ⊎ (failure ≡ Failure.InputOrOutput)) }
+{
     let Ok(mut output) = BufWriter::new(alloc, output) else {
         return Err(Failure::OutOfMemory);
     };

@@ -1,5 +1,7 @@
 //! A whole script: what comes before `go`, and the calls after it.
 
+ghost use Rattle.std.specs.Prelude.{◌≡◌, ◌≢◌, [], ◌∷◌, ◌++◌, IfErr, OnOk, IsOkUnless};
+
 use crate::calls::{call_of, collect_of, observed_of};
 use crate::failures::Failure;
 use crate::readers::reader_of;
@@ -32,7 +34,9 @@ struct Reading {
 /// Reads the script of these bytes, or returns the number of its first bad line.
 ///
 /// A script without `go`, or one that ends with observations, is bad at the line after its last one.
-pub fn script_of(alloc: Global, input: &[u8]) -> Result<Script, Failure> {
+pub fn script_of(alloc: Global, input: &[u8]) -> Result<Script, Failure>
+    ensures refused { IfErr result (λ failure. failure ≢ Failure.InputOrOutput) }
+{
     let mut reading = Reading {
         script: Script {
             readers: Vec::new(alloc),
@@ -116,7 +120,10 @@ impl Reading {
 
     /// Adds a call to the list. Most of what a script takes is this list, so it grows by a quarter, and not to twice its
     /// length.
-    fn add_call(&mut self, call: Call) -> Result<(), Refusal> {
+    fn add_call(&mut self, call: Call) -> Result<(), Refusal>
+        ensures added { OnOk result (self.new.script.calls.items ≡ self.old.script.calls.items ++ call ∷ []) }
+        ensures refused { IsOkUnless result Refusal.OutOfMemory }
+    {
         let calls = &mut self.script.calls;
         if calls.len() == calls.capacity() {
             calls.reserve_exact(calls.len() / 4 + 16)?;

@@ -10,7 +10,8 @@ use crate::refusals::Refusal;
 use percent_encoding::percent_decode_str;
 use std::alloc::Global;
 
-/// Decodes a text, in which `%` and two hexadecimal digits stand for one byte and all else stands for itself.
+/// Decodes a text, in which `%` and two hexadecimal digits stand for one byte and all else stands for itself. A bad command
+/// is answered exactly if the bytes are not UTF-8 and there is memory for them: want of memory comes first.
 pub fn unescaped(alloc: Global, escaped: &str) -> Result<String, Refusal>
     ensures text { IfOk result (λ text. string_bytes text ≡ percent_decode escaped.now) }
     ensures utf8 { IsUtf8 (percent_decode escaped.now) → IsOkUnless result Refusal.OutOfMemory }
