@@ -301,7 +301,13 @@ pub(crate) fn shown_stream<T: Shown>(
         }
         AnySettings::Histogram(settings) => {
             let points = shown_histograms(alloc, stream, &settings.bounds)?;
-            Ok(MetricData::Histogram(HistogramData::new(points, start, now, temporality, settings.has_sum)))
+            Ok(MetricData::Histogram(HistogramData::new(
+                points,
+                start,
+                now,
+                temporality,
+                settings.has_sum,
+            )))
         }
         _ => {
             let points = shown_values(alloc, stream)?;
