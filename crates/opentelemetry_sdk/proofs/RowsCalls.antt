@@ -98,14 +98,14 @@ refused = model.Reply.Refused model.Fault.WrongKind
 pub typed_refusals : (meter_reply (Err fault.WrongKind) ≡ refused) × (record_reply (Err fault.WrongKind) ≡ refused) × (collected_reply (Err fault.WrongKind) ≡ refused) × (collect_reply (Err fault.WrongKind) nothing ≡ refused)
 typed_refusals = (refl, refl, refl, refl)
 
-pub generic_refusals : {K T : Type 0} → (build_reply {K = K} {T = T} (Err fault.WrongKind) ≡ refused) × (observed_reply {K = K} {T = T} (Err fault.WrongKind) ≡ refused) × (bind_reply {T = T} (Err fault.WrongKind) ≡ refused)
-generic_refusals = (refl, refl, refl)
+pub generic_refusals : (K T : Type 0) → (build_reply {K = K} {T = T} (Err fault.WrongKind) ≡ refused) × (observed_reply {K = K} {T = T} (Err fault.WrongKind) ≡ refused) × (bind_reply {T = T} (Err fault.WrongKind) ≡ refused)
+generic_refusals K T = (refl, refl, refl)
 
 pub ends_refused : {T : Type 0} (b : Bound T) → unbind_reply {T = T} (Err (b, fault.WrongKind)) ≡ refused
 ends_refused b = refl
 
-pub ends : {T : Type 0} → unbind_reply {T = T} (Ok tt) ≡ model.Reply.Done
-ends = refl
+pub ends : (T : Type 0) → unbind_reply {T = T} (Ok tt) ≡ model.Reply.Done
+ends T = refl
 
 pub recorded : record_reply (Ok tt) ≡ model.Reply.Done
 recorded = refl

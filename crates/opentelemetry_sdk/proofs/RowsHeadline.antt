@@ -1,9 +1,10 @@
 -- Worked rows on laws that are stated of a provider: each takes from a law what it says of one run.
-use Rattle.std.specs.Prelude.{◌≡◌, List, [], ◌∷◌, Some, None, slice_get}
-use Rattle.std.proofs.Common.{refl, ap}
+use Rattle.std.specs.Prelude.{◌≡◌, ℕ, false, List, [], ◌∷◌, Some, None, slice_get}
+use Rattle.std.proofs.Common.{refl, ap, arith}
 use Rattle.otel_common.specs.declared.attributes.KeyValue.{KeyValue}
 use Rattle.otel_data.specs.declared.numbers.NumberValue.TheVariants as number
 use Rattle.otel_model.specs.Calls as model
+use Rattle.otel_model.specs.Demands.{ReaderAnswers}
 use Rattle.otel_model.specs.Machine.{new_state}
 use Rattle.otel_model.specs.Orders.{IsReordered}
 use Rattle.otel_model.specs.Resources.{empty_resource}
@@ -33,9 +34,12 @@ built = state_of [] fresh (model.Meter m ∷ model.Build (Some 0) (record { kind
 pub law_of_built : FromBuilt fresh (λ resource identity readers. ⊥) → ⊥
 law_of_built h = h empty_resource 7 (cumulative ∷ []) refl
 
--- the law is said of the resource, the identity and the readers that it was built with
-pub law_of_these : FromBuilt fresh (λ resource identity readers. (resource ≡ empty_resource) × (identity ≡ 7) × (readers ≡ cumulative ∷ [])) → 7 ≡ 7
-law_of_these h = (h empty_resource 7 (cumulative ∷ []) refl).1
+-- the law is said of the identity and the readers that it was built with
+pub law_of_identity : FromBuilt fresh (λ resource identity readers. identity ≡ 8) → ⊥
+law_of_identity h = let e : ◌≡◌ {A = ℕ} 7 8 = h empty_resource 7 (cumulative ∷ []) refl in absurd (omega (e, arith))
+
+pub law_of_its_readers : FromBuilt fresh (λ resource identity readers. readers ≡ []) → ⊥
+law_of_its_readers h = let e : ◌≡◌ {A = List ReaderAnswers} (cumulative ∷ []) [] = h empty_resource 7 (cumulative ∷ []) refl in cc
 
 abbrev part_of_reader : ReaderPart
 part_of_reader = first built.readers

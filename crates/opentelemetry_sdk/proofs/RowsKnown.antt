@@ -1,5 +1,5 @@
 -- Worked rows on calls that are never refused for lack of memory, and on what an instrument feeds. Some deny a call.
-use Rattle.std.specs.Prelude.{◌≡◌, true, false, List, [], ◌∷◌, map, Some, None}
+use Rattle.std.specs.Prelude.{◌≡◌, ℕ, true, false, List, [], ◌∷◌, map, Some, None}
 use Rattle.std.proofs.Common.{refl, sym, true≢false}
 use Rattle.otel_common.specs.Canonical.{canon}
 use Rattle.otel_common.specs.declared.attributes.KeyValue.{KeyValue}
@@ -124,7 +124,7 @@ pub not_refused : (collection : ResourceMetrics) → HasMemory reply.Done × Has
 not_refused collection = (tt, tt, tt, tt, tt)
 
 -- ======== streams of an instrument ========
-pub any_stream : map some_stream ([] ∷ (1 ∷ []) ∷ (1 ∷ 2 ∷ []) ∷ []) ≡ false ∷ true ∷ true ∷ []
+pub any_stream : map (λ (l : List ℕ). some_stream l) ([] ∷ (1 ∷ []) ∷ (1 ∷ 2 ∷ []) ∷ []) ≡ false ∷ true ∷ true ∷ []
 any_stream = refl
 
 pub streams_at_reader : map (λ (part : ReaderPart). map (λ n. has_stream_at n part) (0 ∷ 2 ∷ 3 ∷ [])) begun.readers ≡ (true ∷ false ∷ false ∷ []) ∷ []

@@ -75,7 +75,7 @@ pub flush_leaves_last : StepReaches Flushes Shuts false Flush (1 ∷ 5 ∷ []) R
 flush_leaves_last h = left h.0 h.1 h.2
   where
     left : (outcome : Outcome) → Reply.Done ≡ reply_to outcome → AllAsked Flushes (1 ∷ 5 ∷ []) (2 ∷ 5 ∷ []) outcome → ⊥
-    left (Ok tt) e f = last_left_out f
+    left (Ok t) e f = last_left_out f
     left (Err g) e f = cc
 
 pub shutdown_reaches : StepReaches Flushes Shuts false Shutdown (1 ∷ []) Reply.Done (5000000001 ∷ [])

@@ -52,5 +52,5 @@ fn shared()
 
 /// What belongs to a provider.
 fn typed()
-    ensures identity { {P V R U I : Type 0} (p : Provider P V R U I) → identity_of p ≡ (state_of p).shared.identity }
+    ensures identity { (P V R U I : Type 0) (p : Provider P V R U I) → identity_of p ≡ (state_of p).shared.identity }
 {}
