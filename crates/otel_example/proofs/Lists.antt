@@ -1,6 +1,6 @@
 -- A list of records adds to each total the values of those that were answered `Done`.
-use Rattle.std.proofs.Common.{◌≡◌, ◌∙◌, ◌⊎◌, ⊎_elim, sym, subst, ℕ, ◌+◌, ◌%◌, ◌^◌, Bool, true, false, cond, List, [], ◌∷◌, Option, Some, None, Result, Ok, Err, arith, refl, ap}
-use Rattle.std.specs.Prelude.{◌==◌, IfOk, OnErr, map, slice_get, Vec}
+use Rattle.std.proofs.Common.{◌≡◌, ◌⊎◌, ⊎_elim, sym, subst, ℕ, ◌+◌, ◌%◌, ◌^◌, Bool, true, false, cond, List, [], ◌∷◌, Option, Some, None, Result, Ok, Err, arith, refl, ap}
+use Rattle.std.specs.Prelude.{◌==◌, IfOk, slice_get}
 use Rattle.std.proofs.lemmas.Bool.{eqb-true, eqb-false, false≢true}
 use Rattle.opentelemetry_sdk.specs.Calls.{Call, Record, Fault, Number, Reply}
 use Rattle.opentelemetry_sdk.specs.Demands.{Views}
