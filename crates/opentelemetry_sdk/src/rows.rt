@@ -52,5 +52,5 @@ fn shared()
 
 /// What belongs to a provider.
 fn typed()
-    ensures identity { (P V R U I : Type 0) (p : Provider P V R U I) → identity_of p ≡ (state_of p).shared.identity }
+    ensures identity { (p : Provider ℕ ℕ ℕ ℕ ℕ) → identity_of p ≡ (state_of p).shared.identity }
 {}
