@@ -4,6 +4,7 @@ ghost use Rattle.std.specs.Prelude.{◌≡◌};
 
 use opentelemetry_sdk::common::{Fault, Items, KeyValue};
 use opentelemetry_sdk::metrics::callback::{Observation, ObserveI64, ObserveU64};
+use opentelemetry_sdk::metrics::provider::{Boxed, Parts, Plain};
 use std::alloc::Global;
 
 /// How often each callback has run before the call under test.
@@ -70,5 +71,34 @@ impl ObserveI64 for Counting {
     fn observe(&mut self, out: &mut Vec<Observation<i64>>) -> Result<(), Fault> {
         let value = i64::try_from(self.next()).unwrap_or(i64::MAX);
         observe_twice(self.alloc, value, out)
+    }
+}
+
+/// Parts of a provider whose callbacks count how often they have run.
+pub trait Watched: Parts {
+    /// A callback of unsigned values, which has not run and skips this many runs later.
+    fn unsigned(alloc: Global, skipped: u64) -> Result<Self::ObserveU64, Fault>;
+
+    /// A callback of signed values, which has not run and skips this many runs later.
+    fn signed(alloc: Global, skipped: u64) -> Result<Self::ObserveI64, Fault>;
+}
+
+impl Watched for Plain<Counting, Counting> {
+    fn unsigned(alloc: Global, skipped: u64) -> Result<Counting, Fault> {
+        Ok(Counting::new(alloc, skipped))
+    }
+
+    fn signed(alloc: Global, skipped: u64) -> Result<Counting, Fault> {
+        Ok(Counting::new(alloc, skipped))
+    }
+}
+
+impl Watched for Boxed {
+    fn unsigned(alloc: Global, skipped: u64) -> Result<Box<dyn ObserveU64>, Fault> {
+        Ok(Box::new(alloc, Counting::new(alloc, skipped))?)
+    }
+
+    fn signed(alloc: Global, skipped: u64) -> Result<Box<dyn ObserveI64>, Fault> {
+        Ok(Box::new(alloc, Counting::new(alloc, skipped))?)
     }
 }
