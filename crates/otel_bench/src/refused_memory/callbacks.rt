@@ -4,7 +4,6 @@ ghost use Rattle.std.specs.Prelude.{◌≡◌};
 
 use opentelemetry_sdk::common::{Fault, Items, KeyValue};
 use opentelemetry_sdk::metrics::callback::{Observation, ObserveI64, ObserveU64};
-use opentelemetry_sdk::metrics::provider::{Boxed, Parts, Plain};
 use std::alloc::Global;
 
 /// How often each callback has run before the call under test.
@@ -74,31 +73,26 @@ impl ObserveI64 for Counting {
     }
 }
 
-/// Parts of a provider whose callbacks count how often they have run.
-pub trait Watched: Parts {
-    /// A callback of unsigned values, which has not run and skips this many runs later.
-    fn unsigned(alloc: Global, skipped: u64) -> Result<Self::ObserveU64, Fault>;
-
-    /// A callback of signed values, which has not run and skips this many runs later.
-    fn signed(alloc: Global, skipped: u64) -> Result<Self::ObserveI64, Fault>;
+/// A callback that counts how often it has run.
+pub trait Counts: Sized {
+    /// Makes one that has not run and skips this many runs later.
+    fn counting(alloc: Global, skipped: u64) -> Result<Self, Fault>;
 }
 
-impl Watched for Plain<Counting, Counting> {
-    fn unsigned(alloc: Global, skipped: u64) -> Result<Counting, Fault> {
-        Ok(Counting::new(alloc, skipped))
-    }
-
-    fn signed(alloc: Global, skipped: u64) -> Result<Counting, Fault> {
+impl Counts for Counting {
+    fn counting(alloc: Global, skipped: u64) -> Result<Counting, Fault> {
         Ok(Counting::new(alloc, skipped))
     }
 }
 
-impl Watched for Boxed {
-    fn unsigned(alloc: Global, skipped: u64) -> Result<Box<dyn ObserveU64>, Fault> {
+impl Counts for Box<dyn ObserveU64> {
+    fn counting(alloc: Global, skipped: u64) -> Result<Box<dyn ObserveU64>, Fault> {
         Ok(Box::new(alloc, Counting::new(alloc, skipped))?)
     }
+}
 
-    fn signed(alloc: Global, skipped: u64) -> Result<Box<dyn ObserveI64>, Fault> {
+impl Counts for Box<dyn ObserveI64> {
+    fn counting(alloc: Global, skipped: u64) -> Result<Box<dyn ObserveI64>, Fault> {
         Ok(Box::new(alloc, Counting::new(alloc, skipped))?)
     }
 }

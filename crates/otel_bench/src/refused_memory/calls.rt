@@ -1,6 +1,6 @@
 //! Makes the call under test at a provider.
 
-use crate::refused_memory::callbacks::Watched;
+use crate::refused_memory::callbacks::Counts;
 use crate::refused_memory::scenarios::unknown;
 use crate::refused_memory::set_up::calls_of;
 use crate::refused_memory::trials::Trial;
@@ -26,13 +26,17 @@ fn copied<T: Clone>(value: &T) -> Result<T, Fault> {
 }
 
 /// Makes the call under test, which is no run, between the marks.
-fn make<R: Print, P: Watched>(
+fn make<R: Print, P: Parts>(
     trial: &mut Trial<R>,
     provider: &mut Provider<P>,
     instruments: &Instruments,
     calls: &mut Vec<Call>,
     metrics: &mut ResourceMetrics,
-) -> Result<(), Error> {
+) -> Result<(), Error>
+where
+    P::ObserveU64: Counts,
+    P::ObserveI64: Counts,
+{
     let scenario = trial.scenario;
     trial.begin(scenario.call)?;
     match scenario.call {
@@ -104,11 +108,15 @@ fn write_steps<R, P: Parts>(
 }
 
 /// Makes the call under test, or at a twin what was not refused, and writes what is answered.
-pub fn write_call<R: Print, P: Watched>(
+pub fn write_call<R: Print, P: Parts>(
     trial: &mut Trial<R>,
     provider: &mut Provider<P>,
     instruments: &Instruments,
-) -> Result<(), Error> {
+) -> Result<(), Error>
+where
+    P::ObserveU64: Counts,
+    P::ObserveI64: Counts,
+{
     let mut calls = calls_of(trial.alloc, trial.scenario.lines)?;
     let mut metrics = ResourceMetrics::default(trial.alloc);
     if trial.scenario.place != "shut" {

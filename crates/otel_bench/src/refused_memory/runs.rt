@@ -1,7 +1,7 @@
 //! Runs of a scenario: the first with the call under test, and those at twins.
 
 use crate::refused_memory::aggregates::write_aggregate;
-use crate::refused_memory::callbacks::Watched;
+use crate::refused_memory::callbacks::Counts;
 use crate::refused_memory::calls::write_call;
 use crate::refused_memory::later::write_later;
 use crate::refused_memory::scenarios::scenario_of;
@@ -14,17 +14,21 @@ use crate::refused_memory::values::write_value;
 use anyhow::Error;
 use metrics_script::script_lines::script_of;
 use opentelemetry_sdk::common::Fault;
-use opentelemetry_sdk::metrics::provider::Provider;
+use opentelemetry_sdk::metrics::provider::{Parts, Provider};
 use std::alloc::Global;
 use std::mem::replace;
 
 /// Makes the call under test at this provider, of whose callbacks this many have run once more, and writes what it
 /// answers, and what the provider answers later. If the provider was refused, nothing is written.
-fn write_with<R: Print, P: Watched>(
+fn write_with<R: Print, P: Parts>(
     trial: &mut Trial<R>,
     built: Result<Provider<P>, Fault>,
     ahead: u64,
-) -> Result<(), Error> {
+) -> Result<(), Error>
+where
+    P::ObserveU64: Counts,
+    P::ObserveI64: Counts,
+{
     trial.end("build")?;
     let mut provider = match built {
         Ok(provider) => provider,

@@ -2,7 +2,7 @@
 
 ghost use Rattle.std.specs.Prelude.{Some};
 
-use crate::refused_memory::callbacks::{Counting, Watched};
+use crate::refused_memory::callbacks::{Counting, Counts};
 use crate::refused_memory::typed::{Instruments, instruments_at, record_arrays, watch};
 use crate::scripts::{with_readers, with_views};
 use anyhow::{Error, bail};
@@ -193,12 +193,16 @@ fn make_all<P: Parts>(alloc: Global, provider: &mut Provider<P>, lines: &str) ->
 
 /// Makes the calls that come first at a place, registers the callbacks, of which this many skip a run later, and runs each
 /// once. The last call at the place `shut` is a shutdown. Returns instruments as values.
-pub fn fill<P: Watched>(
+pub fn fill<P: Parts>(
     alloc: Global,
     provider: &mut Provider<P>,
     place: &str,
     ahead: u64,
-) -> Result<Instruments, Error> {
+) -> Result<Instruments, Error>
+where
+    P::ObserveU64: Counts,
+    P::ObserveI64: Counts,
+{
     let calls = first(alloc, place)?;
     make_all(alloc, provider, calls.as_str())?;
     watch(alloc, provider, ahead)?;

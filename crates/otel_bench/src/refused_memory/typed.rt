@@ -1,6 +1,6 @@
 //! Instruments as values.
 
-use crate::refused_memory::callbacks::Watched;
+use crate::refused_memory::callbacks::Counts;
 use crate::refused_memory::values::arrays;
 use opentelemetry_sdk::common::{Fault, KeyValue};
 use opentelemetry_sdk::metrics::data::ResourceMetrics;
@@ -57,35 +57,41 @@ pub fn record_arrays<P: Parts>(
 }
 
 /// Builds an observable instrument of unsigned values with a callback, which skips this many runs later.
-fn watch_unsigned<K, P: Watched>(
+fn watch_unsigned<K, P: Parts>(
     alloc: Global,
     provider: &mut Provider<P>,
     builder: AsyncInstrumentBuilder<K, u64, P>,
     skipped: u64,
-) -> Result<(), Fault> {
-    let builder = builder.with_callback(P::unsigned(alloc, skipped)?)?;
+) -> Result<(), Fault>
+where
+    P::ObserveU64: Counts,
+{
+    let builder = builder.with_callback(P::ObserveU64::counting(alloc, skipped)?)?;
     builder.build(provider, 170)?;
     Ok(())
 }
 
 /// Builds an observable instrument of signed values with a callback, which skips this many runs later.
-fn watch_signed<K, P: Watched>(
+fn watch_signed<K, P: Parts>(
     alloc: Global,
     provider: &mut Provider<P>,
     builder: AsyncInstrumentBuilder<K, i64, P>,
     skipped: u64,
-) -> Result<(), Fault> {
-    let builder = builder.with_callback(P::signed(alloc, skipped)?)?;
+) -> Result<(), Fault>
+where
+    P::ObserveI64: Counts,
+{
+    let builder = builder.with_callback(P::ObserveI64::counting(alloc, skipped)?)?;
     builder.build(provider, 170)?;
     Ok(())
 }
 
 /// Makes three observable instruments with a callback each, of which this many skip a run later.
-pub fn watch<P: Watched>(
-    alloc: Global,
-    provider: &mut Provider<P>,
-    ahead: u64,
-) -> Result<(), Fault> {
+pub fn watch<P: Parts>(alloc: Global, provider: &mut Provider<P>, ahead: u64) -> Result<(), Fault>
+where
+    P::ObserveU64: Counts,
+    P::ObserveI64: Counts,
+{
     let meter = provider.meter(METER)?;
     let runs = meter.u64_observable_counter(String::from_str(alloc, "runs")?);
     watch_unsigned(alloc, provider, runs, u64::from(ahead > 0))?;
@@ -108,12 +114,16 @@ fn build_full<K, T, P: Parts>(
 }
 
 /// Builds a synchronous instrument of this sort and name with all that can be set, or an observable one with a callback.
-fn build<P: Watched>(
+fn build<P: Parts>(
     alloc: Global,
     provider: &mut Provider<P>,
     sort: InstrumentSort,
     name: &str,
-) -> Result<(), Fault> {
+) -> Result<(), Fault>
+where
+    P::ObserveU64: Counts,
+    P::ObserveI64: Counts,
+{
     let meter = provider.meter(METER)?;
     let name = String::from_str(alloc, name)?;
     match sort {
@@ -176,13 +186,17 @@ fn spend<K, T: NumberType, P: Parts>(
 
 /// Makes a call by a method of the provider, of a builder, or of the instrument that has the streams of the one that the
 /// call names. A collection goes into `metrics`.
-pub fn make_typed<P: Watched>(
+pub fn make_typed<P: Parts>(
     alloc: Global,
     provider: &mut Provider<P>,
     instruments: &Instruments,
     call: &Call,
     metrics: &mut ResourceMetrics,
-) -> Result<(), Fault> {
+) -> Result<(), Fault>
+where
+    P::ObserveU64: Counts,
+    P::ObserveI64: Counts,
+{
     match call {
         Call::Build { sort, name, .. } => build(alloc, provider, *sort, name.as_str()),
         Call::Record {
