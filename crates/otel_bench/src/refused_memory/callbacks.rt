@@ -72,3 +72,27 @@ impl ObserveI64 for Counting {
         observe_twice(self.alloc, value, out)
     }
 }
+
+/// A callback that counts how often it has run.
+pub trait Counts: Sized {
+    /// Makes one that has not run and skips this many runs later.
+    fn counting(alloc: Global, skipped: u64) -> Result<Self, Fault>;
+}
+
+impl Counts for Counting {
+    fn counting(alloc: Global, skipped: u64) -> Result<Counting, Fault> {
+        Ok(Counting::new(alloc, skipped))
+    }
+}
+
+impl Counts for Box<dyn ObserveU64> {
+    fn counting(alloc: Global, skipped: u64) -> Result<Box<dyn ObserveU64>, Fault> {
+        Ok(Box::new(alloc, Counting::new(alloc, skipped))?)
+    }
+}
+
+impl Counts for Box<dyn ObserveI64> {
+    fn counting(alloc: Global, skipped: u64) -> Result<Box<dyn ObserveI64>, Fault> {
+        Ok(Box::new(alloc, Counting::new(alloc, skipped))?)
+    }
+}

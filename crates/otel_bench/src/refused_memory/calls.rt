@@ -1,10 +1,11 @@
 //! Makes the call under test at a provider.
 
-use crate::refused_memory::callbacks::Counting;
+use crate::refused_memory::callbacks::Counts;
 use crate::refused_memory::scenarios::unknown;
 use crate::refused_memory::set_up::calls_of;
 use crate::refused_memory::trials::Trial;
-use crate::refused_memory::typed::{Instruments, make_typed};
+use crate::refused_memory::typed::{Instruments, make_typed, record_arrays};
+use crate::refused_memory::values::exported;
 use anyhow::{Error, bail};
 use opentelemetry_sdk::common::Fault;
 use opentelemetry_sdk::metrics::data::ResourceMetrics;
@@ -19,14 +20,23 @@ pub fn answer_of(reply: Reply) -> Result<Reply, Fault> {
     }
 }
 
+/// A copy of a value.
+fn copied<T: Clone>(value: &T) -> Result<T, Fault> {
+    Ok(value.clone()?)
+}
+
 /// Makes the call under test, which is no run, between the marks.
-fn make<R: Print, P: Parts<ObserveU64 = Counting, ObserveI64 = Counting>>(
+fn make<R: Print, P: Parts>(
     trial: &mut Trial<R>,
     provider: &mut Provider<P>,
     instruments: &Instruments,
     calls: &mut Vec<Call>,
     metrics: &mut ResourceMetrics,
-) -> Result<(), Error> {
+) -> Result<(), Error>
+where
+    P::ObserveU64: Counts,
+    P::ObserveI64: Counts,
+{
     let scenario = trial.scenario;
     trial.begin(scenario.call)?;
     match scenario.call {
@@ -35,8 +45,18 @@ fn make<R: Print, P: Parts<ObserveU64 = Counting, ObserveI64 = Counting>>(
             Some(Call::Meter { scope }) => trial.take(provider.meter_with_scope(scope)),
             _ => bail!("a line asks for no meter"),
         },
+        "arrays" => {
+            let answer = record_arrays(trial.alloc, provider, instruments, 8);
+            trial.take(answer)
+        }
+        "export" => trial.take(exported(trial.alloc, scenario.word, metrics)),
+        "copy" if scenario.word == "collection" => trial.take(copied(metrics)),
+        "copy" => trial.take(copied(calls)),
         "timeout" => trial.take(provider.shutdown_with_timeout(Duration::from_secs(1))),
         word => match calls.as_slice() {
+            [Call::Collect { reader, now, .. }] if word == "collected" => {
+                trial.take(provider.collected(*reader, *now))
+            }
             [call] if word == "line" => trial.take(answer_of(provider.step(call))),
             [call] if matches!(word, "typed" | "collect") => {
                 let answer = make_typed(trial.alloc, provider, instruments, call, metrics);
@@ -88,13 +108,20 @@ fn write_steps<R, P: Parts>(
 }
 
 /// Makes the call under test, or at a twin what was not refused, and writes what is answered.
-pub fn write_call<R: Print, P: Parts<ObserveU64 = Counting, ObserveI64 = Counting>>(
+pub fn write_call<R: Print, P: Parts>(
     trial: &mut Trial<R>,
     provider: &mut Provider<P>,
     instruments: &Instruments,
-) -> Result<(), Error> {
+) -> Result<(), Error>
+where
+    P::ObserveU64: Counts,
+    P::ObserveI64: Counts,
+{
     let mut calls = calls_of(trial.alloc, trial.scenario.lines)?;
-    let mut metrics = provider.collected(0, 190)?;
+    let mut metrics = ResourceMetrics::default(trial.alloc);
+    if trial.scenario.place != "shut" {
+        provider.collect(0, 190, &mut metrics)?;
+    }
     let is_run = trial.scenario.call == "run";
     if is_run && trial.number.is_some() {
         write_run(trial, provider, calls.as_slice())?;

@@ -7,8 +7,8 @@ use opentelemetry_sdk::common::Fault;
 use opentelemetry_sdk::metrics::data::ResourceMetrics;
 use opentelemetry_sdk::metrics::provider::{Parts, Provider, Reply};
 
-/// Calls after the call under test: collections of each reader, records and binds of known and of new sets, and further
-/// collections.
+/// Calls after the call under test: collections of each reader, records and binds of known and of new sets, so that the
+/// room is used that a refused call may have made, and further collections.
 const LATER: &str = "\
 collect 0 250
 collect 1 250
@@ -46,6 +46,11 @@ record 14 u:100 a=i:1
 record 15 u:100 a=i:1
 record 16 u:100 a=i:1
 recordbound 3 u:100
+bind 1 b=i:7
+bind 2 b=i:7
+bind 4 b=i:7
+bind 5 b=i:7
+bind 13 b=i:7
 collect 0 400
 collect 1 400
 collect 2 400
@@ -76,7 +81,7 @@ fn write_lines<R, P: Parts>(
 }
 
 /// Writes what a provider answers later, and what it collects with callbacks.
-pub fn write_later<R, P: Parts>(
+pub fn write_later<R: Print, P: Parts>(
     trial: &mut Trial<R>,
     provider: &mut Provider<P>,
 ) -> Result<(), Error> {
@@ -87,5 +92,7 @@ pub fn write_later<R, P: Parts>(
         trial.write(&answer)?;
         trial.write(&metrics)?;
     }
-    write_lines(trial, provider, LAST)
+    write_lines(trial, provider, LAST)?;
+    trial.mark()?;
+    Ok(())
 }

@@ -1,38 +1,65 @@
 //! Runs of a scenario: the first with the call under test, and those at twins.
 
+use crate::refused_memory::aggregates::write_aggregate;
+use crate::refused_memory::callbacks::Counts;
 use crate::refused_memory::calls::write_call;
 use crate::refused_memory::later::write_later;
 use crate::refused_memory::scenarios::scenario_of;
-use crate::refused_memory::set_up::{CALLBACKS, build, fill, resource, settings};
+use crate::refused_memory::set_up::{
+    CALLBACKS, build, build_boxed, fill, resource, settings, view_of_all,
+};
 use crate::refused_memory::shared::share;
 use crate::refused_memory::trials::Trial;
 use crate::refused_memory::values::write_value;
 use anyhow::Error;
 use metrics_script::script_lines::script_of;
+use opentelemetry_sdk::common::Fault;
+use opentelemetry_sdk::metrics::provider::{Parts, Provider};
 use std::alloc::Global;
 use std::mem::replace;
 
-/// Builds a provider, of whose callbacks this many have run once more, makes the call under test there, and writes what it
+/// Makes the call under test at this provider, of whose callbacks this many have run once more, and writes what it
 /// answers, and what the provider answers later. If the provider was refused, nothing is written.
-fn write_at<R: Print>(trial: &mut Trial<R>, ahead: u64) -> Result<(), Error> {
-    let resource = resource(trial.alloc)?;
-    let settings = settings(trial.alloc, trial.scenario.place)?;
-    let script = script_of(trial.alloc, settings.as_str().as_bytes())?;
-    trial.begin("build")?;
-    let built = build(trial.alloc, resource, script);
+fn write_with<R: Print, P: Parts>(
+    trial: &mut Trial<R>,
+    built: Result<Provider<P>, Fault>,
+    ahead: u64,
+) -> Result<(), Error>
+where
+    P::ObserveU64: Counts,
+    P::ObserveI64: Counts,
+{
     trial.end("build")?;
     let mut provider = match built {
         Ok(provider) => provider,
         Err(fault) => return trial.refuse(fault),
     };
     let instruments = fill(trial.alloc, &mut provider, trial.scenario.place, ahead)?;
-    if trial.scenario.place == "shared" {
-        return share(provider, trial, &instruments);
-    }
     if trial.scenario.call != "build" {
         write_call(trial, &mut provider, &instruments)?;
     }
     write_later(trial, &mut provider)
+}
+
+/// Builds a provider, and writes what it answers.
+fn write_at<R: Print>(trial: &mut Trial<R>, ahead: u64) -> Result<(), Error> {
+    let alloc = trial.alloc;
+    let place = trial.scenario.place;
+    let resource = resource(alloc)?;
+    let settings = settings(alloc, place)?;
+    let script = script_of(alloc, settings.as_str().as_bytes())?;
+    if place == "shared" {
+        let mut provider = build(alloc, resource, script)?;
+        let instruments = fill(alloc, &mut provider, place, ahead)?;
+        return share(provider, trial, &instruments);
+    }
+    let view = view_of_all(alloc)?;
+    trial.begin("build")?;
+    if place == "boxed" {
+        let built = build_boxed(alloc, resource, script, view);
+        return write_with(trial, built, ahead);
+    }
+    write_with(trial, build(alloc, resource, script), ahead)
 }
 
 /// What is answered in a run, as text. If a provider could not be built, nothing is. A value that was refused is made
@@ -45,6 +72,8 @@ fn text_of_run<R: Print>(trial: &mut Trial<R>, ahead: u64) -> Result<String, Err
             trial.number = None;
             write_value(trial)?;
         }
+    } else if scenario.place == "aggregate" {
+        write_aggregate(trial)?;
     } else if !trial.is_refused || scenario.call != "build" {
         write_at(trial, ahead)?;
     }
@@ -54,7 +83,7 @@ fn text_of_run<R: Print>(trial: &mut Trial<R>, ahead: u64) -> Result<String, Err
 /// Whether a twin answers the same. If a collection was refused, some of the callbacks have run in it, in their order.
 fn has_twin<R: Print>(trial: &mut Trial<R>, text: &str) -> Result<bool, Error> {
     trial.number = None;
-    let is_collection = trial.scenario.call == "collect";
+    let is_collection = matches!(trial.scenario.call, "collect" | "collected");
     let most = if trial.is_refused && is_collection {
         CALLBACKS
     } else {

@@ -5,12 +5,15 @@ use anyhow::{Error, bail};
 /// A call under test, as the words of its line.
 ///
 /// At the place `provider`: `line` is the call of the lines by `step`, and `run` the calls of the lines by `run`; `meter`
-/// asks for the meter of a name, and `scope` by `meter_with_scope`; `collect` collects with callbacks; `typed` makes the
-/// call of the lines by a method, at instruments as values: a build with all that can be set, a record, or a handle that is
-/// bound, records and ends; `timeout` shuts down with a time limit; and `build` is the builder of a provider.
+/// asks for the meter of a name, and `scope` by `meter_with_scope`; `collect` collects with callbacks, `collected` into a
+/// new collection; `typed` makes the call of the lines by a method, at instruments as values: a build with all that can be
+/// set, a record, or a handle that is bound, records and ends; `arrays` records with arrays as values of attributes;
+/// `export` makes the text of a collection, and `copy` copies one or the lines; `timeout` shuts down with a time limit; and
+/// `build` is the builder of a provider.
 ///
-/// The place `alone` is such a provider with one reader, and `full` the same with an overflow entry of the first
-/// instrument. At the place `shared`, which is a shared provider with a worker: `line` and `collect`; `open` opens the
+/// The place `alone` is such a provider with one reader, `full` the same with an overflow entry of the first instrument,
+/// `shut` one that was shut down, and `boxed` one of boxes with a view more. The place `aggregate` is an aggregate without
+/// a provider that has two sets: `known` takes in a value for one of them, `measure` for a new one. At the place `shared`, which is a shared provider with a worker: `line` and `collect`; `open` opens the
 /// worker; `add` adds a record in some way to the records that wait; `submit`, of which every second, from the first, must
 /// not be refused, `submit_all` again and again until it is not refused, and `take_first` are of the records that wait;
 /// and `settle` leaves them. A value, at the place `value`, needs no provider.
@@ -93,6 +96,50 @@ maybe provider collect | collect 0 200
 maybe provider collect | collect 1 200
 maybe provider collect | collect 2 200
 maybe provider build
+maybe provider arrays
+maybe provider export prometheus
+maybe provider export openmetrics
+maybe provider export otlp
+maybe provider copy collection
+maybe provider copy calls | build 0 u64_histogram more 180 bounds=1,5 description=d;record 1 i:8 b=s:new,a=i:9;observe 6 u:30 a=i:1;collect 0 200
+maybe provider collected | collect 0 200
+maybe provider collected | collect 1 200
+maybe provider collected | collect 2 200
+maybe boxed build
+maybe boxed line | meter other 2.0
+maybe boxed line | build 0 u64_counter more 180 description=e
+maybe boxed line | build 0 u64_counter twice 180 description=e
+maybe boxed line | record 1 i:8 d=i:4,b=s:new,a=i:9
+maybe boxed line | record 5 u:8 z=i:9
+maybe boxed line | bind 2 z=i:9
+maybe boxed line | observe 6 u:30 a=i:1;observe 7 i:-3 a=i:1;collect 1 200
+maybe boxed run | record 0 u:8 z=i:9;meter other;build 1 u64_counter more 180;bind 13 y=i:9;collect 1 200
+maybe boxed typed | build 0 u64_counter more 180
+maybe boxed typed | build 0 u64_observable_counter more 180
+maybe boxed typed | build 0 i64_observable_gauge more 180
+maybe boxed typed | bind 1 b=s:new
+maybe boxed arrays
+maybe boxed collect | collect 0 200
+maybe boxed collect | collect 1 200
+maybe boxed collected | collect 1 200
+maybe shut line | build 0 u64_counter more 180 description=d
+maybe shut line | record 1 i:8 d=i:4,b=s:new,a=i:9
+maybe shut line | record 3 u:8 z=i:9
+maybe shut line | bind 2 z=i:9
+maybe shut run | record 0 u:8 z=i:9;meter other;bind 0 y=i:9;recordbound 3 u:1;unbind 3;collect 1 200;flush;shutdown
+maybe shut typed | bind 1 b=s:new
+maybe shut arrays
+maybe shut meter other
+maybe aggregate measure sum
+maybe aggregate measure observed
+maybe aggregate measure last
+maybe aggregate measure histogram
+maybe aggregate measure map
+maybe aggregate collect sum
+maybe aggregate collect observed
+maybe aggregate collect last
+maybe aggregate collect histogram
+maybe aggregate collect map
 maybe alone line | record 0 u:8 z=i:9
 maybe alone line | record 1 i:8 d=i:4,b=s:new,a=i:9
 maybe alone line | record 2 u:8 z=i:9,y=s:x
@@ -106,6 +153,9 @@ maybe value merged
 maybe value built
 maybe value scope
 maybe value canonical
+maybe value arrays
+maybe value attributes
+maybe value selected
 maybe shared line | meter other 2.0
 maybe shared line | build 0 u64_counter more 180 description=d unit=ms
 maybe shared line | build 0 u64_counter LIMITED 180
@@ -168,6 +218,28 @@ sure provider typed | record 2 u:8 -
 sure provider typed | flush
 sure provider typed | shutdown
 sure provider timeout | shutdown
+sure boxed line | record 0 u:8 -
+sure boxed line | record 1 i:8 c=i:3,b=i:1,a=s:x,a=i:4
+sure boxed line | recordbound 0 u:8
+sure boxed line | flush
+sure boxed line | shutdown
+sure boxed typed | record 2 u:8 -
+sure shut line | meter other
+sure shut line | record 0 u:8 -
+sure shut line | record 1 i:8 b=i:1,c=i:7,a=s:x,a=i:4
+sure shut line | recordbound 0 u:8
+sure shut line | unbind 0
+sure shut line | collect 1 200
+sure shut line | flush
+sure shut line | shutdown
+sure shut collect | collect 1 200
+sure shut collected | collect 1 200
+sure shut timeout
+sure aggregate known sum
+sure aggregate known observed
+sure aggregate known last
+sure aggregate known histogram
+sure aggregate known map
 sure alone line | record 0 u:8 -
 sure alone line | record 5 u:8 -
 sure alone line | record 0 u:8 a=i:1

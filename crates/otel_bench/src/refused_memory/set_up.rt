@@ -1,13 +1,18 @@
 //! The provider at which a call is tried, and its twin.
 
-use crate::refused_memory::callbacks::Counting;
-use crate::refused_memory::typed::{Instruments, instruments_at, watch};
+ghost use Rattle.std.specs.Prelude.{Some};
+
+use crate::refused_memory::callbacks::{Counting, Counts};
+use crate::refused_memory::typed::{Instruments, instruments_at, record_arrays, watch};
 use crate::scripts::{with_readers, with_views};
 use anyhow::{Error, bail};
 use metrics_script::script_lines::{Script, script_of};
 use opentelemetry_sdk::Resource;
 use opentelemetry_sdk::common::{Fault, KeyValue};
+use opentelemetry_sdk::metrics::SdkMeterProvider;
+use opentelemetry_sdk::metrics::instrument::{Instrument, Stream};
 use opentelemetry_sdk::metrics::provider::{Call, Parts, Plain, Provider, Reply};
+use opentelemetry_sdk::metrics::view::View;
 use std::alloc::Global;
 
 /// The parts of the provider, without boxes.
@@ -137,6 +142,45 @@ pub fn build(alloc: Global, resource: Resource, script: Script) -> Result<Provid
     with_views(with_readers(builder, readers)?, views)?.build()
 }
 
+/// A view of a program's own, which gives each instrument the same settings.
+#[derive(Drop)]
+pub struct Alike {
+    stream: Stream,
+}
+
+impl View for Alike {
+    ghost answer = { λ view _. Some view.stream };
+
+    fn match_inst(&self, _inst: &Instrument) -> Result<Option<Stream>, Fault> {
+        Ok(Some(self.stream.clone()?))
+    }
+}
+
+/// Makes a view that sets a description.
+pub fn view_of_all(alloc: Global) -> Result<Alike, Error> {
+    let description = String::from_str(alloc, "d")?;
+    let stream = Stream::builder().with_description(description).build()?;
+    Ok(Alike { stream })
+}
+
+/// Builds the same with boxes, and with a view more.
+pub fn build_boxed(
+    alloc: Global,
+    resource: Resource,
+    script: Script,
+    view: Alike,
+) -> Result<SdkMeterProvider, Fault> {
+    let Script { readers, views, .. } = script;
+    let mut builder = SdkMeterProvider::builder(alloc).with_resource(resource)?;
+    for reader in readers {
+        builder = builder.with_reader(Box::new(alloc, reader)?)?;
+    }
+    for view in views {
+        builder = builder.with_view(Box::new(alloc, view)?)?;
+    }
+    builder.with_view(Box::new(alloc, view)?)?.build()
+}
+
 /// Makes the calls of these lines, none of which may be refused.
 fn make_all<P: Parts>(alloc: Global, provider: &mut Provider<P>, lines: &str) -> Result<(), Error> {
     for call in &calls_of(alloc, lines)? {
@@ -148,13 +192,17 @@ fn make_all<P: Parts>(alloc: Global, provider: &mut Provider<P>, lines: &str) ->
 }
 
 /// Makes the calls that come first at a place, registers the callbacks, of which this many skip a run later, and runs each
-/// once. Returns instruments as values.
-pub fn fill<P: Parts<ObserveU64 = Counting, ObserveI64 = Counting>>(
+/// once. The last call at the place `shut` is a shutdown. Returns instruments as values.
+pub fn fill<P: Parts>(
     alloc: Global,
     provider: &mut Provider<P>,
     place: &str,
     ahead: u64,
-) -> Result<Instruments, Error> {
+) -> Result<Instruments, Error>
+where
+    P::ObserveU64: Counts,
+    P::ObserveI64: Counts,
+{
     let calls = first(alloc, place)?;
     make_all(alloc, provider, calls.as_str())?;
     watch(alloc, provider, ahead)?;
@@ -164,5 +212,10 @@ pub fn fill<P: Parts<ObserveU64 = Counting, ObserveI64 = Counting>>(
     if place == "full" {
         make_all(alloc, provider, PAST)?;
     }
-    Ok(instruments_at(alloc, provider)?)
+    let instruments = instruments_at(alloc, provider)?;
+    record_arrays(alloc, provider, &instruments, 3)?;
+    if place == "shut" {
+        provider.shutdown()?;
+    }
+    Ok(instruments)
 }

@@ -1,6 +1,7 @@
 //! Instruments as values.
 
-use crate::refused_memory::callbacks::Counting;
+use crate::refused_memory::callbacks::Counts;
+use crate::refused_memory::values::arrays;
 use opentelemetry_sdk::common::{Fault, KeyValue};
 use opentelemetry_sdk::metrics::data::ResourceMetrics;
 use opentelemetry_sdk::metrics::meter::{
@@ -44,36 +45,53 @@ pub fn instruments_at<P: Parts>(
     })
 }
 
+/// Makes arrays, and records a value with them.
+pub fn record_arrays<P: Parts>(
+    alloc: Global,
+    provider: &mut Provider<P>,
+    instruments: &Instruments,
+    value: i64,
+) -> Result<(), Fault> {
+    let attributes = arrays(alloc)?;
+    instruments.heat.record(provider, value, &attributes)
+}
+
 /// Builds an observable instrument of unsigned values with a callback, which skips this many runs later.
-fn watch_unsigned<K, P: Parts<ObserveU64 = Counting>>(
+fn watch_unsigned<K, P: Parts>(
     alloc: Global,
     provider: &mut Provider<P>,
     builder: AsyncInstrumentBuilder<K, u64, P>,
     skipped: u64,
-) -> Result<(), Fault> {
-    let builder = builder.with_callback(Counting::new(alloc, skipped))?;
+) -> Result<(), Fault>
+where
+    P::ObserveU64: Counts,
+{
+    let builder = builder.with_callback(P::ObserveU64::counting(alloc, skipped)?)?;
     builder.build(provider, 170)?;
     Ok(())
 }
 
 /// Builds an observable instrument of signed values with a callback, which skips this many runs later.
-fn watch_signed<K, P: Parts<ObserveI64 = Counting>>(
+fn watch_signed<K, P: Parts>(
     alloc: Global,
     provider: &mut Provider<P>,
     builder: AsyncInstrumentBuilder<K, i64, P>,
     skipped: u64,
-) -> Result<(), Fault> {
-    let builder = builder.with_callback(Counting::new(alloc, skipped))?;
+) -> Result<(), Fault>
+where
+    P::ObserveI64: Counts,
+{
+    let builder = builder.with_callback(P::ObserveI64::counting(alloc, skipped)?)?;
     builder.build(provider, 170)?;
     Ok(())
 }
 
 /// Makes three observable instruments with a callback each, of which this many skip a run later.
-pub fn watch<P: Parts<ObserveU64 = Counting, ObserveI64 = Counting>>(
-    alloc: Global,
-    provider: &mut Provider<P>,
-    ahead: u64,
-) -> Result<(), Fault> {
+pub fn watch<P: Parts>(alloc: Global, provider: &mut Provider<P>, ahead: u64) -> Result<(), Fault>
+where
+    P::ObserveU64: Counts,
+    P::ObserveI64: Counts,
+{
     let meter = provider.meter(METER)?;
     let runs = meter.u64_observable_counter(String::from_str(alloc, "runs")?);
     watch_unsigned(alloc, provider, runs, u64::from(ahead > 0))?;
@@ -96,12 +114,16 @@ fn build_full<K, T, P: Parts>(
 }
 
 /// Builds a synchronous instrument of this sort and name with all that can be set, or an observable one with a callback.
-fn build<P: Parts<ObserveU64 = Counting, ObserveI64 = Counting>>(
+fn build<P: Parts>(
     alloc: Global,
     provider: &mut Provider<P>,
     sort: InstrumentSort,
     name: &str,
-) -> Result<(), Fault> {
+) -> Result<(), Fault>
+where
+    P::ObserveU64: Counts,
+    P::ObserveI64: Counts,
+{
     let meter = provider.meter(METER)?;
     let name = String::from_str(alloc, name)?;
     match sort {
@@ -164,13 +186,17 @@ fn spend<K, T: NumberType, P: Parts>(
 
 /// Makes a call by a method of the provider, of a builder, or of the instrument that has the streams of the one that the
 /// call names. A collection goes into `metrics`.
-pub fn make_typed<P: Parts<ObserveU64 = Counting, ObserveI64 = Counting>>(
+pub fn make_typed<P: Parts>(
     alloc: Global,
     provider: &mut Provider<P>,
     instruments: &Instruments,
     call: &Call,
     metrics: &mut ResourceMetrics,
-) -> Result<(), Fault> {
+) -> Result<(), Fault>
+where
+    P::ObserveU64: Counts,
+    P::ObserveI64: Counts,
+{
     match call {
         Call::Build { sort, name, .. } => build(alloc, provider, *sort, name.as_str()),
         Call::Record {

@@ -4,12 +4,16 @@ use crate::refused_memory::scenarios::unknown;
 use crate::refused_memory::set_up::resource;
 use crate::refused_memory::trials::Trial;
 use anyhow::Error;
-use opentelemetry_sdk::Resource;
 use opentelemetry_sdk::common::{
-    Fault, InstrumentationScope, Key, KeyValue, StringValue, Value, canonical,
+    Array, Fault, InstrumentationScope, Items, Key, KeyValue, StringValue, Value, canonical,
 };
+use opentelemetry_sdk::exporter::otlp::request_line;
+use opentelemetry_sdk::exporter::prometheus::{Format, Settings, exposition_of};
+use opentelemetry_sdk::metrics::data::ResourceMetrics;
+use opentelemetry_sdk::metrics::instrument::{InstrumentSelector, SelectorView};
 use opentelemetry_sdk::metrics::reader::CardinalityLimit;
 use opentelemetry_sdk::metrics::{Aggregation, InstrumentKind, ManualReader, Stream, Temporality};
+use opentelemetry_sdk::{Resource, attributes};
 use std::alloc::Global;
 
 /// Attributes with keys in no order, of which one occurs twice.
@@ -57,6 +61,57 @@ fn scope(alloc: Global) -> Result<InstrumentationScope, Fault> {
 /// The canonical form of attributes with keys in no order.
 fn sorted(alloc: Global) -> Result<Vec<KeyValue>, Fault> {
     canonical(alloc, unsorted(alloc)?.as_slice())
+}
+
+/// Attributes whose values are an array of each type.
+pub fn arrays(alloc: Global) -> Result<[KeyValue; 3], Fault> {
+    let flags = Items::from(vec![in alloc; true, false]?);
+    let numbers = Items::from(vec![in alloc; 1, -2]?);
+    let mut texts = Vec::new(alloc);
+    texts.push(StringValue::new(alloc, "x")?)?;
+    let texts = Items::from(texts);
+    Ok([
+        KeyValue::new(Key::new(alloc, "flags")?, Value::Array(Array::Bool(flags))),
+        KeyValue::new(
+            Key::new(alloc, "numbers")?,
+            Value::Array(Array::I64(numbers)),
+        ),
+        KeyValue::new(
+            Key::new(alloc, "texts")?,
+            Value::Array(Array::String(texts)),
+        ),
+    ])
+}
+
+/// Attributes that are written out.
+fn written(alloc: Global) -> Result<[KeyValue; 3], Fault> {
+    Ok(attributes![in alloc; "path" => "/cart", "items" => 3i64, "paid" => true])
+}
+
+/// The text of a collection by the exporter of this name.
+pub fn exported(
+    alloc: Global,
+    exporter: &str,
+    collected: &ResourceMetrics,
+) -> Result<Vec<u8>, Fault> {
+    let format = match exporter {
+        "otlp" => return Ok(request_line(alloc, collected)?),
+        "prometheus" => Format::Prometheus,
+        _ => Format::OpenMetrics,
+    };
+    Ok(exposition_of(alloc, Settings::new(format), collected)?.text)
+}
+
+/// Whether a view that is made for a name selects that name.
+fn selected(alloc: Global) -> Result<bool, Fault> {
+    let Ok(stream) = Stream::builder().build() else {
+        return Err(Fault::WrongNumber);
+    };
+    let view = SelectorView::of_name(alloc, "more", stream)?;
+    match &view.selector {
+        InstrumentSelector::Name(name) => Ok(name.as_str() == "more"),
+        _ => Ok(false),
+    }
 }
 
 /// Says that an aggregation is a histogram.
@@ -115,6 +170,9 @@ pub fn write_value<R: Print>(trial: &mut Trial<R>) -> Result<(), Error> {
         "merged" => trial.take(merged(trial.alloc)),
         "built" => trial.take(built(trial.alloc)),
         "scope" => trial.take(scope(trial.alloc)),
+        "arrays" => trial.take(arrays(trial.alloc)),
+        "attributes" => trial.take(written(trial.alloc)),
+        "selected" => trial.take(selected(trial.alloc)),
         "canonical" => trial.take(sorted(trial.alloc)),
         word => unknown(word),
     }
