@@ -24,7 +24,7 @@ use Rattle.otel_data.specs.declared.points.HistogramDataPoint.{HistogramDataPoin
 use Rattle.otel_otlp.specs.Arrays.{items_from, array_of, optional}
 use Rattle.otel_otlp.specs.Attributes.{bool_json, integer_json, string_json, items_json, value_json, attribute_json, attributes_json}
 use Rattle.otel_otlp.specs.Numbers.{quoted, whole, value_member}
-use Rattle.otel_otlp.specs.Points.{temporality_json, number_point_json, gauge_point_json, sum_point_json, histogram_point_json, data_members}
+use Rattle.otel_otlp.specs.Points.{temporality_json, number_point_json, gauge_point_json, sum_point_json, histogram_point_json, kept_sum, buckets, extremes, data_members}
 use Rattle.otel_otlp.specs.Requests.{points_members, metric_json, scope_json, scope_metrics_json, resource_metrics_json, request_of}
 
 items_within : {A : Type 0} (f : A → Json) (k : ℕ) → ((x : A) → depth (f x) ≤ k) → (xs : List A) → items_depth (items_from (map f xs)) ≤ k
@@ -72,11 +72,10 @@ module _ {T : Type 0} (integer : T → ℤ) where
   number_point_within : (start time : ℕ) (attributes : List KeyValue) (value : T) → depth (number_point_json integer start time attributes value) ≤ 7
   number_point_within start time attributes value = omega (arith, attributes_within attributes, value_member_within (integer value) no_members 0 (omega arith))
 
-  histogram_point_within : (start time : ℕ) (p : HistogramDataPoint T) → depth (histogram_point_json integer start time p) ≤ 7
-  histogram_point_within start time p =
+  spread_within : (p : HistogramDataPoint T) → members_depth (buckets p.bucket_counts p.bounds (extremes (option_map integer p.min) (option_map integer p.max) no_members)) ≤ 1
+  spread_within p =
       omega (
         arith,
-        attributes_within p.attributes,
         array_within quoted 0 (λ n. omega arith) p.bucket_counts,
         array_within whole 0 (λ z. omega arith) p.bounds,
         optional_within whole (λ m. omega arith) (codes "min") (option_map integer p.min)
@@ -84,12 +83,20 @@ module _ {T : Type 0} (integer : T → ℤ) where
             (optional_within whole (λ m. omega arith) (codes "max") (option_map integer p.max) no_members 0 (omega arith)),
       )
 
+  histogram_point_within : (has_sum : Bool) (start time : ℕ) (p : HistogramDataPoint T) → depth (histogram_point_json integer has_sum start time p) ≤ 7
+  histogram_point_within has_sum start time p =
+      omega (
+        arith,
+        attributes_within p.attributes,
+        optional_within whole (λ m. omega arith) (codes "sum") (kept_sum has_sum (integer p.sum)) (buckets p.bucket_counts p.bounds (extremes (option_map integer p.min) (option_map integer p.max) no_members)) 1 (spread_within p),
+      )
+
   data_within : (points : MetricData T) → members_depth (data_members integer points) ≤ 9
   data_within (kinds.Gauge g) = omega (arith, array_within (gauge_point_json integer g.start_time g.time) 7 (λ p. number_point_within g.start_time g.time p.attributes p.value) g.data_points)
   data_within (kinds.Sum s) =
       omega (arith, temporality_within s.temporality, array_within (sum_point_json integer s.start_time s.time) 7 (λ p. number_point_within s.start_time s.time p.attributes p.value) s.data_points)
   data_within (kinds.Histogram h) =
-      omega (arith, temporality_within h.temporality, array_within (histogram_point_json integer h.start_time h.time) 7 (histogram_point_within h.start_time h.time) h.data_points)
+      omega (arith, temporality_within h.temporality, array_within (histogram_point_json integer h.has_sum h.start_time h.time) 7 (histogram_point_within h.has_sum h.start_time h.time) h.data_points)
 
 -- ======== requests ========
 points_within : (d : AggregatedMetrics) → members_depth (points_members d) ≤ 9

@@ -96,18 +96,33 @@ module _ {T : Type 0} (number : T → ℤ) where
   sum_says start time s t p h =
       λ i. applied (applied (applied (option_map (λ a x y v. record { attributes = a; start = x; time = y; amount = v }) (attributes_say p.attributes h.attributes i)) (natural_reads start s i)) (natural_reads time t i)) (amount_says (number p.value) h.value i)
 
-  histogram_says : (start time : ℕ) → FitsNatural start → FitsNatural time → (p : HistogramDataPoint T) → FitsHistogram number p → spread_in (histogram_point_json number start time p) ≡ Some (spread_point number start time p)
-  histogram_says start time s t p h =
-      λ i. applied (applied (applied (applied (applied (applied (applied (applied
-      (option_map (λ a x y c z cs bs l g. record { attributes = a; start = x; time = y; count = c; sum = z; counts = cs; bounds = bs; min = l; max = g }) (attributes_say p.attributes h.attributes i))
-      (natural_reads start s i)) (natural_reads time t i)) (natural_reads p.count h.count i)) (integer_reads (number p.sum) h.sum i))
-      (counts i)) (bounds i)) (least_says p.min p.max h.min i)) (greatest_says p.min p.max h.max i)
-    where
-      counts : all_in natural_in (array_of quoted p.bucket_counts) ≡ Some p.bucket_counts
-      counts = each_itself quoted natural_in FitsNatural natural_reads p.bucket_counts h.counts
+  -- a sum that isn't kept is not read
+  no_sum_says : (low high : Option T) → or_absent double_in (member_at (codes "sum") (extremes (option_map number low) (option_map number high) no_members)) ≡ Some None
+  no_sum_says None None = refl
+  no_sum_says None (Some y) = refl
+  no_sum_says (Some x) None = refl
+  no_sum_says (Some x) (Some y) = refl
 
-      bounds : all_in double_in (array_of whole p.bounds) ≡ Some p.bounds
-      bounds = each_itself whole double_in FitsInteger integer_reads p.bounds h.bounds
+  counts_say : (p : HistogramDataPoint T) → FitsHistogram number p → all_in natural_in (array_of quoted p.bucket_counts) ≡ Some p.bucket_counts
+  counts_say p h = each_itself quoted natural_in FitsNatural natural_reads p.bucket_counts h.counts
+
+  bounds_say : (p : HistogramDataPoint T) → FitsHistogram number p → all_in double_in (array_of whole p.bounds) ≡ Some p.bounds
+  bounds_say p h = each_itself whole double_in FitsInteger integer_reads p.bounds h.bounds
+
+  -- what a reader makes of the parts of a point
+  abbrev joined_spread : Option (List Attribute) → Option ℕ → Option ℕ → Option ℕ → Option (Option ℤ) → Option (List ℕ) → Option (List ℤ) → Option (Option ℤ) → Option (Option ℤ) → Option SpreadPoint
+  joined_spread attributes start time count total counts bounds least most =
+      applied (applied (applied (applied (applied (applied (applied (applied
+      (option_map (λ a x y c z cs bs l g. record { attributes = a; start = x; time = y; count = c; sum = z; counts = cs; bounds = bs; min = l; max = g }) attributes)
+      start) time) count) total) counts) bounds) least) most
+
+  histogram_says : (has_sum : Bool) (start time : ℕ) → FitsNatural start → FitsNatural time → (p : HistogramDataPoint T) → FitsHistogram number p → spread_in (histogram_point_json number has_sum start time p) ≡ Some (spread_point number has_sum start time p)
+  histogram_says false start time s t p h =
+      λ i. joined_spread (attributes_say p.attributes h.attributes i) (natural_reads start s i) (natural_reads time t i) (natural_reads p.count h.count i) (no_sum_says p.min p.max i)
+      (counts_say p h i) (bounds_say p h i) (least_says p.min p.max h.min i) (greatest_says p.min p.max h.max i)
+  histogram_says true start time s t p h =
+      λ i. joined_spread (attributes_say p.attributes h.attributes i) (natural_reads start s i) (natural_reads time t i) (natural_reads p.count h.count i) (option_map (λ z. Some z) (integer_reads (number p.sum) h.sum i))
+      (counts_say p h i) (bounds_say p h i) (least_says p.min p.max h.min i) (greatest_says p.min p.max h.max i)
 
   data_says : (d : MetricData T) → FitsData number d → points_in (data_members number d) ≡ Some (data_points number d)
   data_says (aggregations.Gauge g) h =
@@ -118,7 +133,7 @@ module _ {T : Type 0} (number : T → ℤ) where
       (temporality_says s.temporality i)) (Some s.is_monotonic)
   data_says (aggregations.Histogram g) h =
       λ i. applied (option_map (λ ps t. histogram ps t)
-      (each_says (histogram_point_json number g.start_time g.time) spread_in (spread_point number g.start_time g.time) (FitsHistogram number) (histogram_says g.start_time g.time h.start_fits h.time_fits) g.data_points h.points_fit i))
+      (each_says (histogram_point_json number g.has_sum g.start_time g.time) spread_in (spread_point number g.has_sum g.start_time g.time) (FitsHistogram number) (histogram_says g.has_sum g.start_time g.time h.start_fits h.time_fits) g.data_points h.points_fit i))
       (temporality_says g.temporality i)
 
 -- ======== collections ========

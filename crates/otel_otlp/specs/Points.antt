@@ -1,5 +1,5 @@
 -- The points of a metric as OTLP in JSON.
-use Rattle.std.specs.Prelude.{ℕ, ℤ, pos, List, Option, codes}
+use Rattle.std.specs.Prelude.{ℕ, ℤ, pos, Bool, true, false, List, Option, Some, None, codes}
 use Rattle.std.specs.Option.{option_map}
 use Rattle.json.specs.Json.{Json, boolean, object, Members, no_members, member}
 use Rattle.otel_common.specs.declared.attributes.KeyValue.{KeyValue}
@@ -31,9 +31,14 @@ moments start time rest = member (codes "startTimeUnixNano") (quoted start) (mem
 abbrev pub point_members : List KeyValue → ℕ → ℕ → Members → Members
 point_members attributes start time rest = member (codes "attributes") (attributes_json attributes) (moments start time rest)
 
--- how many values a histogram has, and their sum
-abbrev pub totals : ℕ → ℤ → Members → Members
-totals count sum rest = member (codes "count") (quoted count) (member (codes "sum") (whole sum) rest)
+-- the sum of a point, if sums are kept
+abbrev pub kept_sum : Bool → ℤ → Option ℤ
+kept_sum false sum = None
+kept_sum true sum = Some sum
+
+-- how many values a histogram has, and their sum, where it is kept
+abbrev pub totals : ℕ → Option ℤ → Members → Members
+totals count sum rest = member (codes "count") (quoted count) (optional (codes "sum") (option_map whole sum) rest)
 
 -- the buckets of a histogram
 abbrev pub buckets : List ℕ → List ℤ → Members → Members
@@ -53,10 +58,10 @@ module _ {T : Type 0} (integer : T → ℤ) where
   abbrev pub sum_point_json : ℕ → ℕ → SumDataPoint T → Json
   sum_point_json start time p = number_point_json start time p.attributes p.value
 
-  abbrev pub histogram_point_json : ℕ → ℕ → HistogramDataPoint T → Json
-  histogram_point_json start time p =
+  abbrev pub histogram_point_json : Bool → ℕ → ℕ → HistogramDataPoint T → Json
+  histogram_point_json has_sum start time p =
       object (point_members p.attributes start time
-      (totals p.count (integer p.sum)
+      (totals p.count (kept_sum has_sum (integer p.sum))
       (buckets p.bucket_counts p.bounds
       (extremes (option_map integer p.min) (option_map integer p.max) no_members))))
 
@@ -71,7 +76,7 @@ module _ {T : Type 0} (integer : T → ℤ) where
 
   abbrev pub histogram_json : Histogram T → Json
   histogram_json h =
-      object (member (codes "dataPoints") (array_of (histogram_point_json h.start_time h.time) h.data_points)
+      object (member (codes "dataPoints") (array_of (histogram_point_json h.has_sum h.start_time h.time) h.data_points)
       (member (codes "aggregationTemporality") (temporality_json h.temporality) no_members))
 
   -- the points under the name of their aggregation

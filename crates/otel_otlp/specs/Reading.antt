@@ -178,7 +178,7 @@ abbrev pub spread_of : Members → Option SpreadPoint
 spread_of ms =
     applied (applied (applied (applied (applied (applied (applied (applied
     (option_map (λ a s t c z cs bs l h. record { attributes = a; start = s; time = t; count = c; sum = z; counts = cs; bounds = bs; min = l; max = h }) (attributes_in ms))
-    (field natural_in (codes "startTimeUnixNano") ms)) (field natural_in (codes "timeUnixNano") ms)) (field natural_in (codes "count") ms)) (field double_in (codes "sum") ms))
+    (field natural_in (codes "startTimeUnixNano") ms)) (field natural_in (codes "timeUnixNano") ms)) (field natural_in (codes "count") ms)) (optional_field double_in (codes "sum") ms))
     (field (all_in natural_in) (codes "bucketCounts") ms)) (field (all_in double_in) (codes "explicitBounds") ms)) (optional_field double_in (codes "min") ms)) (optional_field double_in (codes "max") ms)
 
 abbrev pub spread_in : Json → Option SpreadPoint

@@ -1,6 +1,6 @@
 -- What a request says of a collection. Numbers are integers, whatever their type: the protocol does not tell an unsigned
 -- integer from a signed one. An array is a list of values: an empty one has no type.
-use Rattle.std.specs.Prelude.{ℕ, ℤ, pos, List, Bool, Option, map}
+use Rattle.std.specs.Prelude.{ℕ, ℤ, pos, List, Bool, cond, Option, Some, None, map}
 use Rattle.std.specs.Option.{option_map}
 use Rattle.otel_common.specs.declared.attributes.Array.{Array}
 use Rattle.otel_common.specs.declared.attributes.Array.TheVariants as arrays
@@ -44,7 +44,7 @@ pub record SpreadPoint : Type 0 where
   pub start : ℕ
   pub time : ℕ
   pub count : ℕ
-  pub sum : ℤ
+  pub sum : Option ℤ
   pub counts : List ℕ
   pub bounds : List ℤ
   pub min : Option ℤ
@@ -98,13 +98,14 @@ module _ {T : Type 0} (whole : T → ℤ) where
   abbrev pub sum_point : ℕ → ℕ → SumDataPoint T → NumberPoint
   sum_point start time p = record { attributes = attributes_of p.attributes; start = start; time = time; amount = whole p.value }
 
-  abbrev pub spread_point : ℕ → ℕ → HistogramDataPoint T → SpreadPoint
-  spread_point start time p = record {
+  -- the sum is said where it is kept
+  abbrev pub spread_point : Bool → ℕ → ℕ → HistogramDataPoint T → SpreadPoint
+  spread_point has_sum start time p = record {
     attributes = attributes_of p.attributes;
     start = start;
     time = time;
     count = p.count;
-    sum = whole p.sum;
+    sum = cond has_sum (Some (whole p.sum)) None;
     counts = p.bucket_counts;
     bounds = p.bounds;
     min = option_map whole p.min;
@@ -114,7 +115,7 @@ module _ {T : Type 0} (whole : T → ℤ) where
   abbrev pub data_points : MetricData T → Points
   data_points (aggregations.Gauge g) = gauge (map (gauge_point g.start_time g.time) g.data_points)
   data_points (aggregations.Sum s) = sum (map (sum_point s.start_time s.time) s.data_points) s.temporality s.is_monotonic
-  data_points (aggregations.Histogram h) = histogram (map (spread_point h.start_time h.time) h.data_points) h.temporality
+  data_points (aggregations.Histogram h) = histogram (map (spread_point h.has_sum h.start_time h.time) h.data_points) h.temporality
 
 abbrev pub points_of : AggregatedMetrics → Points
 points_of (number_types.U64 d) = data_points pos d

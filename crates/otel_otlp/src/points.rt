@@ -1,13 +1,13 @@
 //! Points.
 
-ghost use Rattle.std.specs.Prelude.{◌≡◌, ◌++◌, ◌∷◌, ℕ, OnOk, pos};
+ghost use Rattle.std.specs.Prelude.{◌≡◌, ◌++◌, ◌∷◌, ℕ, Bool, OnOk, pos};
 ghost use Rattle.std.specs.Option.{option_map};
 ghost use Rattle.json.specs.Json.{Json, no_members};
 ghost use Rattle.json.specs.Token.{begin_object};
 ghost use Rattle.json.specs.Tree.{json_tokens};
 ghost use Rattle.otel_otlp.specs.Arrays.{array_of, members_front, optional};
 ghost use Rattle.otel_otlp.specs.Numbers.{quoted, whole};
-ghost use Rattle.otel_otlp.specs.Points.{number_point_json, gauge_point_json, sum_point_json, histogram_point_json, gauge_json, sum_json, histogram_json, point_members, temporality_json, totals};
+ghost use Rattle.otel_otlp.specs.Points.{number_point_json, gauge_point_json, sum_point_json, histogram_point_json, gauge_json, sum_json, histogram_json, kept_sum, point_members, temporality_json, totals};
 
 use crate::items::{Item, write_items};
 use crate::numbers::Number;
@@ -79,20 +79,8 @@ fn write_bounds(out: &mut Writer, bounds: &[i64]) -> Result<(), AllocError>
     Ok(())
 }
 
-/// Writes how many values there are, and their sum.
-fn write_totals<T: Number>(out: &mut Writer, count: u64, sum: T) -> Result<(), AllocError>
-    ensures tokens { OnOk result (out.new.tokens ≡ out.old.tokens ++ members_front (totals count (T.integer sum) no_members)) }
-    ensures before { out.new.before ≡ out.old.before }
-{
-    out.key("count")?;
-    out.quoted_u64(count)?;
-    out.key("sum")?;
-    sum.write_whole(out)?;
-    Ok(())
-}
-
 /// Writes a number under a name, if there is one.
-fn write_extreme<T: Number>(
+fn write_optional<T: Number>(
     out: &mut Writer,
     name: &str,
     number: Option<T>,
@@ -110,24 +98,43 @@ fn write_extreme<T: Number>(
     }
 }
 
+/// The sum of a point, if sums are kept.
+fn kept_sum<T: Number>(point: &HistogramDataPoint<T>, has_sum: bool) -> Option<T>
+    ensures { option_map T.integer result ≡ kept_sum has_sum (T.integer point.now.sum) }
+{
+    if has_sum { Some(point.sum()) } else { None }
+}
+
+/// Writes how many values there are, and their sum, if it is kept.
+fn write_totals<T: Number>(out: &mut Writer, count: u64, sum: Option<T>) -> Result<(), AllocError>
+    ensures tokens { OnOk result (out.new.tokens ≡ out.old.tokens ++ members_front (totals count (option_map T.integer sum) no_members)) }
+    ensures before { out.new.before ≡ out.old.before }
+{
+    out.key("count")?;
+    out.quoted_u64(count)?;
+    write_optional(out, "sum", sum)?;
+    Ok(())
+}
+
 /// Writes a point of a histogram.
 fn write_histogram_point<T: Number>(
     out: &mut Writer,
+    has_sum: bool,
     start: u64,
     time: u64,
     point: &HistogramDataPoint<T>,
 ) -> Result<(), AllocError>
-    ensures tokens { OnOk result (out.new.tokens ≡ out.old.tokens ++ json_tokens (histogram_point_json T.integer start time point.now)) }
+    ensures tokens { OnOk result (out.new.tokens ≡ out.old.tokens ++ json_tokens (histogram_point_json T.integer has_sum start time point.now)) }
     ensures before { out.new.before ≡ out.old.before }
 {
     begin_point(out, point.attributes().as_slice(), start, time)?;
-    write_totals(out, point.count(), point.sum())?;
+    write_totals(out, point.count(), kept_sum(point, has_sum))?;
     out.key("bucketCounts")?;
     write_items(out, point.bucket_counts().as_slice())?;
     out.key("explicitBounds")?;
     write_bounds(out, point.bounds().as_slice())?;
-    write_extreme(out, "min", point.min())?;
-    write_extreme(out, "max", point.max())?;
+    write_optional(out, "min", point.min())?;
+    write_optional(out, "max", point.max())?;
     out.end_object()?;
     Ok(())
 }
@@ -145,54 +152,79 @@ fn temporality_number(temporality: Temporality) -> u64
 
 /// A point of a metric.
 trait Point {
-    /// The point as JSON, with the start and the moment of its metric.
-    ghost json: { ℕ → ℕ → Self → Json };
+    /// The point as JSON, with the start and the moment of its metric; of a histogram it has a sum if sums are kept.
+    ghost json: { Bool → ℕ → ℕ → Self → Json };
 
     /// Writes the point.
-    fn write(&self, out: &mut Writer, start: u64, time: u64) -> Result<(), AllocError>
-        ensures tokens { OnOk result (out.new.tokens ≡ out.old.tokens ++ json_tokens (json start time self.now)) }
+    fn write(
+        &self,
+        out: &mut Writer,
+        has_sum: bool,
+        start: u64,
+        time: u64,
+    ) -> Result<(), AllocError>
+        ensures tokens { OnOk result (out.new.tokens ≡ out.old.tokens ++ json_tokens (json has_sum start time self.now)) }
         ensures before { out.new.before ≡ out.old.before };
 }
 
 impl<T: Number> Point for GaugeDataPoint<T> {
-    ghost json = { λ start time p. gauge_point_json T.integer start time p };
+    ghost json = { λ _ start time p. gauge_point_json T.integer start time p };
 
-    fn write(&self, out: &mut Writer, start: u64, time: u64) -> Result<(), AllocError> {
+    fn write(
+        &self,
+        out: &mut Writer,
+        _has_sum: bool,
+        start: u64,
+        time: u64,
+    ) -> Result<(), AllocError> {
         let attributes = self.attributes().as_slice();
         write_number_point(out, attributes, start, time, self.value())
     }
 }
 
 impl<T: Number> Point for SumDataPoint<T> {
-    ghost json = { λ start time p. sum_point_json T.integer start time p };
+    ghost json = { λ _ start time p. sum_point_json T.integer start time p };
 
-    fn write(&self, out: &mut Writer, start: u64, time: u64) -> Result<(), AllocError> {
+    fn write(
+        &self,
+        out: &mut Writer,
+        _has_sum: bool,
+        start: u64,
+        time: u64,
+    ) -> Result<(), AllocError> {
         let attributes = self.attributes().as_slice();
         write_number_point(out, attributes, start, time, self.value())
     }
 }
 
 impl<T: Number> Point for HistogramDataPoint<T> {
-    ghost json = { λ start time p. histogram_point_json T.integer start time p };
+    ghost json = { λ has_sum start time p. histogram_point_json T.integer has_sum start time p };
 
-    fn write(&self, out: &mut Writer, start: u64, time: u64) -> Result<(), AllocError> {
-        write_histogram_point(out, start, time, self)
+    fn write(
+        &self,
+        out: &mut Writer,
+        has_sum: bool,
+        start: u64,
+        time: u64,
+    ) -> Result<(), AllocError> {
+        write_histogram_point(out, has_sum, start, time, self)
     }
 }
 
-/// Writes points, which have this start and this moment.
+/// Writes points, which have this start and this moment, and those of histograms a sum if sums are kept.
 fn write_points<P: Point>(
     out: &mut Writer,
+    has_sum: bool,
     start: u64,
     time: u64,
     points: &[P],
 ) -> Result<(), AllocError>
-    ensures tokens { OnOk result (out.new.tokens ≡ out.old.tokens ++ json_tokens (array_of (P.json start time) points.now)) }
+    ensures tokens { OnOk result (out.new.tokens ≡ out.old.tokens ++ json_tokens (array_of (P.json has_sum start time) points.now)) }
     ensures before { out.new.before ≡ out.old.before }
 {
     out.begin_array()?;
     for point in points {
-        point.write(out, start, time)?;
+        point.write(out, has_sum, start, time)?;
     }
     out.end_array()?;
     Ok(())
@@ -205,7 +237,8 @@ pub(crate) fn write_gauge<T: Number>(out: &mut Writer, gauge: &Gauge<T>) -> Resu
 {
     let start = gauge.start_time().unwrap_or(0);
     write_parts(out, &[Part::BeginObject, Part::Key("dataPoints")])?;
-    write_points(out, start, gauge.time(), gauge.data_points().as_slice())?;
+    let points = gauge.data_points().as_slice();
+    write_points(out, false, start, gauge.time(), points)?;
     out.end_object()?;
     Ok(())
 }
@@ -218,6 +251,7 @@ pub(crate) fn write_sum<T: Number>(out: &mut Writer, sum: &Sum<T>) -> Result<(),
     write_parts(out, &[Part::BeginObject, Part::Key("dataPoints")])?;
     write_points(
         out,
+        false,
         sum.start_time(),
         sum.time(),
         sum.data_points().as_slice(),
@@ -246,6 +280,7 @@ pub(crate) fn write_histogram<T: Number>(
     write_parts(out, &[Part::BeginObject, Part::Key("dataPoints")])?;
     write_points(
         out,
+        histogram.has_sum(),
         histogram.start_time(),
         histogram.time(),
         histogram.data_points().as_slice(),

@@ -15,3 +15,4 @@ pub mod TextLemmas
 pub mod UnitLemmas
 pub mod Valid
 pub mod Whole
+mod ValueLemmas

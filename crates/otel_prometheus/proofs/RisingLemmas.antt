@@ -1,19 +1,20 @@
 -- Where the names of attributes rise, their labels stand as they do, around those of the scope.
-use Rattle.std.proofs.Common.{◌≡◌, ℕ, suc, ◌+◌, ◌<◌, ◌≤◌, ◌&&◌, Bool, true, false, cond, List, [], ◌∷◌, ◌++◌, Option, Some, None, map, take, drop, length, slice_set, slice_index_or, codes, refl, sym, ap, subst, ◌∙◌, append_assoc, append-nil, add_assoc, add-one, one-add, drop-cons, length-append, arith}
+use Rattle.std.proofs.Common.{◌≡◌, ℕ, suc, ◌+◌, ◌<◌, ◌≤◌, ◌&&◌, Bool, true, false, cond, List, [], ◌∷◌, ◌++◌, Option, Some, None, map, filter, fold, take, drop, length, slice_set, slice_index_or, codes, refl, sym, ap, subst, ◌∙◌, append_assoc, append-nil, add_assoc, add-one, one-add, drop-cons, length-append, arith}
 use Rattle.std.specs.Cmp.Lexicographic.{slice_cmp}
-use Rattle.std.specs.Ordering.{nat_cmp, is_lt, ordering_reverse}
+use Rattle.std.specs.Ordering.{nat_cmp, is_lt, ordering_reverse, ordering_then}
 use Rattle.std.specs.declared.cmp.Ordering.{Ordering}
 use Rattle.std.specs.declared.cmp.Ordering.TheVariants.{Less, Equal, Greater}
 use Rattle.std.proofs.lemmas.Bool.{true≢false}
 use Rattle.std.proofs.lemmas.Cmp.{nat_list_cmp_total}
 use Rattle.std.proofs.lemmas.Grind.{fold-append, flat_map-append}
 use Rattle.std.proofs.lemmas.List.{take-append-drop, take-map, drop-map, length-map}
+use Rattle.std.proofs.lemmas.List.Elements.{filter-append}
 use Rattle.otel_common.specs.declared.attributes.KeyValue.{KeyValue}
 use Rattle.otel_common.specs.declared.scopes.InstrumentationScope.{InstrumentationScope}
-use Rattle.otel_prometheus.specs.Names.{name_of}
+use Rattle.otel_prometheus.specs.Names.{name_bytes, name_of}
 use Rattle.otel_prometheus.specs.Samples.{Pair, escaped, is_label_byte, label_text, more_labels_text, labels_text}
-use Rattle.otel_prometheus.specs.Labels.{own_name, placed, with_label, label_of, with_attributes, text_label, version_label, scope_labels, point_labels}
-use Rattle.otel_prometheus.specs.Rising.{name_in, rises, count_below, place_of_scope, comma_texts, named, front_texts, value_front}
+use Rattle.otel_prometheus.specs.Labels.{own_name, placed, with_label, label_of, with_attributes, text_label, optional_label, scope_label_name, is_taken, with_scope_attribute, parts_of_scope, scope_labels, has_text, without_empty, all_labels, point_labels}
+use Rattle.otel_prometheus.specs.Rising.{name_in, rises, count_below, place_of_scope, comma_texts, named, front_text, front_texts, value_front}
 use Rattle.otel_prometheus.specs.Values.{value_text}
 use Rattle.otel_prometheus.specs.declared.settings.Settings.{Settings}
 
@@ -38,9 +39,9 @@ AreBelow high (n ∷ ns) = Below n high × AreBelow high ns
 
 -- this many names come before those of a scope's labels, the others behind them, and all rise
 record AroundScope (names : List (List ℕ)) (count : ℕ) : Type 0 where
-  below : AreBelow (codes "otel_scope_name") (take count names)
+  below : AreBelow (codes "otel_scope_") (take count names)
   first : Rise [] (take count names)
-  last : Rise (codes "otel_scope_version") (drop count names)
+  last : Rise (codes "otel_scope`") (drop count names)
 
 is_less : (o : Ordering) → is_lt o ≡ true → o ≡ Less
 is_less Less e = refl
@@ -57,13 +58,13 @@ do_rise before (n ∷ ns) e =
     let h : (is_lt (slice_cmp nat_cmp before n) ≡ true) × (rises n ns ≡ true) = both (is_lt (slice_cmp nat_cmp before n)) (rises n ns) e in
     (is_less (slice_cmp nat_cmp before n) h.0, do_rise n ns h.1)
 
-below_or_none : (b : Bool) (n : List ℕ) (ns : List (List ℕ)) → b ≡ is_lt (slice_cmp nat_cmp n (codes "otel_scope_name")) → AreBelow (codes "otel_scope_name") (take (count_below ns) ns) → AreBelow (codes "otel_scope_name") (take (cond b (1 + count_below ns) 0) (n ∷ ns))
-below_or_none true n ns e h = subst (λ k. AreBelow (codes "otel_scope_name") (take k (n ∷ ns))) (sym (one-add (count_below ns))) (is_less (slice_cmp nat_cmp n (codes "otel_scope_name")) (sym e), h)
+below_or_none : (b : Bool) (n : List ℕ) (ns : List (List ℕ)) → b ≡ is_lt (slice_cmp nat_cmp n (codes "otel_scope_")) → AreBelow (codes "otel_scope_") (take (count_below ns) ns) → AreBelow (codes "otel_scope_") (take (cond b (1 + count_below ns) 0) (n ∷ ns))
+below_or_none true n ns e h = subst (λ k. AreBelow (codes "otel_scope_") (take k (n ∷ ns))) (sym (one-add (count_below ns))) (is_less (slice_cmp nat_cmp n (codes "otel_scope_")) (sym e), h)
 below_or_none false n ns e h = tt
 
-are_below : (ns : List (List ℕ)) → AreBelow (codes "otel_scope_name") (take (count_below ns) ns)
+are_below : (ns : List (List ℕ)) → AreBelow (codes "otel_scope_") (take (count_below ns) ns)
 are_below [] = tt
-are_below (n ∷ ns) = below_or_none (is_lt (slice_cmp nat_cmp n (codes "otel_scope_name"))) n ns refl (are_below ns)
+are_below (n ∷ ns) = below_or_none (is_lt (slice_cmp nat_cmp n (codes "otel_scope_"))) n ns refl (are_below ns)
 
 within_or_none : (b : Bool) (k m : ℕ) → k ≤ m → cond b (1 + k) 0 ≤ suc m
 within_or_none true k m h = omega (arith, h)
@@ -71,17 +72,17 @@ within_or_none false k m h = omega arith
 
 pub count_within : (ns : List (List ℕ)) → count_below ns ≤ length ns
 count_within [] = omega arith
-count_within (n ∷ ns) = within_or_none (is_lt (slice_cmp nat_cmp n (codes "otel_scope_name"))) (count_below ns) (length ns) (count_within ns)
+count_within (n ∷ ns) = within_or_none (is_lt (slice_cmp nat_cmp n (codes "otel_scope_"))) (count_below ns) (length ns) (count_within ns)
 
 -- at a name that is not less no more are counted
-pub none_more : (names : List (List ℕ)) (i count : ℕ) (n : List ℕ) (o : Ordering) → i < length names → n ≡ slice_index_or names i n → o ≡ slice_cmp nat_cmp n (codes "otel_scope_name") → is_lt o ≡ false → count + count_below (drop i names) ≡ count
+pub none_more : (names : List (List ℕ)) (i count : ℕ) (n : List ℕ) (o : Ordering) → i < length names → n ≡ slice_index_or names i n → o ≡ slice_cmp nat_cmp n (codes "otel_scope_") → is_lt o ≡ false → count + count_below (drop i names) ≡ count
 none_more names i count n o h e f k =
     ap (λ t. count + count_below t) (drop-cons names i n h)
     ∙ (ap (λ x. count + count_below (x ∷ drop (suc i) names)) (sym e)
     ∙ (ap (λ b. count + cond b (1 + count_below (drop (suc i) names)) 0) (ap is_lt (sym f) ∙ k)
     ∙ omega arith))
 
-pub one_more : (names : List (List ℕ)) (i count : ℕ) (n : List ℕ) (o : Ordering) → i < length names → n ≡ slice_index_or names i n → o ≡ slice_cmp nat_cmp n (codes "otel_scope_name") → is_lt o ≡ true → (count + 1) + count_below (drop (i + 1) names) ≡ count + count_below (drop i names)
+pub one_more : (names : List (List ℕ)) (i count : ℕ) (n : List ℕ) (o : Ordering) → i < length names → n ≡ slice_index_or names i n → o ≡ slice_cmp nat_cmp n (codes "otel_scope_") → is_lt o ≡ true → (count + 1) + count_below (drop (i + 1) names) ≡ count + count_below (drop i names)
 one_more names i count n o h e f k =
     ap (λ j. (count + 1) + count_below (drop j names)) (add-one i)
     ∙ (add_assoc count 1 (count_below (drop (suc i) names))
@@ -104,14 +105,14 @@ is_count false n count e = absurd cc
 stands_around : (names : List (List ℕ)) (count : ℕ) → place_of_scope names ≡ Some count → AroundScope names count
 stands_around names count e =
     let n = count_below names in
-    let h : ((rises [] (take n names) && rises (codes "otel_scope_version") (drop n names)) ≡ true) × (n ≡ count) = is_count (rises [] (take n names) && rises (codes "otel_scope_version") (drop n names)) n count e in
-    let r : (rises [] (take n names) ≡ true) × (rises (codes "otel_scope_version") (drop n names) ≡ true) = both (rises [] (take n names)) (rises (codes "otel_scope_version") (drop n names)) h.0 in
-    subst (AroundScope names) h.1 (record { below = are_below names; first = do_rise [] (take n names) r.0; last = do_rise (codes "otel_scope_version") (drop n names) r.1 })
+    let h : ((rises [] (take n names) && rises (codes "otel_scope`") (drop n names)) ≡ true) × (n ≡ count) = is_count (rises [] (take n names) && rises (codes "otel_scope`") (drop n names)) n count e in
+    let r : (rises [] (take n names) ≡ true) × (rises (codes "otel_scope`") (drop n names) ≡ true) = both (rises [] (take n names)) (rises (codes "otel_scope`") (drop n names)) h.0 in
+    subst (AroundScope names) h.1 (record { below = are_below names; first = do_rise [] (take n names) r.0; last = do_rise (codes "otel_scope`") (drop n names) r.1 })
 
 place_within : (names : List (List ℕ)) (count : ℕ) → place_of_scope names ≡ Some count → count ≤ length names
 place_within names count e =
     let n = count_below names in
-    let h : ((rises [] (take n names) && rises (codes "otel_scope_version") (drop n names)) ≡ true) × (n ≡ count) = is_count (rises [] (take n names) && rises (codes "otel_scope_version") (drop n names)) n count e in
+    let h : ((rises [] (take n names) && rises (codes "otel_scope`") (drop n names)) ≡ true) × (n ≡ count) = is_count (rises [] (take n names) && rises (codes "otel_scope`") (drop n names)) n count e in
     subst (λ k. k ≤ length names) h.1 (count_within names)
 
 -- the name is greater than those of the labels
@@ -163,44 +164,94 @@ highs has_bounds (a ∷ ps) front before h r =
     ∙ append_assoc front (p ∷ []) (map (label_of has_bounds) ps))
 
 -- ======== the labels of the scope ========
-abbrev block : Bool → List ℕ → Option (List ℕ) → List Pair
-block b name v = cond b (text_label (codes "otel_scope_name") name ++ version_label v) []
+-- a name that begins as those of a scope do
+abbrev IsScoped : List ℕ → Type 0
+IsScoped n = (rest : List ℕ) × (n ≡ codes "otel_scope_" ++ rest)
 
-to_version : (n : List ℕ) → Below n (codes "otel_scope_name") → Below n (codes "otel_scope_version")
-to_version n h = through n (codes "otel_scope_name") (codes "otel_scope_version") h refl
+abbrev AreScoped : List Pair → Type 0
+AreScoped [] = Unit {0}
+AreScoped (l ∷ ls) = IsScoped l.0 × AreScoped ls
 
-to_name : (n : List ℕ) → Below (codes "otel_scope_version") n → Below (codes "otel_scope_name") n
-to_name n h = through (codes "otel_scope_name") (codes "otel_scope_version") n refl h
+then_less : (o p q : Ordering) → (p ≡ Less → q ≡ Less) → ordering_then o p ≡ Less → ordering_then o q ≡ Less
+then_less Less p q h e = e
+then_less Equal p q h e = h e
+then_less Greater p q h e = e
 
-scope_behind : (b : Bool) (name : List ℕ) (v : Option (List ℕ)) (p : Pair) → Below p.0 (codes "otel_scope_name") → with_label (block b name v) p ≡ p ∷ block b name v
-scope_behind false name v p h = refl
-scope_behind true (x ∷ xs) v p h = ap (λ o. placed o p (codes "otel_scope_name", x ∷ xs) (version_label v) (with_label (version_label v) p)) h
-scope_behind true [] None p h = refl
-scope_behind true [] (Some []) p h = refl
-scope_behind true [] (Some (x ∷ xs)) p h = ap (λ o. placed o p (codes "otel_scope_version", x ∷ xs) [] (p ∷ [])) (to_version p.0 h)
+below_longer : (n a rest : List ℕ) → Below n a → Below n (a ++ rest)
+below_longer [] [] rest h = absurd cc
+below_longer [] (x ∷ a) rest h = refl
+below_longer (y ∷ n) [] rest h = absurd cc
+below_longer (y ∷ n) (x ∷ a) rest h = then_less (nat_cmp y x) (slice_cmp nat_cmp n a) (slice_cmp nat_cmp n (a ++ rest)) (below_longer n a rest) h
 
-scope_before : (b : Bool) (name : List ℕ) (v : Option (List ℕ)) (n : List ℕ) → Below (codes "otel_scope_version") n → Above (block b name v) n
-scope_before false name v n h = tt
-scope_before true (x ∷ xs) None n h = (to_name n h, tt)
-scope_before true (x ∷ xs) (Some []) n h = (to_name n h, tt)
-scope_before true (x ∷ xs) (Some (y ∷ ys)) n h = (to_name n h, (h, tt))
-scope_before true [] None n h = tt
-scope_before true [] (Some []) n h = tt
-scope_before true [] (Some (y ∷ ys)) n h = (h, tt)
+below_scoped : (n m : List ℕ) → Below n (codes "otel_scope_") → IsScoped m → Below n m
+below_scoped n m h k = subst (Below n) (sym k.1) (below_longer n (codes "otel_scope_") k.0 h)
 
-lows_above : (has_bounds : Bool) (ps : List KeyValue) (n : List ℕ) → AreBelow (codes "otel_scope_name") (map (name_in has_bounds) ps) → Below (codes "otel_scope_version") n → Above (map (label_of has_bounds) ps) n
+scoped_below : (m : List ℕ) → IsScoped m → Below m (codes "otel_scope`")
+scoped_below m k = subst (λ t. Below t (codes "otel_scope`")) (sym k.1) refl
+
+scope_behind : (own : List Pair) (p : Pair) → AreScoped own → Below p.0 (codes "otel_scope_") → with_label own p ≡ p ∷ own
+scope_behind [] p k h = refl
+scope_behind (l ∷ own) p k h = ap (λ o. placed o p l own (with_label own p)) (below_scoped p.0 l.0 h k.0)
+
+scope_before : (own : List Pair) (n : List ℕ) → AreScoped own → Below (codes "otel_scope`") n → Above own n
+scope_before [] n k h = tt
+scope_before (l ∷ own) n k h = (through l.0 (codes "otel_scope`") n (scoped_below l.0 k.0) h, scope_before own n k.1 h)
+
+scoped_placed : (o : Ordering) (p l : Pair) (ls rest : List Pair) → IsScoped p.0 → IsScoped l.0 → AreScoped ls → AreScoped rest → AreScoped (placed o p l ls rest)
+scoped_placed Less p l ls rest h k m n = (h, (k, m))
+scoped_placed Equal p l ls rest h k m n = (k, m)
+scoped_placed Greater p l ls rest h k m n = (k, n)
+
+scoped_label : (ls : List Pair) (p : Pair) → AreScoped ls → IsScoped p.0 → AreScoped (with_label ls p)
+scoped_label [] p h k = (k, tt)
+scoped_label (l ∷ ls) p h k = scoped_placed (slice_cmp nat_cmp p.0 l.0) p l ls (with_label ls p) k h.0 h.1 (scoped_label ls p h.1 k)
+
+scoped_choice : (t : Bool) (a b : List Pair) → AreScoped a → AreScoped b → AreScoped (cond t a b)
+scoped_choice true a b h k = h
+scoped_choice false a b h k = k
+
+scoped_append : (a b : List Pair) → AreScoped a → AreScoped b → AreScoped (a ++ b)
+scoped_append [] b h k = k
+scoped_append (l ∷ a) b h k = (h.0, scoped_append a b h.1 k)
+
+scoped_text : (n v : List ℕ) → IsScoped n → AreScoped (text_label n v)
+scoped_text n [] h = tt
+scoped_text n (b ∷ bs) h = (h, tt)
+
+scoped_optional : (n : List ℕ) (o : Option (List ℕ)) → IsScoped n → AreScoped (optional_label n o)
+scoped_optional n None h = tt
+scoped_optional n (Some v) h = scoped_text n v h
+
+scoped_attributes : (ls : List Pair) (ps : List KeyValue) → AreScoped ls → AreScoped (fold with_scope_attribute ls ps)
+scoped_attributes ls [] h = h
+scoped_attributes ls (a ∷ ps) h =
+    let l : Pair = (scope_label_name a.key, value_text a.value) in
+    scoped_attributes (with_scope_attribute ls a) ps
+    (scoped_choice (is_taken (scope_label_name a.key)) ls (with_label ls l) h (scoped_label ls l h (name_bytes is_label_byte true a.key, refl)))
+
+are_scoped : (s : Settings) (scope : InstrumentationScope) → AreScoped (scope_labels s scope)
+are_scoped s scope =
+    let url = optional_label (codes "otel_scope_schema_url") scope.schema_url in
+    let version = optional_label (codes "otel_scope_version") scope.version in
+    scoped_choice s.has_scope_labels (fold with_scope_attribute (parts_of_scope scope) scope.attributes) []
+    (scoped_attributes (parts_of_scope scope) scope.attributes
+    (scoped_append (text_label (codes "otel_scope_name") scope.name) (url ++ version) (scoped_text (codes "otel_scope_name") scope.name (codes "name", refl))
+    (scoped_append url version (scoped_optional (codes "otel_scope_schema_url") scope.schema_url (codes "schema_url", refl)) (scoped_optional (codes "otel_scope_version") scope.version (codes "version", refl)))))
+    tt
+
+lows_above : (has_bounds : Bool) (ps : List KeyValue) (n : List ℕ) → AreBelow (codes "otel_scope_") (map (name_in has_bounds) ps) → Below (codes "otel_scope`") n → Above (map (label_of has_bounds) ps) n
 lows_above has_bounds [] n b h = tt
-lows_above has_bounds (a ∷ ps) n b h = (through (name_in has_bounds a) (codes "otel_scope_version") n (to_version (name_in has_bounds a) b.0) h, lows_above has_bounds ps n b.1 h)
+lows_above has_bounds (a ∷ ps) n b h = (through (name_in has_bounds a) (codes "otel_scope`") n (through (name_in has_bounds a) (codes "otel_scope_") (codes "otel_scope`") b.0 refl) h, lows_above has_bounds ps n b.1 h)
 
 two_parts : (s : Settings) (has_bounds : Bool) (scope : InstrumentationScope) (low high : List KeyValue)
-    → AreBelow (codes "otel_scope_name") (map (name_in has_bounds) low) → Rise [] (map (name_in has_bounds) low) → Rise (codes "otel_scope_version") (map (name_in has_bounds) high)
-    → point_labels s has_bounds scope (low ++ high) ≡ (map (label_of has_bounds) low ++ scope_labels s scope) ++ map (label_of has_bounds) high
+    → AreBelow (codes "otel_scope_") (map (name_in has_bounds) low) → Rise [] (map (name_in has_bounds) low) → Rise (codes "otel_scope`") (map (name_in has_bounds) high)
+    → all_labels s has_bounds scope (low ++ high) ≡ (map (label_of has_bounds) low ++ scope_labels s scope) ++ map (label_of has_bounds) high
 two_parts s has_bounds scope low high b r q =
     let own = scope_labels s scope in
     fold-append (λ found a. with_label found (label_of has_bounds a)) own low high
-    ∙ (ap (λ t. with_attributes has_bounds t high) (lows has_bounds own (codes "otel_scope_name") (scope_behind s.has_scope_labels scope.name scope.version) low [] [] (λ n h. tt) r b)
-    ∙ highs has_bounds high (map (label_of has_bounds) low ++ own) (codes "otel_scope_version")
-    (λ n h. both_above (map (label_of has_bounds) low) own n (lows_above has_bounds low n b h) (scope_before s.has_scope_labels scope.name scope.version n h)) q)
+    ∙ (ap (λ t. with_attributes has_bounds t high) (lows has_bounds own (codes "otel_scope_") (λ p h. scope_behind own p (are_scoped s scope) h) low [] [] (λ n h. tt) r b)
+    ∙ highs has_bounds high (map (label_of has_bounds) low ++ own) (codes "otel_scope`")
+    (λ n h. both_above (map (label_of has_bounds) low) own n (lows_above has_bounds low n b h) (scope_before own n (are_scoped s scope) h)) q)
 
 named_labels : (has_bounds : Bool) (ps : List KeyValue) → named (map (name_in has_bounds) ps) ps ≡ map (label_of has_bounds) ps
 named_labels has_bounds [] = refl
@@ -216,34 +267,41 @@ named_texts has_bounds count ps = ap (λ t. named t (take count ps)) (take-map (
 named_rest : (has_bounds : Bool) (count : ℕ) (ps : List KeyValue) → named (drop count (map (name_in has_bounds) ps)) (drop count ps) ≡ map (label_of has_bounds) (drop count ps)
 named_rest has_bounds count ps = ap (λ t. named t (drop count ps)) (drop-map (name_in has_bounds) count ps) ∙ named_labels has_bounds (drop count ps)
 
-three_parts : (a s b : List Pair) → comma_texts ((a ++ s) ++ b) ≡ comma_texts a ++ (comma_texts s ++ comma_texts b)
+-- the labels that are shown, each behind a comma
+abbrev shown_texts : List Pair → List ℕ
+shown_texts ls = comma_texts (without_empty ls)
+
+shown_texts-append : (a b : List Pair) → shown_texts (a ++ b) ≡ shown_texts a ++ shown_texts b
+shown_texts-append a b = ap comma_texts (filter-append has_text a b) ∙ comma_texts-append (without_empty a) (without_empty b)
+
+three_parts : (a s b : List Pair) → shown_texts ((a ++ s) ++ b) ≡ shown_texts a ++ (shown_texts s ++ shown_texts b)
 three_parts a s b =
-    comma_texts-append (a ++ s) b
-    ∙ (ap (λ t. t ++ comma_texts b) (comma_texts-append a s)
-    ∙ append_assoc (comma_texts a) (comma_texts s) (comma_texts b))
+    shown_texts-append (a ++ s) b
+    ∙ (ap (λ t. t ++ shown_texts b) (shown_texts-append a s)
+    ∙ append_assoc (shown_texts a) (shown_texts s) (shown_texts b))
 
 around_scope : (s : Settings) (has_bounds : Bool) (scope : InstrumentationScope) (ps : List KeyValue) (count : ℕ) → AroundScope (map (name_in has_bounds) ps) count
-    → comma_texts (named (take count (map (name_in has_bounds) ps)) (take count ps)) ++ (comma_texts (scope_labels s scope) ++ comma_texts (named (drop count (map (name_in has_bounds) ps)) (drop count ps)))
-    ≡ comma_texts (point_labels s has_bounds scope ps)
+    → shown_texts (named (take count (map (name_in has_bounds) ps)) (take count ps)) ++ (shown_texts (scope_labels s scope) ++ shown_texts (named (drop count (map (name_in has_bounds) ps)) (drop count ps)))
+    ≡ shown_texts (all_labels s has_bounds scope ps)
 around_scope s has_bounds scope ps count h =
     let low = take count ps in
     let high = drop count ps in
     let own = scope_labels s scope in
-    let below : AreBelow (codes "otel_scope_name") (map (name_in has_bounds) low) = subst (AreBelow (codes "otel_scope_name")) (take-map (name_in has_bounds) count ps) h.below in
+    let below : AreBelow (codes "otel_scope_") (map (name_in has_bounds) low) = subst (AreBelow (codes "otel_scope_")) (take-map (name_in has_bounds) count ps) h.below in
     let first : Rise [] (map (name_in has_bounds) low) = subst (Rise []) (take-map (name_in has_bounds) count ps) h.first in
-    let last : Rise (codes "otel_scope_version") (map (name_in has_bounds) high) = subst (Rise (codes "otel_scope_version")) (drop-map (name_in has_bounds) count ps) h.last in
-    (λ i. comma_texts (named_texts has_bounds count ps i) ++ (comma_texts own ++ comma_texts (named_rest has_bounds count ps i)))
+    let last : Rise (codes "otel_scope`") (map (name_in has_bounds) high) = subst (Rise (codes "otel_scope`")) (drop-map (name_in has_bounds) count ps) h.last in
+    (λ i. shown_texts (named_texts has_bounds count ps i) ++ (shown_texts own ++ shown_texts (named_rest has_bounds count ps i)))
     ∙ (sym (three_parts (map (label_of has_bounds) low) own (map (label_of has_bounds) high))
-    ∙ (ap comma_texts (sym (two_parts s has_bounds scope low high below first last))
-    ∙ ap (λ t. comma_texts (point_labels s has_bounds scope t)) (take-append-drop count ps)))
+    ∙ (ap shown_texts (sym (two_parts s has_bounds scope low high below first last))
+    ∙ ap (λ t. shown_texts (all_labels s has_bounds scope t)) (take-append-drop count ps)))
 
 -- names that were made of the keys of attributes
 spelled_around : (s : Settings) (has_bounds : Bool) (scope : InstrumentationScope) (ps : List KeyValue) (names : List (List ℕ)) (count : ℕ) (text : List ℕ)
-    → names ≡ map (name_in has_bounds) ps → place_of_scope names ≡ Some count → text ≡ comma_texts (scope_labels s scope)
-    → comma_texts (named (take count names) (take count ps)) ++ (text ++ comma_texts (named (drop count names) (drop count ps))) ≡ comma_texts (point_labels s has_bounds scope ps)
+    → names ≡ map (name_in has_bounds) ps → place_of_scope names ≡ Some count → text ≡ shown_texts (scope_labels s scope)
+    → shown_texts (named (take count names) (take count ps)) ++ (text ++ shown_texts (named (drop count names) (drop count ps))) ≡ shown_texts (all_labels s has_bounds scope ps)
 spelled_around s has_bounds scope ps names count text e h k =
-    ap (λ t. comma_texts (named (take count names) (take count ps)) ++ (t ++ comma_texts (named (drop count names) (drop count ps)))) k
-    ∙ ((λ i. comma_texts (named (take count (e i)) (take count ps)) ++ (comma_texts (scope_labels s scope) ++ comma_texts (named (drop count (e i)) (drop count ps))))
+    ap (λ t. shown_texts (named (take count names) (take count ps)) ++ (t ++ shown_texts (named (drop count names) (drop count ps)))) k
+    ∙ ((λ i. shown_texts (named (take count (e i)) (take count ps)) ++ (shown_texts (scope_labels s scope) ++ shown_texts (named (drop count (e i)) (drop count ps))))
     ∙ around_scope s has_bounds scope ps count (subst (λ t. AroundScope t count) e (stands_around names count h)))
 
 -- what stands in front of a value, with the value, is the label behind a comma
@@ -251,20 +309,26 @@ one_front : (n v t : List ℕ) → (44 ∷ (n ++ 61 ∷ 34 ∷ [])) ++ ((v ++ 34
 one_front n v t =
     ap (λ x. 44 ∷ x) (append_assoc n (61 ∷ 34 ∷ []) ((v ++ 34 ∷ []) ++ t) ∙ sym (append_assoc n (61 ∷ 34 ∷ (v ++ 34 ∷ [])) t))
 
-commas_in_front : (names : List (List ℕ)) (ps : List KeyValue) → front_texts (map value_front names) ps ≡ comma_texts (named names ps)
+-- an empty one stands nowhere
+front_or_none : (n v : List ℕ) (ls : List Pair) (t : List ℕ) → t ≡ shown_texts ls → front_text (value_front n) v ++ t ≡ shown_texts ((n, v) ∷ ls)
+front_or_none n [] ls t h = h
+front_or_none n (b ∷ bs) ls t h =
+    append_assoc (value_front n) (escaped (b ∷ bs) ++ 34 ∷ []) t
+    ∙ (ap (λ t. value_front n ++ ((escaped (b ∷ bs) ++ 34 ∷ []) ++ t)) h
+    ∙ one_front n (escaped (b ∷ bs)) (shown_texts ls))
+
+commas_in_front : (names : List (List ℕ)) (ps : List KeyValue) → front_texts (map value_front names) ps ≡ shown_texts (named names ps)
 commas_in_front [] ps = refl
 commas_in_front (n ∷ names) [] = refl
-commas_in_front (n ∷ names) (a ∷ ps) =
-    ap (λ t. value_front n ++ ((escaped (value_text a.value) ++ 34 ∷ []) ++ t)) (commas_in_front names ps)
-    ∙ one_front n (escaped (value_text a.value)) (comma_texts (named names ps))
+commas_in_front (n ∷ names) (a ∷ ps) = front_or_none n (value_text a.value) (named names ps) (front_texts (map value_front names) ps) (commas_in_front names ps)
 
 pub spelled_fronts : (s : Settings) (has_bounds : Bool) (scope : InstrumentationScope) (ps : List KeyValue) (fronts names : List (List ℕ)) (count : ℕ) (text : List ℕ)
-    → fronts ≡ map value_front names → names ≡ map (name_in has_bounds) ps → place_of_scope names ≡ Some count → text ≡ comma_texts (scope_labels s scope)
+    → fronts ≡ map value_front names → names ≡ map (name_in has_bounds) ps → place_of_scope names ≡ Some count → text ≡ comma_texts (without_empty (scope_labels s scope))
     → front_texts (take count fronts) (take count ps) ++ (text ++ front_texts (drop count fronts) (drop count ps)) ≡ comma_texts (point_labels s has_bounds scope ps)
 spelled_fronts s has_bounds scope ps fronts names count text f e h k =
-    let low : front_texts (take count fronts) (take count ps) ≡ comma_texts (named (take count names) (take count ps)) =
+    let low : front_texts (take count fronts) (take count ps) ≡ shown_texts (named (take count names) (take count ps)) =
     ap (λ t. front_texts (take count t) (take count ps)) f ∙ (ap (λ t. front_texts t (take count ps)) (take-map value_front count names) ∙ commas_in_front (take count names) (take count ps)) in
-    let high : front_texts (drop count fronts) (drop count ps) ≡ comma_texts (named (drop count names) (drop count ps)) =
+    let high : front_texts (drop count fronts) (drop count ps) ≡ shown_texts (named (drop count names) (drop count ps)) =
     ap (λ t. front_texts (drop count t) (drop count ps)) f ∙ (ap (λ t. front_texts t (drop count ps)) (drop-map value_front count names) ∙ commas_in_front (drop count names) (drop count ps)) in
     (λ i. low i ++ (text ++ high i)) ∙ spelled_around s has_bounds scope ps names count text e h k
 

@@ -22,15 +22,16 @@ use Rattle.otel_data.specs.declared.points.HistogramDataPoint.{HistogramDataPoin
 use Rattle.otel_prometheus.specs.Lines.{Line, kind, sample, IsLine, AreLines}
 use Rattle.otel_prometheus.specs.Names.{name_of}
 use Rattle.otel_prometheus.specs.Numbers.{unsigned, signed}
+use Rattle.otel_prometheus.specs.Values.{value_text}
 use Rattle.otel_prometheus.specs.Samples.{Pair, Sample, IsSample, IsNumber, AreLabels, IsLabelName, IsMetricName, AreAll, is_letter, is_label_byte, is_metric_byte, labels_text}
 use Rattle.otel_prometheus.specs.declared.text.formats.Format.{Format}
 use Rattle.otel_prometheus.specs.declared.text.formats.Format.TheVariants.{Prometheus, OpenMetrics}
 use Rattle.otel_prometheus.proofs.NameLemmas.{label_name, metric_name}
 use Rattle.otel_prometheus.proofs.NumberLemmas.{unsigned_fits, signed_fits}
-use Rattle.otel_prometheus.specs.Collections.{belongs, metric_series, scope_series, family_series, kind_word, kind_end, help_lines, front_lines, family_samples, family_lines, target_kind, target_lines, end_lines, lines_of}
+use Rattle.otel_prometheus.specs.Collections.{belongs, metric_series, scope_series, family_series, kind_word, kind_end, help_lines, front_lines, family_samples, family_lines, target_front, target_lines, end_lines, lines_of}
 use Rattle.otel_prometheus.specs.Families.{families, is_refused, with_heading, with_metric, with_scope}
-use Rattle.otel_prometheus.specs.Headings.{own_text, heading_with, base_name, heading_of, is_last_value, content_kind}
-use Rattle.otel_prometheus.specs.Labels.{placed, with_label, own_name, label_of, with_attributes, text_label, version_label, scope_labels, point_labels}
+use Rattle.otel_prometheus.specs.Headings.{own_text, plain_name, heading_with, base_name, heading_of, is_last_value, content_kind}
+use Rattle.otel_prometheus.specs.Labels.{placed, with_label, own_name, label_of, with_attributes, text_label, optional_label, scope_label_name, is_taken, with_scope_attribute, parts_of_scope, scope_labels, has_text, without_empty, all_labels, point_labels, resource_labels}
 use Rattle.otel_prometheus.specs.Points.{are_natural, value_end, bound_text, bucket, buckets, sum_samples, count_sample, count_samples, histogram_samples, number_series, gauge_series, sum_series, histogram_series, data_series, content_series}
 use Rattle.otel_prometheus.specs.Series.{Series, is_seen, kept}
 use Rattle.otel_prometheus.specs.Units.{word_at, times, decimal_sizes, binary_sizes, measures, rates, or_other, unit_word, or_name, is_count, worded, ratio, unit_parts, unit_suffix}
@@ -127,9 +128,9 @@ ended_name false n s h k = longer_name n s h k
 
 family_name : (k : Kind) (m : Metric) → IsMetricName (base_name k m)
 family_name k m =
-    ended_name (ends_with ◌==◌ (name_of is_metric_byte (own_text k m.name)) (unit_suffix (is_last_value m.content) m.unit))
-    (name_of is_metric_byte (own_text k m.name)) (unit_suffix (is_last_value m.content) m.unit)
-    (metric_name (own_text k m.name)) (suffix_in (is_last_value m.content) m.unit)
+    ended_name (ends_with ◌==◌ (plain_name k m.name) (unit_suffix (is_last_value m.content) m.unit))
+    (plain_name k m.name) (unit_suffix (is_last_value m.content) m.unit)
+    (metric_name (own_text k (name_of is_metric_byte m.name))) (suffix_in (is_last_value m.content) m.unit)
 
 -- ======== labels ========
 valid_placed : (o : Ordering) (p l : Pair) (ls rest : List Pair) → IsLabelName p.0 → IsLabelName l.0 → AreLabels ls → AreLabels rest → AreLabels (placed o p l ls rest)
@@ -173,18 +174,39 @@ valid_text : (n v : List ℕ) → IsLabelName n → AreLabels (text_label n v)
 valid_text n [] h = tt
 valid_text n (b ∷ bs) h = (h, tt)
 
-valid_version : (o : Option (List ℕ)) → AreLabels (version_label o)
-valid_version None = tt
-valid_version (Some v) = valid_text (codes "otel_scope_version") v (literal (codes "otel_scope_version") refl)
+valid_optional : (n : List ℕ) (o : Option (List ℕ)) → IsLabelName n → AreLabels (optional_label n o)
+valid_optional n None h = tt
+valid_optional n (Some v) h = valid_text n v h
+
+valid_parts : (scope : InstrumentationScope) → AreLabels (parts_of_scope scope)
+valid_parts scope =
+    let url = optional_label (codes "otel_scope_schema_url") scope.schema_url in
+    let version = optional_label (codes "otel_scope_version") scope.version in
+    labels_append (text_label (codes "otel_scope_name") scope.name) (url ++ version) (valid_text (codes "otel_scope_name") scope.name (literal (codes "otel_scope_name") refl))
+    (labels_append url version (valid_optional (codes "otel_scope_schema_url") scope.schema_url (literal (codes "otel_scope_schema_url") refl)) (valid_optional (codes "otel_scope_version") scope.version (literal (codes "otel_scope_version") refl)))
+
+valid_scope_attributes : (ls : List Pair) (ps : List KeyValue) → AreLabels ls → AreLabels (fold with_scope_attribute ls ps)
+valid_scope_attributes ls [] h = h
+valid_scope_attributes ls (p ∷ ps) h =
+    let l : Pair = (scope_label_name p.key, value_text p.value) in
+    valid_scope_attributes (with_scope_attribute ls p) ps
+    (labels_choice (is_taken (scope_label_name p.key)) ls (with_label ls l) h (valid_label ls l h (label_name (codes "otel_scope_" ++ p.key))))
 
 valid_scope : (s : Settings) (scope : InstrumentationScope) → AreLabels (scope_labels s scope)
 valid_scope s scope =
-    labels_choice s.has_scope_labels (text_label (codes "otel_scope_name") scope.name ++ version_label scope.version) []
-    (labels_append (text_label (codes "otel_scope_name") scope.name) (version_label scope.version) (valid_text (codes "otel_scope_name") scope.name (literal (codes "otel_scope_name") refl)) (valid_version scope.version))
+    labels_choice s.has_scope_labels (fold with_scope_attribute (parts_of_scope scope) scope.attributes) []
+    (valid_scope_attributes (parts_of_scope scope) scope.attributes (valid_parts scope))
     tt
 
+valid_full : (ls : List Pair) → AreLabels ls → AreLabels (without_empty ls)
+valid_full [] h = tt
+valid_full (l ∷ ls) h = labels_choice (has_text l) (l ∷ without_empty ls) (without_empty ls) (h.0, valid_full ls h.1) (valid_full ls h.1)
+
 valid_point : (s : Settings) (t : Bool) (scope : InstrumentationScope) (ps : List KeyValue) → AreLabels (point_labels s t scope ps)
-valid_point s t scope ps = valid_attributes t (scope_labels s scope) ps (valid_scope s scope)
+valid_point s t scope ps = valid_full (all_labels s t scope ps) (valid_attributes t (scope_labels s scope) ps (valid_scope s scope))
+
+valid_resource : (ps : List KeyValue) → AreLabels (resource_labels ps)
+valid_resource ps = valid_full (with_attributes false [] ps) (valid_attributes false [] ps tt)
 
 -- ======== samples ========
 abbrev AreSamples : List Sample → Type 0
@@ -277,7 +299,7 @@ module _ {T : Type 0} (integer : T → ℤ) (fits : (x : T) → IsNumber (intege
   valid_data s t scope g (Gauge d) h = series_map (gauge_series integer s scope g) (λ p. valid_number s scope g p.attributes p.value h) d.data_points
   valid_data s t scope g (Sum d) h = series_map (sum_series integer s scope g) (λ p. valid_number s scope g p.attributes p.value h) d.data_points
   valid_data s t scope g (Histogram d) h =
-      series_map (histogram_series integer s t scope g) (λ p. valid_histogram s.format t g.name (point_labels s true scope p.attributes) p h (valid_point s true scope p.attributes)) d.data_points
+      series_map (histogram_series integer s (t && d.has_sum) scope g) (λ p. valid_histogram s.format (t && d.has_sum) g.name (point_labels s true scope p.attributes) p h (valid_point s true scope p.attributes)) d.data_points
 
 valid_content : (s : Settings) (scope : InstrumentationScope) (g : Heading) (d : AggregatedMetrics) → IsMetricName g.name → AreSeries (content_series s scope g d)
 valid_content s scope g (U64 d) h = valid_data unsigned unsigned_fits s true scope g d h
@@ -316,14 +338,19 @@ valid_front f x h =
 valid_lines : (s : Settings) (c : ResourceMetrics) (x : Family) → IsMetricName x.heading.name → AreLines (family_lines s c x)
 valid_lines s c x h = lines_append (front_lines s.format x) (map sample (family_samples s c x.heading)) (valid_front s.format x h) (lines_of-samples (family_samples s c x.heading) (valid_family s c x.heading h))
 
-valid_target_kind : (f : Format) → IsLine (target_kind f)
-valid_target_kind Prometheus = ((refl, all_of is_metric_byte (codes "arget_info") refl), all_of is_letter (codes "gauge") refl)
-valid_target_kind OpenMetrics = ((refl, all_of is_metric_byte (codes "arget") refl), all_of is_letter (codes "info") refl)
+valid_target_front : (f : Format) → AreLines (target_front f)
+valid_target_front Prometheus =
+    let name : IsMetricName (codes "target_info") = (refl, all_of is_metric_byte (codes "arget_info") refl) in
+    (name, ((name, all_of is_letter (codes "gauge") refl), tt))
+valid_target_front OpenMetrics =
+    let name : IsMetricName (codes "target") = (refl, all_of is_metric_byte (codes "arget") refl) in
+    (name, ((name, all_of is_letter (codes "info") refl), tt))
 
 valid_target : (f : Format) (ls : List Pair) → AreLabels ls → AreLines (target_lines f ls)
 valid_target f [] h = tt
 valid_target f (l ∷ ls) h =
-    (valid_target_kind f, (record { name = (refl, all_of is_metric_byte (codes "arget_info") refl); labels = h; value = unsigned_fits 1 }, tt))
+    lines_append (target_front f) (sample (record { name = codes "target_info"; labels = l ∷ ls; value = unsigned 1 }) ∷ []) (valid_target_front f)
+    (record { name = (refl, all_of is_metric_byte (codes "arget_info") refl); labels = h; value = unsigned_fits 1 }, tt)
 
 valid_end : (f : Format) → AreLines (end_lines f)
 valid_end Prometheus = tt
@@ -365,5 +392,5 @@ no_families = tt
 
 pub valid : (s : Settings) (c : ResourceMetrics) → AreLines (lines_of s c)
 valid s c =
-    lines_append (target_lines s.format (with_attributes false [] c.resource.attributes)) (flat_map (family_lines s c) (families c) ++ end_lines s.format) (valid_target s.format (with_attributes false [] c.resource.attributes) (valid_attributes false [] c.resource.attributes tt))
+    lines_append (target_lines s.format (resource_labels c.resource.attributes)) (flat_map (family_lines s c) (families c) ++ end_lines s.format) (valid_target s.format (resource_labels c.resource.attributes) (valid_resource c.resource.attributes))
     (lines_append (flat_map (family_lines s c) (families c)) (end_lines s.format) (lines_flat s c (families c) (all_families [] c.scope_metrics no_families)) (valid_end s.format))

@@ -72,7 +72,7 @@ kept_length seen (x ∷ xs) =
 data_has : {T : Type 0} (integer : T → ℤ) (s : Settings) (t : Bool) (scope : InstrumentationScope) (h : Heading) (d : MetricData T) → length (data_series integer s t scope h d) ≡ data_length d
 data_has integer s t scope h (Gauge d) = length_mapped (gauge_series integer s scope h) d.data_points
 data_has integer s t scope h (Sum d) = length_mapped (sum_series integer s scope h) d.data_points
-data_has integer s t scope h (Histogram d) = length_mapped (histogram_series integer s t scope h) d.data_points
+data_has integer s t scope h (Histogram d) = length_mapped (histogram_series integer s (t && d.has_sum) scope h) d.data_points
 
 content_has : (s : Settings) (scope : InstrumentationScope) (h : Heading) (d : AggregatedMetrics) → length (content_series s scope h d) ≡ content_length d
 content_has s scope h (U64 d) = data_has unsigned s true scope h d

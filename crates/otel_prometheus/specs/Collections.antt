@@ -12,7 +12,7 @@ use Rattle.otel_prometheus.specs.declared.text.formats.Format.TheVariants as for
 use Rattle.otel_prometheus.specs.Totals.{total}
 use Rattle.otel_prometheus.specs.Families.{families, delta_points, conflicting_points}
 use Rattle.otel_prometheus.specs.Headings.{heading_of, same_heading}
-use Rattle.otel_prometheus.specs.Labels.{with_attributes}
+use Rattle.otel_prometheus.specs.Labels.{resource_labels}
 use Rattle.otel_prometheus.specs.Points.{content_series}
 use Rattle.otel_prometheus.specs.Series.{Series, kept, doubled}
 use Rattle.otel_prometheus.specs.declared.expositions.LeftOut.{LeftOut}
@@ -68,15 +68,18 @@ abbrev pub family_lines : Settings → ResourceMetrics → Family → List Line
 family_lines s c family = front_lines s.format family ++ map sample (family_samples s c family.heading)
 
 -- ======== the resource ========
+abbrev pub target_type : List ℕ → List ℕ → List Line
+target_type name word = help name (codes "Target metadata") ∷ (kind name word ∷ [])
+
 -- in OpenMetrics it is an information called `target`
-abbrev pub target_kind : Format → Line
-target_kind formats.Prometheus = kind (codes "target_info") (codes "gauge")
-target_kind formats.OpenMetrics = kind (codes "target") (codes "info")
+abbrev pub target_front : Format → List Line
+target_front formats.Prometheus = target_type (codes "target_info") (codes "gauge")
+target_front formats.OpenMetrics = target_type (codes "target") (codes "info")
 
 -- what the resource is, as labels
 abbrev pub target_lines : Format → List Pair → List Line
 target_lines f [] = []
-target_lines f (l ∷ ls) = target_kind f ∷ (sample (record { name = codes "target_info"; labels = l ∷ ls; value = unsigned 1 }) ∷ [])
+target_lines f (l ∷ ls) = target_front f ++ (sample (record { name = codes "target_info"; labels = l ∷ ls; value = unsigned 1 }) ∷ [])
 
 abbrev pub end_lines : Format → List Line
 end_lines formats.Prometheus = []
@@ -84,7 +87,7 @@ end_lines formats.OpenMetrics = finish ∷ []
 
 -- ======== the whole ========
 abbrev pub lines_of : Settings → ResourceMetrics → List Line
-lines_of s c = target_lines s.format (with_attributes false [] c.resource.attributes) ++ (flat_map (family_lines s c) (families c) ++ end_lines s.format)
+lines_of s c = target_lines s.format (resource_labels c.resource.attributes) ++ (flat_map (family_lines s c) (families c) ++ end_lines s.format)
 
 -- points whose labels are those of an earlier point of their family
 abbrev pub doubled_points : Settings → ResourceMetrics → ℕ

@@ -65,9 +65,13 @@ own_text kinds.Histogram text = text
 abbrev pub with_end : List ℕ → List ℕ → List ℕ
 with_end text end = cond (ends_with ◌==◌ text end) text (text ++ end)
 
+-- a valid name without what a family of this type adds to it; `_` if that is all
+abbrev pub plain_name : Kind → List ℕ → List ℕ
+plain_name k text = name_of is_metric_byte (own_text k (name_of is_metric_byte text))
+
 -- the name of a metric's family
 abbrev pub base_name : Kind → Metric → List ℕ
-base_name k m = with_end (name_of is_metric_byte (own_text k m.name)) (unit_suffix (is_last_value m.content) m.unit)
+base_name k m = with_end (plain_name k m.name) (unit_suffix (is_last_value m.content) m.unit)
 
 abbrev pub heading_with : Metric → Kind → Heading
 heading_with m k = record { name = base_name k m; kind = k }

@@ -1,6 +1,7 @@
 -- Labels of a point: those of its scope and one for each attribute, in the order of their names. Attributes whose keys
--- become one name are one label, their values joined by semicolons in the order of the keys.
-use Rattle.std.specs.Prelude.{ℕ, List, [], ◌∷◌, ◌++◌, Bool, cond, Option, Some, None, fold, codes}
+-- become one name are one label, their values joined by semicolons in the order of the keys. A label with an empty value
+-- is none to who reads a text, so it is left out.
+use Rattle.std.specs.Prelude.{ℕ, List, [], ◌∷◌, ◌++◌, ◌||◌, Bool, true, false, cond, not, Option, Some, None, filter, fold, codes}
 use Rattle.std.specs.Ordering.{nat_cmp}
 use Rattle.std.specs.Cmp.Lexicographic.{slice_cmp}
 use Rattle.std.specs.declared.cmp.Ordering.{Ordering}
@@ -39,12 +40,48 @@ abbrev pub text_label : List ℕ → List ℕ → List Pair
 text_label name [] = []
 text_label name (b ∷ bs) = (name, b ∷ bs) ∷ []
 
-abbrev pub version_label : Option (List ℕ) → List Pair
-version_label None = []
-version_label (Some v) = text_label (codes "otel_scope_version") v
+-- a label with this text, if there is one that isn't empty
+abbrev pub optional_label : List ℕ → Option (List ℕ) → List Pair
+optional_label name None = []
+optional_label name (Some text) = text_label name text
 
+-- the name of the label of an attribute of a scope
+abbrev pub scope_label_name : List ℕ → List ℕ
+scope_label_name key = name_of is_label_byte (codes "otel_scope_" ++ key)
+
+-- whether it is the name of a label for another part of the scope; such an attribute has no label
+abbrev pub is_taken : List ℕ → Bool
+is_taken name = bytes_eq name (codes "otel_scope_name") || bytes_eq name (codes "otel_scope_schema_url") || bytes_eq name (codes "otel_scope_version")
+
+abbrev pub with_scope_attribute : List Pair → KeyValue → List Pair
+with_scope_attribute ls a = cond (is_taken (scope_label_name a.key)) ls (with_label ls (scope_label_name a.key, value_text a.value))
+
+-- the name, the schema URL and the version of a scope
+abbrev pub parts_of_scope : InstrumentationScope → List Pair
+parts_of_scope scope = text_label (codes "otel_scope_name") scope.name ++ (optional_label (codes "otel_scope_schema_url") scope.schema_url ++ optional_label (codes "otel_scope_version") scope.version)
+
+-- these and the attributes, each as a label
 abbrev pub scope_labels : Settings → InstrumentationScope → List Pair
-scope_labels s scope = cond s.has_scope_labels (text_label (codes "otel_scope_name") scope.name ++ version_label scope.version) []
+scope_labels s scope = cond s.has_scope_labels (fold with_scope_attribute (parts_of_scope scope) scope.attributes) []
+
+-- ======== what is shown ========
+abbrev pub is_empty : List ℕ → Bool
+is_empty [] = true
+is_empty (b ∷ bs) = false
+
+abbrev pub has_text : Pair → Bool
+has_text l = not (is_empty l.1)
+
+abbrev pub without_empty : List Pair → List Pair
+without_empty ls = filter has_text ls
+
+-- the labels of a scope and of attributes, with the empty ones
+abbrev pub all_labels : Settings → Bool → InstrumentationScope → List KeyValue → List Pair
+all_labels s has_bounds scope attributes = with_attributes has_bounds (scope_labels s scope) attributes
 
 abbrev pub point_labels : Settings → Bool → InstrumentationScope → List KeyValue → List Pair
-point_labels s has_bounds scope attributes = with_attributes has_bounds (scope_labels s scope) attributes
+point_labels s has_bounds scope attributes = without_empty (all_labels s has_bounds scope attributes)
+
+-- the labels of what says what the resource is
+abbrev pub resource_labels : List KeyValue → List Pair
+resource_labels attributes = without_empty (with_attributes false [] attributes)

@@ -49,7 +49,7 @@ buckets f name labels before (b ∷ bounds) (n ∷ counts) =
 abbrev pub are_natural : List ℤ → Bool
 are_natural bounds = list_all (λ bound. int_le (pos 0) bound) bounds
 
--- a sum that may fall is not shown
+-- a sum that isn't kept, or that may fall, is not shown
 abbrev pub sum_samples : Bool → List ℕ → List Pair → ℤ → List Sample
 sum_samples has_sum name labels z = cond has_sum (record { name = name ++ codes "_sum"; labels = labels; value = z } ∷ []) []
 
@@ -89,7 +89,7 @@ module _ {T : Type 0} (integer : T → ℤ) where
   abbrev pub data_series : Settings → Bool → InstrumentationScope → Heading → MetricData T → List Series
   data_series s has_sum scope h (aggregations.Gauge g) = map (gauge_series s scope h) g.data_points
   data_series s has_sum scope h (aggregations.Sum d) = map (sum_series s scope h) d.data_points
-  data_series s has_sum scope h (aggregations.Histogram d) = map (histogram_series s has_sum scope h) d.data_points
+  data_series s has_sum scope h (aggregations.Histogram d) = map (histogram_series s (has_sum && d.has_sum) scope h) d.data_points
 
 -- a series for each point; a sum of signed values may fall
 abbrev pub content_series : Settings → InstrumentationScope → Heading → AggregatedMetrics → List Series

@@ -17,14 +17,14 @@ abbrev pub rises : List ℕ → List (List ℕ) → Bool
 rises before [] = true
 rises before (n ∷ ns) = is_lt (slice_cmp nat_cmp before n) && rises n ns
 
--- how many names, from the front, are less than those of the labels of a scope
+-- how many names, from the front, are less than those of the labels of a scope, which all begin with `otel_scope_`
 abbrev pub count_below : List (List ℕ) → ℕ
 count_below [] = 0
-count_below (n ∷ ns) = cond (is_lt (slice_cmp nat_cmp n (codes "otel_scope_name"))) (1 + count_below ns) 0
+count_below (n ∷ ns) = cond (is_lt (slice_cmp nat_cmp n (codes "otel_scope_"))) (1 + count_below ns) 0
 
--- this count, if these names rise, and the others do behind those of a scope
+-- this count, if these names rise, and the others do behind those of a scope: the byte behind `_` is the grave accent
 abbrev pub place_at : ℕ → List (List ℕ) → Option ℕ
-place_at count names = cond (rises [] (take count names) && rises (codes "otel_scope_version") (drop count names)) (Some count) None
+place_at count names = cond (rises [] (take count names) && rises (codes "otel_scope`") (drop count names)) (Some count) None
 
 -- how many names come before those of the labels of a scope, if all rise around these
 abbrev pub place_of_scope : List (List ℕ) → Option ℕ
@@ -44,8 +44,13 @@ named (n ∷ ns) (a ∷ ps) = (n, value_text a.value) ∷ named ns ps
 abbrev pub value_front : List ℕ → List ℕ
 value_front name = 44 ∷ (name ++ 61 ∷ 34 ∷ [])
 
+-- a label, of which this is what stands in front of its value; nothing if the value is empty
+abbrev pub front_text : List ℕ → List ℕ → List ℕ
+front_text front [] = []
+front_text front (b ∷ bs) = front ++ (escaped (b ∷ bs) ++ 34 ∷ [])
+
 -- labels, of which these are what stands in front of their values, with the values of attributes
 abbrev pub front_texts : List (List ℕ) → List KeyValue → List ℕ
 front_texts [] ps = []
 front_texts (f ∷ fs) [] = []
-front_texts (f ∷ fs) (a ∷ ps) = f ++ ((escaped (value_text a.value) ++ 34 ∷ []) ++ front_texts fs ps)
+front_texts (f ∷ fs) (a ∷ ps) = front_text f (value_text a.value) ++ front_texts fs ps

@@ -3,16 +3,16 @@
 ghost use Rattle.std.specs.Prelude.{◌≡◌, ◌++◌, ◌%◌, ◌^◌, [], false, Some, OnOk, IfOk, map, flat_map, fold};
 ghost use Rattle.otel_prometheus.specs.Lines.{sample, spelled, text_of};
 ghost use Rattle.otel_prometheus.specs.Reading.{read};
-ghost use Rattle.otel_prometheus.specs.Collections.{metric_series, scope_series, family_series, kind_word, kind_end, help_lines, front_lines, family_samples, family_lines, target_kind, target_lines, end_lines, lines_of, doubled_points, left_out_of};
+ghost use Rattle.otel_prometheus.specs.Collections.{metric_series, scope_series, family_series, kind_word, kind_end, help_lines, front_lines, family_samples, family_lines, target_type, target_front, target_lines, end_lines, lines_of, doubled_points, left_out_of};
 ghost use Rattle.otel_prometheus.specs.Totals.{total};
 ghost use Rattle.otel_prometheus.specs.Families.{families};
-ghost use Rattle.otel_prometheus.specs.Labels.{with_attributes};
+ghost use Rattle.otel_prometheus.specs.Labels.{resource_labels};
 ghost use Rattle.otel_prometheus.specs.Series.{doubled};
 ghost use Rattle.otel_prometheus.specs.Texts.{with_series};
 
 use crate::families::{Family, conflicting_points, delta_points, families};
 use crate::headings::{Heading, Kind, heading_of, is_same_heading};
-use crate::labels::add_resource;
+use crate::labels::resource_labels;
 use crate::laws::says_lines;
 use crate::points::add_content;
 use crate::series::{Texts, without_doubled};
@@ -213,13 +213,27 @@ fn push_families(
     Ok(count)
 }
 
-/// Appends the type of what says what the resource is.
-fn push_target_kind(out: &mut Vec<u8>, format: Format) -> Result<(), AllocError>
-    ensures { OnOk result (out.new.items ≡ out.old.items ++ spelled format (target_kind format)) }
+/// Appends the help text and a type under a name of what says what the resource is.
+fn push_target_type(
+    out: &mut Vec<u8>,
+    format: Format,
+    name: &str,
+    word: &str,
+) -> Result<(), AllocError>
+    ensures { OnOk result (out.new.items ≡ out.old.items ++ text_of format (target_type name.now word.now)) }
+{
+    push_help(out, format, name, "Target metadata")?;
+    push_kind(out, name, word)?;
+    Ok(())
+}
+
+/// Appends the help text and the type of what says what the resource is.
+fn push_target_front(out: &mut Vec<u8>, format: Format) -> Result<(), AllocError>
+    ensures { OnOk result (out.new.items ≡ out.old.items ++ text_of format (target_front format)) }
 {
     match format {
-        Format::Prometheus => push_kind(out, "target_info", "gauge"),
-        Format::OpenMetrics => push_kind(out, "target", "info"),
+        Format::Prometheus => push_target_type(out, format, "target_info", "gauge"),
+        Format::OpenMetrics => push_target_type(out, format, "target", "info"),
     }
 }
 
@@ -235,7 +249,7 @@ fn push_target_labels(
     let Some(_) = labels.split_first() else {
         return Ok(());
     };
-    push_target_kind(out, format)?;
+    push_target_front(out, format)?;
     let mut text = Vec::new(alloc);
     push_labels(&mut text, labels)?;
     push_line(out, "target_info", "", text.as_slice(), 1u64)?;
@@ -249,10 +263,9 @@ fn push_target(
     format: Format,
     resource: &Resource,
 ) -> Result<(), AllocError>
-    ensures { OnOk result (out.new.items ≡ out.old.items ++ text_of format (target_lines format (with_attributes false [] resource.now.attributes))) }
+    ensures { OnOk result (out.new.items ≡ out.old.items ++ text_of format (target_lines format (resource_labels resource.now.attributes))) }
 {
-    let mut labels = Vec::new(alloc);
-    add_resource(alloc, &mut labels, resource)?;
+    let labels = resource_labels(alloc, resource)?;
     push_target_labels(alloc, out, format, labels.as_slice())
 }
 
@@ -286,8 +299,8 @@ fn push_collection(
 }
 
 /// Returns the text of a collection, and what it leaves out: no point is left out that isn't counted. The text has no
-/// moments, and in OpenMetrics no UNIT lines and no `_created` samples; it has the sum of a histogram only if its values
-/// are unsigned and no bound is below 0. Refused only for want of memory.
+/// moments, and in OpenMetrics no UNIT lines and no `_created` samples; it has the sum of a histogram only if one is kept,
+/// its values are unsigned and no bound is below 0. Refused only for want of memory.
 ///
 /// It takes a time that grows with the number of points, and with the square of the number of metrics.
 pub fn exposition_of(

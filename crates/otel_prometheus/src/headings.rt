@@ -2,7 +2,7 @@
 
 ghost use Rattle.std.specs.Prelude.{◌≡◌, ◌==◌, IfOk, OnOk};
 ghost use Rattle.std.specs.String.{string_bytes};
-ghost use Rattle.otel_prometheus.specs.Headings.{if_cumulative, points_kind, content_kind, keeps_last, is_last_value, kind_eq, without_end, own_text, with_end, base_name, heading_of, same_heading, is_sample_end, may_be_sample, clashes, is_reserved};
+ghost use Rattle.otel_prometheus.specs.Headings.{if_cumulative, points_kind, content_kind, keeps_last, is_last_value, kind_eq, without_end, own_text, with_end, plain_name, base_name, heading_of, same_heading, is_sample_end, may_be_sample, clashes, is_reserved};
 
 use crate::text::names::metric_name;
 use crate::units::unit_suffix;
@@ -135,11 +135,19 @@ fn add_end(text: &mut String, end: &str) -> Result<(), AllocError>
     text.push_str(end)
 }
 
+/// Returns the valid name of a text without what a family of this type adds to it; `_` if that is all.
+fn plain_name(alloc: Global, text: &[u8], kind: Kind) -> Result<String, AllocError>
+    ensures { IfOk result (λ name. string_bytes name ≡ plain_name kind text.now) }
+{
+    let valid = metric_name(alloc, text)?;
+    metric_name(alloc, own_text(kind, valid.as_str().as_bytes()))
+}
+
 /// Returns the name of the family of a metric.
 fn base_name(alloc: Global, metric: &Metric, kind: Kind) -> Result<String, AllocError>
     ensures { IfOk result (λ name. string_bytes name ≡ base_name kind metric.now) }
 {
-    let mut name = metric_name(alloc, own_text(kind, metric.name().as_bytes()))?;
+    let mut name = plain_name(alloc, metric.name().as_bytes(), kind)?;
     let is_last_value = is_last_value(metric.data());
     let suffix = unit_suffix(alloc, metric.unit().as_bytes(), is_last_value)?;
     add_end(&mut name, suffix.as_str())?;

@@ -1,9 +1,9 @@
 //! Labels of points.
 
-ghost use Rattle.std.specs.Prelude.{◌≡◌, ◌++◌, false, OnOk, IfOk};
+ghost use Rattle.std.specs.Prelude.{◌≡◌, ◌++◌, false, fold, OnOk, IfOk};
 ghost use Rattle.std.specs.Option.{option_map};
 ghost use Rattle.std.specs.String.{string_bytes};
-ghost use Rattle.otel_prometheus.specs.Labels.{with_label, label_of, own_name, with_attributes, text_label, version_label, scope_labels, point_labels};
+ghost use Rattle.otel_prometheus.specs.Labels.{with_label, label_of, own_name, with_attributes, text_label, optional_label, is_taken, with_scope_attribute, scope_label_name, scope_labels, has_text, without_empty, all_labels, point_labels, resource_labels};
 ghost use Rattle.otel_prometheus.specs.Names.{name_of};
 ghost use Rattle.otel_prometheus.specs.Samples.{is_label_byte};
 
@@ -37,34 +37,96 @@ fn push_text(
     }
 }
 
-/// Adds the version of a scope, if it has one.
-fn push_version(
+/// Adds a label with this text at the end, if there is one that isn't empty.
+fn push_optional(
     alloc: Global,
     labels: &mut Vec<Label>,
-    version: Option<&str>,
+    name: &str,
+    text: Option<&str>,
 ) -> Result<(), AllocError>
-    ensures { OnOk result (labels.new.items ≡ labels.old.items ++ version_label (option_map (λ s. s.now) version.entry)) }
+    ensures { OnOk result (labels.new.items ≡ labels.old.items ++ optional_label name.now (option_map (λ s. s.now) text.entry)) }
 {
-    match version {
-        Some(version) => push_text(alloc, labels, "otel_scope_version", version),
+    match text {
+        Some(text) => push_text(alloc, labels, name, text),
         None => Ok(()),
     }
 }
 
-/// Adds the labels of a scope.
-pub(crate) fn push_scope(
+/// Returns the name of the label of an attribute of a scope.
+fn scope_label_name(alloc: Global, key: &str) -> Result<String, AllocError>
+    ensures { IfOk result (λ name. string_bytes name ≡ scope_label_name key.now) }
+{
+    let mut text = String::from_str(alloc, "otel_scope_")?;
+    text.push_str(key)?;
+    label_name(alloc, text.as_str().as_bytes())
+}
+
+/// Whether the name is that of a label for another part of a scope.
+fn is_taken(name: &str) -> bool
+    ensures { result ≡ is_taken name.now }
+{
+    name == "otel_scope_name" || name == "otel_scope_schema_url" || name == "otel_scope_version"
+}
+
+/// Adds the label of an attribute of a scope, unless another part of the scope has its name.
+fn add_scope_attribute(
     alloc: Global,
     labels: &mut Vec<Label>,
-    settings: Settings,
-    scope: &InstrumentationScope,
+    attribute: &KeyValue,
 ) -> Result<(), AllocError>
-    ensures { OnOk result (labels.new.items ≡ labels.old.items ++ scope_labels settings scope.now) }
+    ensures { OnOk result (labels.new.items ≡ with_scope_attribute labels.old.items attribute.now) }
 {
-    if settings.has_scope_labels {
-        push_text(alloc, labels, "otel_scope_name", scope.name())?;
-        return push_version(alloc, labels, scope.version());
+    let name = scope_label_name(alloc, attribute.key.as_str())?;
+    if is_taken(name.as_str()) {
+        return Ok(());
+    }
+    let value = value_text(alloc, &attribute.value)?;
+    add_label(labels, name, value)
+}
+
+/// Adds a label for each of these attributes of a scope.
+fn add_scope_attributes(
+    alloc: Global,
+    labels: &mut Vec<Label>,
+    attributes: &[KeyValue],
+) -> Result<(), AllocError>
+    ensures { OnOk result (labels.new.items ≡ fold with_scope_attribute labels.old.items attributes.now) }
+{
+    for attribute in attributes {
+        add_scope_attribute(alloc, labels, attribute)?;
     }
     Ok(())
+}
+
+/// Returns the labels of a scope.
+pub(crate) fn scope_labels(
+    alloc: Global,
+    settings: Settings,
+    scope: &InstrumentationScope,
+) -> Result<Vec<Label>, AllocError>
+    ensures { IfOk result (λ labels. labels.items ≡ scope_labels settings scope.now) }
+{
+    let mut labels = Vec::new(alloc);
+    if !settings.has_scope_labels {
+        return Ok(labels);
+    }
+    push_text(alloc, &mut labels, "otel_scope_name", scope.name())?;
+    push_optional(
+        alloc,
+        &mut labels,
+        "otel_scope_schema_url",
+        scope.schema_url(),
+    )?;
+    push_optional(alloc, &mut labels, "otel_scope_version", scope.version())?;
+    add_scope_attributes(alloc, &mut labels, scope.attributes().as_slice())?;
+    Ok(labels)
+}
+
+/// Takes out the labels with an empty value, which are none to who reads a text.
+pub(crate) fn drop_empty(labels: &mut Vec<Label>)
+    ensures { labels.new.items ≡ without_empty labels.old.items }
+{
+    labels.retain(|label| !label.value().is_empty());
 }
 
 /// Returns the name of the label of an attribute.
@@ -110,7 +172,7 @@ fn add_attributes(
 }
 
 /// Adds a label for each attribute of a resource.
-pub(crate) fn add_resource(
+fn add_resource(
     alloc: Global,
     labels: &mut Vec<Label>,
     resource: &Resource,
@@ -123,6 +185,16 @@ pub(crate) fn add_resource(
     Ok(())
 }
 
+/// Returns the labels of what says what a resource is.
+pub(crate) fn resource_labels(alloc: Global, resource: &Resource) -> Result<Vec<Label>, AllocError>
+    ensures { IfOk result (λ labels. labels.items ≡ resource_labels resource.now.attributes) }
+{
+    let mut labels = Vec::new(alloc);
+    add_resource(alloc, &mut labels, resource)?;
+    drop_empty(&mut labels);
+    Ok(labels)
+}
+
 /// Returns the labels of a point. A histogram has bounds.
 pub(crate) fn point_labels(
     alloc: Global,
@@ -133,8 +205,8 @@ pub(crate) fn point_labels(
 ) -> Result<Vec<Label>, AllocError>
     ensures { IfOk result (λ labels. labels.items ≡ point_labels settings has_bounds scope.now attributes.now) }
 {
-    let mut labels = Vec::with_capacity(alloc, attributes.len().saturating_add(2))?;
-    push_scope(alloc, &mut labels, settings, scope)?;
+    let mut labels = scope_labels(alloc, settings, scope)?;
     add_attributes(alloc, &mut labels, attributes, has_bounds)?;
+    drop_empty(&mut labels);
     Ok(labels)
 }

@@ -3,7 +3,7 @@
 ghost use Rattle.std.specs.Prelude.{◌≡◌, ◌++◌, Bool, OnOk, map, fold};
 ghost use Rattle.otel_common.specs.declared.scopes.InstrumentationScope.{InstrumentationScope};
 ghost use Rattle.otel_prometheus.specs.Points.{number_series, gauge_series, sum_series, histogram_series, data_series, content_series};
-ghost use Rattle.otel_prometheus.specs.Labels.{scope_labels};
+ghost use Rattle.otel_prometheus.specs.Labels.{scope_labels, without_empty};
 ghost use Rattle.otel_prometheus.specs.Rising.{comma_texts};
 ghost use Rattle.otel_prometheus.specs.Series.{Series};
 ghost use Rattle.otel_prometheus.specs.Texts.{with_series};
@@ -34,7 +34,7 @@ fn push_number<T: Number>(
     value: T,
     texts: &mut Texts,
 ) -> Result<(), AllocError>
-    requires { spelling.old.scope_text.items ≡ comma_texts (scope_labels settings scope.now) }
+    requires { spelling.old.scope_text.items ≡ comma_texts (without_empty (scope_labels settings scope.now)) }
     ensures series { OnOk result (texts.new ≡ with_series texts.old (number_series T.integer settings scope.now heading.now attributes.now value)) }
     ensures of_scope { spelling.new.scope_text.items ≡ spelling.old.scope_text.items }
 {
@@ -67,7 +67,7 @@ trait Point {
         has_sum: bool,
         texts: &mut Texts,
     ) -> Result<(), AllocError>
-        requires { spelling.old.scope_text.items ≡ comma_texts (scope_labels settings scope.now) }
+        requires { spelling.old.scope_text.items ≡ comma_texts (without_empty (scope_labels settings scope.now)) }
         ensures series { OnOk result (texts.new ≡ with_series texts.old (series settings has_sum scope.now heading.now self.now)) }
         ensures of_scope { spelling.new.scope_text.items ≡ spelling.old.scope_text.items };
 }
@@ -207,6 +207,7 @@ fn add_points<T: Number>(
         }
         MetricData::Histogram(histogram) => {
             let points = histogram.data_points().as_slice();
+            let has_sum = has_sum && histogram.has_sum();
             add_each(alloc, settings, scope, heading, points, has_sum, texts)
         }
     }

@@ -3,11 +3,11 @@
 ghost use Rattle.std.specs.Prelude.{◌≡◌, ◌++◌, [], ◌∷◌, ◌≤◌, ℕ, List, length, take, drop, IsTrue, IfOk, OnOk, map};
 ghost use Rattle.otel_prometheus.specs.Names.{name_of};
 ghost use Rattle.otel_prometheus.specs.Samples.{Pair, escaped, is_label_byte, label_text, labels_text};
-ghost use Rattle.otel_prometheus.specs.Labels.{own_name, point_labels, scope_labels};
-ghost use Rattle.otel_prometheus.specs.Rising.{rises, count_below, place_of_scope, comma_texts, value_front, front_texts};
+ghost use Rattle.otel_prometheus.specs.Labels.{is_empty, own_name, point_labels, scope_labels, without_empty};
+ghost use Rattle.otel_prometheus.specs.Rising.{rises, count_below, place_of_scope, comma_texts, value_front, front_text, front_texts};
 ghost use Rattle.otel_prometheus.specs.Values.{value_text};
 
-use crate::labels::{own_name, point_labels, push_scope};
+use crate::labels::{drop_empty, own_name, point_labels, scope_labels};
 use crate::settings::Settings;
 use crate::text::labels::{Label, push_label, push_labels, push_value};
 use crate::values::value_text;
@@ -33,14 +33,14 @@ fn rises(before: &[u8], names: &[StringValue]) -> bool
     true
 }
 
-/// How many names, from the front, are less than the first name of a label of a scope.
+/// How many names, from the front, are less than those of the labels of a scope, which all begin with `otel_scope_`.
 fn count_below(names: &[StringValue]) -> usize
     ensures { result ≡ count_below names.now }
 {
     let mut count = 0;
     for name in names {
         let bytes = name.as_str().as_bytes();
-        if !bytes.cmp(b"otel_scope_name".as_slice()).is_lt() {
+        if !bytes.cmp(b"otel_scope_".as_slice()).is_lt() {
             return count;
         }
         count += 1;
@@ -48,14 +48,15 @@ fn count_below(names: &[StringValue]) -> usize
     count
 }
 
-/// How many names come before those of a scope's labels; none if the names don't rise, or one stands between these.
+/// How many names come before those of a scope's labels; none if the names don't rise, or one stands between these, that
+/// is before the byte behind `_`.
 #[tactic(auto, using(crate::proofs::RisingLemmas::count_within))]
 fn place_of_scope(names: &[StringValue]) -> Option<usize>
     ensures { result ≡ place_of_scope names.now }
 {
     let count = count_below(names);
     let (low, high) = names.split_at(count);
-    if rises(b"", low) && rises(b"otel_scope_version", high) {
+    if rises(b"", low) && rises(b"otel_scope`", high) {
         return Some(count);
     }
     None
@@ -140,6 +141,39 @@ fn push_own_value(alloc: Global, out: &mut Vec<u8>, value: &Value) -> Result<(),
     }
 }
 
+/// Whether the value is an empty text.
+#[inline(always)]
+fn is_empty(value: &Value) -> bool
+    ensures { result ≡ is_empty (value_text value.now) }
+{
+    match value {
+        Value::String(text) => text.as_str().as_bytes().is_empty(),
+        Value::I64(number) => {
+            let _number = *number;
+            false
+        }
+        Value::Bool(_) => false,
+        Value::Array(_) => false,
+    }
+}
+
+/// Appends a label, of which this is what stands in front of its value, unless the value is empty.
+#[inline(always)]
+fn push_behind_front(
+    alloc: Global,
+    out: &mut Vec<u8>,
+    front: &str,
+    value: &Value,
+) -> Result<(), AllocError>
+    ensures { OnOk result (out.new.items ≡ out.old.items ++ front_text front.now (value_text value.now)) }
+{
+    if is_empty(value) {
+        return Ok(());
+    }
+    out.extend_from_slice(front.as_bytes())?;
+    push_own_value(alloc, out, value)
+}
+
 /// Appends labels, of which these are what stands in front of their values, with the values of attributes.
 fn push_each(
     alloc: Global,
@@ -155,8 +189,7 @@ fn push_each(
             return Ok(());
         };
         left = rest;
-        out.extend_from_slice(front.as_str().as_bytes())?;
-        push_own_value(alloc, out, &attribute.value)?;
+        push_behind_front(alloc, out, front.as_str(), &attribute.value)?;
     }
     Ok(())
 }
@@ -286,7 +319,7 @@ impl Names {
         scope_text: &[u8],
         attributes: &[KeyValue],
     ) -> Result<(), AllocError>
-        requires of_scope { scope_text.now ≡ comma_texts (scope_labels settings scope.now) }
+        requires of_scope { scope_text.now ≡ comma_texts (without_empty (scope_labels settings scope.now)) }
         requires keys { self.now.keys.items ≡ map (λ a. a.key) attributes.now }
         ensures { OnOk result (out.new.items ≡ out.old.items ++ labels_text (point_labels settings self.now.has_bounds scope.now attributes.now)) }
     {
@@ -316,10 +349,10 @@ impl Spelling {
         settings: Settings,
         scope: &InstrumentationScope,
     ) -> Result<Spelling, AllocError>
-        ensures { IfOk result (λ spelling. spelling.scope_text.items ≡ comma_texts (scope_labels settings scope.now)) }
+        ensures { IfOk result (λ spelling. spelling.scope_text.items ≡ comma_texts (without_empty (scope_labels settings scope.now))) }
     {
-        let mut labels = Vec::new(alloc);
-        push_scope(alloc, &mut labels, settings, scope)?;
+        let mut labels = scope_labels(alloc, settings, scope)?;
+        drop_empty(&mut labels);
         let mut scope_text = Vec::new(alloc);
         push_behind_commas(&mut scope_text, labels.as_slice())?;
         let names = Names::of(alloc, &[], false)?;
@@ -336,7 +369,7 @@ impl Spelling {
         attributes: &[KeyValue],
         has_bounds: bool,
     ) -> Result<(), AllocError>
-        requires of_scope { self.old.scope_text.items ≡ comma_texts (scope_labels settings scope.now) }
+        requires of_scope { self.old.scope_text.items ≡ comma_texts (without_empty (scope_labels settings scope.now)) }
         ensures labels { OnOk result (out.new.items ≡ out.old.items ++ labels_text (point_labels settings has_bounds scope.now attributes.now)) }
         ensures of_scope { self.new.scope_text.items ≡ self.old.scope_text.items }
     {

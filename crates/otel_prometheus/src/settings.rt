@@ -9,8 +9,8 @@ use crate::text::formats::Format;
 pub struct Settings {
     /// The form of the text.
     pub format: Format,
-    /// Whether each sample has the name and the version of its scope as labels `otel_scope_name` and
-    /// `otel_scope_version`.
+    /// Whether each sample has the parts of its scope as labels: `otel_scope_name`, `otel_scope_version`,
+    /// `otel_scope_schema_url`, and `otel_scope_KEY` for each attribute.
     pub has_scope_labels: bool,
 }
 

@@ -12,7 +12,7 @@ returns-clause-tokens g c =
     let p = c.args.gauge.now in
     let old = c.args.out.now.tokens in
     let start : c.unwrap_or-start.result ≡ p.start_time = grind (arith, common_steps) in
-    let points : c.as_slice.result.now ≡ p.data_points = c.as_slice.ensures.value ∙ c.data_points.ensures in
+    let points : c.as_slice-points.result.now ≡ p.data_points = c.as_slice-points.ensures.value ∙ c.data_points.ensures in
     simp (c.in_ok-end_object.ensures.ok, c.in_ok-write_points.ensures.tokens, c.in_ok-write_parts.ensures.tokens)
-    (joined3 old (Token.begin_object ∷ Token.key (codes "dataPoints") ∷ []) (json_tokens (array_of (gauge_point_json g.T.Number.integer c.unwrap_or-start.result c.time.result) c.as_slice.result.now)) (Token.end_object ∷ [])
+    (joined3 old (Token.begin_object ∷ Token.key (codes "dataPoints") ∷ []) (json_tokens (array_of (gauge_point_json g.T.Number.integer c.unwrap_or-start.result c.time.result) c.as_slice-points.result.now)) (Token.end_object ∷ [])
     ∙ (λ i. old ++ Token.begin_object ∷ Token.key (codes "dataPoints") ∷ (json_tokens (array_of (gauge_point_json g.T.Number.integer (start i) (c.time.ensures i)) (points i)) ++ Token.end_object ∷ [])))

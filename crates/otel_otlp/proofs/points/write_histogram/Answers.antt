@@ -14,7 +14,7 @@ returns-clause-tokens g c =
     let points : c.as_slice.result.now ≡ p.data_points = c.as_slice.ensures.value ∙ c.data_points.ensures in
     let relation : whole (pos c.temporality_number.result) ≡ temporality_json p.temporality = c.temporality_number.ensures ∙ ap temporality_json c.temporality.ensures in
     simp (c.in_ok-write_parts-2.ensures.tokens, c.in_ok-write_points.ensures.tokens, c.in_ok-write_parts.ensures.tokens)
-    (joined3 old (Token.begin_object ∷ Token.key (codes "dataPoints") ∷ []) (json_tokens (array_of (histogram_point_json g.T.Number.integer c.start_time.result c.time.result) c.as_slice.result.now))
+    (joined3 old (Token.begin_object ∷ Token.key (codes "dataPoints") ∷ []) (json_tokens (array_of (histogram_point_json g.T.Number.integer c.has_sum.result c.start_time.result c.time.result) c.as_slice.result.now))
     (Token.key (codes "aggregationTemporality") ∷ (json_tokens (whole (pos c.temporality_number.result)) ++ Token.end_object ∷ []))
-    ∙ (λ i. old ++ Token.begin_object ∷ Token.key (codes "dataPoints") ∷ (json_tokens (array_of (histogram_point_json g.T.Number.integer (c.start_time.ensures i) (c.time.ensures i)) (points i))
+    ∙ (λ i. old ++ Token.begin_object ∷ Token.key (codes "dataPoints") ∷ (json_tokens (array_of (histogram_point_json g.T.Number.integer (c.has_sum.ensures i) (c.start_time.ensures i) (c.time.ensures i)) (points i))
     ++ Token.key (codes "aggregationTemporality") ∷ (json_tokens (relation i) ++ Token.end_object ∷ []))))

@@ -4,5 +4,5 @@ use Rattle.otel_prometheus.proofs.expositions.push_target_labels.Goals as goal
 
 pub returns : goal.returns
 returns c =
-    target_text c.args.format _ _ c.args.labels.now _ c.args.out.now.items c.push_target_kind.new.out.items c.push_line.new.out.items
-    c.in-Some.ensures.cases.0 c.in_ok-push_target_kind.ensures (search rules) c.in_ok-push_line.ensures
+    target_text c.args.format _ _ c.args.labels.now _ c.args.out.now.items c.push_target_front.new.out.items c.push_line.new.out.items
+    c.in-Some.ensures.cases.0 c.in_ok-push_target_front.ensures (search rules) c.in_ok-push_line.ensures
