@@ -1,10 +1,10 @@
 -- Buckets that are left.
-use Rattle.std.proofs.Common.{◌≡◌, ℕ, ◌+◌, ◌<◌, ◌%◌, ◌^◌, ℤ, List, [], ◌∷◌, ◌++◌, length, drop, slice_index_or, codes, refl, sym, ap, ◌∙◌, append_assoc, append-nil, arith}
-use Rattle.std.proofs.lemmas.List.{drop_more}
+use Rattle.std.proofs.Common.{◌≡◌, ℕ, ◌+◌, ◌<◌, ◌%◌, ◌^◌, ℤ, List, [], ◌∷◌, ◌++◌, length, codes, refl, sym, ap, ◌∙◌, append_assoc, append-nil, arith}
 use Rattle.otel_prometheus.specs.Samples.{Pair, line_text, sample_text}
 use Rattle.otel_prometheus.specs.declared.text.formats.Format.{Format}
-use Rattle.otel_prometheus.specs.Points.{bound_text, bucket, buckets}
+use Rattle.otel_prometheus.specs.Points.{bound_text, bucket, meets_next, sample_unless, buckets}
 use Rattle.otel_prometheus.specs.Series.{samples_text}
+use Rattle.otel_prometheus.proofs.SeriesLemmas.{samples_text_append}
 
 -- without counts there are no buckets
 no_counts : (f : Format) (n : List ℕ) (ls : List Pair) (before : ℕ) (bounds : List ℤ) → samples_text (buckets f n ls before bounds []) ≡ []
@@ -15,14 +15,16 @@ pub none_left : (f : Format) (n : List ℕ) (ls : List Pair) (before : ℕ) (bou
 none_left f n ls before bounds [] out e = ap (λ t. out ++ t) (no_counts f n ls before bounds) ∙ append-nil out
 none_left f n ls before bounds (x ∷ left) out e = absurd (omega (arith, e))
 
-pub one_less : (f : Format) (n : List ℕ) (ls : List Pair) (before : ℕ) (bounds : List ℤ) (i : ℕ) (d : ℤ) (count : ℕ) (left rest out newer : List ℕ)
-    → i < length bounds → left ≡ count ∷ rest → newer ≡ out ++ sample_text (bucket n ls (bound_text f (slice_index_or bounds i d)) ((before + count) % 2 ^ 64))
-    → newer ++ samples_text (buckets f n ls ((before + count) % 2 ^ 64) (drop (i + 1) bounds) rest) ≡ out ++ samples_text (buckets f n ls before (drop i bounds) left)
-one_less f n ls before bounds i d count left rest out newer h e k =
-    ap (λ t. t ++ samples_text (buckets f n ls ((before + count) % 2 ^ 64) (drop (i + 1) bounds) rest)) k
-    ∙ (append_assoc out (sample_text (bucket n ls (bound_text f (slice_index_or bounds i d)) ((before + count) % 2 ^ 64))) (samples_text (buckets f n ls ((before + count) % 2 ^ 64) (drop (i + 1) bounds) rest))
-    ∙ (ap (λ t. out ++ samples_text (buckets f n ls before t (count ∷ rest))) (sym (drop_more bounds i d h))
-    ∙ ap (λ t. out ++ samples_text (buckets f n ls before (drop i bounds) t)) (sym e)))
+pub one_less : (f : Format) (n : List ℕ) (ls : List Pair) (before : ℕ) (left following : List ℤ) (bound : ℤ) (count : ℕ) (counts rest out newer : List ℕ)
+    → left ≡ bound ∷ following → counts ≡ count ∷ rest → newer ≡ out ++ samples_text (sample_unless (meets_next bound following) (bucket n ls (bound_text f bound) ((before + count) % 2 ^ 64)))
+    → newer ++ samples_text (buckets f n ls ((before + count) % 2 ^ 64) following rest) ≡ out ++ samples_text (buckets f n ls before left counts)
+one_less f n ls before left following bound count counts rest out newer h e k =
+    let own = sample_unless (meets_next bound following) (bucket n ls (bound_text f bound) ((before + count) % 2 ^ 64)) in
+    let others = buckets f n ls ((before + count) % 2 ^ 64) following rest in
+    ap (λ t. t ++ samples_text others) k
+    ∙ (append_assoc out (samples_text own) (samples_text others)
+    ∙ (ap (λ t. out ++ t) (sym (samples_text_append own others))
+    ∙ (λ i. out ++ samples_text (buckets f n ls before (sym h i) (sym e i)))))
 
 -- ======== the front of buckets ========
 -- what ends where a bound belongs

@@ -3,12 +3,12 @@ use Rattle.std.proofs.Common.{◌≡◌, ℕ, ◌+◌, ◌%◌, ◌^◌, ◌<◌
 use Rattle.otel_data.specs.declared.collections.Metric.{Metric}
 use Rattle.otel_data.specs.declared.collections.ResourceMetrics.{ResourceMetrics}
 use Rattle.otel_data.specs.declared.collections.ScopeMetrics.{ScopeMetrics}
-use Rattle.otel_prometheus.specs.Samples.{Pair, labels_text}
+use Rattle.otel_prometheus.specs.Samples.{Sample, Pair, labels_text}
 use Rattle.otel_prometheus.specs.declared.text.formats.Format.{Format}
 use Rattle.otel_prometheus.specs.Families.{is_refused, with_heading, with_metric, with_scope, families}
 use Rattle.otel_prometheus.specs.Headings.{heading_of}
 use Rattle.otel_prometheus.specs.Laws.{AreNew, StandApart, Rise}
-use Rattle.otel_prometheus.specs.Points.{buckets}
+use Rattle.otel_prometheus.specs.Points.{bound_text, bucket, meets_next, sample_unless, buckets}
 use Rattle.otel_prometheus.specs.Series.{Series, is_seen, kept}
 use Rattle.otel_prometheus.specs.Totals.{total}
 use Rattle.otel_prometheus.specs.declared.families.Family.{Family}
@@ -61,16 +61,23 @@ higher before n rest high h k = omega (arith, h, k)
 fits : (n : ℕ) → (n % 2 ^ 64) % 2 ^ 64 ≡ n % 2 ^ 64
 fits n = omega arith
 
+lower : (low higher : ℕ) (xs : List Sample) (high : ℕ) → low ≤ higher → Rise higher xs high → Rise low xs high
+lower low higher [] high e r = omega (arith, e, r)
+lower low higher (x ∷ xs) high e r = let at : low ≤ r.0 = omega (arith, e, r.2) in (r.0, r.1, at, r.3)
+
+rise_unless : (t : Bool) (x : Sample) (low n high : ℕ) (xs : List Sample) → x.value ≡ pos n → low ≤ n → Rise n xs high → Rise low (sample_unless t x ++ xs) high
+rise_unless true x low n high xs e h r = lower low n xs high h r
+rise_unless false x low n high xs e h r = (n, e, h, r)
+
 pub buckets_rise : (f : Format) (name : List ℕ) (labels : List Pair) (before : ℕ) (bounds : List ℤ) (counts : List ℕ) (high : ℕ)
     → before + total (λ n. n) counts ≤ high → high < 2 ^ 64 → Rise before (buckets f name labels before bounds counts) high
 buckets_rise f name labels before [] counts high h k = omega (arith, h)
 buckets_rise f name labels before (b ∷ bounds) [] high h k = omega (arith, h)
-buckets_rise f name labels before (b ∷ bounds) (n ∷ counts) high h k = (
-  (before + n) % 2 ^ 64,
-  ap pos (fits (before + n)),
-  higher before n (total (λ n. n) counts) high h k,
-  buckets_rise f name labels ((before + n) % 2 ^ 64) bounds counts high (within before n (total (λ n. n) counts) high h k) k,
-)
+buckets_rise f name labels before (b ∷ bounds) (n ∷ counts) high h k =
+    rise_unless (meets_next b bounds) (bucket name labels (bound_text f b) ((before + n) % 2 ^ 64)) before ((before + n) % 2 ^ 64) high (buckets f name labels ((before + n) % 2 ^ 64) bounds counts)
+    (ap pos (fits (before + n)))
+    (higher before n (total (λ n. n) counts) high h k)
+    (buckets_rise f name labels ((before + n) % 2 ^ 64) bounds counts high (within before n (total (λ n. n) counts) high h k) k)
 
 none_before : (n high : ℕ) → n ≤ high → 0 + n ≤ high
 none_before n high h = omega (arith, h)

@@ -32,7 +32,7 @@ use Rattle.otel_prometheus.specs.Collections.{belongs, metric_series, scope_seri
 use Rattle.otel_prometheus.specs.Families.{families, is_refused, with_heading, with_metric, with_scope}
 use Rattle.otel_prometheus.specs.Headings.{own_text, plain_name, heading_with, base_name, heading_of, is_last_value, content_kind}
 use Rattle.otel_prometheus.specs.Labels.{placed, with_label, own_name, label_of, with_attributes, text_label, optional_label, scope_label_name, is_taken, with_scope_attribute, parts_of_scope, scope_labels, has_text, without_empty, all_labels, point_labels, resource_labels}
-use Rattle.otel_prometheus.specs.Points.{are_natural, value_end, bound_text, bucket, buckets, sum_samples, count_sample, count_samples, histogram_samples, number_series, gauge_series, sum_series, histogram_series, data_series, content_series}
+use Rattle.otel_prometheus.specs.Points.{are_natural, value_end, bound_text, bucket, meets_next, sample_unless, buckets, sum_samples, count_sample, count_samples, histogram_samples, number_series, gauge_series, sum_series, histogram_series, data_series, content_series}
 use Rattle.otel_prometheus.specs.Series.{Series, is_seen, kept}
 use Rattle.otel_prometheus.specs.Units.{word_at, times, decimal_sizes, binary_sizes, measures, rates, or_other, unit_word, or_name, is_count, worded, ratio, unit_parts, unit_suffix}
 use Rattle.otel_prometheus.specs.declared.families.Family.{Family}
@@ -262,11 +262,17 @@ valid_bucket n ls bound count h k = record {
   value = unsigned_fits count;
 }
 
+valid_unless : (t : Bool) (x : Sample) → IsSample x → AreSamples (sample_unless t x)
+valid_unless true x h = tt
+valid_unless false x h = (h, tt)
+
 valid_buckets : (f : Format) (n : List ℕ) (ls : List Pair) (before : ℕ) (bounds : List ℤ) (counts : List ℕ) → IsMetricName n → AreLabels ls → AreSamples (buckets f n ls before bounds counts)
 valid_buckets f n ls before [] counts h k = tt
 valid_buckets f n ls before (b ∷ bounds) [] h k = tt
 valid_buckets f n ls before (b ∷ bounds) (c ∷ counts) h k =
-    (valid_bucket n ls (bound_text f b) ((before + c) % 2 ^ 64) h k, valid_buckets f n ls ((before + c) % 2 ^ 64) bounds counts h k)
+    samples_append (sample_unless (meets_next b bounds) (bucket n ls (bound_text f b) ((before + c) % 2 ^ 64))) (buckets f n ls ((before + c) % 2 ^ 64) bounds counts)
+    (valid_unless (meets_next b bounds) (bucket n ls (bound_text f b) ((before + c) % 2 ^ 64)) (valid_bucket n ls (bound_text f b) ((before + c) % 2 ^ 64) h k))
+    (valid_buckets f n ls ((before + c) % 2 ^ 64) bounds counts h k)
 
 valid_sum : (t : Bool) (n : List ℕ) (ls : List Pair) (z : ℤ) → IsMetricName n → AreLabels ls → IsNumber z → AreSamples (sum_samples t n ls z)
 valid_sum true n ls z h k m = (record { name = longer_name n (codes "_sum") h (all_of is_metric_byte (codes "_sum") refl); labels = k; value = m }, tt)

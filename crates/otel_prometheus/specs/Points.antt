@@ -1,5 +1,6 @@
 -- Points as series of samples.
 use Rattle.std.specs.Prelude.{ℕ, ◌+◌, ◌%◌, ◌^◌, ◌&&◌, ℤ, pos, int_le, List, [], ◌∷◌, ◌++◌, Bool, true, false, cond, codes, map}
+use Rattle.std.specs.Float.Ieee as Ieee
 use Rattle.std.specs.Fmt.{signed_decimal}
 use Rattle.std.specs.List.{list_all}
 use Rattle.otel_common.specs.declared.attributes.KeyValue.{KeyValue}
@@ -38,12 +39,21 @@ bound_text formats.OpenMetrics z = signed_decimal z ++ codes ".0"
 abbrev pub bucket : List ℕ → List Pair → List ℕ → ℕ → Sample
 bucket name labels bound count = record { name = name ++ codes "_bucket"; labels = labels ++ (codes "le", bound) ∷ []; value = unsigned count }
 
--- a bucket for each bound, each with the values of those before it
+-- who reads a text has doubles: whether the next bound is the same one
+abbrev pub meets_next : ℤ → List ℤ → Bool
+meets_next bound [] = false
+meets_next bound (next ∷ bounds) = Ieee.eq (Ieee.of_int Ieee.binary64 bound) (Ieee.of_int Ieee.binary64 next)
+
+abbrev pub sample_unless : Bool → Sample → List Sample
+sample_unless true x = []
+sample_unless false x = x ∷ []
+
+-- a bucket for each bound, each with the values of those before it; of bounds that are one double the last has one
 abbrev pub buckets : Format → List ℕ → List Pair → ℕ → List ℤ → List ℕ → List Sample
 buckets f name labels before [] counts = []
 buckets f name labels before (b ∷ bounds) [] = []
 buckets f name labels before (b ∷ bounds) (n ∷ counts) =
-    bucket name labels (bound_text f b) ((before + n) % 2 ^ 64) ∷ buckets f name labels ((before + n) % 2 ^ 64) bounds counts
+    sample_unless (meets_next b bounds) (bucket name labels (bound_text f b) ((before + n) % 2 ^ 64)) ++ buckets f name labels ((before + n) % 2 ^ 64) bounds counts
 
 -- whether no bound is below 0; OpenMetrics has no sum beside one that is
 abbrev pub are_natural : List ℤ → Bool

@@ -3,7 +3,7 @@
 ghost use Rattle.std.specs.Prelude.{◌≡◌, ◌++◌, [], ◌∷◌, ℕ, List, codes, OnOk};
 ghost use Rattle.otel_prometheus.specs.Samples.{Pair, escaped, label_text, labels_text, sample_text};
 ghost use Rattle.otel_prometheus.specs.Fronts.{IsFront, bucket_end};
-ghost use Rattle.otel_prometheus.specs.Points.{are_natural, bound_text, bucket, buckets, sum_samples, count_samples, histogram_samples, value_end};
+ghost use Rattle.otel_prometheus.specs.Points.{are_natural, bound_text, bucket, buckets, meets_next, sample_unless, sum_samples, count_samples, histogram_samples, value_end};
 ghost use Rattle.otel_prometheus.specs.Series.{samples_text};
 
 use crate::headings::Kind;
@@ -14,6 +14,7 @@ use crate::text::samples::push_line;
 use itoa::Buffer;
 use otel_data::points::HistogramDataPoint;
 use std::alloc::AllocError;
+use std::num::nearest_i64_to_f64;
 
 /// What a family of this type adds to its name in the names of values.
 pub(crate) fn value_end(kind: Kind) -> &'static str
@@ -89,6 +90,34 @@ fn push_bucket(
     Ok(())
 }
 
+/// Whether the bound is the same double as the first of those that follow it.
+fn meets_next(bound: i64, following: &[i64]) -> bool
+    ensures { result ≡ meets_next bound following.now }
+{
+    match following.split_first() {
+        Some((next, _)) => nearest_i64_to_f64(bound) == nearest_i64_to_f64(*next),
+        None => false,
+    }
+}
+
+/// Appends the sample of a bucket with this front, unless its bound is the same double as the next one.
+fn push_distinct_bucket(
+    out: &mut Vec<u8>,
+    format: Format,
+    front: &[u8],
+    bound: i64,
+    following: &[i64],
+    count: u64,
+) -> Result<(), AllocError>
+    ensures { (name : List ℕ) (labels : List Pair) → IsFront front.now name labels → OnOk result (out.new.items ≡ out.old.items ++ samples_text (sample_unless (meets_next bound following.now) (bucket name labels (bound_text format bound) count))) }
+{
+    if meets_next(bound, following) {
+        return Ok(());
+    }
+    push_bucket(out, format, front, bound, count)?;
+    Ok(())
+}
+
 /// Appends the sample of the bucket that has no bound, with this front.
 fn push_last_bucket(out: &mut Vec<u8>, front: &[u8], count: u64) -> Result<(), AllocError>
     ensures { (name : List ℕ) (labels : List Pair) → IsFront front.now name labels → OnOk result (out.new.items ≡ out.old.items ++ sample_text (bucket name labels (codes "+Inf") count)) }
@@ -100,6 +129,7 @@ fn push_last_bucket(out: &mut Vec<u8>, front: &[u8], count: u64) -> Result<(), A
 }
 
 /// Appends the samples of the buckets that have bounds, with this front. Each counts the values of those before it too.
+/// Of bounds that are one double the last has a bucket.
 fn push_buckets(
     format: Format,
     out: &mut Vec<u8>,
@@ -110,14 +140,16 @@ fn push_buckets(
     ensures { (name : List ℕ) (labels : List Pair) → IsFront front.now name labels → OnOk result (out.new.items ≡ out.old.items ++ samples_text (buckets format name labels 0 bounds.now counts.now)) }
 {
     let mut before = 0u64;
-    let mut left = counts;
-    for bound in bounds {
-        let Some((count, rest)) = left.split_first() else {
+    let mut bounds_left = bounds;
+    let mut counts_left = counts;
+    while let Some((bound, following)) = bounds_left.split_first() {
+        let Some((count, rest)) = counts_left.split_first() else {
             return Ok(());
         };
         before = before.wrapping_add(*count);
-        left = rest;
-        push_bucket(out, format, front, *bound, before)?;
+        push_distinct_bucket(out, format, front, *bound, following, before)?;
+        bounds_left = following;
+        counts_left = rest;
     }
     Ok(())
 }
