@@ -3,7 +3,7 @@
 use super::cases::{Case, assert_of_provider};
 use super::metered::Metered;
 use super::support::{assert_text, build_faults, counter, fault_of, provider, string};
-use opentelemetry_sdk::metrics::SdkMeterProvider;
+use opentelemetry_sdk::metrics::MeterProviderBuilder;
 use opentelemetry_sdk::metrics::meter::Counter;
 use opentelemetry_sdk::metrics::provider::{Call, NumberValue};
 use std::alloc::Global;
@@ -128,7 +128,7 @@ fn assert_faults<M: Metered>(
 /// Asserts the fault numbers where a provider of the second identity is asked with values of one of the first.
 fn assert_mixed_up(rt: &impl Abort, alloc: Global, own: u64, other: u64, wanted: &str) {
     let mut own = provider(rt, alloc, own, None);
-    let builder = SdkMeterProvider::builder(alloc).with_identity(other);
+    let builder = MeterProviderBuilder::default(alloc).with_identity(other);
     let mut other = builder.build().expect(rt, "a provider");
     assert_faults(rt, alloc, &mut own, &mut other, wanted);
 }

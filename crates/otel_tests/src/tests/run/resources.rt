@@ -1,11 +1,11 @@
 //! Merges of resources, their builders, and the resource of a collection.
 
 use super::shown::{write_collection, write_resource};
-use super::support::{assert_text, attributes, string};
+use super::support::{assert_text, attributes, fault_of, string};
 use opentelemetry_sdk::common::{Key, StringValue, Value};
 use opentelemetry_sdk::metrics::ManualReader;
 use opentelemetry_sdk::metrics::callback::NoCallback;
-use opentelemetry_sdk::metrics::provider::{Plain, Provider};
+use opentelemetry_sdk::metrics::provider::{Plain, Provider, SdkMeterProvider};
 use opentelemetry_sdk::resource::{Resource, ResourceBuilder};
 use std::alloc::Global;
 use std::process::Abort;
@@ -171,9 +171,16 @@ fn assert_found(rt: &impl Abort, alloc: Global, service: &Resource) {
     assert_text(rt, text.expect(rt, "memory").as_str(), FOUND);
 }
 
-/// The name of a service is found in the resource of each collection.
+/// The number of the fault with which a default provider, which has no readers, refuses a collection.
+fn fault_without_readers(alloc: Global) -> u8 {
+    let mut provider = SdkMeterProvider::default(alloc);
+    fault_of(provider.collected(0, 200))
+}
+
+/// The name of a service is found in the resource of each collection. A default provider has no reader to collect it.
 #[test]
 fn test_meter_provider_resource(rt: HostRuntime) {
+    assert_eq!(rt; fault_without_readers(rt.alloc()), 5);
     let mut provider = service(&rt, rt.alloc());
     let collected = provider.collected(0, 200).expect(&rt, "a collection");
     let mut text = String::new(rt.alloc());

@@ -279,8 +279,8 @@ const ROW_17: &[RefusedCase] = &[RefusedCase {
     ],
 }];
 
-/// If memory is refused for a record of a new set at two readers, neither has it. Memory is refused by hand: `rt try
-/// --test --fail-alloc N`.
+/// If memory is refused for a record of a new set at two readers, neither has it. Here memory is refused by hand: `rt try
+/// --test --fail-alloc N`. In the gate `tools/refuse_memory` refuses each request of such records in turn.
 #[test]
 fn row_17(rt: HostRuntime) {
     assert_each_prints_or(&rt, rt.alloc(), ROW_17);
