@@ -31,13 +31,14 @@ const PLAIN: Settings = Settings {
 };
 
 /// A metric to be collected.
+#[derive(Drop)]
 enum Given {
     /// A monotonic sum of this name and this unit, with a point for each of these keys, whose value is `x`. The numbers
     /// of the points count from 7.
     Sum(&'static str, &'static str, &'static [&'static str], Temporality),
-    /// A cumulative histogram of the name `latency` in milliseconds, with one point: bounds 10 and 100, the values 7, 10
-    /// and 250, and a label `le`.
-    Histogram,
+    /// A cumulative histogram of the name `latency` in milliseconds, with these bounds and one point: three values, of
+    /// which two are at most the first bound, with the sum 267, if sums are kept; and a label `le`.
+    Histogram([i64; 2], bool),
 }
 
 /// A list of these items.
@@ -65,11 +66,11 @@ fn sum(rt: &impl Abort, alloc: Global, keys: &[&str], temporality: Temporality) 
 }
 
 /// The points of a histogram that is given.
-fn histogram(rt: &impl Abort, alloc: Global) -> Histogram<u64> {
+fn histogram(rt: &impl Abort, alloc: Global, bounds: [i64; 2], has_sum: bool) -> Histogram<u64> {
     let point = HistogramDataPoint::new(
         one(rt, alloc, "le", "mine"),
         Items::from(Vec::new(alloc)),
-        SharedItems::new(list_of(rt, alloc, [10, 100])).expect(rt, "memory"),
+        SharedItems::new(list_of(rt, alloc, bounds)).expect(rt, "memory"),
         Items::from(list_of(rt, alloc, [2, 0, 1])),
         3,
         Some(7),
@@ -77,7 +78,7 @@ fn histogram(rt: &impl Abort, alloc: Global) -> Histogram<u64> {
         267,
     );
     let points = Items::from(list_of(rt, alloc, [point]));
-    Histogram::new(points, 100, 200, Temporality::Cumulative, true)
+    Histogram::new(points, 100, 200, Temporality::Cumulative, has_sum)
 }
 
 /// The metric that is given, described by `"all" of` and `them` on two lines.
@@ -87,7 +88,10 @@ fn metric(rt: &impl Abort, alloc: Global, given: &Given) -> Metric {
             let sum = sum(rt, alloc, keys, *temporality);
             (*name, *unit, MetricData::from(sum))
         }
-        Given::Histogram => ("latency", "ms", MetricData::from(histogram(rt, alloc))),
+        Given::Histogram(bounds, has_sum) => {
+            let histogram = histogram(rt, alloc, *bounds, *has_sum);
+            ("latency", "ms", MetricData::from(histogram))
+        }
     };
     Metric::new(
         StringValue::new(alloc, name).expect(rt, name),
@@ -170,8 +174,86 @@ latency_milliseconds_sum{exported_le=\"mine\",otel_scope_name=\"shop\",otel_scop
 latency_milliseconds_count{exported_le=\"mine\",otel_scope_name=\"shop\",otel_scope_version=\"1\"} 3
 ";
     let alloc = rt.alloc();
-    let collected = collection(&rt, alloc, &[Given::Histogram]);
+    let collected = collection(&rt, alloc, &[Given::Histogram([10, 100], true)]);
     assert_text(&rt, alloc, PLAIN, &collected, text);
+}
+
+/// Bounds past 2^53 that are one double have one bucket; without a sum OpenMetrics has no count.
+#[test]
+fn sums_and_bounds_that_are_left_out(rt: HostRuntime) {
+    let alloc = rt.alloc();
+    let bounds = [9007199254740992, 9007199254740993];
+    let settings = Settings {
+        format: Format::OpenMetrics,
+        has_scope_labels: false,
+    };
+    let text = "# HELP latency_milliseconds \\\"all\\\" of\\nthem
+# TYPE latency_milliseconds histogram
+latency_milliseconds_bucket{exported_le=\"mine\",le=\"9007199254740993.0\"} 2
+latency_milliseconds_bucket{exported_le=\"mine\",le=\"+Inf\"} 3
+# EOF
+";
+    let collected = collection(&rt, alloc, &[Given::Histogram(bounds, false)]);
+    assert_text(&rt, alloc, settings, &collected, text);
+}
+
+/// A name is made valid before `_total` is taken off: both counters are one family, and of two series that are one the
+/// second is left out.
+#[test]
+fn totals_of_one_name_are_one_family(rt: HostRuntime) {
+    let alloc = rt.alloc();
+    let given = &[
+        Given::Sum("sent.total", "", &["a"], Temporality::Cumulative),
+        Given::Sum("sent_total", "", &["b"], Temporality::Cumulative),
+    ];
+    let text = "# HELP sent_total \"all\" of\\nthem
+# TYPE sent_total counter
+sent_total{a=\"x\",otel_scope_name=\"shop\",otel_scope_version=\"1\"} 7
+sent_total{b=\"x\",otel_scope_name=\"shop\",otel_scope_version=\"1\"} 7
+";
+    assert_text(&rt, alloc, PLAIN, &collection(&rt, alloc, given), text);
+}
+
+/// A point with these attributes, whose value is 7.
+fn point(rt: &impl Abort, alloc: Global, key: &str, text: &str) -> SumDataPoint<u64> {
+    SumDataPoint::new(one(rt, alloc, key, text), Items::from(Vec::new(alloc)), 7)
+}
+
+/// The collection of a counter `sent` of a scope `shop` with a schema URL and attributes, with two points. Each has an
+/// empty label alone, so both are the series of the scope's labels.
+fn with_empty_label(rt: &impl Abort, alloc: Global) -> ResourceMetrics {
+    let name = String::from_str(alloc, "shop").expect(rt, "memory");
+    let url = String::from_str(alloc, "https://x").expect(rt, "memory");
+    let team = KeyValue::text(alloc, "the.team", "b").expect(rt, "memory");
+    let taken = KeyValue::text(alloc, "name", "c").expect(rt, "memory");
+    let builder = InstrumentationScope::builder(alloc, name)
+        .with_schema_url(url)
+        .with_attributes(list_of(rt, alloc, [team, taken]));
+    let scope = builder.build().expect(rt, "memory");
+    let points = [point(rt, alloc, "k", ""), point(rt, alloc, "l", "")];
+    let points = Items::from(list_of(rt, alloc, points));
+    let sum = Sum::new(points, 100, 200, Temporality::Cumulative, true);
+    let metric = Metric::new(
+        StringValue::new(alloc, "sent").expect(rt, "memory"),
+        StringValue::new(alloc, "").expect(rt, "memory"),
+        StringValue::new(alloc, "").expect(rt, "memory"),
+        MetricData::from(sum).into(),
+    );
+    let scope = ScopeMetrics::new(scope, Items::from(list_of(rt, alloc, [metric])));
+    let scopes = Items::from(list_of(rt, alloc, [scope]));
+    ResourceMetrics::new(Resource::builder_empty(alloc).build(), scopes)
+}
+
+#[test]
+fn empty_labels_are_none(rt: HostRuntime) {
+    let alloc = rt.alloc();
+    let collected = with_empty_label(&rt, alloc);
+    let found = exposition_of(alloc, PLAIN, &collected).expect(&rt, "a text");
+    let text = "# TYPE sent_total counter
+sent_total{otel_scope_name=\"shop\",otel_scope_schema_url=\"https://x\",otel_scope_the_team=\"b\"} 7
+";
+    assert!(rt; found.text.as_slice() == text.as_bytes());
+    assert!(rt; found.left_out.doubled == 1);
 }
 
 const SEVEN: LeftOut = LeftOut {
@@ -184,7 +266,7 @@ const SEVEN: LeftOut = LeftOut {
 const SEVEN_TOO_MANY: &[Given] = &[
     Given::Sum("a.b", "", &["k", "c.d", "c_d"], Temporality::Cumulative),
     Given::Sum("late", "", &["k", "l"], Temporality::Delta),
-    Given::Histogram,
+    Given::Histogram([10, 100], true),
     Given::Sum("latency", "ms", &["k", "l", "m"], Temporality::Cumulative),
     Given::Sum("a_b_total", "", &["k"], Temporality::Cumulative),
 ];
@@ -204,7 +286,8 @@ fn a_resource_is_a_target(rt: HostRuntime) {
     let builder = Resource::builder_empty(alloc).with_attribute(name);
     let resource = builder.expect(&rt, "memory").build();
     let collected = ResourceMetrics::new(resource, Items::from(Vec::new(alloc)));
-    let text = "# TYPE target_info gauge
+    let text = "# HELP target_info Target metadata
+# TYPE target_info gauge
 target_info{service_name=\"a\\\\b\"} 1
 ";
     assert_text(&rt, alloc, PLAIN, &collected, text);
