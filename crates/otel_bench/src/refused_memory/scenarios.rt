@@ -13,10 +13,11 @@ use anyhow::{Error, bail};
 ///
 /// The place `alone` is such a provider with one reader, `full` the same with an overflow entry of the first instrument,
 /// `shut` one that was shut down, and `boxed` one of boxes with a view more. The place `aggregate` is an aggregate without
-/// a provider that has two sets: `known` takes in a value for one of them, `measure` for a new one. At the place `shared`, which is a shared provider with a worker: `line` and `collect`; `open` opens the
-/// worker; `add` adds a record in some way to the records that wait; `submit`, of which every second, from the first, must
-/// not be refused, `submit_all` again and again until it is not refused, and `take_first` are of the records that wait;
-/// and `settle` leaves them. A value, at the place `value`, needs no provider.
+/// a provider that has two sets: `known` takes in a value for one of them, `measure` for a new one. At the place `shared`,
+/// which is a shared provider with a worker: `line` and `collect`; `open` opens the worker; `add` adds a record in some way
+/// to the records that wait; `submit`, of which every second, from the first, must not be refused, `submit_all` again and
+/// again until it is not refused, and `take_first` are of the records that wait; and `settle` leaves them. A value, at the
+/// place `value`, needs no provider.
 #[derive(Drop)]
 pub struct Scenario<'a> {
     /// Whether the call must not be refused for want of memory.
