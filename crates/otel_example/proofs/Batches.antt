@@ -16,7 +16,7 @@ use Rattle.opentelemetry_sdk.specs.Typed.{record_reply}
 use Rattle.otel_example.specs.Totals.{sum_of, total_of}
 
 -- the instrument of a record that isn't refused is there, and its sum grows
-sum_grown : (n : ℕ) (v : model.Number) (is : List InstrumentState) → record_refusal (slice_get is n) v.signed ≡ None
+pub sum_grown : (n : ℕ) (v : model.Number) (is : List InstrumentState) → record_refusal (slice_get is n) v.signed ≡ None
     → sum_of (slice_get (changed_at n (instrument_after_record v.amount) is) n) ≡ (sum_of (slice_get is n) + v.amount.bits) % 2 ^ 64
 sum_grown n v [] e = absurd (cc)
 sum_grown zero v (i ∷ is) e = refl
