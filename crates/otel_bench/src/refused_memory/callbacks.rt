@@ -84,15 +84,3 @@ impl Counts for Counting {
         Ok(Counting::new(alloc, skipped))
     }
 }
-
-impl Counts for Box<dyn ObserveU64> {
-    fn counting(alloc: Global, skipped: u64) -> Result<Box<dyn ObserveU64>, Fault> {
-        Ok(Box::new(alloc, Counting::new(alloc, skipped))?)
-    }
-}
-
-impl Counts for Box<dyn ObserveI64> {
-    fn counting(alloc: Global, skipped: u64) -> Result<Box<dyn ObserveI64>, Fault> {
-        Ok(Box::new(alloc, Counting::new(alloc, skipped))?)
-    }
-}

@@ -5,9 +5,7 @@ use crate::refused_memory::callbacks::Counts;
 use crate::refused_memory::calls::write_call;
 use crate::refused_memory::later::write_later;
 use crate::refused_memory::scenarios::scenario_of;
-use crate::refused_memory::set_up::{
-    CALLBACKS, build, build_boxed, fill, resource, settings, view_of_all,
-};
+use crate::refused_memory::set_up::{CALLBACKS, build, fill, resource, settings};
 use crate::refused_memory::shared::share;
 use crate::refused_memory::trials::Trial;
 use crate::refused_memory::values::write_value;
@@ -53,12 +51,7 @@ fn write_at<R: Print>(trial: &mut Trial<R>, ahead: u64) -> Result<(), Error> {
         let instruments = fill(alloc, &mut provider, place, ahead)?;
         return share(provider, trial, &instruments);
     }
-    let view = view_of_all(alloc)?;
     trial.begin("build")?;
-    if place == "boxed" {
-        let built = build_boxed(alloc, resource, script, view);
-        return write_with(trial, built, ahead);
-    }
     write_with(trial, build(alloc, resource, script), ahead)
 }
 

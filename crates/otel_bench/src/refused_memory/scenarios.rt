@@ -12,12 +12,12 @@ use anyhow::{Error, bail};
 /// `build` is the builder of a provider.
 ///
 /// The place `alone` is such a provider with one reader, `full` the same with an overflow entry of the first instrument,
-/// `shut` one that was shut down, and `boxed` one of boxes with a view more. The place `aggregate` is an aggregate without
-/// a provider that has two sets: `known` takes in a value for one of them, `measure` for a new one. At the place `shared`,
-/// which is a shared provider with a worker: `line` and `collect`; `open` opens the worker; `add` adds a record in some way
-/// to the records that wait; `submit`, of which every second, from the first, must not be refused, `submit_all` again and
-/// again until it is not refused, and `take_first` are of the records that wait; and `settle` leaves them. A value, at the
-/// place `value`, needs no provider.
+/// and `shut` one that was shut down. The place `aggregate` is an aggregate without a provider that has two sets: `known`
+/// takes in a value for one of them, `measure` for a new one. At the place `shared`, which is a shared provider with a
+/// worker: `line` and `collect`; `open` opens the worker; `add` adds a record in some way to the records that wait;
+/// `submit`, of which every second, from the first, must not be refused, `submit_all` again and again until it is not
+/// refused, and `take_first` are of the records that wait; and `settle` leaves them. A value, at the place `value`, needs
+/// no provider.
 #[derive(Drop)]
 pub struct Scenario<'a> {
     /// Whether the call must not be refused for want of memory.
@@ -106,23 +106,6 @@ maybe provider copy calls | build 0 u64_histogram more 180 bounds=1,5 descriptio
 maybe provider collected | collect 0 200
 maybe provider collected | collect 1 200
 maybe provider collected | collect 2 200
-maybe boxed build
-maybe boxed line | meter other 2.0
-maybe boxed line | build 0 u64_counter more 180 description=e
-maybe boxed line | build 0 u64_counter twice 180 description=e
-maybe boxed line | record 1 i:8 d=i:4,b=s:new,a=i:9
-maybe boxed line | record 5 u:8 z=i:9
-maybe boxed line | bind 2 z=i:9
-maybe boxed line | observe 6 u:30 a=i:1;observe 7 i:-3 a=i:1;collect 1 200
-maybe boxed run | record 0 u:8 z=i:9;meter other;build 1 u64_counter more 180;bind 13 y=i:9;collect 1 200
-maybe boxed typed | build 0 u64_counter more 180
-maybe boxed typed | build 0 u64_observable_counter more 180
-maybe boxed typed | build 0 i64_observable_gauge more 180
-maybe boxed typed | bind 1 b=s:new
-maybe boxed arrays
-maybe boxed collect | collect 0 200
-maybe boxed collect | collect 1 200
-maybe boxed collected | collect 1 200
 maybe shut line | build 0 u64_counter more 180 description=d
 maybe shut line | record 1 i:8 d=i:4,b=s:new,a=i:9
 maybe shut line | record 3 u:8 z=i:9
@@ -219,12 +202,6 @@ sure provider typed | record 2 u:8 -
 sure provider typed | flush
 sure provider typed | shutdown
 sure provider timeout | shutdown
-sure boxed line | record 0 u:8 -
-sure boxed line | record 1 i:8 c=i:3,b=i:1,a=s:x,a=i:4
-sure boxed line | recordbound 0 u:8
-sure boxed line | flush
-sure boxed line | shutdown
-sure boxed typed | record 2 u:8 -
 sure shut line | meter other
 sure shut line | record 0 u:8 -
 sure shut line | record 1 i:8 b=i:1,c=i:7,a=s:x,a=i:4

@@ -1,7 +1,5 @@
 //! The provider at which a call is tried, and its twin.
 
-ghost use Rattle.std.specs.Prelude.{Some};
-
 use crate::refused_memory::callbacks::{Counting, Counts};
 use crate::refused_memory::typed::{Instruments, instruments_at, record_arrays, watch};
 use crate::scripts::{with_readers, with_views};
@@ -9,10 +7,7 @@ use anyhow::{Error, bail};
 use metrics_script::script_lines::{Script, script_of};
 use opentelemetry_sdk::Resource;
 use opentelemetry_sdk::common::{Fault, KeyValue};
-use opentelemetry_sdk::metrics::SdkMeterProvider;
-use opentelemetry_sdk::metrics::instrument::{Instrument, Stream};
 use opentelemetry_sdk::metrics::provider::{Call, Parts, Plain, Provider, Reply};
-use opentelemetry_sdk::metrics::view::View;
 use std::alloc::Global;
 
 /// The parts of the provider, without boxes.
@@ -140,45 +135,6 @@ pub fn build(alloc: Global, resource: Resource, script: Script) -> Result<Provid
     let Script { readers, views, .. } = script;
     let builder = Provider::builder(alloc).with_resource(resource)?;
     with_views(with_readers(builder, readers)?, views)?.build()
-}
-
-/// A view of a program's own, which gives each instrument the same settings.
-#[derive(Drop)]
-pub struct Alike {
-    stream: Stream,
-}
-
-impl View for Alike {
-    ghost answer = { λ view _. Some view.stream };
-
-    fn match_inst(&self, _inst: &Instrument) -> Result<Option<Stream>, Fault> {
-        Ok(Some(self.stream.clone()?))
-    }
-}
-
-/// Makes a view that sets a description.
-pub fn view_of_all(alloc: Global) -> Result<Alike, Error> {
-    let description = String::from_str(alloc, "d")?;
-    let stream = Stream::builder().with_description(description).build()?;
-    Ok(Alike { stream })
-}
-
-/// Builds the same with boxes, and with a view more.
-pub fn build_boxed(
-    alloc: Global,
-    resource: Resource,
-    script: Script,
-    view: Alike,
-) -> Result<SdkMeterProvider, Fault> {
-    let Script { readers, views, .. } = script;
-    let mut builder = SdkMeterProvider::builder(alloc).with_resource(resource)?;
-    for reader in readers {
-        builder = builder.with_reader(Box::new(alloc, reader)?)?;
-    }
-    for view in views {
-        builder = builder.with_view(Box::new(alloc, view)?)?;
-    }
-    builder.with_view(Box::new(alloc, view)?)?.build()
 }
 
 /// Makes the calls of these lines, none of which may be refused.
