@@ -12,14 +12,6 @@ pub mod Lists
 pub mod Mapped
 pub mod Outcomes
 pub mod Reached
-pub mod RowWords
-pub mod RowsCallbacks
-pub mod RowsCalls
-pub mod RowsHeadline
-pub mod RowsKnown
-pub mod RowsReaders
-pub mod RowsShared
-pub mod RowsTyped
 pub mod Runs
 pub mod Scopes
 pub mod Sound

@@ -56,7 +56,6 @@ mod pipeline;
 mod provider;
 mod provider_core;
 mod records;
-mod rows;
 mod sorts;
 mod steps;
 mod synchronous;

@@ -30,3 +30,6 @@ pub mod RowsCollections
 pub mod RowsLaws
 pub mod RowsRuns
 pub mod RowsStreamLaws
+pub mod RowsAsked
+pub mod RowsCallbackRuns
+pub mod RowsWants

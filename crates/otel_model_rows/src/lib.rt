@@ -7,5 +7,6 @@
 
 pub mod common;
 pub mod providers;
+pub mod readers;
 pub mod streams;
 pub mod words;

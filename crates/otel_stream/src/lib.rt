@@ -17,7 +17,6 @@ pub mod no_callback;
 pub mod observation;
 pub mod reader;
 pub mod registered;
-mod rows;
 pub mod selector;
 pub mod stream;
 pub mod stream_fault;
