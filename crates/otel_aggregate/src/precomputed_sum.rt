@@ -5,7 +5,7 @@ ghost use Rattle.std.specs.Option.{option_map};
 ghost use Rattle.otel_common.specs.Temporalities.{resets};
 ghost use Rattle.otel_data.specs.declared.points.SumDataPoint.{SumDataPoint as SumValue};
 ghost use Rattle.otel_model_stream.specs.Sets.{AttributeSet, none_set, set_of};
-ghost use Rattle.otel_model_stream.specs.Folds.{Last, LastValue, wrap};
+ghost use Rattle.otel_model_stream.specs.Folds.{Last, wrap};
 ghost use Rattle.otel_model_stream.specs.Totals.{points_total};
 ghost use Rattle.otel_model_stream.specs.Maps.{draining_points};
 ghost use Rattle.otel_model_stream.specs.Observed.{value_before, less};
@@ -313,13 +313,6 @@ impl<T: Number + Drop> PrecomputedSum<T> {
         ensures { without_handles self.now.state.stream.map_state.table ≡ self.now.state.stream.map_state.table }
     {
         self.stream.law_of_handles();
-    }
-
-    /// The law that it is a stream of last values.
-    pub fn law_of_aggregate(&self)
-        ensures { self.now.state.stream.aggregate ≡ LastValue }
-    {
-        let _ = self.stream.settings();
     }
 
     /// Makes a collection at the moment `now`, in nanoseconds since 1970: `points`, and then `finish`. If it fails,

@@ -75,19 +75,6 @@ fn observes_sums(kind: InstrumentKind) -> bool
     }
 }
 
-/// Whether each collection empties the stream of this demand, as it does for a sum of values that are already summed.
-fn is_drained(demand: &Demand) -> bool
-    ensures { result ≡ is_drained demand.now }
-{
-    match &demand.aggregation {
-        Aggregation::Sum => observes_sums(demand.identity.kind),
-        Aggregation::Drop => false,
-        Aggregation::Default => false,
-        Aggregation::LastValue => false,
-        Aggregation::ExplicitBucketHistogram { .. } => false,
-    }
-}
-
 /// Whether the stream of this demand starts again at each collection, whatever its reader answers, as the last values
 /// of an asynchronous gauge do.
 fn always_resets(demand: &Demand) -> bool

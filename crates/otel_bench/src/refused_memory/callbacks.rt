@@ -73,14 +73,34 @@ impl ObserveI64 for Counting {
     }
 }
 
-/// A callback that counts how often it has run.
-pub trait Counts: Sized {
-    /// Makes one that has not run and skips this many runs later.
-    fn counting(alloc: Global, skipped: u64) -> Result<Self, Fault>;
+/// The callbacks of a provider before the call under test.
+#[derive(Drop)]
+pub struct Callbacks<U, I> {
+    pub runs: U,
+    pub balance: I,
+    pub depth: U,
 }
 
-impl Counts for Counting {
-    fn counting(alloc: Global, skipped: u64) -> Result<Counting, Fault> {
-        Ok(Counting::new(alloc, skipped))
+/// Callbacks for an instrument that the call under test builds.
+#[derive(Drop)]
+pub struct Spare<U, I> {
+    pub unsigned: U,
+    pub signed: I,
+}
+
+/// Callbacks that have not run, of which this many skip a run later.
+pub fn counting(alloc: Global, ahead: u64) -> Callbacks<Counting, Counting> {
+    Callbacks {
+        runs: Counting::new(alloc, u64::from(ahead > 0)),
+        balance: Counting::new(alloc, u64::from(ahead > 1)),
+        depth: Counting::new(alloc, u64::from(ahead > 2)),
+    }
+}
+
+/// Callbacks that have not run and skip none.
+pub fn spare(alloc: Global) -> Spare<Counting, Counting> {
+    Spare {
+        unsigned: Counting::new(alloc, 0),
+        signed: Counting::new(alloc, 0),
     }
 }

@@ -1,6 +1,6 @@
 //! Makes the call under test at a provider.
 
-use crate::refused_memory::callbacks::Counts;
+use crate::refused_memory::callbacks::Spare;
 use crate::refused_memory::scenarios::unknown;
 use crate::refused_memory::set_up::calls_of;
 use crate::refused_memory::trials::Trial;
@@ -32,11 +32,8 @@ fn make<R: Print, P: Parts>(
     instruments: &Instruments,
     calls: &mut Vec<Call>,
     metrics: &mut ResourceMetrics,
-) -> Result<(), Error>
-where
-    P::ObserveU64: Counts,
-    P::ObserveI64: Counts,
-{
+    spare: Spare<P::ObserveU64, P::ObserveI64>,
+) -> Result<(), Error> {
     let scenario = trial.scenario;
     trial.begin(scenario.call)?;
     match scenario.call {
@@ -59,7 +56,7 @@ where
             }
             [call] if word == "line" => trial.take(answer_of(provider.step(call))),
             [call] if matches!(word, "typed" | "collect") => {
-                let answer = make_typed(trial.alloc, provider, instruments, call, metrics);
+                let answer = make_typed(trial.alloc, provider, instruments, call, metrics, spare);
                 trial.take(answer)
             }
             _ => unknown(word),
@@ -112,11 +109,8 @@ pub fn write_call<R: Print, P: Parts>(
     trial: &mut Trial<R>,
     provider: &mut Provider<P>,
     instruments: &Instruments,
-) -> Result<(), Error>
-where
-    P::ObserveU64: Counts,
-    P::ObserveI64: Counts,
-{
+    spare: Spare<P::ObserveU64, P::ObserveI64>,
+) -> Result<(), Error> {
     let mut calls = calls_of(trial.alloc, trial.scenario.lines)?;
     let mut metrics = ResourceMetrics::default(trial.alloc);
     if trial.scenario.place != "shut" {
@@ -128,7 +122,14 @@ where
     } else if is_run {
         write_steps(trial, provider, calls.as_slice())?;
     } else if !trial.is_refused {
-        make(trial, provider, instruments, &mut calls, &mut metrics)?;
+        make(
+            trial,
+            provider,
+            instruments,
+            &mut calls,
+            &mut metrics,
+            spare,
+        )?;
     }
     trial.write(&metrics)
 }

@@ -7,8 +7,8 @@ use opentelemetry_sdk::common::Fault;
 use opentelemetry_sdk::metrics::data::ResourceMetrics;
 use opentelemetry_sdk::metrics::provider::{Parts, Provider, Reply};
 
-/// Calls after the call under test: collections of each reader, records and binds of known and of new sets, so that the
-/// room is used that a refused call may have made, and further collections.
+/// Calls after the call under test: collections of each reader, records, observations and binds of known and of new sets,
+/// so that the room is used that a refused call may have made, and further collections.
 const LATER: &str = "\
 collect 0 250
 collect 1 250
@@ -27,6 +27,7 @@ recordbound 2 u:100
 observe 6 u:200 a=i:1
 observe 7 i:200 z=i:9
 observe 8 u:200 a=i:1
+observe 9 i:200 z=i:9
 collect 0 300
 collect 1 300
 collect 2 300

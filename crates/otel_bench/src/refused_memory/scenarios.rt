@@ -11,13 +11,13 @@ use anyhow::{Error, bail};
 /// `export` makes the text of a collection, and `copy` copies one or the lines; `timeout` shuts down with a time limit; and
 /// `build` is the builder of a provider.
 ///
-/// The place `alone` is such a provider with one reader, `full` the same with an overflow entry of the first instrument,
-/// and `shut` one that was shut down. The place `aggregate` is an aggregate without a provider that has two sets: `known`
-/// takes in a value for one of them, `measure` for a new one. At the place `shared`, which is a shared provider with a
-/// worker: `line` and `collect`; `open` opens the worker; `add` adds a record in some way to the records that wait;
-/// `submit`, of which every second, from the first, must not be refused, `submit_all` again and again until it is not
-/// refused, and `take_first` are of the records that wait; and `settle` leaves them. A value, at the place `value`, needs
-/// no provider.
+/// The place `boxed` is such a provider whose readers, views and callbacks stand in boxes, `alone` one with one reader,
+/// `full` the same with an overflow entry of the first instrument, and `shut` one that was shut down. The place
+/// `aggregate` is an aggregate without a provider that has two sets: `known` takes in a value for one of them, `measure`
+/// for a new one. At the place `shared`, which is a shared provider with a worker: `line` and `collect`; `open` opens the
+/// worker; `add` adds a record in some way to the records that wait; `submit`, of which every second, from the first, must
+/// not be refused, `submit_all` again and again until it is not refused, and `take_first` are of the records that wait;
+/// and `settle` leaves them. A value, at the place `value`, needs no provider.
 #[derive(Drop)]
 pub struct Scenario<'a> {
     /// Whether the call must not be refused for want of memory.
@@ -106,6 +106,16 @@ maybe provider copy calls | build 0 u64_histogram more 180 bounds=1,5 descriptio
 maybe provider collected | collect 0 200
 maybe provider collected | collect 1 200
 maybe provider collected | collect 2 200
+maybe boxed build
+maybe boxed line | build 0 u64_counter limited 180 description=d
+maybe boxed line | record 1 i:8 d=i:4,b=s:new,a=i:9
+maybe boxed run | record 0 u:8 z=i:9;meter other;build 1 u64_counter more 180;record 13 u:8 z=i:9;bind 13 y=i:9;collect 1 200
+maybe boxed typed | build 0 u64_observable_counter more 180
+maybe boxed typed | build 0 i64_observable_gauge more 180
+maybe boxed typed | bind 1 b=s:new
+maybe boxed collect | collect 0 200
+maybe boxed collect | collect 1 200
+maybe boxed collected | collect 2 200
 maybe shut line | build 0 u64_counter more 180 description=d
 maybe shut line | record 1 i:8 d=i:4,b=s:new,a=i:9
 maybe shut line | record 3 u:8 z=i:9

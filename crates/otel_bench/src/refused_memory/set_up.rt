@@ -1,6 +1,6 @@
 //! The provider at which a call is tried, and its twin.
 
-use crate::refused_memory::callbacks::{Counting, Counts};
+use crate::refused_memory::callbacks::{Callbacks, Counting};
 use crate::refused_memory::typed::{Instruments, instruments_at, record_arrays, watch};
 use crate::scripts::{with_readers, with_views};
 use anyhow::{Error, bail};
@@ -130,9 +130,13 @@ pub fn resource(alloc: Global) -> Result<Resource, Fault> {
     Ok(builder.build())
 }
 
-/// Builds a provider of this resource with the readers and views of a script.
-pub fn build(alloc: Global, resource: Resource, script: Script) -> Result<Provider<Swept>, Fault> {
-    let Script { readers, views, .. } = script;
+/// Builds a provider of this resource with these readers and views.
+pub fn build<P: Parts>(
+    alloc: Global,
+    resource: Resource,
+    readers: Vec<P::Reader>,
+    views: Vec<P::View>,
+) -> Result<Provider<P>, Fault> {
     let builder = Provider::builder(alloc).with_resource(resource)?;
     with_views(with_readers(builder, readers)?, views)?.build()
 }
@@ -147,21 +151,17 @@ fn make_all<P: Parts>(alloc: Global, provider: &mut Provider<P>, lines: &str) ->
     Ok(())
 }
 
-/// Makes the calls that come first at a place, registers the callbacks, of which this many skip a run later, and runs each
-/// once. The last call at the place `shut` is a shutdown. Returns instruments as values.
+/// Makes the calls that come first at a place, registers the callbacks, and runs each once. The last call at the place
+/// `shut` is a shutdown. Returns instruments as values.
 pub fn fill<P: Parts>(
     alloc: Global,
     provider: &mut Provider<P>,
     place: &str,
-    ahead: u64,
-) -> Result<Instruments, Error>
-where
-    P::ObserveU64: Counts,
-    P::ObserveI64: Counts,
-{
+    callbacks: Callbacks<P::ObserveU64, P::ObserveI64>,
+) -> Result<Instruments, Error> {
     let calls = first(alloc, place)?;
     make_all(alloc, provider, calls.as_str())?;
-    watch(alloc, provider, ahead)?;
+    watch(alloc, provider, callbacks)?;
     let reader = if is_alone(place) { 0 } else { 1 };
     let _ = provider.collected(reader, 175)?;
     make_all(alloc, provider, SINCE)?;

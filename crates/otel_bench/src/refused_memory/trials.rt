@@ -91,13 +91,9 @@ impl<R: Print> Trial<'_, R> {
     }
 
     /// Prints a space, after the last reply of a run or of a twin and before what replied is let go. There
-    /// `tools/refuse_memory` counts the blocks of memory. Where the call under test is several calls, of which some were
-    /// made, they are not counted.
+    /// `tools/refuse_memory` counts the blocks of memory.
     pub fn mark(&self) -> io::Result<()> {
-        match self.scenario.call {
-            "run" => Ok(()),
-            _ => print!(self.rt; " "),
-        }
+        print!(self.rt; " ")
     }
 
     /// Ends the call under test with what it answered, and writes that if the call was not refused for want of memory.

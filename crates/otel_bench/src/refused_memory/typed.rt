@@ -1,6 +1,6 @@
 //! Instruments as values.
 
-use crate::refused_memory::callbacks::Counts;
+use crate::refused_memory::callbacks::{Callbacks, Spare};
 use crate::refused_memory::values::arrays;
 use opentelemetry_sdk::common::{Fault, KeyValue};
 use opentelemetry_sdk::metrics::data::ResourceMetrics;
@@ -56,49 +56,44 @@ pub fn record_arrays<P: Parts>(
     instruments.heat.record(provider, value, &attributes)
 }
 
-/// Builds an observable instrument of unsigned values with a callback, which skips this many runs later.
+/// Builds an observable instrument of unsigned values with a callback.
 fn watch_unsigned<K, P: Parts>(
-    alloc: Global,
     provider: &mut Provider<P>,
     builder: AsyncInstrumentBuilder<K, u64, P>,
-    skipped: u64,
-) -> Result<(), Fault>
-where
-    P::ObserveU64: Counts,
-{
-    let builder = builder.with_callback(P::ObserveU64::counting(alloc, skipped)?)?;
-    builder.build(provider, 170)?;
+    callback: P::ObserveU64,
+) -> Result<(), Fault> {
+    builder.with_callback(callback)?.build(provider, 170)?;
     Ok(())
 }
 
-/// Builds an observable instrument of signed values with a callback, which skips this many runs later.
+/// Builds an observable instrument of signed values with a callback.
 fn watch_signed<K, P: Parts>(
-    alloc: Global,
     provider: &mut Provider<P>,
     builder: AsyncInstrumentBuilder<K, i64, P>,
-    skipped: u64,
-) -> Result<(), Fault>
-where
-    P::ObserveI64: Counts,
-{
-    let builder = builder.with_callback(P::ObserveI64::counting(alloc, skipped)?)?;
-    builder.build(provider, 170)?;
+    callback: P::ObserveI64,
+) -> Result<(), Fault> {
+    builder.with_callback(callback)?.build(provider, 170)?;
     Ok(())
 }
 
-/// Makes three observable instruments with a callback each, of which this many skip a run later.
-pub fn watch<P: Parts>(alloc: Global, provider: &mut Provider<P>, ahead: u64) -> Result<(), Fault>
-where
-    P::ObserveU64: Counts,
-    P::ObserveI64: Counts,
-{
+/// Makes three observable instruments with a callback each.
+pub fn watch<P: Parts>(
+    alloc: Global,
+    provider: &mut Provider<P>,
+    callbacks: Callbacks<P::ObserveU64, P::ObserveI64>,
+) -> Result<(), Fault> {
+    let Callbacks {
+        runs,
+        balance,
+        depth,
+    } = callbacks;
     let meter = provider.meter(METER)?;
-    let runs = meter.u64_observable_counter(String::from_str(alloc, "runs")?);
-    watch_unsigned(alloc, provider, runs, u64::from(ahead > 0))?;
-    let balance = meter.i64_observable_up_down_counter(String::from_str(alloc, "balance")?);
-    watch_signed(alloc, provider, balance, u64::from(ahead > 1))?;
-    let depth = meter.u64_observable_gauge(String::from_str(alloc, "depth")?);
-    watch_unsigned(alloc, provider, depth, u64::from(ahead > 2))
+    let counter = meter.u64_observable_counter(String::from_str(alloc, "runs")?);
+    watch_unsigned(provider, counter, runs)?;
+    let counter = meter.i64_observable_up_down_counter(String::from_str(alloc, "balance")?);
+    watch_signed(provider, counter, balance)?;
+    let gauge = meter.u64_observable_gauge(String::from_str(alloc, "depth")?);
+    watch_unsigned(provider, gauge, depth)
 }
 
 /// Builds an instrument with all that can be set.
@@ -119,11 +114,8 @@ fn build<P: Parts>(
     provider: &mut Provider<P>,
     sort: InstrumentSort,
     name: &str,
-) -> Result<(), Fault>
-where
-    P::ObserveU64: Counts,
-    P::ObserveI64: Counts,
-{
+    spare: Spare<P::ObserveU64, P::ObserveI64>,
+) -> Result<(), Fault> {
     let meter = provider.meter(METER)?;
     let name = String::from_str(alloc, name)?;
     match sort {
@@ -139,19 +131,18 @@ where
             build_full(alloc, provider, builder)
         }
         InstrumentSort::U64ObservableCounter => {
-            watch_unsigned(alloc, provider, meter.u64_observable_counter(name), 0)
+            watch_unsigned(provider, meter.u64_observable_counter(name), spare.unsigned)
         }
         InstrumentSort::U64ObservableGauge => {
-            watch_unsigned(alloc, provider, meter.u64_observable_gauge(name), 0)
+            watch_unsigned(provider, meter.u64_observable_gauge(name), spare.unsigned)
         }
         InstrumentSort::I64ObservableUpDownCounter => watch_signed(
-            alloc,
             provider,
             meter.i64_observable_up_down_counter(name),
-            0,
+            spare.signed,
         ),
         InstrumentSort::I64ObservableGauge => {
-            watch_signed(alloc, provider, meter.i64_observable_gauge(name), 0)
+            watch_signed(provider, meter.i64_observable_gauge(name), spare.signed)
         }
     }
 }
@@ -192,13 +183,10 @@ pub fn make_typed<P: Parts>(
     instruments: &Instruments,
     call: &Call,
     metrics: &mut ResourceMetrics,
-) -> Result<(), Fault>
-where
-    P::ObserveU64: Counts,
-    P::ObserveI64: Counts,
-{
+    spare: Spare<P::ObserveU64, P::ObserveI64>,
+) -> Result<(), Fault> {
     match call {
-        Call::Build { sort, name, .. } => build(alloc, provider, *sort, name.as_str()),
+        Call::Build { sort, name, .. } => build(alloc, provider, *sort, name.as_str(), spare),
         Call::Record {
             instrument,
             attributes,
