@@ -4,8 +4,8 @@ use Rattle.std.specs.Str.Parse.{digits_value}
 use Rattle.otel_stream.specs.declared.observation.Observed.{Observed}
 use Rattle.opentelemetry_sdk.specs.declared.calls.Call.{Call}
 use Rattle.opentelemetry_sdk.specs.declared.calls.Call.TheVariants.{Collect}
-use Rattle.opentelemetry_sdk.specs.declared.sorts.InstrumentSort.{InstrumentSort}
-use Rattle.opentelemetry_sdk.specs.declared.sorts.InstrumentSort.TheVariants.{U64Counter, U64ObservableCounter, I64UpDownCounter, I64ObservableUpDownCounter, U64Gauge, I64Gauge, U64ObservableGauge, I64ObservableGauge, U64Histogram}
+use Rattle.opentelemetry_sdk.specs.declared.values.sorts.InstrumentSort.{InstrumentSort}
+use Rattle.opentelemetry_sdk.specs.declared.values.sorts.InstrumentSort.TheVariants.{U64Counter, U64ObservableCounter, I64UpDownCounter, I64ObservableUpDownCounter, U64Gauge, I64Gauge, U64ObservableGauge, I64ObservableGauge, U64Histogram}
 use Rattle.metrics_script.specs.Attributes.{ReadsAttributes}
 use Rattle.metrics_script.specs.Numbers.{IsUnsigned, IsNumberWord}
 

@@ -16,8 +16,8 @@ use Rattle.opentelemetry_sdk.specs.declared.calls.Call.{Call}
 use Rattle.opentelemetry_sdk.specs.declared.calls.Call.TheVariants.{Meter, Build, Record, Bind, RecordBound, Unbind, Collect, Flush, Shutdown}
 use Rattle.opentelemetry_sdk.specs.declared.calls.Reply.{Reply}
 use Rattle.opentelemetry_sdk.specs.declared.calls.Reply.TheVariants as reply
-use Rattle.opentelemetry_sdk.specs.declared.sorts.InstrumentSort.{InstrumentSort}
-use Rattle.opentelemetry_sdk.specs.declared.sorts.InstrumentSort.TheVariants.{U64Counter, U64ObservableCounter, I64UpDownCounter, I64ObservableUpDownCounter, U64Gauge, I64Gauge, U64ObservableGauge, I64ObservableGauge, U64Histogram}
+use Rattle.opentelemetry_sdk.specs.declared.values.sorts.InstrumentSort.{InstrumentSort}
+use Rattle.opentelemetry_sdk.specs.declared.values.sorts.InstrumentSort.TheVariants.{U64Counter, U64ObservableCounter, I64UpDownCounter, I64ObservableUpDownCounter, U64Gauge, I64Gauge, U64ObservableGauge, I64ObservableGauge, U64Histogram}
 
 -- ======== instruments ========
 abbrev pub kind_of : InstrumentSort → model.InstrumentKind

@@ -9,13 +9,13 @@ use Rattle.otel_data.specs.declared.collections.ResourceMetrics.{ResourceMetrics
 use Rattle.otel_model.specs.Calls as model
 use Rattle.opentelemetry_sdk.specs.Correspondence.{about, fault_of, reply_from}
 use Rattle.opentelemetry_sdk.specs.Providers.{identity_of}
-use Rattle.opentelemetry_sdk.specs.declared.async_builders.AsyncInstrumentBuilder.{AsyncInstrumentBuilder}
-use Rattle.opentelemetry_sdk.specs.declared.asynchronous.Asynchronous.{Asynchronous}
-use Rattle.opentelemetry_sdk.specs.declared.bound.Bound.{Bound}
-use Rattle.opentelemetry_sdk.specs.declared.builders.InstrumentBuilder.{InstrumentBuilder}
-use Rattle.opentelemetry_sdk.specs.declared.meters.Meter.{Meter}
+use Rattle.opentelemetry_sdk.specs.declared.values.async_builders.AsyncInstrumentBuilder.{AsyncInstrumentBuilder}
+use Rattle.opentelemetry_sdk.specs.declared.values.asynchronous.Asynchronous.{Asynchronous}
+use Rattle.opentelemetry_sdk.specs.declared.values.bound.Bound.{Bound}
+use Rattle.opentelemetry_sdk.specs.declared.values.builders.InstrumentBuilder.{InstrumentBuilder}
+use Rattle.opentelemetry_sdk.specs.declared.values.meters.Meter.{Meter}
 use Rattle.opentelemetry_sdk.specs.declared.provider.Provider.{Provider}
-use Rattle.opentelemetry_sdk.specs.declared.synchronous.Synchronous.{Synchronous}
+use Rattle.opentelemetry_sdk.specs.declared.values.synchronous.Synchronous.{Synchronous}
 
 -- ======== meters ========
 -- the number of a meter; none if the provider was shut down before it gave the meter

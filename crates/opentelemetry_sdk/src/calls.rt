@@ -1,6 +1,6 @@
 //! Calls of a provider and its replies, as values.
 
-use crate::sorts::InstrumentSort;
+use crate::values::sorts::InstrumentSort;
 use otel_common::attributes::KeyValue;
 use otel_common::faults::Fault;
 use otel_common::lists::Items;

@@ -31,35 +31,17 @@
 //! There a collection is handed what was observed, and no callback runs.
 #![tactic(auto)]
 
-mod asking;
-mod async_builders;
-mod asynchronous;
-mod attributes;
-mod bound;
-mod builders;
-mod builds;
 mod calls;
-mod collections;
-mod core_checks;
-mod each_pipeline;
 pub mod error;
 pub mod exporter;
-mod handles;
-mod instrument;
-mod instrument_checks;
 mod laws;
-mod meters;
 pub mod metrics;
-mod new_readers;
 mod parts;
 mod pipeline;
 mod provider;
 mod provider_core;
-mod records;
-mod sorts;
-mod steps;
-mod synchronous;
+mod values;
 
-pub use attributes::AttributeValue;
 pub use otel_common::resource::Resource;
 pub use otel_common::{common, resource};
+pub use values::attributes::AttributeValue;

@@ -24,9 +24,9 @@ ghost use Rattle.opentelemetry_sdk.specs.Typed.{collect_reply, collected_reply};
 ghost use Rattle.otel_stream.specs.Answers.{answers_wanting};
 
 use crate::calls::{Call, Reply};
-use crate::new_readers::NewReaders;
 use crate::parts::{Boxed, Parts};
 use crate::provider_core::Core;
+use crate::provider_core::new_readers::NewReaders;
 use otel_aggregate::value_map::hashing::SetHashBuilder;
 use otel_common::faults::{Fault, OTelSdkResult};
 use otel_common::resource::Resource;

@@ -10,9 +10,21 @@ ghost use Rattle.opentelemetry_sdk.specs.Correspondence.{reply_to};
 ghost use Rattle.opentelemetry_sdk.specs.Readers.{AreReached, ShutsDown};
 ghost use Rattle.otel_stream.specs.Requests.{wanted_by};
 
-use crate::instrument::Instrument;
-use crate::new_readers::NewReaders;
+pub(crate) mod asking;
+pub(crate) mod builds;
+pub(crate) mod checks;
+pub(crate) mod collections;
+pub(crate) mod each_pipeline;
+pub(crate) mod handles;
+pub(crate) mod instrument;
+pub(crate) mod instrument_checks;
+pub(crate) mod new_readers;
+pub(crate) mod records;
+pub(crate) mod steps;
+
 use crate::pipeline::Pipeline;
+use crate::provider_core::instrument::Instrument;
+use crate::provider_core::new_readers::NewReaders;
 use indexmap::IndexSet;
 use otel_aggregate::links::Links;
 use otel_aggregate::value_map::hashing::SetHashBuilder;

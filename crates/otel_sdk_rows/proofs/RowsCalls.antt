@@ -14,13 +14,13 @@ use Rattle.otel_model.specs.Resources.{empty_resource}
 use Rattle.otel_stream.specs.declared.observation.Observed.{Observed}
 use Rattle.opentelemetry_sdk.specs.Correspondence.{kind_of, is_signed, about, number_of, observed_of, call_of, fault_of, reply_of, reply_from, reply_to, IsAnswer}
 use Rattle.opentelemetry_sdk.specs.Typed.{named_scope, meter_reply, build_reply, observed_reply, record_reply, bind_reply, unbind_reply, collected_reply, collect_reply}
-use Rattle.opentelemetry_sdk.specs.declared.bound.Bound.{Bound}
+use Rattle.opentelemetry_sdk.specs.declared.values.bound.Bound.{Bound}
 use Rattle.opentelemetry_sdk.specs.declared.calls.Call.{Call}
 use Rattle.opentelemetry_sdk.specs.declared.calls.Call.TheVariants.{Meter, Build, Record, Bind, RecordBound, Unbind, Collect, Flush, Shutdown}
 use Rattle.opentelemetry_sdk.specs.declared.calls.Reply.{Reply}
 use Rattle.opentelemetry_sdk.specs.declared.calls.Reply.TheVariants as reply
-use Rattle.opentelemetry_sdk.specs.declared.sorts.InstrumentSort.{InstrumentSort}
-use Rattle.opentelemetry_sdk.specs.declared.sorts.InstrumentSort.TheVariants.{U64Counter, U64ObservableCounter, I64UpDownCounter, I64ObservableUpDownCounter, U64Gauge, I64Gauge, U64ObservableGauge, I64ObservableGauge, U64Histogram}
+use Rattle.opentelemetry_sdk.specs.declared.values.sorts.InstrumentSort.{InstrumentSort}
+use Rattle.opentelemetry_sdk.specs.declared.values.sorts.InstrumentSort.TheVariants.{U64Counter, U64ObservableCounter, I64UpDownCounter, I64ObservableUpDownCounter, U64Gauge, I64Gauge, U64ObservableGauge, I64ObservableGauge, U64Histogram}
 use Rattle.otel_sdk_rows.proofs.RowWords.{x1, m, u64}
 
 -- ======== instruments ========

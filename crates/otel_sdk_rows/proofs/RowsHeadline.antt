@@ -15,7 +15,7 @@ use Rattle.opentelemetry_sdk.specs.declared.calls.Call.{Call}
 use Rattle.opentelemetry_sdk.specs.declared.calls.Call.TheVariants.{Meter, Build, Record}
 use Rattle.opentelemetry_sdk.specs.declared.calls.Reply.{Reply}
 use Rattle.opentelemetry_sdk.specs.declared.calls.Reply.TheVariants as reply
-use Rattle.opentelemetry_sdk.specs.declared.sorts.InstrumentSort.TheVariants.{U64Counter}
+use Rattle.opentelemetry_sdk.specs.declared.values.sorts.InstrumentSort.TheVariants.{U64Counter}
 use Rattle.otel_sdk_rows.proofs.RowWords.{pair, m, u64, cumulative}
 
 -- a provider as built, and one with a counter

@@ -3,11 +3,11 @@ use Rattle.std.specs.Prelude.{◌≡◌}
 use Rattle.std.proofs.Common.{refl, sym, ◌∙◌, arith}
 use Rattle.opentelemetry_sdk.specs.Providers.{state_of, identity_of}
 use Rattle.opentelemetry_sdk.specs.Typed.{IsMeterOf, IsInstrumentOf, instrument_identity, IsObservableOf, handle_identity, IsBoundOf}
-use Rattle.opentelemetry_sdk.specs.declared.asynchronous.Asynchronous.{Asynchronous}
-use Rattle.opentelemetry_sdk.specs.declared.bound.Bound.{Bound}
-use Rattle.opentelemetry_sdk.specs.declared.meters.Meter.{Meter}
+use Rattle.opentelemetry_sdk.specs.declared.values.asynchronous.Asynchronous.{Asynchronous}
+use Rattle.opentelemetry_sdk.specs.declared.values.bound.Bound.{Bound}
+use Rattle.opentelemetry_sdk.specs.declared.values.meters.Meter.{Meter}
 use Rattle.opentelemetry_sdk.specs.declared.provider.Provider.{Provider}
-use Rattle.opentelemetry_sdk.specs.declared.synchronous.Synchronous.{Synchronous}
+use Rattle.opentelemetry_sdk.specs.declared.values.synchronous.Synchronous.{Synchronous}
 
 -- a provider's identity is that of its state
 pub identity : {P V R U I : Type 0} (p : Provider P V R U I) → identity_of p ≡ (state_of p).shared.identity

@@ -5,7 +5,7 @@ pub use crate::laws::{copied_call, copied_numbers, copied_reply};
 pub use crate::metrics::plain::Plain;
 pub use crate::parts::{Boxed, ObserveI64Part, ObserveU64Part, Parts, ReaderPart, ViewPart};
 pub use crate::provider::{MeterProviderBuilder, Provider, ProviderBuilder, SdkMeterProvider};
-pub use crate::sorts::InstrumentSort;
+pub use crate::values::sorts::InstrumentSort;
 pub use otel_data::numbers::NumberValue;
 pub use otel_stream::laws::copied_observed;
 pub use otel_stream::observation::Observed;

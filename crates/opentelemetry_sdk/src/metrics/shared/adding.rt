@@ -6,12 +6,12 @@ ghost use Rattle.opentelemetry_sdk.specs.Typed.{instrument_number, instrument_id
 ghost use Rattle.opentelemetry_sdk.specs.Pending.{call_in};
 ghost use Rattle.opentelemetry_sdk.specs.Workers.{pending_of, records_of, values_of, worker_identity};
 
-use crate::bound::Bound;
 use crate::calls::Call;
 use crate::metrics::shared::account::Account;
 use crate::metrics::shared::pending::PendingRecord;
 use crate::metrics::shared::worker::Worker;
-use crate::synchronous::{Adds, Records, Synchronous};
+use crate::values::bound::Bound;
+use crate::values::synchronous::{Adds, Records, Synchronous};
 use otel_common::attributes::KeyValue;
 use otel_common::faults::Fault;
 use otel_data::numbers::{NumberType, NumberValue};

@@ -17,11 +17,11 @@ ghost use Rattle.opentelemetry_sdk.specs.Workers.{pending_of, records_of, values
 ghost use Rattle.otel_stream.specs.Requests.{wanted_by};
 
 use crate::calls::{Call, Reply};
-use crate::handles::BoundHandle;
 use crate::metrics::shared::account::{Account, check_book, check_workers};
 use crate::metrics::shared::pending::PendingRecord;
 use crate::metrics::shared::worker::Worker;
 use crate::provider_core::Core;
+use crate::provider_core::handles::BoundHandle;
 use otel_common::faults::Fault;
 use otel_data::collections::ResourceMetrics;
 use otel_stream::observation::Observed;

@@ -12,7 +12,7 @@ use Rattle.otel_model.specs.Lawful.{Balances}
 use Rattle.opentelemetry_sdk.specs.pipeline.Handles.{IsNewAt}
 use Rattle.opentelemetry_sdk.specs.pipeline.Pipelines.{part_of}
 use Rattle.opentelemetry_sdk.specs.Cores.{state_in}
-use Rattle.opentelemetry_sdk.specs.declared.handles.BoundHandle.{BoundHandle}
+use Rattle.opentelemetry_sdk.specs.declared.provider_core.handles.BoundHandle.{BoundHandle}
 use Rattle.opentelemetry_sdk.specs.Correspondence.{fault_of}
 use Rattle.opentelemetry_sdk.specs.States.{CoreContents, IsBindable, IsFault, IsSound, AreTyped}
 use Rattle.opentelemetry_sdk.proofs.Held.{feeds-synchronous, next-new, next-absent, bind-made}

@@ -1,0 +1,64 @@
+//! Instruments, as the provider keeps them.
+
+ghost use Rattle.std.specs.Prelude.{◌≡◌};
+ghost use Rattle.otel_model.specs.Calls.{is_observable};
+ghost use Rattle.otel_model.specs.Machine.{instrument_after_record};
+ghost use Rattle.opentelemetry_sdk.specs.Instruments.{new_state};
+ghost use Rattle.opentelemetry_sdk.specs.Correspondence.{number_of};
+
+use crate::values::sorts::InstrumentSort;
+use otel_aggregate::values::bits_of;
+use otel_data::numbers::NumberValue;
+use std::marker::Model;
+
+/// An instrument, with the number and the sum of the records that it has accepted, both modulo 2^64.
+#[derive(Drop)]
+pub(crate) struct Instrument {
+    sort: InstrumentSort,
+    count: u64,
+    sum: u64,
+}
+
+impl Model for Instrument {
+    ghost use Rattle.otel_model.specs.State.{InstrumentState};
+    ghost use Rattle.opentelemetry_sdk.specs.Correspondence.{kind_of, is_signed};
+
+    ghost Value = { InstrumentState };
+
+    ghost view = { λ i. record { kind = kind_of i.sort; signed = is_signed i.sort; count = i.count; sum = i.sum } };
+}
+
+impl Instrument {
+    /// Makes an instrument that has accepted nothing yet.
+    pub(crate) fn new(sort: InstrumentSort) -> Instrument
+        ensures { result ≡ new_state sort }
+    {
+        Instrument {
+            sort,
+            count: 0,
+            sum: 0,
+        }
+    }
+
+    /// Whether its values come from callbacks, and not from records.
+    pub(crate) fn is_observable(&self) -> bool
+        ensures { result ≡ is_observable self.now.kind }
+    {
+        self.sort.is_observable()
+    }
+
+    /// Whether its values are of type `i64`.
+    pub(crate) fn is_signed(&self) -> bool
+        ensures { result ≡ self.now.signed }
+    {
+        self.sort.is_signed()
+    }
+
+    /// Counts a record.
+    pub(crate) fn accept(&mut self, value: NumberValue)
+        ensures { self.new ≡ instrument_after_record (number_of value).amount self.old }
+    {
+        self.count = self.count.wrapping_add(1);
+        self.sum = self.sum.wrapping_add(bits_of(value));
+    }
+}
