@@ -35,5 +35,6 @@ pub use Rattle.otel_stream.specs as otel_stream
 pub use Rattle.otel_model_stream.specs as otel_model_stream
 pub use Rattle.otel_model.specs as otel_model
 pub use Rattle.otel_aggregate.specs as otel_aggregate
+pub use Rattle.otel_export.specs as otel_export
 pub use Rattle.otel_prometheus.specs as otel_prometheus
 pub use Rattle.otel_otlp.specs as otel_otlp

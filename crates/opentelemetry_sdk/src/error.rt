@@ -1,13 +1,14 @@
-//! One error for functions that make streams and call a provider.
+//! One error for functions that make streams, call a provider and export what it collects.
 
 ghost use Rattle.std.specs.Prelude.{◌≡◌};
 
 use otel_common::faults::Fault;
+use otel_export::faults::WriteFault;
 use otel_stream::stream_fault::StreamFault;
 use std::alloc::{AllocError, AllocFailed};
 use thiserror::Error;
 
-/// Why a call, or the settings of a stream, are refused. `?` makes it of either error.
+/// Why a call or the settings of a stream are refused, or an export failed. `?` makes it of each error.
 #[derive(Clone, Debug, Drop, Error)]
 pub enum SdkError {
     /// A call is refused.
@@ -16,6 +17,9 @@ pub enum SdkError {
     /// The settings of a stream are refused.
     #[error("{0}")]
     Stream(StreamFault),
+    /// Something wasn't written.
+    #[error("{0}")]
+    Write(WriteFault),
 }
 
 impl From<Fault> for SdkError {
@@ -35,6 +39,16 @@ impl From<StreamFault> for SdkError {
 
     fn from(fault: StreamFault) -> SdkError {
         SdkError::Stream(fault)
+    }
+}
+
+impl From<WriteFault> for SdkError {
+    ghost use Rattle.opentelemetry_sdk.specs.declared.error.SdkError.TheVariants as made;
+
+    ghost from_gives = { λ fault error. error ≡ made.Write fault };
+
+    fn from(fault: WriteFault) -> SdkError {
+        SdkError::Write(fault)
     }
 }
 

@@ -8,18 +8,9 @@ ghost use Rattle.otel_prometheus.specs.Collections.{lines_of, left_out_of};
 use crate::expositions::{LeftOut, exposition_of};
 use crate::settings::Settings;
 use otel_data::collections::ResourceMetrics;
+use otel_export::faults::WriteFault;
 use std::alloc::Global;
-use std::io;
 use std::io::Write;
-
-/// Why a collection wasn't written.
-#[derive(Debug, Drop)]
-pub enum WriteFault {
-    /// There was no memory for the text, and nothing was written.
-    OutOfMemory,
-    /// The writer failed. A part of the text may be written.
-    Failed(io::Error),
-}
 
 /// Writes the text of a collection with one `write_all`, and returns what it leaves out. After an `Ok` the writer holds
 /// what it held and the whole text.
@@ -33,11 +24,7 @@ pub fn write<W: Write>(
     ensures left_out { IfOk result (λ l. l ≡ left_out_of settings collected.now) }
     ensures unwritten { result ≡ Err WriteFault.OutOfMemory → out.new ≡ out.old }
 {
-    let Ok(made) = exposition_of(alloc, settings, collected) else {
-        return Err(WriteFault::OutOfMemory);
-    };
-    match out.write_all(made.text.as_slice()) {
-        Ok(()) => Ok(made.left_out),
-        Err(error) => Err(WriteFault::Failed(error)),
-    }
+    let made = exposition_of(alloc, settings, collected)?;
+    out.write_all(made.text.as_slice())?;
+    Ok(made.left_out)
 }

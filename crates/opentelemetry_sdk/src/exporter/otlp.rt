@@ -3,4 +3,4 @@
 
 pub use otel_otlp::laws::says_collection;
 pub use otel_otlp::requests::request_line;
-pub use otel_otlp::writes::{WriteFault, write};
+pub use otel_otlp::writes::write;

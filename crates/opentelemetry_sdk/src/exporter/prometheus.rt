@@ -5,4 +5,4 @@ pub use otel_prometheus::expositions::{Exposition, LeftOut, exposition_of};
 pub use otel_prometheus::laws::says_lines;
 pub use otel_prometheus::settings::Settings;
 pub use otel_prometheus::text::formats::Format;
-pub use otel_prometheus::writes::{WriteFault, write};
+pub use otel_prometheus::writes::write;

@@ -59,6 +59,7 @@ mod root {
     use super::{Compared, Failure, Made};
     use opentelemetry_sdk::common::Fault;
     use opentelemetry_sdk::error::SdkError;
+    use opentelemetry_sdk::exporter::WriteFault;
     use opentelemetry_sdk::metrics::instrument::StreamFault;
     use opentelemetry_sdk::{AttributeValue, Resource};
     use std::alloc::AllocError;
@@ -74,6 +75,7 @@ mod root {
         error: Failure<SdkError>,
         of_a_call: Made<SdkError, Fault>,
         of_a_stream: Made<SdkError, StreamFault>,
+        of_a_write: Made<SdkError, WriteFault>,
         of_memory: Made<SdkError, AllocError>,
     }
 }
@@ -432,16 +434,25 @@ mod shared {
 }
 
 mod exporter {
-    use super::{Equal, Shown};
+    use super::{Equal, Failure, Made, Sent, Shown, Small};
+    use opentelemetry_sdk::exporter::WriteFault;
+    use opentelemetry_sdk::exporter::file::{append, replace};
     use opentelemetry_sdk::exporter::otlp::{request_line, says_collection};
+    use opentelemetry_sdk::exporter::outbox::Outbox;
     use opentelemetry_sdk::exporter::prometheus::{
         Exposition, Format, LeftOut, Settings, exposition_of, says_lines,
     };
-    use opentelemetry_sdk::exporter::{otlp, prometheus};
+    use opentelemetry_sdk::exporter::schedule::Schedule;
+    use std::alloc::AllocError;
+    use std::io;
 
     struct Types {
-        line_fault: Shown<otlp::WriteFault>,
-        text_fault: Shown<prometheus::WriteFault>,
+        fault: Failure<WriteFault>,
+        same_fault: Small<WriteFault>,
+        of_a_writer: Made<WriteFault, io::Error>,
+        of_memory: Made<WriteFault, AllocError>,
+        outbox: Sent<Outbox>,
+        schedule: Equal<Schedule>,
         text: Shown<Exposition>,
         left_out: Equal<LeftOut>,
         settings: Equal<Settings>,

@@ -1,0 +1,4 @@
+pub mod Lines
+pub mod Moments
+pub mod RowsExports
+pub mod Sendings
