@@ -2,5 +2,6 @@ pub mod Depths
 pub mod Digits
 pub mod Fronts
 pub mod PointTokens
+pub mod RowsNumbers
 pub mod Says
 pub mod Steps

@@ -1,8 +1,8 @@
 //! Points.
 
-ghost use Rattle.std.specs.Prelude.{◌≡◌, ◌++◌, ◌∷◌, ℕ, Bool, OnOk, pos};
+ghost use Rattle.std.specs.Prelude.{◌≡◌, ◌++◌, ◌∷◌, ℕ, Bool, OnOk, decimal};
 ghost use Rattle.std.specs.Option.{option_map};
-ghost use Rattle.json.specs.Json.{Json, no_members};
+ghost use Rattle.json.specs.Json.{Json, no_members, number};
 ghost use Rattle.json.specs.Token.{begin_object};
 ghost use Rattle.json.specs.Tree.{json_tokens};
 ghost use Rattle.otel_otlp.specs.Arrays.{array_of, members_front, optional};
@@ -43,9 +43,9 @@ fn begin_point(
     out.key("attributes")?;
     write_items(out, attributes)?;
     out.key("startTimeUnixNano")?;
-    out.quoted_u64(start)?;
+    start.write(out)?;
     out.key("timeUnixNano")?;
-    out.quoted_u64(time)?;
+    time.write(out)?;
     Ok(())
 }
 
@@ -73,7 +73,7 @@ fn write_bounds(out: &mut Writer, bounds: &[i64]) -> Result<(), AllocError>
 {
     out.begin_array()?;
     for bound in bounds {
-        out.i64(*bound)?;
+        bound.write_whole(out)?;
     }
     out.end_array()?;
     Ok(())
@@ -111,7 +111,7 @@ fn write_totals<T: Number>(out: &mut Writer, count: u64, sum: Option<T>) -> Resu
     ensures before { out.new.before ≡ out.old.before }
 {
     out.key("count")?;
-    out.quoted_u64(count)?;
+    count.write(out)?;
     write_optional(out, "sum", sum)?;
     Ok(())
 }
@@ -141,7 +141,7 @@ fn write_histogram_point<T: Number>(
 
 /// The number that says how points relate to those of the collection before.
 fn temporality_number(temporality: Temporality) -> u64
-    ensures { whole (pos result) ≡ temporality_json temporality }
+    ensures { number (decimal result) ≡ temporality_json temporality }
 {
     match temporality {
         Temporality::Cumulative => 2,

@@ -2,4 +2,4 @@ use Rattle.std.proofs.Common.{refl, append_assoc}
 use Rattle.otel_otlp.proofs.points.write_totals.Goals as goal
 
 pub returns-clause-tokens : goal.returns-clause-tokens
-returns-clause-tokens g c = simp (c.in_ok-write_optional.ensures.tokens, c.in_ok-quoted_u64.ensures.ok, c.in_ok-key.ensures.ok, append_assoc) refl
+returns-clause-tokens g c = simp (c.in_ok-write_optional.ensures.tokens, c.in_ok-write.ensures.tokens, c.in_ok-key.ensures.ok, append_assoc) refl
