@@ -1,5 +1,5 @@
 -- What is spelled is read again.
-use Rattle.std.proofs.Common.{◌≡◌, ℕ, ◌<◌, ◌^◌, ℤ, pos, negsuc, suc, Bool, true, false, cond, List, [], ◌∷◌, ◌++◌, length, refl, sym, ap, subst, ◌∙◌, append_assoc, append-nil, arith, rules, Some, option_map, ◌&&◌, ◌==◌, ⊎_elim, decimal, codes}
+use Rattle.std.proofs.Common.{◌≡◌, ℕ, ◌<◌, ◌^◌, ℤ, pos, negsuc, suc, Bool, true, false, cond, List, [], ◌∷◌, ◌++◌, length, refl, sym, ap, subst, ◌∙◌, append_assoc, append-nil, arith, rules, Option, Some, option_map, ◌&&◌, ◌==◌, ⊎_elim, decimal, codes}
 use Rattle.std.specs.Fmt.{signed_decimal}
 use Rattle.std.specs.Char.{is_ascii_digit}
 use Rattle.std.specs.Str.{all_ascii_digits}
@@ -9,8 +9,8 @@ use Rattle.std.proofs.lemmas.Str.Parse.{IsNumeralModel, numerals_by_fold}
 use Rattle.otel_prometheus.specs.Samples.{Pair, Sample, IsNumber, AreLabels, IsLabelName, IsMetricName, AreAll, escaped_byte, escaped, label_text, more_labels_text, labels_text, line_text, is_letter, is_label_byte, is_metric_letter, is_metric_byte}
 use Rattle.otel_prometheus.specs.declared.text.formats.Format.{Format}
 use Rattle.otel_prometheus.specs.declared.text.formats.Format.TheVariants.{Prometheus, OpenMetrics}
-use Rattle.otel_prometheus.specs.Lines.{Line, help, kind, sample, finish, help_byte, help_text, spelled, text_of, AreLines}
-use Rattle.otel_prometheus.specs.Reading.{upto_space, unescaped, comment_line, start, comment, name, label, value, closed, gap, number, bad, after, read_from, read, is_integer, integer_of, number_after, negated}
+use Rattle.otel_prometheus.specs.Lines.{Line, help, kind, sample, finish, help_byte, help_text, spelled, text_of, IsText}
+use Rattle.otel_prometheus.specs.Reading.{upto_space, before, unescaped, comment_line, given, behind_comment, start, comment, name, label, value, closed, gap, number, bad, after, read_from, read, is_natural, is_integer, integer_of, number_after, negated}
 
 -- ======== tests ========
 chosen : {A : Type 0} (t : Bool) (x y : A) → t ≡ true → cond t x y ≡ x
@@ -123,6 +123,10 @@ read_digits n ls ds (b ∷ bs) rest h =
     ∙ read_digits n ls (ds ++ b ∷ []) bs rest (both (is_ascii_digit b) (all_ascii_digits bs) h).1
     ∙ ap (λ m. read_from (number n ls m) rest) (append_assoc ds (b ∷ []) bs)
 
+are_natural : (ds : List ℕ) → all_ascii_digits ds ≡ true → 0 < length ds → is_natural ds ≡ true
+are_natural [] h l = absurd (omega arith)
+are_natural (b ∷ bs) h l = h
+
 digits_are_integer : (ds : List ℕ) → all_ascii_digits ds ≡ true → 0 < length ds → is_integer ds ≡ true
 digits_are_integer [] h l = absurd (omega arith)
 digits_are_integer (b ∷ bs) h l = passed (b == 45) _ _ (differs is_ascii_digit b 45 (both (is_ascii_digit b) (all_ascii_digits bs) h).0 refl) ∙ h
@@ -145,7 +149,7 @@ read_value n ls (pos k) rest h =
     digits = digits_decimal own k h
 read_value n ls (negsuc k) rest h =
     read_digits n ls (45 ∷ []) (decimal (suc k)) (10 ∷ rest) digits
-    ∙ read_end n ls (45 ∷ decimal (suc k)) (negsuc k) rest digits (ap negated (digits_value-decimal own (suc k) small))
+    ∙ read_end n ls (45 ∷ decimal (suc k)) (negsuc k) rest (are_natural (decimal (suc k)) digits (decimal_nonempty (suc k) small)) (ap negated (digits_value-decimal own (suc k) small))
   where
     small : suc k < 2 ^ 64
     small = omega arith
@@ -173,12 +177,16 @@ abbrev NoLineEnd : List ℕ → Type 0
 NoLineEnd [] = Unit {0}
 NoLineEnd (b ∷ bs) = ((b == 10) ≡ false) × NoLineEnd bs
 
-read_comment : (c bs rest : List ℕ) → NoLineEnd bs → read_from (comment c) (bs ++ 10 ∷ rest) ≡ after (comment_line (c ++ bs)) (read_from start rest)
-read_comment c [] rest h = ap (λ m. after (comment_line m) (read_from start rest)) (sym (append-nil c))
+-- what follows a comment that is this
+abbrev then : Option (List Line) → List ℕ → Option (List Line)
+then o rest = after (given o) (read_from (behind_comment o) rest)
+
+read_comment : (c bs rest : List ℕ) → NoLineEnd bs → read_from (comment c) (bs ++ 10 ∷ rest) ≡ then (comment_line (c ++ bs)) rest
+read_comment c [] rest h = ap (λ m. then (comment_line m) rest) (sym (append-nil c))
 read_comment c (b ∷ bs) rest h =
-    ap (λ (t : Bool). after (cond t (comment_line c) []) (read_from (cond t start (comment (c ++ b ∷ []))) (bs ++ 10 ∷ rest))) h.0
+    ap (λ (t : Bool). after (cond t (given (comment_line c)) []) (read_from (cond t (behind_comment (comment_line c)) (comment (c ++ b ∷ []))) (bs ++ 10 ∷ rest))) h.0
     ∙ read_comment (c ++ b ∷ []) bs rest h.1
-    ∙ ap (λ m. after (comment_line m) (read_from start rest)) (append_assoc c (b ∷ []) bs)
+    ∙ ap (λ m. then (comment_line m) rest) (append_assoc c (b ∷ []) bs)
 
 NoLineEnd-append : (a b : List ℕ) → NoLineEnd a → NoLineEnd b → NoLineEnd (a ++ b)
 NoLineEnd-append [] b h k = k
@@ -197,7 +205,7 @@ bytes_of_name (b ∷ bs) h = (letter_is_byte b h.0, h.1)
 
 -- a byte of a help text is read again, and ends no line
 record ReadsHelp (f : Format) (t : List ℕ) (b : ℕ) : Type 0 where
-  again : unescaped false (help_byte f b ++ help_text f t) ≡ b ∷ unescaped false (help_text f t)
+  again : unescaped false (help_byte f b ++ help_text f t) ≡ before b (unescaped false (help_text f t))
   no_end : NoLineEnd (help_byte f b)
 
 reads_plain : (f : Format) (t : List ℕ) (b : ℕ) → (b ≡ 92 → ⊥) → (b ≡ 10 → ⊥) → (b ≡ 34 → ⊥) → ReadsHelp f t b
@@ -232,9 +240,9 @@ reads_help f t b =
     (cases_eq b 10))
     (cases_eq b 92)
 
-unescaped-help_text : (f : Format) (t : List ℕ) → unescaped false (help_text f t) ≡ t
+unescaped-help_text : (f : Format) (t : List ℕ) → unescaped false (help_text f t) ≡ Some t
 unescaped-help_text f [] = refl
-unescaped-help_text f (b ∷ t) = (reads_help f t b).again ∙ ap (λ x. b ∷ x) (unescaped-help_text f t)
+unescaped-help_text f (b ∷ t) = (reads_help f t b).again ∙ ap (before b) (unescaped-help_text f t)
 
 NoLineEnd-help_text : (f : Format) (t : List ℕ) → NoLineEnd (help_text f t)
 NoLineEnd-help_text f [] = tt
@@ -259,18 +267,18 @@ read_help : (f : Format) (n t rest : List ℕ) → IsMetricName n → read_from 
 read_help f n t rest h =
     ap (λ x. read_from start (codes "# HELP " ++ x)) (regrouped n (help_text f t) rest)
     ∙ read_comment [] (codes " HELP " ++ (n ++ 32 ∷ help_text f t)) rest (refl, (refl, (refl, (refl, (refl, (refl, NoLineEnd-named n (help_text f t) (bytes_of_name n h) (NoLineEnd-help_text f t)))))))
-    ∙ ap (λ (p : List ℕ × List ℕ). after (help p.0 (unescaped false p.1) ∷ []) (read_from start rest)) (upto_space-name n (help_text f t) (bytes_of_name n h))
-    ∙ ap (λ x. after (help n x ∷ []) (read_from start rest)) (unescaped-help_text f t)
+    ∙ ap (λ (p : List ℕ × List ℕ). then (option_map (λ x. help p.0 x ∷ []) (unescaped false p.1)) rest) (upto_space-name n (help_text f t) (bytes_of_name n h))
+    ∙ ap (λ o. then (option_map (λ x. help n x ∷ []) o) rest) (unescaped-help_text f t)
 
 read_kind : (f : Format) (n w rest : List ℕ) → IsMetricName n → AreAll is_letter w → read_from start (spelled f (kind n w) ++ rest) ≡ after (kind n w ∷ []) (read_from start rest)
 read_kind f n w rest h k =
     ap (λ x. read_from start (codes "# TYPE " ++ x)) (regrouped n w rest)
     ∙ read_comment [] (codes " TYPE " ++ (n ++ 32 ∷ w)) rest (refl, (refl, (refl, (refl, (refl, (refl, NoLineEnd-named n w (bytes_of_name n h) (NoLineEnd-all is_letter w refl k)))))))
-    ∙ ap (λ (p : List ℕ × List ℕ). after (kind p.0 p.1 ∷ []) (read_from start rest)) (upto_space-name n w (bytes_of_name n h))
+    ∙ ap (λ (p : List ℕ × List ℕ). then (Some (kind p.0 p.1 ∷ [])) rest) (upto_space-name n w (bytes_of_name n h))
 
 -- ======== expositions ========
 -- the text of lines reads as these lines
-pub read_lines : (f : Format) (ls : List Line) → AreLines ls → read (text_of f ls) ≡ Some ls
+pub read_lines : (f : Format) (ls : List Line) → IsText ls → read (text_of f ls) ≡ Some ls
 read_lines f [] h = refl
 read_lines f (help n t ∷ ls) h =
     read_help f n t (text_of f ls) h.0
@@ -281,4 +289,4 @@ read_lines f (kind n w ∷ ls) h =
 read_lines f (sample s ∷ ls) h =
     read_line s.name s.labels s.value (text_of f ls) h.0.name h.0.labels h.0.value
     ∙ ap (option_map (λ found. sample s ∷ found)) (read_lines f ls h.1)
-read_lines f (finish ∷ ls) h = ap (option_map (λ found. finish ∷ found)) (read_lines f ls h.1)
+read_lines f (finish ∷ ls) h = subst (λ l. read (text_of f (finish ∷ l)) ≡ Some (finish ∷ l)) (sym h) refl

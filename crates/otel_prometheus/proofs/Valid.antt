@@ -19,7 +19,7 @@ use Rattle.otel_data.specs.declared.collections.Metric.{Metric}
 use Rattle.otel_data.specs.declared.collections.ResourceMetrics.{ResourceMetrics}
 use Rattle.otel_data.specs.declared.collections.ScopeMetrics.{ScopeMetrics}
 use Rattle.otel_data.specs.declared.points.HistogramDataPoint.{HistogramDataPoint}
-use Rattle.otel_prometheus.specs.Lines.{Line, kind, sample, IsLine, AreLines}
+use Rattle.otel_prometheus.specs.Lines.{Line, help, kind, sample, finish, AreLines, IsText}
 use Rattle.otel_prometheus.specs.Names.{name_of}
 use Rattle.otel_prometheus.specs.Numbers.{unsigned, signed}
 use Rattle.otel_prometheus.specs.Values.{value_text}
@@ -358,9 +358,16 @@ valid_target f (l ∷ ls) h =
     lines_append (target_front f) (sample (record { name = codes "target_info"; labels = l ∷ ls; value = unsigned 1 }) ∷ []) (valid_target_front f)
     (record { name = (refl, all_of is_metric_byte (codes "arget_info") refl); labels = h; value = unsigned_fits 1 }, tt)
 
-valid_end : (f : Format) → AreLines (end_lines f)
+text_append : (a b : List Line) → AreLines a → IsText b → IsText (a ++ b)
+text_append [] b h k = k
+text_append (help n t ∷ a) b h k = (h.0, text_append a b h.1 k)
+text_append (kind n w ∷ a) b h k = (h.0, text_append a b h.1 k)
+text_append (sample s ∷ a) b h k = (h.0, text_append a b h.1 k)
+text_append (finish ∷ a) b h k = absurd h.0
+
+valid_end : (f : Format) → IsText (end_lines f)
 valid_end Prometheus = tt
-valid_end OpenMetrics = (tt, tt)
+valid_end OpenMetrics = refl
 
 -- ======== families ========
 abbrev AreFamilies : List Family → Type 0
@@ -396,7 +403,7 @@ lines_flat s c (x ∷ xs) h = lines_append (family_lines s c x) (flat_map (famil
 no_families : AreFamilies []
 no_families = tt
 
-pub valid : (s : Settings) (c : ResourceMetrics) → AreLines (lines_of s c)
+pub valid : (s : Settings) (c : ResourceMetrics) → IsText (lines_of s c)
 valid s c =
-    lines_append (target_lines s.format (resource_labels c.resource.attributes)) (flat_map (family_lines s c) (families c) ++ end_lines s.format) (valid_target s.format (resource_labels c.resource.attributes) (valid_resource c.resource.attributes))
-    (lines_append (flat_map (family_lines s c) (families c)) (end_lines s.format) (lines_flat s c (families c) (all_families [] c.scope_metrics no_families)) (valid_end s.format))
+    text_append (target_lines s.format (resource_labels c.resource.attributes)) (flat_map (family_lines s c) (families c) ++ end_lines s.format) (valid_target s.format (resource_labels c.resource.attributes) (valid_resource c.resource.attributes))
+    (text_append (flat_map (family_lines s c) (families c)) (end_lines s.format) (lines_flat s c (families c) (all_families [] c.scope_metrics no_families)) (valid_end s.format))

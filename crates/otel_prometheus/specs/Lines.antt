@@ -1,5 +1,5 @@
 -- Lines of an exposition, and how they are spelled.
-use Rattle.std.specs.Prelude.{ℕ, ◌==◌, List, [], ◌∷◌, ◌++◌, cond, flat_map, codes}
+use Rattle.std.specs.Prelude.{◌≡◌, ℕ, ◌==◌, List, [], ◌∷◌, ◌++◌, cond, flat_map, codes}
 use Rattle.otel_prometheus.specs.declared.text.formats.Format.{Format}
 use Rattle.otel_prometheus.specs.declared.text.formats.Format.TheVariants as formats
 use Rattle.otel_prometheus.specs.Samples.{Sample, IsSample, sample_text, AreAll, IsMetricName, is_letter}
@@ -37,8 +37,16 @@ abbrev pub IsLine : Line → Type 0
 IsLine (help n t) = IsMetricName n
 IsLine (kind n w) = IsMetricName n × AreAll is_letter w
 IsLine (sample s) = IsSample s
-IsLine finish = Unit {0}
+IsLine finish = ⊥
 
 abbrev pub AreLines : List Line → Type 0
 AreLines [] = Unit {0}
 AreLines (l ∷ ls) = IsLine l × AreLines ls
+
+-- lines, and perhaps the end of the text
+abbrev pub IsText : List Line → Type 0
+IsText [] = Unit {0}
+IsText (help n t ∷ ls) = IsLine (help n t) × IsText ls
+IsText (kind n w ∷ ls) = IsLine (kind n w) × IsText ls
+IsText (sample s ∷ ls) = IsLine (sample s) × IsText ls
+IsText (finish ∷ ls) = ls ≡ []

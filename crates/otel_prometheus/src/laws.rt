@@ -2,7 +2,7 @@
 
 ghost use Rattle.std.specs.Prelude.{◌≡◌, ◌+◌, ◌<◌, ◌≤◌, ◌^◌, ℕ, ℤ, List, [], Some};
 ghost use Rattle.otel_data.specs.declared.collections.ResourceMetrics.{ResourceMetrics};
-ghost use Rattle.otel_prometheus.specs.Lines.{AreLines, text_of};
+ghost use Rattle.otel_prometheus.specs.Lines.{IsText, text_of};
 ghost use Rattle.otel_prometheus.specs.Reading.{read};
 ghost use Rattle.otel_prometheus.specs.Samples.{Pair};
 ghost use Rattle.otel_prometheus.specs.declared.text.formats.Format.{Format};
@@ -21,7 +21,7 @@ use crate::text::laws::reads_back;
 ///
 /// This function does nothing: who needs the law calls it first.
 pub fn says_lines()
-    ensures spelled { (s : Settings) (c : ResourceMetrics) → AreLines (lines_of s c) }
+    ensures spelled { (s : Settings) (c : ResourceMetrics) → IsText (lines_of s c) }
     ensures reads_back { (s : Settings) (c : ResourceMetrics) → read (text_of s.format (lines_of s c)) ≡ Some (lines_of s c) }
 {
     reads_back();
