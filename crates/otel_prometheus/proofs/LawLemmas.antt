@@ -36,7 +36,7 @@ apart_choice : (t : Bool) (fs : List Family) (g : Family) → (t ≡ false → i
 apart_choice true fs g e h = h
 apart_choice false fs g e h = one_more [] fs g h (e refl)
 
-one_heading : (fs : List Family) (m : Metric) (o : Option Heading) → StandApart [] fs → StandApart [] (with_heading fs m o)
+pub one_heading : (fs : List Family) (m : Metric) (o : Option Heading) → StandApart [] fs → StandApart [] (with_heading fs m o)
 one_heading fs m None h = h
 one_heading fs m (Some g) h = apart_choice (is_refused fs g) fs (record { heading = g; help = m.description }) (λ e. e) h
 

@@ -5,10 +5,6 @@ use Rattle.std.proofs.lemmas.List.{take-append-drop}
 use Rattle.otel_prometheus.specs.Lines.{Line, sample, spelled, text_of}
 use Rattle.otel_prometheus.specs.Samples.{Pair, Sample, labels_text, sample_text}
 use Rattle.otel_prometheus.specs.declared.text.formats.Format.{Format}
-use Rattle.otel_data.specs.declared.collections.ResourceMetrics.{ResourceMetrics}
-use Rattle.otel_prometheus.specs.Collections.{family_series, family_samples}
-use Rattle.otel_prometheus.specs.declared.headings.Heading.{Heading}
-use Rattle.otel_prometheus.specs.declared.settings.Settings.{Settings}
 use Rattle.otel_prometheus.specs.Texts.{Written, written_behind, with_series, pieces_from, pieces}
 use Rattle.otel_prometheus.specs.declared.series.Mark.{Mark}
 use Rattle.otel_prometheus.specs.Series.{Series, is_seen, kept, doubled, samples_text, spelled_series, kept_text, doubled_texts}
@@ -125,15 +121,14 @@ module _ (found : Written) (before : List ℕ) (start : ℕ) (xs : List Series) 
   starts_within = omega (arith, at, ap length (λ i. (found_is i).lines), length-append before (all_lines xs))
 
 -- ======== families ========
-pub family_text : (s : Settings) (c : ResourceMetrics) (h : Heading) (found : Written) (before : List ℕ) (start : ℕ) → found ≡ fold with_series (written_behind before) (family_series s c h) → start ≡ length before
-    → take start found.lines ++ kept_text [] (pieces start found) ≡ before ++ text_of s.format (map sample (family_samples s c h))
-family_text s c h found before start e at =
-    (λ i. lines_before found before start (family_series s c h) e at i ++ kept_text [] (all_pieces found before start (family_series s c h) e at i))
-    ∙ ap (λ t. before ++ t) (kept_spelled [] (family_series s c h) ∙ sym (text_of_samples s.format (family_samples s c h)))
+module _ (xs : List Series) (found : Written) (before : List ℕ) (start : ℕ) (e : found ≡ fold with_series (written_behind before) xs) (at : start ≡ length before) where
+  pub family_text : (f : Format) → take start found.lines ++ kept_text [] (pieces start found) ≡ before ++ text_of f (map sample (flat_map (λ x. x.samples) (kept [] xs)))
+  family_text f =
+      (λ i. lines_before found before start xs e at i ++ kept_text [] (all_pieces found before start xs e at i))
+      ∙ ap (λ t. before ++ t) (kept_spelled [] xs ∙ sym (text_of_samples f (flat_map (λ x. x.samples) (kept [] xs))))
 
-pub family_doubled : (s : Settings) (c : ResourceMetrics) (h : Heading) (found : Written) (before : List ℕ) (start : ℕ) → found ≡ fold with_series (written_behind before) (family_series s c h) → start ≡ length before
-    → doubled_texts [] (pieces start found) ≡ doubled [] (family_series s c h)
-family_doubled s c h found before start e at = ap (λ t. doubled_texts [] t) (all_pieces found before start (family_series s c h) e at) ∙ doubled_spelled [] (family_series s c h)
+  pub family_doubled : doubled_texts [] (pieces start found) ≡ doubled [] xs
+  family_doubled = ap (λ t. doubled_texts [] t) (all_pieces found before start xs e at) ∙ doubled_spelled [] xs
 
 -- ======== counts modulo 2^64 ========
 pub counted : (count n rest whole : ℕ) → (count + (n + rest)) % 2 ^ 64 ≡ whole → ((count + n) % 2 ^ 64 + rest) % 2 ^ 64 ≡ whole

@@ -17,7 +17,7 @@ use Rattle.otel_prometheus.specs.Samples.{labels_text}
 use Rattle.otel_prometheus.specs.Collections.{belongs, metric_series, scope_series, family_series, doubled_points}
 use Rattle.otel_prometheus.specs.Families.{is_refused, families, data_length, content_length, delta_if, delta_in, delta_points, conflicting_if, conflicting_in, conflicting_points}
 use Rattle.otel_prometheus.specs.Headings.{heading_of, same_heading, kind_eq, clashes, may_be_sample, is_reserved}
-use Rattle.otel_prometheus.specs.Laws.{StandApart, all_points, shown_points}
+use Rattle.otel_prometheus.specs.Laws.{StandApart, all_points}
 use Rattle.otel_prometheus.specs.Points.{gauge_series, sum_series, histogram_series, data_series, content_series}
 use Rattle.otel_prometheus.specs.Series.{Series, is_seen, kept, doubled}
 use Rattle.otel_prometheus.specs.Totals.{total}
@@ -25,6 +25,10 @@ use Rattle.otel_prometheus.specs.declared.families.Family.{Family}
 use Rattle.otel_prometheus.specs.declared.headings.Heading.{Heading}
 use Rattle.otel_prometheus.specs.declared.settings.Settings.{Settings}
 use Rattle.otel_prometheus.proofs.LawLemmas.{families_apart}
+
+-- how many series are shown, each of one point
+abbrev pub shown_points : Settings → ResourceMetrics → ℕ
+shown_points s c = total (λ f. length (kept [] (family_series s c f.heading))) (families c)
 
 -- ======== totals ========
 two_more : (a b c d e : ℕ) → c + d ≡ e → (a + c) + (b + d) ≡ (a + b) + e

@@ -1,13 +1,11 @@
 -- What holds of the lines of every collection, in the subject's words.
-use Rattle.std.specs.Prelude.{◌≡◌, ℕ, ◌≤◌, pos, List, [], ◌∷◌, ◌++◌, false, length}
+use Rattle.std.specs.Prelude.{◌≡◌, ℕ, ◌≤◌, pos, List, [], ◌∷◌, ◌++◌, false}
 use Rattle.otel_data.specs.declared.collections.ResourceMetrics.{ResourceMetrics}
 use Rattle.otel_prometheus.specs.Samples.{Sample, labels_text}
-use Rattle.otel_prometheus.specs.Collections.{family_series}
-use Rattle.otel_prometheus.specs.Families.{is_refused, content_length, families}
-use Rattle.otel_prometheus.specs.Series.{Series, is_seen, kept}
+use Rattle.otel_prometheus.specs.Families.{is_refused, content_length}
+use Rattle.otel_prometheus.specs.Series.{Series, is_seen}
 use Rattle.otel_prometheus.specs.Totals.{total}
 use Rattle.otel_prometheus.specs.declared.families.Family.{Family}
-use Rattle.otel_prometheus.specs.declared.settings.Settings.{Settings}
 
 -- no series has labels that are seen, or those of a series before it
 abbrev pub AreNew : List (List ℕ) → List Series → Type 0
@@ -27,7 +25,3 @@ Rise low (x ∷ xs) high = (n : ℕ) × (x.value ≡ pos n) × (low ≤ n) × Ri
 -- how many points a collection has
 abbrev pub all_points : ResourceMetrics → ℕ
 all_points c = total (λ s. total (λ m. content_length m.content) s.metrics) c.scope_metrics
-
--- how many points are shown: a series is one point
-abbrev pub shown_points : Settings → ResourceMetrics → ℕ
-shown_points s c = total (λ f. length (kept [] (family_series s c f.heading))) (families c)

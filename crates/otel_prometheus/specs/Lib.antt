@@ -1,6 +1,8 @@
 pub mod Collections
+pub mod Consumers
 pub mod Families
 pub mod Fronts
+pub mod Groups
 pub mod Headings
 pub mod Labels
 pub mod Laws
@@ -14,6 +16,8 @@ pub mod Reading
 pub mod Rising
 pub mod Samples
 pub mod Series
+pub mod Shown
+pub mod Standing
 pub mod Texts
 pub mod Totals
 pub mod Units

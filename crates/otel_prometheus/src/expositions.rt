@@ -1,19 +1,21 @@
 //! Expositions: the text of a whole collection.
 
-ghost use Rattle.std.specs.Prelude.{◌≡◌, ◌++◌, ◌%◌, ◌^◌, [], false, Some, OnOk, IfOk, map, flat_map, fold};
+ghost use Rattle.std.specs.Prelude.{◌≡◌, ◌++◌, ◌%◌, ◌^◌, [], false, Some, OnOk, IfOk, map, option_map, flat_map, fold};
 ghost use Rattle.otel_prometheus.specs.Lines.{sample, spelled, text_of};
 ghost use Rattle.otel_prometheus.specs.Reading.{read};
-ghost use Rattle.otel_prometheus.specs.Collections.{metric_series, scope_series, family_series, kind_word, kind_end, help_lines, front_lines, family_samples, family_lines, target_type, target_front, target_lines, end_lines, lines_of, doubled_points, left_out_of};
+ghost use Rattle.otel_prometheus.specs.Collections.{kind_word, kind_end, help_lines, front_lines, target_type, target_front, target_lines, end_lines, lines_of, doubled_points, left_out_of};
+ghost use Rattle.otel_prometheus.specs.Consumers.{read_points};
+ghost use Rattle.otel_prometheus.specs.Shown.{all_read};
 ghost use Rattle.otel_prometheus.specs.Totals.{total};
-ghost use Rattle.otel_prometheus.specs.Families.{families};
+ghost use Rattle.otel_prometheus.specs.Groups.{all_members, groups_of, member_series, group_series, group_lines};
 ghost use Rattle.otel_prometheus.specs.Labels.{resource_labels};
-ghost use Rattle.otel_prometheus.specs.Series.{doubled};
+ghost use Rattle.otel_prometheus.specs.Series.{kept, doubled};
 ghost use Rattle.otel_prometheus.specs.Texts.{with_series};
 
-use crate::families::{Family, conflicting_points, delta_points, families};
-use crate::headings::{Heading, Kind, heading_of, is_same_heading};
+use crate::families::{Family, Group, Member, delta_points, grouped};
+use crate::headings::{Heading, Kind};
 use crate::labels::resource_labels;
-use crate::laws::says_lines;
+use crate::laws::{says_lines, says_points};
 use crate::points::add_content;
 use crate::series::{Texts, without_doubled};
 use crate::settings::Settings;
@@ -22,8 +24,7 @@ use crate::text::formats::Format;
 use crate::text::labels::{Label, push_labels};
 use crate::text::samples::push_line;
 use otel_common::resource::Resource;
-use otel_common::scopes::InstrumentationScope;
-use otel_data::collections::{Metric, ResourceMetrics, ScopeMetrics};
+use otel_data::collections::ResourceMetrics;
 use std::alloc::{AllocError, Global};
 use std::mem;
 
@@ -47,56 +48,19 @@ pub struct Exposition {
     pub left_out: LeftOut,
 }
 
-/// Adds a series for each point of a metric, if it belongs to the family of this heading.
-fn add_metric(
+/// Adds a series for each point of these metrics of a family.
+fn add_members(
     alloc: Global,
     settings: Settings,
     heading: &Heading,
-    scope: &InstrumentationScope,
-    metric: &Metric,
+    members: &[Member],
     texts: &mut Texts,
 ) -> Result<(), AllocError>
-    ensures { OnOk result (texts.new ≡ fold with_series texts.old (metric_series settings heading.now scope.now metric.now)) }
+    ensures { OnOk result (texts.new ≡ fold with_series texts.old (flat_map (member_series settings heading.now) members.now)) }
 {
-    let Some(own) = heading_of(alloc, metric)? else {
-        return Ok(());
-    };
-    if !is_same_heading(heading, &own) {
-        return Ok(());
-    }
-    add_content(alloc, settings, scope, heading, metric.data(), texts)
-}
-
-/// Adds a series for each point of those metrics of a scope that belong to the family.
-fn add_scope(
-    alloc: Global,
-    settings: Settings,
-    heading: &Heading,
-    scope: &InstrumentationScope,
-    metrics: &[Metric],
-    texts: &mut Texts,
-) -> Result<(), AllocError>
-    ensures { OnOk result (texts.new ≡ fold with_series texts.old (flat_map (metric_series settings heading.now scope.now) metrics.now)) }
-{
-    for metric in metrics {
-        add_metric(alloc, settings, heading, scope, metric, texts)?;
-    }
-    Ok(())
-}
-
-/// Adds a series for each point of each metric of the family.
-fn add_family(
-    alloc: Global,
-    settings: Settings,
-    scopes: &[ScopeMetrics],
-    heading: &Heading,
-    texts: &mut Texts,
-) -> Result<(), AllocError>
-    ensures { OnOk result (texts.new ≡ fold with_series texts.old (flat_map (scope_series settings heading.now) scopes.now)) }
-{
-    for one in scopes {
-        let metrics = one.metrics().as_slice();
-        add_scope(alloc, settings, heading, one.scope(), metrics, texts)?;
+    for member in members {
+        let content = member.metric.data();
+        add_content(alloc, settings, member.scope, heading, content, texts)?;
     }
     Ok(())
 }
@@ -161,16 +125,15 @@ fn push_samples(
     alloc: Global,
     settings: Settings,
     out: &mut Vec<u8>,
-    collected: &ResourceMetrics,
-    heading: &Heading,
+    group: &Group,
 ) -> Result<u64, AllocError>
-    ensures text { OnOk result (out.new.items ≡ out.old.items ++ text_of settings.format (map sample (family_samples settings collected.now heading.now))) }
-    ensures doubled { IfOk result (λ count. count ≡ doubled [] (family_series settings collected.now heading.now) % 2 ^ 64) }
+    ensures text { OnOk result (out.new.items ≡ out.old.items ++ text_of settings.format (map sample (flat_map (λ x. x.samples) (kept [] (group_series settings group.now))))) }
+    ensures doubled { IfOk result (λ count. count ≡ doubled [] (group_series settings group.now) % 2 ^ 64) }
 {
     let start = out.len();
-    let scopes = collected.scope_metrics().as_slice();
+    let members = group.members.as_slice();
     let mut texts = Texts::behind(alloc, mem::replace(out, Vec::new(alloc)));
-    add_family(alloc, settings, scopes, heading, &mut texts)?;
+    add_members(alloc, settings, &group.family.heading, members, &mut texts)?;
     let (text, count) = without_doubled(alloc, texts, start)?;
     *out = text;
     Ok(count)
@@ -178,36 +141,34 @@ fn push_samples(
 
 /// Appends the lines of a family. Returns how many series it leaves out, modulo 2^64.
 #[tactic(auto, using(crate::proofs::SeriesLemmas::text_of_append))]
-fn push_family(
+fn push_group(
     alloc: Global,
     settings: Settings,
     out: &mut Vec<u8>,
-    collected: &ResourceMetrics,
-    family: &Family,
+    group: &Group,
 ) -> Result<u64, AllocError>
-    ensures text { OnOk result (out.new.items ≡ out.old.items ++ text_of settings.format (family_lines settings collected.now family.now)) }
-    ensures doubled { IfOk result (λ count. count ≡ doubled [] (family_series settings collected.now family.now.heading) % 2 ^ 64) }
+    ensures text { OnOk result (out.new.items ≡ out.old.items ++ text_of settings.format (group_lines settings group.now)) }
+    ensures doubled { IfOk result (λ count. count ≡ doubled [] (group_series settings group.now) % 2 ^ 64) }
 {
-    push_front(alloc, out, settings.format, family)?;
-    let count = push_samples(alloc, settings, out, collected, &family.heading)?;
+    push_front(alloc, out, settings.format, &group.family)?;
+    let count = push_samples(alloc, settings, out, group)?;
     Ok(count)
 }
 
 /// Appends the lines of families. Returns how many series they leave out, modulo 2^64.
 #[tactic(auto, using(crate::proofs::SeriesLemmas::text_of_append, crate::proofs::SeriesLemmas::counted_rest))]
-fn push_families(
+fn push_groups(
     alloc: Global,
     settings: Settings,
     out: &mut Vec<u8>,
-    collected: &ResourceMetrics,
-    families: &[Family],
+    groups: &[Group],
 ) -> Result<u64, AllocError>
-    ensures text { OnOk result (out.new.items ≡ out.old.items ++ text_of settings.format (flat_map (family_lines settings collected.now) families.now)) }
-    ensures doubled { IfOk result (λ count. count ≡ total (λ f. doubled [] (family_series settings collected.now f.heading)) families.now % 2 ^ 64) }
+    ensures text { OnOk result (out.new.items ≡ out.old.items ++ text_of settings.format (flat_map (group_lines settings) groups.now)) }
+    ensures doubled { IfOk result (λ count. count ≡ total (λ g. doubled [] (group_series settings g)) groups.now % 2 ^ 64) }
 {
     let mut count = 0u64;
-    for family in families {
-        let own = push_family(alloc, settings, out, collected, family)?;
+    for group in groups {
+        let own = push_group(alloc, settings, out, group)?;
         count = count.wrapping_add(own);
     }
     Ok(count)
@@ -286,14 +247,14 @@ fn push_collection(
     settings: Settings,
     out: &mut Vec<u8>,
     collected: &ResourceMetrics,
-    standing: &[Family],
+    groups: &[Group],
 ) -> Result<u64, AllocError>
-    requires { standing.now ≡ families collected.now }
+    requires { groups.now ≡ groups_of (all_members collected.now) }
     ensures text { OnOk result (out.new.items ≡ out.old.items ++ text_of settings.format (lines_of settings collected.now)) }
     ensures doubled { IfOk result (λ count. count ≡ doubled_points settings collected.now % 2 ^ 64) }
 {
     push_target(alloc, out, settings.format, collected.resource())?;
-    let count = push_families(alloc, settings, out, collected, standing)?;
+    let count = push_groups(alloc, settings, out, groups)?;
     push_end(out, settings.format)?;
     Ok(count)
 }
@@ -302,7 +263,7 @@ fn push_collection(
 /// moments, and in OpenMetrics no UNIT lines and no `_created` samples; it has the sum of a histogram only if one is kept,
 /// its values are unsigned and no bound is below 0. Refused only for want of memory.
 ///
-/// It takes a time that grows with the number of points, and with the square of the number of metrics.
+/// It takes a time that grows with the number of points and the number of metrics.
 pub fn exposition_of(
     alloc: Global,
     settings: Settings,
@@ -311,16 +272,22 @@ pub fn exposition_of(
     ensures text { IfOk result (λ e. e.text.items ≡ text_of settings.format (lines_of settings collected.now)) }
     ensures left_out { IfOk result (λ e. e.left_out ≡ left_out_of settings collected.now) }
     ensures reads_back { IfOk result (λ e. read e.text.items ≡ Some (lines_of settings collected.now)) }
+    ensures points { IfOk result (λ e. option_map read_points (read e.text.items) ≡ Some (all_read settings collected.now)) }
 {
     says_lines();
-    let families = families(alloc, collected)?;
-    let delta = delta_points(collected);
-    let conflicting = conflicting_points(alloc, families.as_slice(), collected)?;
+    says_points();
+    let groups = grouped(alloc, collected)?;
     let mut text = Vec::new(alloc);
-    let doubled = push_collection(alloc, settings, &mut text, collected, families.as_slice())?;
+    let doubled = push_collection(
+        alloc,
+        settings,
+        &mut text,
+        collected,
+        groups.list.as_slice(),
+    )?;
     let left_out = LeftOut {
-        delta,
-        conflicting,
+        delta: delta_points(collected),
+        conflicting: groups.conflicting,
         doubled,
     };
     Ok(Exposition { text, left_out })

@@ -1,8 +1,9 @@
 //! The names and types of families.
 
-ghost use Rattle.std.specs.Prelude.{◌≡◌, ◌==◌, IfOk, OnOk};
+ghost use Rattle.std.specs.Prelude.{◌≡◌, ◌==◌, ◌++◌, IfOk, OnOk, map};
 ghost use Rattle.std.specs.String.{string_bytes};
-ghost use Rattle.otel_prometheus.specs.Headings.{if_cumulative, points_kind, content_kind, keeps_last, is_last_value, kind_eq, without_end, own_text, with_end, plain_name, base_name, heading_of, same_heading, is_sample_end, may_be_sample, clashes, is_reserved};
+ghost use Rattle.otel_prometheus.specs.Headings.{if_cumulative, points_kind, content_kind, keeps_last, is_last_value, kind_eq, without_end, own_text, with_end, plain_name, base_name, heading_of, is_reserved};
+ghost use Rattle.otel_prometheus.specs.Groups.{sample_names};
 
 use crate::text::names::metric_name;
 use crate::units::unit_suffix;
@@ -93,7 +94,7 @@ fn is_last_value(content: &AggregatedMetrics) -> bool
 }
 
 /// Whether the types are the same.
-fn is_same_kind(a: Kind, b: Kind) -> bool
+pub(crate) fn is_same_kind(a: Kind, b: Kind) -> bool
     ensures { result ≡ kind_eq a b }
 {
     match (a, b) {
@@ -167,43 +168,31 @@ pub(crate) fn heading_of(alloc: Global, metric: &Metric) -> Result<Option<Headin
     }
 }
 
-/// Whether the headings are the same.
-pub(crate) fn is_same_heading(a: &Heading, b: &Heading) -> bool
-    ensures { result ≡ same_heading a.now b.now }
+/// Returns the name with each of these ends.
+fn with_ends(alloc: Global, name: &str, ends: &[&str]) -> Result<Vec<StringValue>, AllocError>
+    ensures { IfOk result (λ names. names.items ≡ map (λ end. name.now ++ end.now) ends.now) }
 {
-    is_same_kind(a.kind, b.kind) && a.name == b.name
-}
-
-/// Whether a family of this type adds this end to its name in names of samples.
-fn is_sample_end(kind: Kind, end: &[u8]) -> bool
-    ensures { result ≡ is_sample_end kind end.now }
-{
-    match kind {
-        Kind::Counter => end == b"_total".as_slice() || end == b"_created".as_slice(),
-        Kind::Gauge => false,
-        Kind::Histogram => {
-            end == b"_bucket".as_slice()
-                || end == b"_sum".as_slice()
-                || end == b"_count".as_slice()
-                || end == b"_created".as_slice()
+    let mut names = Vec::with_capacity(alloc, ends.len())?;
+    for end in ends {
+        let mut longer = String::from_str(alloc, name)?;
+        longer.push_str(end)?;
+        if names.push(StringValue::from(longer)).is_err() {
+            return Err(AllocError);
         }
     }
+    Ok(names)
 }
 
-/// Whether the name of the second may be that of a sample of the first.
-fn may_be_sample(a: &Heading, b: &Heading) -> bool
-    ensures { result ≡ may_be_sample a.now b.now }
+/// Returns the names that samples of a family may have, but for its own.
+pub(crate) fn sample_names(alloc: Global, heading: &Heading) -> Result<Vec<StringValue>, AllocError>
+    ensures { IfOk result (λ names. names.items ≡ sample_names heading.now) }
 {
-    let long = b.name.as_str().as_bytes();
-    let short = a.name.as_str().as_bytes();
-    long.starts_with(short) && is_sample_end(a.kind, &long[short.len()..])
-}
-
-/// Whether the two can't stand in one text, or are the same.
-pub(crate) fn clashes(a: &Heading, b: &Heading) -> bool
-    ensures { result ≡ clashes a.now b.now }
-{
-    a.name == b.name || may_be_sample(a, b) || may_be_sample(b, a)
+    let name = heading.name.as_str();
+    match heading.kind {
+        Kind::Counter => with_ends(alloc, name, &["_total", "_created"]),
+        Kind::Gauge => with_ends(alloc, name, &[]),
+        Kind::Histogram => with_ends(alloc, name, &["_bucket", "_sum", "_count", "_created"]),
+    }
 }
 
 /// Whether the name is that of what says what the resource is.

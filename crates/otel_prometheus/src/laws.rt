@@ -1,16 +1,18 @@
 //! What holds of all texts.
 
-ghost use Rattle.std.specs.Prelude.{◌≡◌, ◌+◌, ◌<◌, ◌≤◌, ◌^◌, ℕ, ℤ, List, [], Some};
+ghost use Rattle.std.specs.Prelude.{◌≡◌, ◌+◌, ◌<◌, ◌≤◌, ◌^◌, ℕ, ℤ, List, [], Some, length, option_map};
 ghost use Rattle.otel_data.specs.declared.collections.ResourceMetrics.{ResourceMetrics};
 ghost use Rattle.otel_prometheus.specs.Lines.{IsText, text_of};
 ghost use Rattle.otel_prometheus.specs.Reading.{read};
 ghost use Rattle.otel_prometheus.specs.Samples.{Pair};
 ghost use Rattle.otel_prometheus.specs.declared.text.formats.Format.{Format};
 ghost use Rattle.otel_prometheus.specs.Collections.{family_series, lines_of, doubled_points};
+ghost use Rattle.otel_prometheus.specs.Consumers.{read_points};
 ghost use Rattle.otel_prometheus.specs.Families.{families, delta_points, conflicting_points};
-ghost use Rattle.otel_prometheus.specs.Laws.{AreNew, StandApart, Rise, all_points, shown_points};
+ghost use Rattle.otel_prometheus.specs.Laws.{AreNew, StandApart, Rise, all_points};
 ghost use Rattle.otel_prometheus.specs.Points.{buckets};
 ghost use Rattle.otel_prometheus.specs.Series.{kept};
+ghost use Rattle.otel_prometheus.specs.Shown.{points_of, all_read};
 ghost use Rattle.otel_prometheus.specs.Totals.{total};
 ghost use Rattle.otel_prometheus.specs.declared.headings.Heading.{Heading};
 ghost use Rattle.otel_prometheus.specs.declared.settings.Settings.{Settings};
@@ -48,9 +50,20 @@ pub fn buckets_rise()
     ensures { (f : Format) (name : List ℕ) (labels : List Pair) (bounds : List ℤ) (counts : List ℕ) (count : ℕ) → total (λ n. n) counts ≤ count → count < 2 ^ 64 → Rise 0 (buckets f name labels 0 bounds counts) count }
 {}
 
-/// Every point is shown or is counted as left out, once.
+/// Who reads the lines of a collection, and so its text, has its points: each with its name, its labels, and its value
+/// or its buckets, its sum and its count. The reader is defined apart, and looks at nothing but lines.
+///
+/// This function does nothing: who needs the law calls it first.
+pub fn says_points()
+    ensures lines { (s : Settings) (c : ResourceMetrics) → read_points (lines_of s c) ≡ all_read s c }
+    ensures text { (s : Settings) (c : ResourceMetrics) → option_map read_points (read (text_of s.format (lines_of s c))) ≡ Some (all_read s c) }
+{
+    says_lines();
+}
+
+/// Every point is one that is read or is counted as left out, once.
 ///
 /// This function does nothing: who needs the law calls it first.
 pub fn nothing_is_lost()
-    ensures { (s : Settings) (c : ResourceMetrics) → (shown_points s c + doubled_points s c) + (delta_points c + conflicting_points c) ≡ all_points c }
+    ensures { (s : Settings) (c : ResourceMetrics) → (length (points_of s c) + doubled_points s c) + (delta_points c + conflicting_points c) ≡ all_points c }
 {}

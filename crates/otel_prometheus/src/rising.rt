@@ -148,6 +148,7 @@ fn is_empty(value: &Value) -> bool
 {
     match value {
         Value::String(text) => text.as_str().as_bytes().is_empty(),
+        // Of a number that was read is known that it fits in 64 bits, and so that it has digits.
         Value::I64(number) => {
             let _number = *number;
             false

@@ -215,16 +215,21 @@ pub(crate) fn without_doubled(
 {
     let Texts {
         labels,
-        lines,
+        mut lines,
         marks,
         front: _front,
     } = texts;
     if are_distinct(alloc, labels.as_slice(), marks.as_slice())? {
         return Ok((lines, 0));
     }
-    let (before, own) = lines.as_slice().split_at(start);
-    let mut out = Vec::with_capacity(alloc, lines.len())?;
-    out.extend_from_slice(before)?;
-    let count = push_first(alloc, &mut out, labels.as_slice(), own, marks.as_slice())?;
-    Ok((out, count))
+    let own = Vec::from_slice(alloc, &lines.as_slice()[start..])?;
+    lines.truncate(start);
+    let count = push_first(
+        alloc,
+        &mut lines,
+        labels.as_slice(),
+        own.as_slice(),
+        marks.as_slice(),
+    )?;
+    Ok((lines, count))
 }
