@@ -1,7 +1,13 @@
+mod AddLines
 mod Added
 mod Built
 mod Lines
 mod Names
+mod OneStream
 mod Pairs
 mod PerKind
+mod RowsScripts
+mod ScriptLines
+mod Scripts
+mod SetUps
 mod Unread

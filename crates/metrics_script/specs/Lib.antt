@@ -9,8 +9,11 @@ pub mod Kinds
 pub mod Named
 pub mod Numbers
 pub mod Options
+pub mod Progress
 pub mod Readers
 pub mod Refusals
+pub mod ScriptLines
+pub mod Scripts
 pub mod Streams
 pub mod Texts
 pub mod Views

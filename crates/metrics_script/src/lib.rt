@@ -16,6 +16,7 @@ pub mod points;
 mod printing;
 mod readers;
 mod refusals;
+mod rows;
 pub mod script;
 pub mod script_lines;
 mod streams;

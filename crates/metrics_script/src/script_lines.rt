@@ -1,6 +1,9 @@
 //! A whole script: what comes before `go`, and the calls after it.
 
-ghost use Rattle.std.specs.Prelude.{◌≡◌, ◌≢◌, [], ◌∷◌, ◌++◌, IfErr, OnOk, IsOkUnless};
+ghost use Rattle.std.specs.Prelude.{◌≡◌, ◌≢◌, [], ◌∷◌, ◌++◌, ℕ, map, IfOk, IfErr, OnOk, OnErr, IsOkUnless};
+ghost use Rattle.metrics_script.specs.Progress.{AddsLine, GoesOn, Progress, SetsUp, progress_of};
+ghost use Rattle.metrics_script.specs.ScriptLines.{lines_of, without_end, words_of};
+ghost use Rattle.metrics_script.specs.Scripts.{IsFirstBad, IsScript};
 
 use crate::calls::{call_of, collect_of, observed_of};
 use crate::failures::Failure;
@@ -35,6 +38,8 @@ struct Reading {
 ///
 /// A script without `go`, or one that ends with observations, is bad at the line after its last one.
 pub fn script_of(alloc: Global, input: &[u8]) -> Result<Script, Failure>
+    ensures script { IfOk result (λ script. IsScript (lines_of input.now) script.readers.items script.views.items script.calls.items) }
+    ensures first_bad { IfErr result (λ failure. (number : ℕ) → failure ≡ Failure.BadLine number → IsFirstBad (lines_of input.now) number) }
     ensures refused { IfErr result (λ failure. failure ≢ Failure.InputOrOutput) }
 {
     let mut reading = Reading {
@@ -63,41 +68,47 @@ pub fn script_of(alloc: Global, input: &[u8]) -> Result<Script, Failure>
 }
 
 /// The line without the byte that ends it.
-fn without_end(line: &[u8]) -> &[u8] {
+fn without_end(line: &[u8]) -> &[u8]
+    ensures { result.now ≡ without_end line.now }
+{
     line.strip_suffix(b"\n").unwrap_or(line)
 }
 
-/// Whether the line is skipped: it has only spaces, or begins with `#`.
-fn is_skipped(line: &[u8]) -> bool {
-    line.first() == Some(&b'#') || line.iter().all(|byte| *byte == b' ')
-}
-
 /// The words of a line, which are separated by runs of spaces.
-fn words_of(alloc: Global, line: &str) -> Result<Vec<&str>, AllocError> {
+fn words_of(alloc: Global, line: &str) -> Result<Vec<&str>, AllocError>
+    ensures words { IfOk result (λ words. map (λ word. word.now) words.items ≡ words_of line.now) }
+{
     line.split(' ')
         .filter(|word| !word.is_empty())
         .collect(alloc)
 }
 
 impl Reading {
-    /// Takes in the next line.
-    fn add_line(&mut self, alloc: Global, line: &[u8]) -> Result<(), Refusal> {
-        if is_skipped(line) {
+    /// Takes in the next line. One that begins with `#` or has no words says nothing.
+    fn add_line(&mut self, alloc: Global, line: &[u8]) -> Result<(), Refusal>
+        ensures added { OnOk result (AddsLine line.now (progress_of self.old) (progress_of self.new)) }
+        ensures meaningless { IfErr result (λ refusal. refusal ≡ Refusal.BadCommand → (new : Progress) → ¬ AddsLine line.now (progress_of self.old) new) }
+    {
+        if let [b'#', ..] = line {
             return Ok(());
         }
         let Ok(line) = str::from_utf8(line) else {
             return Err(Refusal::BadCommand);
         };
         let words = words_of(alloc, line)?;
-        if self.is_started {
-            return self.go_on(alloc, words.as_slice());
+        match words.as_slice() {
+            [] => Ok(()),
+            words if self.is_started => self.go_on(alloc, words),
+            words => self.set_up(alloc, words),
         }
-        self.set_up(alloc, words.as_slice())
     }
 
     /// Takes in the words of a line after `go`. Observations wait for the next collection; no other call may come
     /// before it.
-    fn go_on(&mut self, alloc: Global, words: &[&str]) -> Result<(), Refusal> {
+    fn go_on(&mut self, alloc: Global, words: &[&str]) -> Result<(), Refusal>
+        ensures added { OnOk result (GoesOn (map (λ word. word.now) words.now) (progress_of self.old) (progress_of self.new)) }
+        ensures meaningless { IfErr result (λ refusal. refusal ≡ Refusal.BadCommand → (new : Progress) → ¬ GoesOn (map (λ word. word.now) words.now) (progress_of self.old) new) }
+    {
         match words {
             ["observe", instrument, number, attributes] => {
                 let observed = observed_of(alloc, instrument, number, attributes)?;
@@ -108,32 +119,21 @@ impl Reading {
                 let mut observations = replace(&mut self.observations, Vec::new(alloc));
                 observations.shrink_to_fit();
                 let call = collect_of(reader, now, observations)?;
-                self.add_call(call)
+                add_call(&mut self.script.calls, call)
             }
             _ if self.observations.is_empty() => {
                 let call = call_of(alloc, words)?;
-                self.add_call(call)
+                add_call(&mut self.script.calls, call)
             }
             _ => Err(Refusal::BadCommand),
         }
     }
 
-    /// Adds a call to the list. Most of what a script takes is this list, so it grows by a quarter, and not to twice its
-    /// length.
-    fn add_call(&mut self, call: Call) -> Result<(), Refusal>
-        ensures added { OnOk result (self.new.script.calls.items ≡ self.old.script.calls.items ++ call ∷ []) }
-        ensures refused { IsOkUnless result Refusal.OutOfMemory }
-    {
-        let calls = &mut self.script.calls;
-        if calls.len() == calls.capacity() {
-            calls.reserve_exact(calls.len() / 4 + 16)?;
-        }
-        calls.push(call)?;
-        Ok(())
-    }
-
     /// Takes in the words of a line before `go`, or of `go` itself.
-    fn set_up(&mut self, alloc: Global, words: &[&str]) -> Result<(), Refusal> {
+    fn set_up(&mut self, alloc: Global, words: &[&str]) -> Result<(), Refusal>
+        ensures added { OnOk result (SetsUp (map (λ word. word.now) words.now) (progress_of self.old) (progress_of self.new)) }
+        ensures meaningless { IfErr result (λ refusal. refusal ≡ Refusal.BadCommand → (new : Progress) → ¬ SetsUp (map (λ word. word.now) words.now) (progress_of self.old) new) }
+    {
         match words {
             ["reader", temporality, options @ ..] => {
                 let reader = reader_of(alloc, temporality, options)?;
@@ -152,4 +152,17 @@ impl Reading {
             _ => Err(Refusal::BadCommand),
         }
     }
+}
+
+/// Adds a call to the list. Most of what a script takes is this list, so it grows by a quarter, and not to twice its
+/// length.
+fn add_call(calls: &mut Vec<Call>, call: Call) -> Result<(), Refusal>
+    ensures added { OnOk result (calls.new.items ≡ calls.old.items ++ call ∷ []) }
+    ensures refused { IsOkUnless result Refusal.OutOfMemory }
+{
+    if calls.len() == calls.capacity() {
+        calls.reserve_exact(calls.len() / 4 + 16)?;
+    }
+    calls.push(call)?;
+    Ok(())
 }
