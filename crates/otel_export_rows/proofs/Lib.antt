@@ -1,0 +1,2 @@
+pub mod RowsExpositions
+pub mod RowsRequests
