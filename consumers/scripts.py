@@ -3,6 +3,7 @@ import dataclasses
 import pathlib
 import re
 import subprocess
+import sys
 from urllib.parse import unquote
 
 TOP = pathlib.Path(__file__).resolve().parent.parent
@@ -61,6 +62,8 @@ class Program:
     """The built `metrics_run`."""
 
     def __init__(self, path):
+        if not pathlib.Path(path).is_file():
+            sys.exit(f'{path} is not there: `rt run` in crates/metrics_run builds it')
         self.path = path
 
     def run(self, script, *words):
