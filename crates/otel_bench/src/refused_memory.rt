@@ -14,6 +14,7 @@
 mod aggregates;
 mod callbacks;
 mod calls;
+mod exports;
 mod later;
 mod runs;
 mod scenarios;

@@ -4,6 +4,7 @@
 mod balances;
 mod calls;
 mod counted;
+mod export;
 mod first;
 mod hello;
 mod listed;
@@ -20,6 +21,7 @@ use anyhow::Error;
 use balances::count_any;
 use calls::{counter, print_collection};
 use counted::count_batch;
+use export::with_exports;
 use first::first_program;
 use hello::hello;
 use listed::with_list;
@@ -96,5 +98,6 @@ fn main(rt: HostRuntime) -> Result<(), Error> {
     with_list::<OnlyManual>(&rt, rt.alloc(), ManualReader::default())?;
     with_own(&rt, rt.alloc())?;
     in_threads::<OnlyManual, HostRuntime>(&rt, rt.alloc(), ManualReader::default())?;
-    with_service(&rt, rt.alloc())
+    with_service(&rt, rt.alloc())?;
+    with_exports(&rt, &rt, rt.alloc())
 }

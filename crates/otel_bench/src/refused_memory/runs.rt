@@ -3,6 +3,7 @@
 use crate::refused_memory::aggregates::write_aggregate;
 use crate::refused_memory::callbacks::{Callbacks, Counting, Spare, counting, spare};
 use crate::refused_memory::calls::write_call;
+use crate::refused_memory::exports::write_export;
 use crate::refused_memory::later::write_later;
 use crate::refused_memory::scenarios::scenario_of;
 use crate::refused_memory::set_up::{CALLBACKS, Swept, build, fill, resource, settings};
@@ -109,6 +110,8 @@ fn text_of_run<R: Print>(trial: &mut Trial<R>, ahead: u64) -> Result<String, Err
         }
     } else if scenario.place == "aggregate" {
         write_aggregate(trial)?;
+    } else if scenario.place == "outbox" {
+        write_export(trial)?;
     } else if !trial.is_refused || scenario.call != "build" {
         write_at(trial, ahead)?;
     }

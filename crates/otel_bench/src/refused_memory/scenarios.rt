@@ -17,7 +17,8 @@ use anyhow::{Error, bail};
 /// for a new one. At the place `shared`, which is a shared provider with a worker: `line` and `collect`; `open` opens the
 /// worker; `add` adds a record in some way to the records that wait; `submit`, of which every second, from the first, must
 /// not be refused, `submit_all` again and again until it is not refused, and `take_first` are of the records that wait;
-/// and `settle` leaves them. A value, at the place `value`, needs no provider.
+/// and `settle` leaves them. A value, at the place `value`, needs no provider, nor does the
+/// place `outbox`, where a line is pushed and sent.
 #[derive(Drop)]
 pub struct Scenario<'a> {
     /// Whether the call must not be refused for want of memory.
@@ -142,6 +143,7 @@ maybe alone line | record 4 i:8 z=b:true
 maybe alone line | record 5 u:8 z=i:9
 maybe alone line | record 3 u:8 q=i:1,p=i:1,o=i:1,n=i:1,m=i:1,l=i:1,k=i:1,j=i:1,i=i:1,h=i:1,g=i:1,f=i:1,e=i:1,d=i:1,c=i:1,b=i:1,a=i:1,z=i:1
 maybe alone typed | record 0 u:8 z=i:9
+maybe outbox push
 maybe value got
 maybe value merged
 maybe value built
@@ -238,6 +240,7 @@ sure alone line | recordbound 0 u:8
 sure alone line | recordbound 2 u:8
 sure full line | record 0 u:8 z=i:9
 sure full line | record 0 u:8 z=i:9,y=s:x,a=i:1
+sure outbox send
 sure value stream
 sure value reader
 sure shared line | meter app
