@@ -1,6 +1,6 @@
 //! A whole script: what comes before `go`, and the calls after it.
 
-ghost use Rattle.std.specs.Prelude.{◌≡◌, ◌≢◌, [], ◌∷◌, ◌++◌, ℕ, map, IfOk, IfErr, OnOk, OnErr, IsOkUnless};
+ghost use Rattle.std.specs.Prelude.{◌≡◌, ◌≢◌, [], ◌∷◌, ◌++◌, ℕ, map, IfOk, IfErr, OnOk, IsOkUnless};
 ghost use Rattle.metrics_script.specs.Progress.{AddsLine, GoesOn, Progress, SetsUp, progress_of};
 ghost use Rattle.metrics_script.specs.ScriptLines.{lines_of, without_end, words_of};
 ghost use Rattle.metrics_script.specs.Scripts.{IsFirstBad, IsScript};

@@ -1,9 +1,8 @@
 use Rattle.std.proofs.Common.{◌≡◌, ◌<◌, ◌∙◌, ap, sym, subst, inl, inr, refl, false, true, length, length-append, List, [], ◌∷◌, map, ℕ, rules, tests, arith}
-use Rattle.std.specs.Prelude.{◌==◌}
 use Rattle.std.specs.Slice.Iter.{split_inclusive_callee, split_inclusive_rest}
 use Rattle.std.proofs.lemmas.List.{length-map, map-append}
 use Rattle.opentelemetry_sdk.specs.declared.calls.Call.{Call}
-use Rattle.metrics_script.specs.Progress.{AddsLine, progress_of, Progress}
+use Rattle.metrics_script.specs.Progress.{AddsLine, progress_of}
 use Rattle.metrics_script.specs.ScriptLines.{kept, lines_of, without_end}
 use Rattle.metrics_script.specs.Scripts.{IsScript}
 use Rattle.metrics_script.proofs.ScriptLines.{end_at, few_lines, line_of, lines_yielded, turn_at}
