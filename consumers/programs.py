@@ -12,7 +12,7 @@ import time
 import urllib.parse
 import urllib.request
 
-EVERY = '2s'
+EVERY = '5s'
 TYPES = {
     'prometheus': 'text/plain; version=0.0.4; charset=utf-8',
     'openmetrics': 'application/openmetrics-text; version=1.0.0; charset=utf-8',
@@ -55,7 +55,7 @@ def served(url):
         return False
 
 
-def wait_until(is_so, otherwise, seconds=120):
+def wait_until(is_so, otherwise, seconds=300):
     ended = time.monotonic() + seconds
     while not is_so():
         if time.monotonic() > ended:
