@@ -35,7 +35,7 @@ struct Reading {
 ///
 /// A script without `go`, or one that ends with observations, is bad at the line after its last one.
 pub fn script_of(alloc: Global, input: &[u8]) -> Result<Script, Failure>
-    ensures refused { IfErr result (λ failure. failure ≢ Failure.InputOrOutput) }
+    ensures refused { IfErr result (λ failure. (failure ≢ Failure.InputOrOutput) × (failure ≢ Failure.BadArguments)) }
 {
     let mut reading = Reading {
         script: Script {
