@@ -3,6 +3,8 @@ pub mod Attributes
 pub mod Boundaries
 pub mod CallLines
 pub mod Calls
+pub mod Commands
+pub mod Exports
 pub mod Failures
 pub mod Keys
 pub mod Kinds

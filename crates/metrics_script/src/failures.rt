@@ -8,6 +8,10 @@ use opentelemetry_sdk::common::Fault;
 use std::alloc::{AllocError, AllocFailed};
 use thiserror::Error;
 
+/// How the program is used.
+pub const USAGE: &str =
+    "usage: metrics_run [--help | (prometheus | openmetrics | otlp) [last]], with the script on standard input";
+
 /// Why a script ends early. Its text goes to standard error.
 #[derive(Debug, Drop, Error)]
 pub enum Failure {
@@ -20,6 +24,9 @@ pub enum Failure {
     /// A read or a write failed.
     #[error("input or output failed")]
     InputOrOutput,
+    /// The arguments ask for nothing that the program does.
+    #[error("{usage}", usage = USAGE)]
+    BadArguments,
 }
 
 impl Failure {
@@ -31,6 +38,7 @@ impl Failure {
             Failure::BadLine(_) => 2,
             Failure::OutOfMemory => 3,
             Failure::InputOrOutput => 4,
+            Failure::BadArguments => 2,
         }
     }
 }

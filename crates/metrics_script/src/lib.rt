@@ -1,10 +1,11 @@
-//! Reads a script of calls of a metrics pipeline, runs it, and prints the replies.
+//! Reads a script of calls of a metrics pipeline, runs it, and prints the replies, or its collections as exporters do.
 #![tactic(auto)]
 
 mod aggregations;
 mod attributes;
 mod boundaries;
 mod calls;
+pub mod commands;
 pub mod exports;
 pub mod failures;
 mod keys;

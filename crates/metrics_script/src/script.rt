@@ -6,7 +6,7 @@ use crate::failures::Failure;
 use crate::printing::write_reply;
 use crate::script_lines::{Script, script_of};
 use opentelemetry_sdk::metrics::SdkMeterProvider;
-use opentelemetry_sdk::metrics::provider::Reply;
+use opentelemetry_sdk::metrics::provider::{Call, Reply};
 use std::alloc::Global;
 use std::io::{BufWriter, ErrorKind, Read, Write};
 
@@ -37,37 +37,44 @@ pub(crate) fn status_of_run<E: Write>(ended: &Result<(), Failure>, errors: &mut 
 }
 
 /// Does the same without the message on standard error.
-fn run_script<R: Read + Drop, W: Write + Drop>(
+pub(crate) fn run_script<R: Read + Drop, W: Write + Drop>(
     alloc: Global,
     input: R,
     output: W,
 ) -> Result<(), Failure> {
-    let replies = replies_to_input(alloc, input)?;
+    let replies = answers_to_input(alloc, input)?.replies;
     write_replies(alloc, output, replies.as_slice())
 }
 
+/// The calls of a script, and the reply to each.
+#[derive(Drop)]
+pub(crate) struct Answers {
+    pub(crate) calls: Vec<Call>,
+    pub(crate) replies: Vec<Reply>,
+}
+
 /// Reads a script and makes its calls. What was read is let go before they are made.
-pub(crate) fn replies_to_input<R: Read + Drop>(
+pub(crate) fn answers_to_input<R: Read + Drop>(
     alloc: Global,
     input: R,
-) -> Result<Vec<Reply>, Failure> {
+) -> Result<Answers, Failure> {
     let script = {
         let bytes = read_all(alloc, input)?;
         script_of(alloc, bytes.as_slice())?
     };
-    replies_of(alloc, script)
+    answers_of(alloc, script)
 }
 
 /// Makes the calls of a script on a new provider with the script's readers and views, and returns the replies. All lines
 /// are checked before any call is made.
 pub fn replies_to(alloc: Global, script: &[u8]) -> Result<Vec<Reply>, Failure>
-    ensures refused { IfErr result (λ failure. failure ≢ Failure.InputOrOutput) }
+    ensures refused { IfErr result (λ failure. (failure ≢ Failure.InputOrOutput) × (failure ≢ Failure.BadArguments)) }
 {
-    replies_of(alloc, script_of(alloc, script)?)
+    Ok(answers_of(alloc, script_of(alloc, script)?)?.replies)
 }
 
 /// The same for a script that has been read.
-fn replies_of(alloc: Global, script: Script) -> Result<Vec<Reply>, Failure>
+fn answers_of(alloc: Global, script: Script) -> Result<Answers, Failure>
     ensures refused { IsOkUnless result Failure.OutOfMemory }
 {
     let Script {
@@ -83,7 +90,8 @@ fn replies_of(alloc: Global, script: Script) -> Result<Vec<Reply>, Failure>
         builder = builder.with_view(Box::new(alloc, view)?)?;
     }
     let mut provider = builder.build()?;
-    Ok(provider.run(alloc, calls.as_slice())?)
+    let replies = provider.run(alloc, calls.as_slice())?;
+    Ok(Answers { calls, replies })
 }
 
 /// Reads all that the reader has.

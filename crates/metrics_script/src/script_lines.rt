@@ -40,7 +40,7 @@ struct Reading {
 pub fn script_of(alloc: Global, input: &[u8]) -> Result<Script, Failure>
     ensures script { IfOk result (λ script. IsScript (lines_of input.now) script.readers.items script.views.items script.calls.items) }
     ensures first_bad { IfErr result (λ failure. (number : ℕ) → failure ≡ Failure.BadLine number → IsFirstBad (lines_of input.now) number) }
-    ensures refused { IfErr result (λ failure. failure ≢ Failure.InputOrOutput) }
+    ensures refused { IfErr result (λ failure. (failure ≢ Failure.InputOrOutput) × (failure ≢ Failure.BadArguments)) }
 {
     let mut reading = Reading {
         script: Script {

@@ -5,6 +5,7 @@ use std::alloc::Global;
 use std::process::Abort;
 
 mod collected;
+mod commands;
 mod exports;
 mod failing;
 mod guide;

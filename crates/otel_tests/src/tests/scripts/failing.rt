@@ -9,9 +9,18 @@ use std::process::Abort;
 
 /// Gives some bytes and then fails.
 #[derive(Drop)]
-struct FailingReader<'a> {
+pub struct FailingReader<'a> {
     bytes: &'a [u8],
     kind: ErrorKind,
+}
+
+impl<'a> FailingReader<'a> {
+    pub fn new(text: &'a str, kind: ErrorKind) -> FailingReader<'a> {
+        FailingReader {
+            bytes: text.as_bytes(),
+            kind,
+        }
+    }
 }
 
 impl Read for FailingReader<'_> {
@@ -25,7 +34,7 @@ impl Read for FailingReader<'_> {
 
 /// Takes some bytes, and fails on a write that it has no room for.
 #[derive(Drop)]
-struct FailingWriter {
+pub struct FailingWriter {
     taken: Vec<u8>,
     room: usize,
     /// Whether `flush` fails.
@@ -36,7 +45,7 @@ struct FailingWriter {
 }
 
 impl FailingWriter {
-    fn new(alloc: Global, room: usize, is_stuck: bool) -> FailingWriter {
+    pub fn new(alloc: Global, room: usize, is_stuck: bool) -> FailingWriter {
         FailingWriter {
             taken: Vec::new(alloc),
             room,
@@ -73,10 +82,7 @@ const SCRIPT: &str = "go\nmeter a\nmeter b\n";
 
 /// Asserts that the program ends with this status and this message, and runs nothing, if a read fails in mid-stream.
 fn assert_read_fails(rt: &impl Abort, alloc: Global, kind: ErrorKind, status: u8, message: &str) {
-    let input = FailingReader {
-        bytes: SCRIPT.as_bytes(),
-        kind,
-    };
+    let input = FailingReader::new(SCRIPT, kind);
     let mut output = Vec::new(alloc);
     let mut errors = Vec::new(alloc);
     let ended = script(alloc, input, &mut output, &mut errors);
