@@ -1,6 +1,6 @@
 //! What the program is asked to do by its arguments.
 
-ghost use Rattle.std.specs.Prelude.{◌≡◌, ◌≢◌, [], ◌∷◌, IfNone, IfSome, map};
+ghost use Rattle.std.specs.Prelude.{◌≡◌, ◌≢◌, ◌⊎◌, [], ◌∷◌, IfErr, IfNone, IfSome, map};
 ghost use Rattle.std.specs.String.{string_bytes};
 ghost use Rattle.metrics_script.specs.Commands.{command_words};
 
@@ -87,7 +87,9 @@ pub fn obey<R: Read + Drop, W: Write + Drop, E: Write + Drop>(
 }
 
 /// What the arguments ask for. One that is no text asks for nothing.
-fn command_of(alloc: Global, arguments: io::Result<Args>) -> Result<Command, Failure> {
+fn command_of(alloc: Global, arguments: io::Result<Args>) -> Result<Command, Failure>
+    ensures refused { IfErr result (λ failure. (failure ≡ Failure.OutOfMemory) ⊎ (failure ≡ Failure.BadArguments)) }
+{
     let arguments = match arguments {
         Ok(arguments) => arguments,
         Err(error) => {
@@ -108,7 +110,9 @@ fn run_command<R: Read + Drop, W: Write + Drop, E: Write>(
     input: R,
     mut output: W,
     errors: &mut E,
-) -> Result<(), Failure> {
+) -> Result<(), Failure>
+    ensures refused { IfErr result (λ failure. failure ≢ Failure.BadArguments) }
+{
     match command {
         Command::Replies => run_script(alloc, input, output),
         Command::Collections(form) => {

@@ -1,6 +1,6 @@
 //! Prints the collections of a script as exporters do, with any writers.
 
-ghost use Rattle.std.specs.Prelude.{◌≡◌, ◌≢◌, IfNone, IfSome, OnOk, flat_map};
+ghost use Rattle.std.specs.Prelude.{◌≡◌, ◌≢◌, ◌⊎◌, IfErr, IfNone, IfSome, IsOkUnless, OnOk, flat_map};
 ghost use Rattle.std.specs.Io.KnownBytes.{Appends};
 ghost use Rattle.metrics_script.specs.Commands.{form_word};
 ghost use Rattle.metrics_script.specs.Exports.{printed_text, reply_text};
@@ -67,6 +67,7 @@ pub(crate) fn print_collections<W: Write, E: Write>(
     errors: &mut E,
 ) -> Result<(), Failure>
     ensures whole { OnOk result (Appends (W.contents output.old) (W.contents output.new) (flat_map (reply_text form) replies.now)) }
+    ensures refused { IfErr result (λ failure. (failure ≡ Failure.OutOfMemory) ⊎ (failure ≡ Failure.InputOrOutput)) }
 {
     for reply in replies {
         if let Reply::Collected(collected) = reply {
@@ -83,7 +84,9 @@ pub(crate) fn print_last_collection<W: Write, E: Write>(
     answers: &Answers,
     output: &mut W,
     errors: &mut E,
-) -> Result<(), Failure> {
+) -> Result<(), Failure>
+    ensures refused { IfErr result (λ failure. (failure ≡ Failure.OutOfMemory) ⊎ (failure ≡ Failure.InputOrOutput)) }
+{
     let mut last = None;
     for (call, reply) in answers.calls.iter().zip(answers.replies.iter()) {
         if let (Call::Collect { reader: 0, .. }, Reply::Collected(collected)) = (call, reply) {
@@ -106,6 +109,7 @@ fn print_collection<W: Write, E: Write>(
     errors: &mut E,
 ) -> Result<(), Failure>
     ensures whole { OnOk result (Appends (W.contents output.old) (W.contents output.new) (printed_text form collected.now)) }
+    ensures refused { IfErr result (λ failure. (failure ≡ Failure.OutOfMemory) ⊎ (failure ≡ Failure.InputOrOutput)) }
 {
     match form {
         Form::Request => print_text(output, request_line(alloc, collected)?.as_slice()),
@@ -121,6 +125,7 @@ fn print_collection<W: Write, E: Write>(
 /// Prints a whole text.
 fn print_text<W: Write>(output: &mut W, text: &[u8]) -> Result<(), Failure>
     ensures whole { OnOk result (Appends (W.contents output.old) (W.contents output.new) text.now) }
+    ensures refused { IsOkUnless result Failure.InputOrOutput }
 {
     match output.write_all(text) {
         Ok(()) => Ok(()),

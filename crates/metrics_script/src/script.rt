@@ -41,7 +41,9 @@ pub(crate) fn run_script<R: Read + Drop, W: Write + Drop>(
     alloc: Global,
     input: R,
     output: W,
-) -> Result<(), Failure> {
+) -> Result<(), Failure>
+    ensures refused { IfErr result (λ failure. failure ≢ Failure.BadArguments) }
+{
     let replies = answers_to_input(alloc, input)?.replies;
     write_replies(alloc, output, replies.as_slice())
 }
@@ -54,10 +56,9 @@ pub(crate) struct Answers {
 }
 
 /// Reads a script and makes its calls. What was read is let go before they are made.
-pub(crate) fn answers_to_input<R: Read + Drop>(
-    alloc: Global,
-    input: R,
-) -> Result<Answers, Failure> {
+pub(crate) fn answers_to_input<R: Read + Drop>(alloc: Global, input: R) -> Result<Answers, Failure>
+    ensures refused { IfErr result (λ failure. failure ≢ Failure.BadArguments) }
+{
     let script = {
         let bytes = read_all(alloc, input)?;
         script_of(alloc, bytes.as_slice())?
