@@ -98,9 +98,13 @@ requests_total{otel_scope_name=\"bar\"} -9223372036854775808\n\
 # TYPE share_ratio gauge\n\
 share_ratio{_1st=\"-7\",otel_scope_name=\"bar\"} 42\n";
 
+/// What is said of the gauge `requests.total`, whose name is that of the counter, and of the points of the delta reader's
+/// counters and histogram.
+const LEFT_OUT: &str = "left out: 1 conflicting point\nleft out: 5 delta points\n";
+
 #[test]
 fn exports_text(rt: HostRuntime) {
-    assert_exports(&rt, rt.alloc(), "prometheus", SCRIPT, 0, TEXT, "");
+    assert_exports(&rt, rt.alloc(), "prometheus", SCRIPT, 0, TEXT, LEFT_OUT);
 }
 
 /// A word that names no form, a script without calls, and one with a bad line.
