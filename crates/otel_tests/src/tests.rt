@@ -1,6 +1,7 @@
 //! Worked rows, texts, and each public function called at least once.
 
 mod aggregate;
+mod exporters;
 mod prometheus;
 mod run;
 mod scripts;
