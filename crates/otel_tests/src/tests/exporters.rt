@@ -57,7 +57,9 @@ fn gauge<T: Copy + Drop>(
 ) -> Result<MetricData<T>, Fault> {
     let attributes = SharedItems::new(attributes)?;
     let point = GaugeDataPoint::new(attributes, Items::from(Vec::new(alloc)), value);
-    let points = Items::from(vec![in alloc; point]?);
+    let mut points = Vec::new(alloc);
+    points.push(point)?;
+    let points = Items::from(points);
     Ok(Gauge::new(points, START, TIME).into())
 }
 
@@ -89,7 +91,9 @@ fn histogram<T: Copy + Drop>(
         seen.greatest,
         seen.sum,
     );
-    let points = Items::from(vec![in alloc; point]?);
+    let mut points = Vec::new(alloc);
+    points.push(point)?;
+    let points = Items::from(points);
     Ok(Histogram::new(points, START, TIME, temporality, has_sum).into())
 }
 
