@@ -89,7 +89,7 @@ pub struct Spare<U, I> {
 }
 
 /// Callbacks that have not run, of which this many skip a run later.
-pub fn counting(alloc: Global, ahead: u64) -> Callbacks<Counting, Counting> {
+pub fn new_callbacks(alloc: Global, ahead: u64) -> Callbacks<Counting, Counting> {
     Callbacks {
         runs: Counting::new(alloc, u64::from(ahead > 0)),
         balance: Counting::new(alloc, u64::from(ahead > 1)),
@@ -98,7 +98,7 @@ pub fn counting(alloc: Global, ahead: u64) -> Callbacks<Counting, Counting> {
 }
 
 /// Callbacks that have not run and skip none.
-pub fn spare(alloc: Global) -> Spare<Counting, Counting> {
+pub fn new_spare(alloc: Global) -> Spare<Counting, Counting> {
     Spare {
         unsigned: Counting::new(alloc, 0),
         signed: Counting::new(alloc, 0),

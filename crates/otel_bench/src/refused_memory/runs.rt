@@ -1,7 +1,7 @@
 //! Runs of a scenario: the first with the call under test, and those at twins.
 
 use crate::refused_memory::aggregates::write_aggregate;
-use crate::refused_memory::callbacks::{Callbacks, Counting, Spare, counting, spare};
+use crate::refused_memory::callbacks::{Callbacks, Counting, Spare, new_callbacks, new_spare};
 use crate::refused_memory::calls::write_call;
 use crate::refused_memory::exports::write_export;
 use crate::refused_memory::later::write_later;
@@ -81,8 +81,8 @@ fn write_at<R: Print>(trial: &mut Trial<R>, ahead: u64) -> Result<(), Error> {
     let resource = resource(alloc)?;
     let settings = settings(alloc, place)?;
     let Script { readers, views, .. } = script_of(alloc, settings.as_bytes())?;
-    let callbacks = counting(alloc, ahead);
-    let spare = spare(alloc);
+    let callbacks = new_callbacks(alloc, ahead);
+    let spare = new_spare(alloc);
     match place {
         "boxed" => write_boxed(trial, resource, readers, views, callbacks, spare),
         "shared" => {
