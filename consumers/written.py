@@ -11,9 +11,10 @@ ESCAPES = {'\\n': '\n', '\\"': '"', '\\\\': '\\'}
 
 
 def literals(source):
-    """The texts of a source, without escapes."""
+    """The texts of a source, without escapes. A line that ends in a backslash goes on after the spaces of the next one."""
     yield from RAW.findall(source)
     for text in PLAIN.findall(RAW.sub('', source)):
+        text = re.sub(r'(?<!\\)\\\n\s*', '', text)
         yield re.sub(r'\\.', lambda found: ESCAPES[found[0]] if found[0] in ESCAPES else found[0], text)
 
 
@@ -27,9 +28,12 @@ def format_of(text):
 
 
 def texts_of_tests():
-    """The texts by name, each with its format. A line of OTLP is written on several."""
+    """The texts by name, each with its format. A line of OTLP is written on several. Texts of several collections, which
+    stand in the tests of scripts, are left out.
+    """
     found = {}
-    for path in sorted((TOP / 'crates/otel_tests/src').rglob('*.rt')):
+    tests = TOP / 'crates/otel_tests/src/tests'
+    for path in sorted([*tests.glob('exporters/*.rt'), *tests.glob('prometheus/*.rt')]):
         texts = [text for text in literals(path.read_text(encoding='utf-8')) if format_of(text)]
         for number, text in enumerate(texts, 1):
             form = format_of(text)
