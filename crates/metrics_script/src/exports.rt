@@ -6,14 +6,14 @@ ghost use Rattle.metrics_script.specs.Commands.{form_word};
 ghost use Rattle.metrics_script.specs.Exports.{printed_text, reply_text};
 
 use crate::failures::Failure;
-use crate::script::{Answers, answers_to_input, status_of_run};
+use crate::script::Answers;
 use opentelemetry_sdk::exporter::otlp::request_line;
 use opentelemetry_sdk::exporter::prometheus::{Format, LeftOut, Settings, exposition_of};
 use opentelemetry_sdk::metrics::data::ResourceMetrics;
 use opentelemetry_sdk::metrics::provider::{Call, Reply};
 use std::alloc::Global;
 use std::io;
-use std::io::{Read, Write};
+use std::io::Write;
 
 /// How a collection is printed.
 #[derive(Clone, Copy, Debug)]
@@ -37,25 +37,6 @@ impl Form {
             _ => None,
         }
     }
-}
-
-/// Reads a script, runs it and prints each collection that it gives. All input is read and all lines are checked before
-/// anything is run. Returns the status, as `script` does.
-pub fn export<R: Read + Drop, W: Write + Drop, E: Write + Drop>(
-    alloc: Global,
-    form: Form,
-    input: R,
-    mut output: W,
-    mut errors: E,
-) -> u8 {
-    let ended = match answers_to_input(alloc, input) {
-        Ok(answers) => {
-            let replies = answers.replies.as_slice();
-            print_collections(alloc, form, replies, &mut output, &mut errors)
-        }
-        Err(failure) => Err(failure),
-    };
-    status_of_run(&ended, &mut errors)
 }
 
 /// Prints each collection among the replies, one behind the other.

@@ -1,4 +1,4 @@
-//! Arrays of items.
+//! Arrays of what is written alike: metrics, points, attributes.
 
 ghost use Rattle.std.specs.Prelude.{◌≡◌, ◌++◌, OnOk};
 ghost use Rattle.json.specs.Json.{Json};

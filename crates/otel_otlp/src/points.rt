@@ -1,4 +1,4 @@
-//! Points.
+//! Points of gauges, sums and histograms, with their moments.
 
 ghost use Rattle.std.specs.Prelude.{◌≡◌, ◌++◌, ◌∷◌, ℕ, Bool, OnOk, decimal};
 ghost use Rattle.std.specs.Option.{option_map};

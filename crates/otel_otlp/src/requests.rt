@@ -1,4 +1,4 @@
-//! Requests, each on a line.
+//! Requests to export metrics, each on a line.
 
 ghost use Rattle.std.specs.Prelude.{◌≡◌, ◌++◌, ℕ, List, OnOk, IfOk, Some, codes, option_and_then};
 ghost use Rattle.json.specs.Json.{document};

@@ -1,4 +1,4 @@
-//! Scopes and resources.
+//! Scopes with their metrics, and resources.
 
 ghost use Rattle.std.specs.Prelude.{◌≡◌, ◌++◌, OnOk};
 ghost use Rattle.std.specs.Option.{option_map};

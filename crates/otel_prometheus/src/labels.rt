@@ -1,4 +1,4 @@
-//! Labels of points.
+//! Labels of a point: those of its scope and those of its attributes; and the labels of a resource.
 
 ghost use Rattle.std.specs.Prelude.{◌≡◌, ◌++◌, false, fold, OnOk, IfOk};
 ghost use Rattle.std.specs.Option.{option_map};

@@ -1,4 +1,4 @@
-//! Places of labels among others.
+//! Labels in order of their names; values under one name are joined.
 
 ghost use Rattle.std.specs.Prelude.{◌≡◌, OnOk};
 ghost use Rattle.std.specs.String.{string_bytes};

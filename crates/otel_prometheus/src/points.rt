@@ -1,4 +1,4 @@
-//! Points as series of samples.
+//! Points as series: the samples of each under its labels.
 
 ghost use Rattle.std.specs.Prelude.{◌≡◌, ◌++◌, Bool, OnOk, map, fold};
 ghost use Rattle.otel_common.specs.declared.scopes.InstrumentationScope.{InstrumentationScope};

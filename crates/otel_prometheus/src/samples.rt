@@ -1,4 +1,4 @@
-//! Samples of points.
+//! Samples of a histogram's point: its buckets, its sum and its count.
 
 ghost use Rattle.std.specs.Prelude.{◌≡◌, ◌++◌, [], ◌∷◌, ℕ, List, codes, OnOk};
 ghost use Rattle.otel_prometheus.specs.Samples.{Pair, escaped, label_text, labels_text, sample_text};

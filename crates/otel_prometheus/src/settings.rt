@@ -1,4 +1,4 @@
-//! Settings of a text.
+//! Settings of a text: its form, and whether scopes have labels.
 
 ghost use Rattle.std.specs.Prelude.{◌≡◌, true};
 

@@ -1,4 +1,4 @@
-//! Labels.
+//! Labels of samples: names with values of any bytes, in braces and with escapes.
 
 ghost use Rattle.std.specs.Prelude.{◌≡◌, ◌++◌, [], ◌∷◌, OnOk};
 ghost use Rattle.std.specs.String.{string_bytes};

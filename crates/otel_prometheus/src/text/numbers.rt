@@ -1,4 +1,4 @@
-//! Numbers of samples.
+//! Whole numbers as values of samples, in decimal.
 
 ghost use Rattle.std.specs.Prelude.{◌≡◌, ◌++◌, ℤ, OnOk};
 ghost use Rattle.std.specs.Fmt.{signed_decimal};

@@ -1,4 +1,4 @@
-//! Samples.
+//! Samples: lines of a name, labels and a value.
 
 ghost use Rattle.std.specs.Prelude.{◌≡◌, ◌++◌, OnOk};
 ghost use Rattle.std.specs.Fmt.{signed_decimal};

@@ -10,7 +10,7 @@ use std::io::ErrorKind;
 use std::process::Abort;
 
 /// The arguments of the program, of which the first is its name.
-fn arguments(rt: &impl Abort, alloc: Global, words: &[&str]) -> Args {
+pub(super) fn arguments(rt: &impl Abort, alloc: Global, words: &[&str]) -> Args {
     let mut all = Vec::new(alloc);
     for word in ["metrics_run"].iter().chain(words) {
         let word = String::from_str(alloc, word).expect(rt, "memory");
@@ -20,7 +20,7 @@ fn arguments(rt: &impl Abort, alloc: Global, words: &[&str]) -> Args {
 }
 
 /// What the program does with these arguments and this script.
-fn outcome_of(alloc: Global, arguments: io::Result<Args>, script: &str) -> Outcome {
+pub(super) fn outcome_of(alloc: Global, arguments: io::Result<Args>, script: &str) -> Outcome {
     let mut output = Vec::new(alloc);
     let mut errors = Vec::new(alloc);
     let input = script.as_bytes();

@@ -1,11 +1,12 @@
 //! Collections as exporters print them.
 
-use super::{Outcome, assert_outcome};
-use metrics_script::exports::{Form, export};
+use super::assert_outcome;
+use super::commands::{arguments, outcome_of};
 use std::alloc::Global;
 use std::process::Abort;
 
-/// Asserts that a script ends with a status and prints its collections in the form that a word names, with a message.
+/// Asserts that the program, asked for the form that a word names, ends with a status, prints these collections of the
+/// script, and a message.
 fn assert_exports(
     rt: &impl Abort,
     alloc: Global,
@@ -15,15 +16,8 @@ fn assert_exports(
     wanted: &str,
     message: &str,
 ) {
-    let form = Form::of_word(word).expect(rt, word);
-    let mut output = Vec::new(alloc);
-    let mut errors = Vec::new(alloc);
-    let ended = export(alloc, form, script.as_bytes(), &mut output, &mut errors);
-    let outcome = Outcome {
-        status: ended,
-        output,
-        errors,
-    };
+    let asked = Ok(arguments(rt, alloc, &[word]));
+    let outcome = outcome_of(alloc, asked, script);
     assert_outcome(rt, word, &outcome, status, wanted, message);
 }
 
@@ -107,11 +101,8 @@ fn exports_text(rt: HostRuntime) {
     assert_exports(&rt, rt.alloc(), "prometheus", SCRIPT, 0, TEXT, LEFT_OUT);
 }
 
-/// A word that names no form, a script without calls, and one with a bad line.
+/// A script without calls.
 #[test]
 fn exports_nothing(rt: HostRuntime) {
-    assert!(rt; Form::of_word("text").is_none());
     assert_exports(&rt, rt.alloc(), "otlp", "go\n", 0, "", "");
-    let message = "line 2: bad command\n";
-    assert_exports(&rt, rt.alloc(), "openmetrics", "go\ngone\n", 2, "", message);
 }
