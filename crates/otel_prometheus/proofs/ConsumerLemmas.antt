@@ -149,6 +149,10 @@ abbrev pub AllPoints : (Point → Type 0) → List Point → Type 0
 AllPoints P [] = Unit {0}
 AllPoints P (p ∷ ps) = P p × AllPoints P ps
 
+pub all_weaker : (P Q : Point → Type 0) → ((p : Point) → P p → Q p) → (ps : List Point) → AllPoints P ps → AllPoints Q ps
+all_weaker P Q f [] h = tt
+all_weaker P Q f (p ∷ ps) h = (f p h.0, all_weaker P Q f ps h.1)
+
 pub all_append : (P : Point → Type 0) (a b : List Point) → AllPoints P a → AllPoints P b → AllPoints P (a ++ b)
 all_append P [] b h k = k
 all_append P (p ∷ a) b h k = (h.0, all_append P a b h.1 k)
@@ -176,18 +180,19 @@ abbrev pub IsNumber : Content → Type 0
 IsNumber (number z) = Unit {0}
 IsNumber (histogram h) = ⊥
 
-abbrev pub HasNumber : Point → Type 0
-HasNumber p = IsNumber p.content
+-- a number of this name
+abbrev pub HasNumber : List ℕ → Point → Type 0
+HasNumber n p = (p.name ≡ n) × IsNumber p.content
 
 number_alone : (n : List ℕ) (ls : List Pair) (c : Content) → IsNumber c → map number_read (content_samples n ls c) ≡ record { name = n; labels = ls; content = c } ∷ []
 number_alone n ls (number z) h = refl
 number_alone n ls (histogram k) h = absurd h
 
-pub numbers_read : (ps : List Point) → AllPoints HasNumber ps → map number_read (flat_map point_samples ps) ≡ ps
-numbers_read [] h = refl
-numbers_read (p ∷ ps) h =
+pub numbers_read : (n : List ℕ) (ps : List Point) → AllPoints (HasNumber n) ps → map number_read (flat_map point_samples ps) ≡ ps
+numbers_read n [] h = refl
+numbers_read n (p ∷ ps) h =
     map-append number_read (point_samples p) (flat_map point_samples ps)
-    ∙ (λ i. number_alone p.name p.labels p.content h.0 i ++ numbers_read ps h.1 i)
+    ∙ (λ i. number_alone p.name p.labels p.content h.0.1 i ++ numbers_read n ps h.1 i)
 
 -- ======== labels ========
 pair_decides : (a b : Pair) → Decides (bytes_eq a.0 b.0 && bytes_eq a.1 b.1) (a ≡ b)
@@ -202,7 +207,7 @@ labels_decide a b = pointwise_decides pair_decides a b
 own_labels : (ls : List Pair) → labels_eq ls ls ≡ true
 own_labels ls = (labels_decide ls ls).1 refl
 
-is_no : (t : Bool) → (t ≡ true → ⊥) → t ≡ false
+pub is_no : (t : Bool) → (t ≡ true → ⊥) → t ≡ false
 is_no true n = absurd (n refl)
 is_no false n = refl
 
