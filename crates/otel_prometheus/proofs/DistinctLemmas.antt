@@ -16,7 +16,7 @@ use Rattle.otel_prometheus.specs.Laws.{is_among, AreDistinct, StandApart}
 use Rattle.otel_prometheus.specs.Points.{value_end}
 use Rattle.otel_prometheus.specs.Samples.{Pair, labels_text}
 use Rattle.otel_prometheus.specs.Series.{is_seen}
-use Rattle.otel_prometheus.specs.Shown.{family_points, first_points, target_points, points_of, all_read}
+use Rattle.otel_prometheus.specs.Shown.{family_points, first_points, target_points, points_of}
 use Rattle.otel_prometheus.specs.declared.families.Family.{Family}
 use Rattle.otel_prometheus.specs.declared.headings.Heading.{Heading}
 use Rattle.otel_prometheus.specs.declared.headings.Kind.{Kind}
@@ -24,7 +24,7 @@ use Rattle.otel_prometheus.specs.declared.headings.Kind.TheVariants.{Counter, Ga
 use Rattle.otel_prometheus.specs.declared.settings.Settings.{Settings}
 use Rattle.otel_prometheus.proofs.ConsumerLemmas.{AllPoints, all_first, is_no}
 use Rattle.otel_prometheus.proofs.LawLemmas.{families_apart}
-use Rattle.otel_prometheus.proofs.NamedLemmas.{and_true, and_false, left_true, right_true, both_false, or_false, eq_sym}
+use Rattle.otel_prometheus.proofs.NamedLemmas.{and_true, and_false, left_true, right_true, both_false}
 use Rattle.otel_prometheus.proofs.ShownLemmas.{shown_name, HasName, family_named, points_read}
 
 -- ======== names of two families ========
