@@ -28,7 +28,7 @@ use Rattle.otel_prometheus.proofs.NamedLemmas.{and_true, and_false, left_true, r
 use Rattle.otel_prometheus.proofs.ShownLemmas.{shown_name, HasName, family_named, points_read}
 
 -- ======== names of two families ========
--- a counter's points have a name that is a sample's; others have that of their family
+-- points have the name of their family, unless it is a counter
 total_or_own : (h : Heading) (k : Kind) → h.kind ≡ k → (h.kind ≡ Counter) ⊎ (shown_name h ≡ h.name)
 total_or_own h Counter e = inl e
 total_or_own h Gauge e = inr (ap (λ l. h.name ++ value_end l) e ∙ append-nil h.name)
@@ -37,7 +37,7 @@ total_or_own h Histogram e = inr (ap (λ l. h.name ++ value_end l) e ∙ append-
 with_total : (h : Heading) → h.kind ≡ Counter → shown_name h ≡ h.name ++ codes "_total"
 with_total h e = ap (λ k. h.name ++ value_end k) e
 
--- the name of a counter's points may be that of one of its samples
+-- a family that is called as a counter's points may be a sample of it
 total_is_sample : (a b : Heading) → a.kind ≡ Counter → b.name ≡ shown_name a → may_be_sample a b ≡ true
 total_is_sample a b e f =
     let is : b.name ≡ a.name ++ codes "_total" = f ∙ with_total a e in
@@ -97,7 +97,7 @@ distinct_append : (seen ps qs : List Point) → AreDistinct seen ps → AreDisti
 distinct_append seen [] qs h k = subst (λ l. AreDistinct l qs) (append-nil seen) k
 distinct_append seen (p ∷ ps) qs h k = (h.0, distinct_append (seen ++ p ∷ []) ps qs h.1 (subst (λ l. AreDistinct l qs) (sym (append_assoc seen (p ∷ []) ps)) k))
 
--- points that were seen, of which those of this name have labels among these
+-- points of which those of this name have labels that were seen
 abbrev HaveLabels : List ℕ → List (List ℕ) → List Point → Type 0
 HaveLabels n keys seen = (q : Point) → q.name ≡ n → is_seen (labels_text q.labels) keys ≡ false → is_among q seen ≡ false
 
