@@ -1,6 +1,9 @@
--- Worked rows of the reader of expositions. Most of them deny a text.
+-- Worked rows of the reader of expositions, most of which deny a text, and of points that are distinct.
 use Rattle.std.specs.Prelude.{◌≡◌, ℕ, pos, negsuc, List, [], ◌∷◌, ◌++◌, Some, None, codes}
 use Rattle.std.proofs.Common.{refl}
+use Rattle.std.proofs.lemmas.Bool.{true≢false}
+use Rattle.otel_prometheus.specs.Consumers.{Point, number}
+use Rattle.otel_prometheus.specs.Laws.{AreDistinct}
 use Rattle.otel_prometheus.specs.Lines.{Line, help, kind, sample, finish}
 use Rattle.otel_prometheus.specs.Reading.{read}
 
@@ -73,3 +76,20 @@ with_line_ends = codes "a{b=\"c\nd\"} 1\n" ∷ codes "a{b=\"\n\"} 1\n" ∷ codes
 
 pub line_ends_in_values : AreDenied with_line_ends
 line_ends_in_values = (refl, (refl, (refl, tt)))
+
+-- ======== points that are one series ========
+abbrev hits : List ℕ → Point
+hits path = record { name = codes "hits_total"; labels = (codes "path", path) ∷ []; content = number (pos 1) }
+
+pub other_labels : AreDistinct [] (hits (codes "/a") ∷ hits (codes "/b") ∷ record (hits []) { labels = [] } ∷ [])
+other_labels = (refl, (refl, (refl, tt)))
+
+pub other_names : AreDistinct [] (hits (codes "/a") ∷ record (hits (codes "/a")) { name = codes "misses_total" } ∷ [])
+other_names = (refl, (refl, tt))
+
+-- another value makes no other series
+pub one_series : AreDistinct [] (hits (codes "/a") ∷ record (hits (codes "/a")) { content = number (pos 2) } ∷ []) → ⊥
+one_series h = true≢false h.1.0
+
+pub one_series_later : AreDistinct [] (hits (codes "/a") ∷ hits (codes "/b") ∷ hits (codes "/a") ∷ []) → ⊥
+one_series_later h = true≢false h.1.1.0

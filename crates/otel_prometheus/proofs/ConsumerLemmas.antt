@@ -1,13 +1,11 @@
 -- The points of a collection are what its lines are read as.
-use Rattle.std.proofs.Common.{◌≡◌, ℕ, ◌+◌, ◌%◌, ◌^◌, ◌&&◌, ℤ, pos, Bool, true, false, cond, not, List, [], ◌∷◌, ◌++◌, length, drop, map, filter, flat_map, codes, Option, Some, None, refl, sym, ap, subst, ◌∙◌, append_assoc, append-nil, arith}
+use Rattle.std.proofs.Common.{◌≡◌, ℕ, ◌+◌, ◌%◌, ◌^◌, ◌&&◌, ℤ, pos, Bool, true, false, cond, not, List, [], ◌∷◌, ◌++◌, length, drop, map, filter, flat_map, codes, Option, Some, None, refl, sym, ap, ◌∙◌, append_assoc, append-nil, arith}
 use Rattle.std.proofs.lemmas.Bool.{true≢false}
 use Rattle.std.proofs.lemmas.Grind.{flat_map-append}
 use Rattle.std.proofs.lemmas.List.{map-append, drop_at}
 use Rattle.std.specs.Bool.{Decides}
 use Rattle.std.specs.Cmp.Lexicographic.{bytes_decides, pointwise_decides}
-use Rattle.std.specs.List.{list_any}
 use Rattle.otel_common.specs.Equality.{bytes_eq}
-use Rattle.otel_common.specs.declared.attributes.KeyValue.{KeyValue}
 use Rattle.otel_common.specs.declared.scopes.InstrumentationScope.{InstrumentationScope}
 use Rattle.otel_data.specs.declared.aggregated.AggregatedMetrics.{AggregatedMetrics}
 use Rattle.otel_data.specs.declared.aggregated.AggregatedMetrics.TheVariants.{U64, I64}
@@ -15,7 +13,6 @@ use Rattle.otel_data.specs.declared.aggregated.MetricData.{MetricData}
 use Rattle.otel_data.specs.declared.aggregated.MetricData.TheVariants.{Gauge, Sum, Histogram}
 use Rattle.otel_data.specs.declared.collections.Metric.{Metric}
 use Rattle.otel_data.specs.declared.collections.ResourceMetrics.{ResourceMetrics}
-use Rattle.otel_data.specs.declared.collections.ScopeMetrics.{ScopeMetrics}
 use Rattle.otel_data.specs.declared.points.HistogramDataPoint.{HistogramDataPoint}
 use Rattle.otel_prometheus.specs.Collections.{belongs, metric_series, scope_series, family_series}
 use Rattle.otel_prometheus.specs.Consumers as read
@@ -149,6 +146,10 @@ abbrev pub AllPoints : (Point → Type 0) → List Point → Type 0
 AllPoints P [] = Unit {0}
 AllPoints P (p ∷ ps) = P p × AllPoints P ps
 
+pub all_weaker : (P Q : Point → Type 0) → ((p : Point) → P p → Q p) → (ps : List Point) → AllPoints P ps → AllPoints Q ps
+all_weaker P Q f [] h = tt
+all_weaker P Q f (p ∷ ps) h = (f p h.0, all_weaker P Q f ps h.1)
+
 pub all_append : (P : Point → Type 0) (a b : List Point) → AllPoints P a → AllPoints P b → AllPoints P (a ++ b)
 all_append P [] b h k = k
 all_append P (p ∷ a) b h k = (h.0, all_append P a b h.1 k)
@@ -176,18 +177,19 @@ abbrev pub IsNumber : Content → Type 0
 IsNumber (number z) = Unit {0}
 IsNumber (histogram h) = ⊥
 
-abbrev pub HasNumber : Point → Type 0
-HasNumber p = IsNumber p.content
+-- a number of this name
+abbrev pub HasNumber : List ℕ → Point → Type 0
+HasNumber n p = (p.name ≡ n) × IsNumber p.content
 
 number_alone : (n : List ℕ) (ls : List Pair) (c : Content) → IsNumber c → map number_read (content_samples n ls c) ≡ record { name = n; labels = ls; content = c } ∷ []
 number_alone n ls (number z) h = refl
 number_alone n ls (histogram k) h = absurd h
 
-pub numbers_read : (ps : List Point) → AllPoints HasNumber ps → map number_read (flat_map point_samples ps) ≡ ps
-numbers_read [] h = refl
-numbers_read (p ∷ ps) h =
+pub numbers_read : (n : List ℕ) (ps : List Point) → AllPoints (HasNumber n) ps → map number_read (flat_map point_samples ps) ≡ ps
+numbers_read n [] h = refl
+numbers_read n (p ∷ ps) h =
     map-append number_read (point_samples p) (flat_map point_samples ps)
-    ∙ (λ i. number_alone p.name p.labels p.content h.0 i ++ numbers_read ps h.1 i)
+    ∙ (λ i. number_alone p.name p.labels p.content h.0.1 i ++ numbers_read n ps h.1 i)
 
 -- ======== labels ========
 pair_decides : (a b : Pair) → Decides (bytes_eq a.0 b.0 && bytes_eq a.1 b.1) (a ≡ b)
@@ -202,7 +204,7 @@ labels_decide a b = pointwise_decides pair_decides a b
 own_labels : (ls : List Pair) → labels_eq ls ls ≡ true
 own_labels ls = (labels_decide ls ls).1 refl
 
-is_no : (t : Bool) → (t ≡ true → ⊥) → t ≡ false
+pub is_no : (t : Bool) → (t ≡ true → ⊥) → t ≡ false
 is_no true n = absurd (n refl)
 is_no false n = refl
 

@@ -2,6 +2,7 @@ pub mod Arrays
 pub mod BucketLemmas
 pub mod CollectedLemmas
 pub mod ConsumerLemmas
+pub mod DistinctLemmas
 pub mod EscapeLemmas
 pub mod GroupLemmas
 pub mod LabelLemmas

@@ -1,7 +1,6 @@
 -- The lines of a collection are read as its points.
-use Rattle.std.proofs.Common.{◌≡◌, ℕ, suc, ◌+◌, ◌&&◌, ℤ, Bool, true, false, cond, not, List, [], ◌∷◌, ◌++◌, length, map, fold, flat_map, codes, Option, Some, None, refl, sym, ap, subst, ◌∙◌, append_assoc, append-nil, length-append}
+use Rattle.std.proofs.Common.{◌≡◌, ℕ, ◌+◌, ◌&&◌, ℤ, Bool, true, false, cond, not, List, [], ◌∷◌, ◌++◌, length, map, fold, flat_map, codes, Option, Some, None, refl, sym, ap, ◌∙◌, append_assoc, append-nil, length-append}
 use Rattle.std.proofs.lemmas.Bool.{true≢false}
-use Rattle.std.proofs.lemmas.Grind.{flat_map-append}
 use Rattle.std.proofs.lemmas.List.{length-map}
 use Rattle.std.specs.Cmp.Lexicographic.{slice_cmp}
 use Rattle.std.specs.Option.{option_map}
@@ -19,16 +18,16 @@ use Rattle.otel_data.specs.declared.aggregated.MetricData.{MetricData}
 use Rattle.otel_data.specs.declared.aggregated.MetricData.TheVariants as data_kinds
 use Rattle.otel_data.specs.declared.collections.Metric.{Metric}
 use Rattle.otel_data.specs.declared.collections.ResourceMetrics.{ResourceMetrics}
-use Rattle.otel_data.specs.declared.points.HistogramDataPoint.{HistogramDataPoint}
 use Rattle.otel_prometheus.specs.Collections.{belongs, family_series, kind_word, kind_end, help_lines, front_lines, family_samples, family_lines, target_lines, end_lines, lines_of, doubled_points}
-use Rattle.otel_prometheus.specs.Consumers.{Point, Typed, split_types, is_bound, without_bound, bound_of, typed_points, read_points}
+use Rattle.otel_prometheus.specs.Consumers.{Point, Typed, split_types, without_bound, bound_of, typed_points, read_points}
 use Rattle.otel_prometheus.specs.Families.{families, delta_points, conflicting_points}
-use Rattle.otel_prometheus.specs.Headings.{sum_kind, if_cumulative, points_kind, content_kind, kind_eq, heading_with, heading_of}
+use Rattle.otel_prometheus.specs.Headings.{sum_kind, if_cumulative, points_kind, content_kind, kind_eq, heading_with}
 use Rattle.otel_prometheus.specs.Labels.{placed, with_label, own_name, label_of, with_attributes, text_label, optional_label, scope_label_name, is_taken, with_scope_attribute, parts_of_scope, scope_labels, has_text, without_empty, all_labels, point_labels, resource_labels}
 use Rattle.otel_prometheus.specs.Laws.{all_points}
-use Rattle.otel_prometheus.specs.Lines.{Line, help, kind, sample}
+use Rattle.otel_prometheus.specs.Lines.{Line, kind, sample}
 use Rattle.otel_prometheus.specs.Names.{name_of}
 use Rattle.otel_prometheus.specs.Numbers.{unsigned, signed}
+use Rattle.otel_prometheus.specs.Points.{value_end}
 use Rattle.otel_prometheus.specs.Samples.{Pair, Sample, is_label_byte}
 use Rattle.otel_prometheus.specs.Series.{kept}
 use Rattle.otel_prometheus.specs.Shown.{counts_up_to, number_point, histogram_point, data_points, content_points, metric_points, family_points, first_points, points_of, target_points, all_read}
@@ -41,7 +40,7 @@ use Rattle.otel_prometheus.specs.declared.headings.Kind.TheVariants.{Counter, Ga
 use Rattle.otel_prometheus.specs.declared.settings.Settings.{Settings}
 use Rattle.otel_prometheus.specs.declared.text.formats.Format.{Format}
 use Rattle.otel_prometheus.specs.declared.text.formats.Format.TheVariants.{Prometheus, OpenMetrics}
-use Rattle.otel_prometheus.proofs.ConsumerLemmas.{series_of, point_samples, family_are, kept_are, family_samples_are, AllPoints, all_mapped, all_flat, all_first, HasNumber, numbers_read, NoBound, HasSome, HasHistogram, histograms_read}
+use Rattle.otel_prometheus.proofs.ConsumerLemmas.{series_of, point_samples, family_are, kept_are, family_samples_are, AllPoints, all_weaker, all_mapped, all_flat, all_first, HasNumber, numbers_read, NoBound, HasSome, HasHistogram, histograms_read}
 use Rattle.otel_prometheus.proofs.NamedLemmas.{both_true}
 use Rattle.otel_prometheus.proofs.Whole.{nothing_lost}
 
@@ -122,80 +121,95 @@ other_full (l ∷ ls) h = other_choice (has_text l) (l ∷ without_empty ls) (wi
 histogram_labels : (s : Settings) (scope : InstrumentationScope) (ps : List KeyValue) → NoBound (point_labels s true scope ps)
 histogram_labels s scope ps = no_bound (point_labels s true scope ps) (other_full (all_labels s true scope ps) (other_attributes (scope_labels s scope) ps (other_scope s scope)))
 
--- ======== points have the type of their family ========
-abbrev Fits : List ℕ → Kind → List Point → Type 0
-Fits n Counter ps = AllPoints HasNumber ps
-Fits n Gauge ps = AllPoints HasNumber ps
-Fits n Histogram ps = AllPoints (HasHistogram n) ps
+-- ======== points have the name and the type of their family ========
+-- what the points of a family are called
+abbrev pub shown_name : Heading → List ℕ
+shown_name h = h.name ++ value_end h.kind
 
-abbrev FitsIf : List ℕ → Option Kind → List Point → Type 0
-FitsIf n None ps = Unit {0}
-FitsIf n (Some k) ps = Fits n k ps
+abbrev Fits : Heading → Kind → List Point → Type 0
+Fits h Counter ps = AllPoints (HasNumber (shown_name h)) ps
+Fits h Gauge ps = AllPoints (HasNumber (shown_name h)) ps
+Fits h Histogram ps = AllPoints (HasHistogram h.name) ps
 
-sum_fits : (n : List ℕ) (t : Temporality) (b : Bool) (ps : List Point) → AllPoints HasNumber ps → FitsIf n (if_cumulative t (sum_kind b)) ps
-sum_fits n Cumulative true ps h = h
-sum_fits n Cumulative false ps h = h
-sum_fits n Delta b ps h = tt
-sum_fits n LowMemory b ps h = tt
+abbrev FitsIf : Heading → Option Kind → List Point → Type 0
+FitsIf h None ps = Unit {0}
+FitsIf h (Some k) ps = Fits h k ps
 
-histogram_fits : (n : List ℕ) (t : Temporality) (ps : List Point) → AllPoints (HasHistogram n) ps → FitsIf n (if_cumulative t Histogram) ps
-histogram_fits n Cumulative ps h = h
-histogram_fits n Delta ps h = tt
-histogram_fits n LowMemory ps h = tt
+sum_fits : (h : Heading) (t : Temporality) (b : Bool) (ps : List Point) → AllPoints (HasNumber (shown_name h)) ps → FitsIf h (if_cumulative t (sum_kind b)) ps
+sum_fits h Cumulative true ps a = a
+sum_fits h Cumulative false ps a = a
+sum_fits h Delta b ps a = tt
+sum_fits h LowMemory b ps a = tt
+
+histogram_fits : (h : Heading) (t : Temporality) (ps : List Point) → AllPoints (HasHistogram h.name) ps → FitsIf h (if_cumulative t Histogram) ps
+histogram_fits h Cumulative ps a = a
+histogram_fits h Delta ps a = tt
+histogram_fits h LowMemory ps a = tt
 
 some_last : (bs : List (List ℕ × ℤ)) (b : List ℕ × ℤ) → HasSome (bs ++ b ∷ [])
 some_last [] b = tt
 some_last (c ∷ bs) b = tt
 
-data_fits : {T : Type 0} (integer : T → ℤ) (s : Settings) (t : Bool) (scope : InstrumentationScope) (h : Heading) (d : MetricData T) → FitsIf h.name (points_kind d) (data_points integer s t scope h d)
-data_fits integer s t scope h (data_kinds.Gauge g) = all_mapped HasNumber (λ p. number_point integer s scope h p.attributes p.value) (λ p. tt) g.data_points
+data_fits : {T : Type 0} (integer : T → ℤ) (s : Settings) (t : Bool) (scope : InstrumentationScope) (h : Heading) (d : MetricData T) → FitsIf h (points_kind d) (data_points integer s t scope h d)
+data_fits integer s t scope h (data_kinds.Gauge g) = all_mapped (HasNumber (shown_name h)) (λ p. number_point integer s scope h p.attributes p.value) (λ p. (refl, tt)) g.data_points
 data_fits integer s t scope h (data_kinds.Sum d) =
-    sum_fits h.name d.temporality d.is_monotonic (data_points integer s t scope h (data_kinds.Sum d))
-    (all_mapped HasNumber (λ p. number_point integer s scope h p.attributes p.value) (λ p. tt) d.data_points)
+    sum_fits h d.temporality d.is_monotonic (data_points integer s t scope h (data_kinds.Sum d))
+    (all_mapped (HasNumber (shown_name h)) (λ p. number_point integer s scope h p.attributes p.value) (λ p. (refl, tt)) d.data_points)
 data_fits integer s t scope h (data_kinds.Histogram d) =
-    histogram_fits h.name d.temporality (data_points integer s t scope h (data_kinds.Histogram d))
+    histogram_fits h d.temporality (data_points integer s t scope h (data_kinds.Histogram d))
     (all_mapped (HasHistogram h.name) (histogram_point integer s (t && d.has_sum) scope h)
     (λ p. (refl, histogram_labels s scope p.attributes, some_last (counts_up_to s.format 0 p.bounds p.bucket_counts) (codes "+Inf", unsigned p.count))) d.data_points)
 
-content_fits : (s : Settings) (scope : InstrumentationScope) (h : Heading) (d : AggregatedMetrics) → FitsIf h.name (content_kind d) (content_points s scope h d)
+content_fits : (s : Settings) (scope : InstrumentationScope) (h : Heading) (d : AggregatedMetrics) → FitsIf h (content_kind d) (content_points s scope h d)
 content_fits s scope h (U64 d) = data_fits unsigned s true scope h d
 content_fits s scope h (I64 d) = data_fits signed s false scope h d
 
-none_fits : (n : List ℕ) (k : Kind) → Fits n k []
-none_fits n Counter = tt
-none_fits n Gauge = tt
-none_fits n Histogram = tt
+none_fits : (h : Heading) (k : Kind) → Fits h k []
+none_fits h Counter = tt
+none_fits h Gauge = tt
+none_fits h Histogram = tt
 
-choice_fits : (n : List ℕ) (k : Kind) (t : Bool) (ps : List Point) → (t ≡ true → Fits n k ps) → Fits n k (cond t ps [])
-choice_fits n k true ps h = h refl
-choice_fits n k false ps h = none_fits n k
+choice_fits : (h : Heading) (k : Kind) (t : Bool) (ps : List Point) → (t ≡ true → Fits h k ps) → Fits h k (cond t ps [])
+choice_fits h k true ps f = f refl
+choice_fits h k false ps f = none_fits h k
 
-same_kind_fits : (n : List ℕ) (k l : Kind) (ps : List Point) → kind_eq k l ≡ true → Fits n l ps → Fits n k ps
-same_kind_fits n Counter Counter ps e h = h
-same_kind_fits n Counter Gauge ps e h = h
-same_kind_fits n Counter Histogram ps e h = absurd (true≢false (sym e))
-same_kind_fits n Gauge Counter ps e h = h
-same_kind_fits n Gauge Gauge ps e h = h
-same_kind_fits n Gauge Histogram ps e h = absurd (true≢false (sym e))
-same_kind_fits n Histogram Counter ps e h = absurd (true≢false (sym e))
-same_kind_fits n Histogram Gauge ps e h = absurd (true≢false (sym e))
-same_kind_fits n Histogram Histogram ps e h = h
+same_kind_fits : (h : Heading) (k l : Kind) (ps : List Point) → kind_eq k l ≡ true → Fits h l ps → Fits h k ps
+same_kind_fits h Counter Counter ps e f = f
+same_kind_fits h Counter Gauge ps e f = f
+same_kind_fits h Counter Histogram ps e f = absurd (true≢false (sym e))
+same_kind_fits h Gauge Counter ps e f = f
+same_kind_fits h Gauge Gauge ps e f = f
+same_kind_fits h Gauge Histogram ps e f = absurd (true≢false (sym e))
+same_kind_fits h Histogram Counter ps e f = absurd (true≢false (sym e))
+same_kind_fits h Histogram Gauge ps e f = absurd (true≢false (sym e))
+same_kind_fits h Histogram Histogram ps e f = f
 
-heading_fits : (h : Heading) (m : Metric) (o : Option Kind) (ps : List Point) → FitsIf h.name o ps → Fits h.name h.kind (cond (belongs h (option_map (heading_with m) o)) ps [])
-heading_fits h m None ps k = none_fits h.name h.kind
-heading_fits h m (Some o) ps k =
-    choice_fits h.name h.kind (belongs h (option_map (heading_with m) (Some o))) ps
-    (λ e. same_kind_fits h.name h.kind o ps (both_true (kind_eq h.kind o) (bytes_eq h.name (heading_with m o).name) e).0 k)
+heading_fits : (h : Heading) (m : Metric) (o : Option Kind) (ps : List Point) → FitsIf h o ps → Fits h h.kind (cond (belongs h (option_map (heading_with m) o)) ps [])
+heading_fits h m None ps f = none_fits h h.kind
+heading_fits h m (Some o) ps f =
+    choice_fits h h.kind (belongs h (option_map (heading_with m) (Some o))) ps
+    (λ e. same_kind_fits h h.kind o ps (both_true (kind_eq h.kind o) (bytes_eq h.name (heading_with m o).name) e).0 f)
 
-flat_fits : {A : Type 0} (n : List ℕ) (k : Kind) (f : A → List Point) → ((x : A) → Fits n k (f x)) → (xs : List A) → Fits n k (flat_map f xs)
-flat_fits n Counter f h xs = all_flat HasNumber f h xs
-flat_fits n Gauge f h xs = all_flat HasNumber f h xs
-flat_fits n Histogram f h xs = all_flat (HasHistogram n) f h xs
+flat_fits : {A : Type 0} (h : Heading) (k : Kind) (points : A → List Point) → ((x : A) → Fits h k (points x)) → (xs : List A) → Fits h k (flat_map points xs)
+flat_fits h Counter points f xs = all_flat (HasNumber (shown_name h)) points f xs
+flat_fits h Gauge points f xs = all_flat (HasNumber (shown_name h)) points f xs
+flat_fits h Histogram points f xs = all_flat (HasHistogram h.name) points f xs
 
-family_fits : (s : Settings) (c : ResourceMetrics) (h : Heading) → Fits h.name h.kind (family_points s c h)
+family_fits : (s : Settings) (c : ResourceMetrics) (h : Heading) → Fits h h.kind (family_points s c h)
 family_fits s c h =
-    flat_fits h.name h.kind (λ sm. flat_map (metric_points s h sm.scope) sm.metrics)
-    (λ sm. flat_fits h.name h.kind (metric_points s h sm.scope) (λ m. heading_fits h m (content_kind m.content) (content_points s sm.scope h m.content) (content_fits s sm.scope h m.content)) sm.metrics) c.scope_metrics
+    flat_fits h h.kind (λ sm. flat_map (metric_points s h sm.scope) sm.metrics)
+    (λ sm. flat_fits h h.kind (metric_points s h sm.scope) (λ m. heading_fits h m (content_kind m.content) (content_points s sm.scope h m.content) (content_fits s sm.scope h m.content)) sm.metrics) c.scope_metrics
+
+abbrev pub HasName : List ℕ → Point → Type 0
+HasName n p = p.name ≡ n
+
+fits_named : (h : Heading) (k : Kind) (ps : List Point) → h.kind ≡ k → Fits h k ps → AllPoints (HasName (shown_name h)) ps
+fits_named h Counter ps e f = all_weaker (HasNumber (shown_name h)) (HasName (shown_name h)) (λ p a. a.0) ps f
+fits_named h Gauge ps e f = all_weaker (HasNumber (shown_name h)) (HasName (shown_name h)) (λ p a. a.0) ps f
+fits_named h Histogram ps e f = all_weaker (HasHistogram h.name) (HasName (shown_name h)) (λ p a. a.0 ∙ (sym (append-nil h.name) ∙ ap (λ k. h.name ++ value_end k) (sym e))) ps f
+
+pub family_named : (s : Settings) (c : ResourceMetrics) (h : Heading) → AllPoints (HasName (shown_name h)) (family_points s c h)
+family_named s c h = fits_named h h.kind (family_points s c h) refl (family_fits s c h)
 
 -- ======== families ========
 abbrev typed : Format → List ℕ → Kind → List Sample → Typed
@@ -205,12 +219,12 @@ no_end : (f : Format) (n : List ℕ) → n ++ kind_end f Histogram ≡ n
 no_end Prometheus n = append-nil n
 no_end OpenMetrics n = append-nil n
 
-typed_read : (f : Format) (n : List ℕ) (k : Kind) (ps : List Point) → Fits n k ps → typed_points (typed f n k (flat_map point_samples (first_points [] ps))) ≡ first_points [] ps
-typed_read f n Counter ps h = numbers_read (first_points [] ps) (all_first HasNumber [] ps h)
-typed_read f n Gauge ps h = numbers_read (first_points [] ps) (all_first HasNumber [] ps h)
-typed_read f n Histogram ps h =
-    ap (λ m. typed_points (record { name = m; word = codes "histogram"; samples = flat_map point_samples (first_points [] ps) })) (no_end f n)
-    ∙ histograms_read n ps h
+typed_read : (f : Format) (h : Heading) (k : Kind) (ps : List Point) → Fits h k ps → typed_points (typed f h.name k (flat_map point_samples (first_points [] ps))) ≡ first_points [] ps
+typed_read f h Counter ps a = numbers_read (shown_name h) (first_points [] ps) (all_first (HasNumber (shown_name h)) [] ps a)
+typed_read f h Gauge ps a = numbers_read (shown_name h) (first_points [] ps) (all_first (HasNumber (shown_name h)) [] ps a)
+typed_read f h Histogram ps a =
+    ap (λ m. typed_points (record { name = m; word = codes "histogram"; samples = flat_map point_samples (first_points [] ps) })) (no_end f h.name)
+    ∙ histograms_read h.name ps a
 
 abbrev typed_family : Settings → ResourceMetrics → Family → Typed
 typed_family s c f = typed s.format f.heading.name f.heading.kind (family_samples s c f.heading)
@@ -218,7 +232,7 @@ typed_family s c f = typed s.format f.heading.name f.heading.kind (family_sample
 family_read : (s : Settings) (c : ResourceMetrics) (f : Family) → typed_points (typed_family s c f) ≡ first_points [] (family_points s c f.heading)
 family_read s c f =
     ap (λ xs. typed_points (typed s.format f.heading.name f.heading.kind xs)) (family_samples_are s c f.heading)
-    ∙ typed_read s.format f.heading.name f.heading.kind (family_points s c f.heading) (family_fits s c f.heading)
+    ∙ typed_read s.format f.heading f.heading.kind (family_points s c f.heading) (family_fits s c f.heading)
 
 families_read : (s : Settings) (c : ResourceMetrics) (fs : List Family) → flat_map typed_points (map (typed_family s c) fs) ≡ flat_map (λ f. first_points [] (family_points s c f.heading)) fs
 families_read s c [] = refl

@@ -9,7 +9,7 @@ ghost use Rattle.otel_prometheus.specs.declared.text.formats.Format.{Format};
 ghost use Rattle.otel_prometheus.specs.Collections.{family_series, lines_of, doubled_points};
 ghost use Rattle.otel_prometheus.specs.Consumers.{read_points};
 ghost use Rattle.otel_prometheus.specs.Families.{families, delta_points, conflicting_points};
-ghost use Rattle.otel_prometheus.specs.Laws.{AreNew, StandApart, Rise, all_points};
+ghost use Rattle.otel_prometheus.specs.Laws.{AreNew, AreDistinct, StandApart, Rise, all_points};
 ghost use Rattle.otel_prometheus.specs.Points.{buckets};
 ghost use Rattle.otel_prometheus.specs.Series.{kept};
 ghost use Rattle.otel_prometheus.specs.Shown.{points_of, all_read};
@@ -60,6 +60,13 @@ pub fn says_points()
 {
     says_lines();
 }
+
+/// No two points that who reads a text has are one series to it: their names or their labels differ.
+///
+/// This function does nothing: who needs the law calls it first.
+pub fn points_are_distinct()
+    ensures { (s : Settings) (c : ResourceMetrics) → AreDistinct [] (read_points (lines_of s c)) }
+{}
 
 /// Every point is one that is read or is counted as left out, once.
 ///

@@ -440,7 +440,8 @@ mod exporter {
     use opentelemetry_sdk::exporter::otlp::{request_line, says_collection};
     use opentelemetry_sdk::exporter::outbox::Outbox;
     use opentelemetry_sdk::exporter::prometheus::{
-        Exposition, Format, LeftOut, Settings, exposition_of, says_lines,
+        Exposition, Format, LeftOut, Settings, buckets_rise, exposition_of, names_stand_apart,
+        nothing_is_lost, points_are_distinct, says_lines, says_points, series_are_distinct,
     };
     use opentelemetry_sdk::exporter::schedule::Schedule;
     use std::alloc::AllocError;
