@@ -32,7 +32,7 @@ use Rattle.otel_prometheus.specs.Collections.{belongs, metric_series, scope_seri
 use Rattle.otel_prometheus.specs.Families.{families, is_refused, with_heading, with_metric, with_scope}
 use Rattle.otel_prometheus.specs.Headings.{own_text, plain_name, heading_with, base_name, heading_of, is_last_value, content_kind}
 use Rattle.otel_prometheus.specs.Labels.{placed, with_label, own_name, label_of, with_attributes, text_label, optional_label, scope_label_name, is_taken, with_scope_attribute, parts_of_scope, scope_labels, has_text, without_empty, all_labels, point_labels, resource_labels}
-use Rattle.otel_prometheus.specs.Points.{are_natural, value_end, bound_text, bucket, meets_next, sample_unless, buckets, sum_samples, count_sample, count_samples, histogram_samples, number_series, gauge_series, sum_series, histogram_series, data_series, content_series}
+use Rattle.otel_prometheus.specs.Points.{are_natural, value_end, value_name, bound_text, bucket, meets_next, sample_unless, buckets, sum_samples, count_sample, count_samples, histogram_samples, number_series, gauge_series, sum_series, histogram_series, data_series, content_series}
 use Rattle.otel_prometheus.specs.Series.{Series, is_seen, kept}
 use Rattle.otel_prometheus.specs.Units.{word_at, times, decimal_sizes, binary_sizes, measures, rates, or_other, unit_word, or_name, is_count, worded, ratio, unit_parts, unit_suffix}
 use Rattle.otel_prometheus.specs.declared.families.Family.{Family}
@@ -298,7 +298,7 @@ module _ {T : Type 0} (integer : T → ℤ) (fits : (x : T) → IsNumber (intege
       samples_append (buckets f n ls 0 p.bounds p.bucket_counts) (bucket n ls (codes "+Inf") p.count ∷ (sum_samples has n ls (integer p.sum) ++ count_samples f has n ls p.count)) (valid_buckets f n ls 0 p.bounds p.bucket_counts h k)
       (valid_bucket n ls (codes "+Inf") p.count h k, samples_append (sum_samples has n ls (integer p.sum)) (count_samples f has n ls p.count) (valid_sum has n ls (integer p.sum) h k (fits p.sum)) (valid_counts f has n ls p.count h k))
 
-  valid_number : (s : Settings) (scope : InstrumentationScope) (g : Heading) (ps : List KeyValue) (v : T) → IsMetricName g.name → AreSamples (number_series integer s scope g ps v).samples
+  valid_number : (s : Settings) (scope : InstrumentationScope) (g : Heading) (ps : List KeyValue) (v : T) → IsMetricName g.name → AreSamples (number_series integer s scope (value_name g) ps v).samples
   valid_number s scope g ps v h = (record { name = longer_name g.name (value_end g.kind) h (end_in g.kind); labels = valid_point s false scope ps; value = fits v }, tt)
 
   valid_data : (s : Settings) (t : Bool) (scope : InstrumentationScope) (g : Heading) (d : MetricData T) → IsMetricName g.name → AreSeries (data_series integer s t scope g d)

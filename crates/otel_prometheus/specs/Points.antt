@@ -29,6 +29,10 @@ value_end kinds.Counter = codes "_total"
 value_end kinds.Gauge = []
 value_end kinds.Histogram = []
 
+-- the name of a sample with a value
+abbrev pub value_name : Heading → List ℕ
+value_name h = h.name ++ value_end h.kind
+
 -- ======== histograms ========
 -- a bound of a bucket; in OpenMetrics it is written as a float
 abbrev pub bound_text : Format → ℤ → List ℕ
@@ -78,17 +82,17 @@ module _ {T : Type 0} (integer : T → ℤ) where
       ++ (bucket name labels (codes "+Inf") p.count ∷ (sum_samples (has_sum && are_natural p.bounds) name labels (integer p.sum) ++ count_samples f (has_sum && are_natural p.bounds) name labels p.count))
 
   -- ======== points ========
-  abbrev pub number_series : Settings → InstrumentationScope → Heading → List KeyValue → T → Series
-  number_series s scope h attributes value = record {
+  abbrev pub number_series : Settings → InstrumentationScope → List ℕ → List KeyValue → T → Series
+  number_series s scope name attributes value = record {
     labels = point_labels s false scope attributes;
-    samples = record { name = h.name ++ value_end h.kind; labels = point_labels s false scope attributes; value = integer value } ∷ [];
+    samples = record { name = name; labels = point_labels s false scope attributes; value = integer value } ∷ [];
   }
 
   abbrev pub gauge_series : Settings → InstrumentationScope → Heading → GaugeDataPoint T → Series
-  gauge_series s scope h p = number_series s scope h p.attributes p.value
+  gauge_series s scope h p = number_series s scope (value_name h) p.attributes p.value
 
   abbrev pub sum_series : Settings → InstrumentationScope → Heading → SumDataPoint T → Series
-  sum_series s scope h p = number_series s scope h p.attributes p.value
+  sum_series s scope h p = number_series s scope (value_name h) p.attributes p.value
 
   abbrev pub histogram_series : Settings → Bool → InstrumentationScope → Heading → HistogramDataPoint T → Series
   histogram_series s has_sum scope h p = record {

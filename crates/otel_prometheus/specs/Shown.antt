@@ -15,7 +15,7 @@ use Rattle.otel_prometheus.specs.Families.{families}
 use Rattle.otel_prometheus.specs.Headings.{heading_of}
 use Rattle.otel_prometheus.specs.Labels.{point_labels, resource_labels}
 use Rattle.otel_prometheus.specs.Numbers.{unsigned, signed}
-use Rattle.otel_prometheus.specs.Points.{value_end, bound_text, meets_next, are_natural}
+use Rattle.otel_prometheus.specs.Points.{value_name, bound_text, meets_next, are_natural}
 use Rattle.otel_prometheus.specs.Samples.{Pair, labels_text}
 use Rattle.otel_prometheus.specs.Series.{is_seen}
 use Rattle.otel_prometheus.specs.declared.headings.Heading.{Heading}
@@ -47,7 +47,7 @@ module _ {T : Type 0} (integer : T → ℤ) where
   }
 
   abbrev pub number_point : Settings → InstrumentationScope → Heading → List KeyValue → T → Point
-  number_point s scope h attributes value = record { name = h.name ++ value_end h.kind; labels = point_labels s false scope attributes; content = number (integer value) }
+  number_point s scope h attributes value = record { name = value_name h; labels = point_labels s false scope attributes; content = number (integer value) }
 
   abbrev pub histogram_point : Settings → Bool → InstrumentationScope → Heading → HistogramDataPoint T → Point
   histogram_point s has_sum scope h p = record { name = h.name; labels = point_labels s true scope p.attributes; content = histogram (shown_histogram s.format has_sum p) }

@@ -13,7 +13,7 @@ ghost use Rattle.otel_prometheus.specs.Series.{kept, doubled};
 ghost use Rattle.otel_prometheus.specs.Texts.{with_series};
 
 use crate::families::{Family, Group, Member, delta_points, grouped};
-use crate::headings::{Heading, Kind};
+use crate::headings::{Heading, Kind, longer};
 use crate::labels::resource_labels;
 use crate::laws::{says_lines, says_points};
 use crate::points::add_content;
@@ -113,8 +113,8 @@ fn push_front(
 ) -> Result<(), AllocError>
     ensures { OnOk result (out.new.items ≡ out.old.items ++ text_of format (front_lines format family.now)) }
 {
-    let mut name = String::from_str(alloc, family.heading.name.as_str())?;
-    name.push_str(kind_end(format, family.heading.kind))?;
+    let end = kind_end(format, family.heading.kind);
+    let name = longer(alloc, family.heading.name.as_str(), end)?;
     push_help_line(out, format, name.as_str(), family.help.as_str())?;
     push_kind(out, name.as_str(), kind_word(family.heading.kind))?;
     Ok(())

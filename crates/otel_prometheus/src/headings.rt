@@ -168,15 +168,23 @@ pub(crate) fn heading_of(alloc: Global, metric: &Metric) -> Result<Option<Headin
     }
 }
 
+/// Returns the name with this end.
+pub(crate) fn longer(alloc: Global, name: &str, end: &str) -> Result<String, AllocError>
+    ensures { IfOk result (λ text. string_bytes text ≡ name.now ++ end.now) }
+{
+    let mut text = String::from_str(alloc, name)?;
+    text.push_str(end)?;
+    Ok(text)
+}
+
 /// Returns the name with each of these ends.
 fn with_ends(alloc: Global, name: &str, ends: &[&str]) -> Result<Vec<StringValue>, AllocError>
     ensures { IfOk result (λ names. names.items ≡ map (λ end. name.now ++ end.now) ends.now) }
 {
     let mut names = Vec::with_capacity(alloc, ends.len())?;
     for end in ends {
-        let mut longer = String::from_str(alloc, name)?;
-        longer.push_str(end)?;
-        if names.push(StringValue::from(longer)).is_err() {
+        let text = longer(alloc, name, end)?;
+        if names.push(StringValue::from(text)).is_err() {
             return Err(AllocError);
         }
     }

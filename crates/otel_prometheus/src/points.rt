@@ -2,7 +2,7 @@
 
 ghost use Rattle.std.specs.Prelude.{◌≡◌, ◌++◌, Bool, OnOk, map, fold};
 ghost use Rattle.otel_common.specs.declared.scopes.InstrumentationScope.{InstrumentationScope};
-ghost use Rattle.otel_prometheus.specs.Points.{number_series, gauge_series, sum_series, histogram_series, data_series, content_series};
+ghost use Rattle.otel_prometheus.specs.Points.{value_name, number_series, gauge_series, sum_series, histogram_series, data_series, content_series};
 ghost use Rattle.otel_prometheus.specs.Labels.{scope_labels, without_empty};
 ghost use Rattle.otel_prometheus.specs.Rising.{comma_texts};
 ghost use Rattle.otel_prometheus.specs.Series.{Series};
@@ -10,7 +10,7 @@ ghost use Rattle.otel_prometheus.specs.Texts.{with_series};
 ghost use Rattle.otel_prometheus.specs.declared.headings.Heading.{Heading};
 ghost use Rattle.otel_prometheus.specs.declared.settings.Settings.{Settings};
 
-use crate::headings::Heading;
+use crate::headings::{Heading, longer};
 use crate::rising::Spelling;
 use crate::samples::{push_histogram_point, value_end};
 use crate::series::Texts;
@@ -28,26 +28,20 @@ fn push_number<T: Number>(
     alloc: Global,
     settings: Settings,
     scope: &InstrumentationScope,
-    heading: &Heading,
+    name: &str,
     spelling: &mut Spelling,
     attributes: &[KeyValue],
     value: T,
     texts: &mut Texts,
 ) -> Result<(), AllocError>
     requires { spelling.old.scope_text.items ≡ comma_texts (without_empty (scope_labels settings scope.now)) }
-    ensures series { OnOk result (texts.new ≡ with_series texts.old (number_series T.integer settings scope.now heading.now attributes.now value)) }
+    ensures series { OnOk result (texts.new ≡ with_series texts.old (number_series T.integer settings scope.now name.now attributes.now value)) }
     ensures of_scope { spelling.new.scope_text.items ≡ spelling.old.scope_text.items }
 {
     let labels = texts.labels.len();
     let lines = texts.lines.len();
     spelling.push_labels(alloc, &mut texts.labels, settings, scope, attributes, false)?;
-    push_line(
-        &mut texts.lines,
-        heading.name.as_str(),
-        value_end(heading.kind),
-        &texts.labels[labels..],
-        value,
-    )?;
+    push_line(&mut texts.lines, name, "", &texts.labels[labels..], value)?;
     texts.end_series(labels, lines)
 }
 
@@ -56,18 +50,20 @@ trait Point {
     /// The series of the point; of a histogram it has a sum only if the test says so.
     ghost series: { Settings → Bool → InstrumentationScope → Heading → Self → Series };
 
-    /// Adds the series of the point.
+    /// Adds the series of the point. The name is that of a sample with a value.
     fn push_to(
         &self,
         alloc: Global,
         settings: Settings,
         scope: &InstrumentationScope,
         heading: &Heading,
+        name: &str,
         spelling: &mut Spelling,
         has_sum: bool,
         texts: &mut Texts,
     ) -> Result<(), AllocError>
-        requires { spelling.old.scope_text.items ≡ comma_texts (without_empty (scope_labels settings scope.now)) }
+        requires named { name.now ≡ value_name heading.now }
+        requires of_scope { spelling.old.scope_text.items ≡ comma_texts (without_empty (scope_labels settings scope.now)) }
         ensures series { OnOk result (texts.new ≡ with_series texts.old (series settings has_sum scope.now heading.now self.now)) }
         ensures of_scope { spelling.new.scope_text.items ≡ spelling.old.scope_text.items };
 }
@@ -80,7 +76,8 @@ impl<T: Number> Point for GaugeDataPoint<T> {
         alloc: Global,
         settings: Settings,
         scope: &InstrumentationScope,
-        heading: &Heading,
+        _heading: &Heading,
+        name: &str,
         spelling: &mut Spelling,
         _has_sum: bool,
         texts: &mut Texts,
@@ -90,7 +87,7 @@ impl<T: Number> Point for GaugeDataPoint<T> {
             alloc,
             settings,
             scope,
-            heading,
+            name,
             spelling,
             attributes,
             self.value(),
@@ -107,7 +104,8 @@ impl<T: Number> Point for SumDataPoint<T> {
         alloc: Global,
         settings: Settings,
         scope: &InstrumentationScope,
-        heading: &Heading,
+        _heading: &Heading,
+        name: &str,
         spelling: &mut Spelling,
         _has_sum: bool,
         texts: &mut Texts,
@@ -117,7 +115,7 @@ impl<T: Number> Point for SumDataPoint<T> {
             alloc,
             settings,
             scope,
-            heading,
+            name,
             spelling,
             attributes,
             self.value(),
@@ -135,6 +133,7 @@ impl<T: Number> Point for HistogramDataPoint<T> {
         settings: Settings,
         scope: &InstrumentationScope,
         heading: &Heading,
+        _name: &str,
         spelling: &mut Spelling,
         has_sum: bool,
         texts: &mut Texts,
@@ -168,6 +167,7 @@ fn add_each<P: Point>(
 ) -> Result<(), AllocError>
     ensures { OnOk result (texts.new ≡ fold with_series texts.old (map (P.series settings has_sum scope.now heading.now) points.now)) }
 {
+    let name = longer(alloc, heading.name.as_str(), value_end(heading.kind))?;
     let mut spelling = Spelling::of_scope(alloc, settings, scope)?;
     texts.reserve(points.len())?;
     for point in points {
@@ -176,6 +176,7 @@ fn add_each<P: Point>(
             settings,
             scope,
             heading,
+            name.as_str(),
             &mut spelling,
             has_sum,
             texts,
