@@ -1,7 +1,6 @@
 -- The lines of a collection are read as its points.
-use Rattle.std.proofs.Common.{◌≡◌, ℕ, suc, ◌+◌, ◌&&◌, ℤ, Bool, true, false, cond, not, List, [], ◌∷◌, ◌++◌, length, map, fold, flat_map, codes, Option, Some, None, refl, sym, ap, subst, ◌∙◌, append_assoc, append-nil, length-append}
+use Rattle.std.proofs.Common.{◌≡◌, ℕ, ◌+◌, ◌&&◌, ℤ, Bool, true, false, cond, not, List, [], ◌∷◌, ◌++◌, length, map, fold, flat_map, codes, Option, Some, None, refl, sym, ap, ◌∙◌, append_assoc, append-nil, length-append}
 use Rattle.std.proofs.lemmas.Bool.{true≢false}
-use Rattle.std.proofs.lemmas.Grind.{flat_map-append}
 use Rattle.std.proofs.lemmas.List.{length-map}
 use Rattle.std.specs.Cmp.Lexicographic.{slice_cmp}
 use Rattle.std.specs.Option.{option_map}
@@ -19,14 +18,13 @@ use Rattle.otel_data.specs.declared.aggregated.MetricData.{MetricData}
 use Rattle.otel_data.specs.declared.aggregated.MetricData.TheVariants as data_kinds
 use Rattle.otel_data.specs.declared.collections.Metric.{Metric}
 use Rattle.otel_data.specs.declared.collections.ResourceMetrics.{ResourceMetrics}
-use Rattle.otel_data.specs.declared.points.HistogramDataPoint.{HistogramDataPoint}
 use Rattle.otel_prometheus.specs.Collections.{belongs, family_series, kind_word, kind_end, help_lines, front_lines, family_samples, family_lines, target_lines, end_lines, lines_of, doubled_points}
-use Rattle.otel_prometheus.specs.Consumers.{Point, Typed, split_types, is_bound, without_bound, bound_of, typed_points, read_points}
+use Rattle.otel_prometheus.specs.Consumers.{Point, Typed, split_types, without_bound, bound_of, typed_points, read_points}
 use Rattle.otel_prometheus.specs.Families.{families, delta_points, conflicting_points}
-use Rattle.otel_prometheus.specs.Headings.{sum_kind, if_cumulative, points_kind, content_kind, kind_eq, heading_with, heading_of}
+use Rattle.otel_prometheus.specs.Headings.{sum_kind, if_cumulative, points_kind, content_kind, kind_eq, heading_with}
 use Rattle.otel_prometheus.specs.Labels.{placed, with_label, own_name, label_of, with_attributes, text_label, optional_label, scope_label_name, is_taken, with_scope_attribute, parts_of_scope, scope_labels, has_text, without_empty, all_labels, point_labels, resource_labels}
 use Rattle.otel_prometheus.specs.Laws.{all_points}
-use Rattle.otel_prometheus.specs.Lines.{Line, help, kind, sample}
+use Rattle.otel_prometheus.specs.Lines.{Line, kind, sample}
 use Rattle.otel_prometheus.specs.Names.{name_of}
 use Rattle.otel_prometheus.specs.Numbers.{unsigned, signed}
 use Rattle.otel_prometheus.specs.Samples.{Pair, Sample, is_label_byte}
