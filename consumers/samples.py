@@ -29,25 +29,26 @@ def kind_of(point):
 
 
 def unit_end(point):
-    """What the unit adds to a name."""
-    unit = point.stream.unit
+    """What the unit, without its notes in braces, adds to a name."""
+    unit = re.sub(r'\{[^}]*(\}|$)', '', point.stream.unit)
     if point.kind == 'gauge' and unit == '1':
         return '_ratio'
     parts = [(UNITS, '_', unit)]
     if '/' in unit:
         over, under = unit.split('/', 1)
         parts = [(UNITS, '_', over), (RATES, '_per_', under)]
-    counts = ('', '1')
-    return ''.join(front + words.get(part, valid_name(part)) for words, front, part in parts
-                   if part not in counts and '{' not in part)
+    words = [(front, words.get(part, re.sub('[^a-zA-Z0-9]+', '_', part).strip('_'))) for words, front, part in parts]
+    return ''.join(front + word for front, word in words if word not in ('', '1'))
 
 
 def family_name(point, kind):
     name = valid_name(point.stream.name, ':')
     if kind == 'counter':
-        name = valid_name(name.removesuffix('_total'), ':')
+        name = name.removesuffix('_total')
     end = unit_end(point)
-    return name if name.endswith(end) else name + end
+    if end or kind != 'gauge':
+        name = name.removesuffix('_')
+    return valid_name(name if name.endswith(end) else name + end, ':')
 
 
 def clash(one, other):

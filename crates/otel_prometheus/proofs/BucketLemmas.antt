@@ -1,6 +1,6 @@
 -- Buckets that are left.
-use Rattle.std.proofs.Common.{◌≡◌, ℕ, ◌+◌, ◌<◌, ◌%◌, ◌^◌, ℤ, List, [], ◌∷◌, ◌++◌, length, codes, refl, sym, ap, ◌∙◌, append_assoc, append-nil, arith}
-use Rattle.otel_prometheus.specs.Samples.{Pair, line_text, sample_text}
+use Rattle.std.proofs.Common.{◌≡◌, ℕ, ◌+◌, ◌%◌, ◌^◌, ℤ, List, [], ◌∷◌, ◌++◌, length, codes, refl, sym, ap, ◌∙◌, append_assoc, append-nil, arith}
+use Rattle.otel_prometheus.specs.Samples.{Pair, line_text}
 use Rattle.otel_prometheus.specs.declared.text.formats.Format.{Format}
 use Rattle.otel_prometheus.specs.Points.{bound_text, bucket, meets_next, sample_unless, buckets}
 use Rattle.otel_prometheus.specs.Series.{samples_text}

@@ -1,5 +1,5 @@
 -- The families of a collection, with their metrics, are those of its definition.
-use Rattle.std.proofs.Common.{◌≡◌, ℕ, ◌+◌, ◌%◌, ◌^◌, ◌<◌, ◌≤◌, Bool, true, false, cond, List, [], ◌∷◌, ◌++◌, length, map, filter, fold, flat_map, take, get_or, refl, sym, ap, ◌∙◌, append_assoc, append-nil, zero-add, arith}
+use Rattle.std.proofs.Common.{◌≡◌, ℕ, ◌+◌, ◌%◌, ◌^◌, ◌<◌, ◌≤◌, Bool, true, false, cond, List, [], ◌∷◌, ◌++◌, length, map, filter, fold, flat_map, take, get_or, refl, sym, ap, ◌∙◌, append_assoc, append-nil, arith}
 use Rattle.std.proofs.lemmas.Grind.{flat_map-append}
 use Rattle.std.proofs.lemmas.List.{map-append, take_more, take_all}
 use Rattle.otel_data.specs.declared.collections.Metric.{Metric}
@@ -11,8 +11,7 @@ use Rattle.otel_prometheus.specs.Groups.{Member, Group, members_of, all_members,
 use Rattle.otel_prometheus.specs.Headings.{heading_of}
 use Rattle.otel_prometheus.specs.Labels.{resource_labels}
 use Rattle.otel_prometheus.specs.Lines.{Line, sample, text_of}
-use Rattle.otel_prometheus.specs.Points.{content_series}
-use Rattle.otel_prometheus.specs.Series.{Series, kept, doubled}
+use Rattle.otel_prometheus.specs.Series.{kept, doubled}
 use Rattle.otel_prometheus.specs.Totals.{total}
 use Rattle.otel_prometheus.specs.declared.families.Family.{Family}
 use Rattle.otel_prometheus.specs.declared.headings.Heading.{Heading}

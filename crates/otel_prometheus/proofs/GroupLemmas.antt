@@ -1,8 +1,6 @@
 -- Families with their metrics, one metric after another.
-use Rattle.std.proofs.Common.{◌≡◌, ℕ, zero, suc, ◌+◌, ◌%◌, ◌^◌, ◌<◌, ◌&&◌, ◌||◌, Bool, true, false, cond, List, [], ◌∷◌, ◌++◌, length, map, filter, fold, flat_map, get_or, set, Option, Some, None, refl, sym, ap, subst, ◌∙◌, append_assoc, append-nil, arith}
+use Rattle.std.proofs.Common.{◌≡◌, ℕ, zero, suc, ◌+◌, ◌<◌, ◌&&◌, ◌||◌, Bool, true, false, cond, List, [], ◌∷◌, ◌++◌, length, map, filter, fold, get_or, set, Option, Some, None, refl, sym, ap, subst, ◌∙◌, append_assoc, append-nil, arith}
 use Rattle.std.proofs.lemmas.Bool.{true≢false}
-use Rattle.std.proofs.lemmas.Grind.{flat_map-append}
-use Rattle.std.proofs.lemmas.List.{map-append}
 use Rattle.std.proofs.lemmas.List.Folds.{list_any-append}
 use Rattle.std.specs.Cmp.Lexicographic.{bytes_decides}
 use Rattle.std.specs.List.{list_any}
@@ -10,7 +8,7 @@ use Rattle.otel_common.specs.Equality.{bytes_eq}
 use Rattle.otel_data.specs.declared.collections.Metric.{Metric}
 use Rattle.otel_prometheus.specs.Collections.{belongs}
 use Rattle.otel_prometheus.specs.Families.{is_refused, with_heading, with_metric, content_length, conflicting_if, conflicting_in}
-use Rattle.otel_prometheus.specs.Groups.{Member, Group, families_of, is_of, group_of, groups_of, conflicting_among, has_family, joined, names_of}
+use Rattle.otel_prometheus.specs.Groups.{Member, Group, families_of, is_of, group_of, conflicting_among, joined}
 use Rattle.otel_prometheus.specs.Headings.{heading_of, same_heading, kind_eq, clashes, is_reserved}
 use Rattle.otel_prometheus.specs.Laws.{StandApart}
 use Rattle.otel_prometheus.specs.Totals.{total}
@@ -19,7 +17,7 @@ use Rattle.otel_prometheus.specs.declared.headings.Heading.{Heading}
 use Rattle.otel_prometheus.specs.declared.headings.Kind.{Kind}
 use Rattle.otel_prometheus.specs.declared.headings.Kind.TheVariants.{Counter, Gauge, Histogram}
 use Rattle.otel_prometheus.proofs.LawLemmas.{one_heading}
-use Rattle.otel_prometheus.proofs.NamedLemmas.{both_true, and_true, and_false, both_false, or_false, left_true, right_true, eq_sym, named, named_append, refused_if_named, others_named}
+use Rattle.otel_prometheus.proofs.NamedLemmas.{both_true, and_true, and_false, both_false, left_true, right_true, eq_sym, named, named_append, refused_if_named, others_named}
 
 -- ======== one more metric ========
 fold_append : {A B : Type 0} (f : B → A → B) (b : B) (xs ys : List A) → fold f b (xs ++ ys) ≡ fold f (fold f b xs) ys

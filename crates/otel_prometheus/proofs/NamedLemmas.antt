@@ -1,5 +1,5 @@
 -- Which families can't stand beside others, as names tell it.
-use Rattle.std.proofs.Common.{◌≡◌, ℕ, ◌&&◌, ◌||◌, Bool, true, false, List, [], ◌∷◌, ◌++◌, length, take, drop, map, codes, refl, sym, ap, ◌∙◌}
+use Rattle.std.proofs.Common.{◌≡◌, ℕ, ◌&&◌, ◌||◌, Bool, true, false, List, [], ◌∷◌, ◌++◌, length, take, drop, map, refl, sym, ap, ◌∙◌}
 use Rattle.std.proofs.lemmas.Bool.{true≢false}
 use Rattle.std.proofs.lemmas.List.{take-append-drop, take_at, drop_at, map-append}
 use Rattle.std.proofs.lemmas.List.Folds.{list_any-append}
@@ -7,13 +7,11 @@ use Rattle.std.specs.Cmp.Lexicographic.{bytes_decides}
 use Rattle.std.specs.List.{list_any}
 use Rattle.otel_common.specs.Equality.{bytes_eq}
 use Rattle.otel_prometheus.specs.Families.{is_refused}
-use Rattle.otel_prometheus.specs.Groups.{sample_ends, sample_names, names_of, sample_names_of}
-use Rattle.otel_prometheus.specs.Headings.{is_sample_end, may_be_sample, clashes, is_reserved}
+use Rattle.otel_prometheus.specs.Groups.{sample_names, names_of, sample_names_of}
+use Rattle.otel_prometheus.specs.Headings.{sample_ends, may_be_sample, clashes, is_reserved}
 use Rattle.otel_prometheus.specs.Laws.{StandApart}
 use Rattle.otel_prometheus.specs.declared.families.Family.{Family}
 use Rattle.otel_prometheus.specs.declared.headings.Heading.{Heading}
-use Rattle.otel_prometheus.specs.declared.headings.Kind.{Kind}
-use Rattle.otel_prometheus.specs.declared.headings.Kind.TheVariants.{Counter, Gauge, Histogram}
 
 -- ======== tests ========
 pub same_test : (a b : Bool) → (a ≡ true → b ≡ true) → (b ≡ true → a ≡ true) → a ≡ b
@@ -53,18 +51,6 @@ or_false false b e f = f
 and_or : (a b c : Bool) → (a && (b || c)) ≡ ((a && b) || (a && c))
 and_or true b c = refl
 and_or false b c = refl
-
-two : (a b : Bool) → (a || b) ≡ (a || (b || false))
-two true b = refl
-two false true = refl
-two false false = refl
-
-four : (a b c d : Bool) → (a || b || c || d) ≡ (a || (b || (c || (d || false))))
-four true b c d = refl
-four false true c d = refl
-four false false true d = refl
-four false false false true = refl
-four false false false false = refl
 
 regroup : (a b c n s t : Bool) → ((a || b || c) || (n || (s || t))) ≡ ((a || n) || ((b || s) || (c || t)))
 regroup true b c n s t = refl
@@ -118,15 +104,8 @@ front_and_ends l p (e ∷ es) =
     and_or (bytes_eq p (take (length p) l)) (bytes_eq (drop (length p) l) e) (list_any (bytes_eq (drop (length p) l)) es)
     ∙ (λ i. front_and_end l p e i || front_and_ends l p es i)
 
-end_is : (k : Kind) (e : List ℕ) → is_sample_end k e ≡ list_any (bytes_eq e) (sample_ends k)
-end_is Counter e = two (bytes_eq e (codes "_total")) (bytes_eq e (codes "_created"))
-end_is Gauge e = refl
-end_is Histogram e = four (bytes_eq e (codes "_bucket")) (bytes_eq e (codes "_sum")) (bytes_eq e (codes "_count")) (bytes_eq e (codes "_created"))
-
 sample_is : (a b : Heading) → may_be_sample a b ≡ list_any (bytes_eq b.name) (sample_names a)
-sample_is a b =
-    ap (λ t. bytes_eq a.name (take (length a.name) b.name) && t) (end_is a.kind (drop (length a.name) b.name))
-    ∙ front_and_ends b.name a.name (sample_ends a.kind)
+sample_is a b = front_and_ends b.name a.name (sample_ends a.kind)
 
 -- ======== names of families ========
 abbrev pub named : List ℕ → List Family → Bool

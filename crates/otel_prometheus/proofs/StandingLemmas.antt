@@ -1,5 +1,5 @@
 -- Families stay those of the metrics that were seen.
-use Rattle.std.proofs.Common.{◌≡◌, ℕ, ◌+◌, ◌%◌, ◌^◌, ◌<◌, ◌||◌, Bool, true, false, cond, List, [], ◌∷◌, ◌++◌, length, map, flat_map, fold, zero, suc, get_or, set, position, Option, Some, None, refl, sym, ap, subst, ◌∙◌, append_assoc, append-nil, arith}
+use Rattle.std.proofs.Common.{◌≡◌, ℕ, ◌+◌, ◌%◌, ◌^◌, ◌<◌, ◌||◌, Bool, true, false, cond, List, [], ◌∷◌, ◌++◌, length, map, fold, zero, suc, get_or, set, position, Option, Some, None, refl, sym, ap, ◌∙◌, append-nil, arith}
 use Rattle.std.proofs.lemmas.Grind.{flat_map-append}
 use Rattle.std.proofs.lemmas.List.{map-append, length-map}
 use Rattle.std.proofs.lemmas.List.Folds.{list_any-append, list_any_at}
@@ -10,7 +10,7 @@ use Rattle.std.specs.List.{list_any}
 use Rattle.indexmap.specs.IndexSet.{insert_key}
 use Rattle.otel_common.specs.Equality.{bytes_eq}
 use Rattle.otel_prometheus.specs.Families.{is_refused, content_length, conflicting_if, conflicting_in}
-use Rattle.otel_prometheus.specs.Groups.{Member, Group, families_of, is_of, group_of, groups_of, conflicting_among, has_family, joined, names_of, sample_names, sample_names_of}
+use Rattle.otel_prometheus.specs.Groups.{Member, Group, families_of, group_of, groups_of, conflicting_among, has_family, joined, names_of, sample_names, sample_names_of}
 use Rattle.otel_prometheus.specs.Headings.{heading_of, same_heading, kind_eq, is_reserved}
 use Rattle.otel_prometheus.specs.Standing.{IsNewName, AreFound, AreFamilies, AreGroups}
 use Rattle.otel_prometheus.specs.declared.families.Family.{Family}

@@ -1,9 +1,8 @@
 -- The lines of a collection may be spelled, whatever its texts are.
-use Rattle.std.proofs.Common.{◌≡◌, ℕ, suc, ◌+◌, ◌%◌, ◌^◌, ℤ, Bool, true, false, cond, ◌&&◌, ◌||◌, ◌==◌, List, [], ◌∷◌, ◌++◌, flat_map, map, fold, Option, Some, None, take, drop, position, refl, sym, codes}
+use Rattle.std.proofs.Common.{◌≡◌, ℕ, ◌+◌, ◌%◌, ◌^◌, ℤ, Bool, true, false, cond, ◌&&◌, List, [], ◌∷◌, ◌++◌, flat_map, map, fold, Option, Some, None, refl, sym, codes}
 use Rattle.std.proofs.lemmas.Bool.{true≢false}
-use Rattle.std.specs.Char.{is_ascii_digit}
 use Rattle.std.specs.Cmp.Lexicographic.{slice_cmp}
-use Rattle.std.specs.List.{list_all, ends_with}
+use Rattle.std.specs.List.{list_all}
 use Rattle.std.specs.Option.{option_map}
 use Rattle.std.specs.Ordering.{nat_cmp}
 use Rattle.std.specs.declared.cmp.Ordering.{Ordering}
@@ -30,11 +29,11 @@ use Rattle.otel_prometheus.proofs.NameLemmas.{label_name, metric_name}
 use Rattle.otel_prometheus.proofs.NumberLemmas.{unsigned_fits, signed_fits}
 use Rattle.otel_prometheus.specs.Collections.{belongs, metric_series, scope_series, family_series, kind_word, kind_end, help_lines, front_lines, family_samples, family_lines, target_front, target_lines, end_lines, lines_of}
 use Rattle.otel_prometheus.specs.Families.{families, is_refused, with_heading, with_metric, with_scope}
-use Rattle.otel_prometheus.specs.Headings.{own_text, plain_name, heading_with, base_name, heading_of, is_last_value, content_kind}
+use Rattle.otel_prometheus.specs.Headings.{with_unit, plain_name, heading_with, base_name, heading_of, is_last_value, content_kind}
 use Rattle.otel_prometheus.specs.Labels.{placed, with_label, own_name, label_of, with_attributes, text_label, optional_label, scope_label_name, is_taken, with_scope_attribute, parts_of_scope, scope_labels, has_text, without_empty, all_labels, point_labels, resource_labels}
 use Rattle.otel_prometheus.specs.Points.{are_natural, value_end, value_name, bound_text, bucket, meets_next, sample_unless, buckets, sum_samples, count_sample, count_samples, histogram_samples, number_series, gauge_series, sum_series, histogram_series, data_series, content_series}
 use Rattle.otel_prometheus.specs.Series.{Series, is_seen, kept}
-use Rattle.otel_prometheus.specs.Units.{word_at, times, decimal_sizes, binary_sizes, measures, rates, or_other, unit_word, or_name, is_count, worded, ratio, unit_parts, unit_suffix}
+use Rattle.otel_prometheus.specs.Units.{unit_suffix}
 use Rattle.otel_prometheus.specs.declared.families.Family.{Family}
 use Rattle.otel_prometheus.specs.declared.headings.Heading.{Heading}
 use Rattle.otel_prometheus.specs.declared.headings.Kind.{Kind}
@@ -54,83 +53,13 @@ all_append : (test : ℕ → Bool) (a b : List ℕ) → AreAll test a → AreAll
 all_append test [] b h k = k
 all_append test (c ∷ a) b h k = (h.0, all_append test a b h.1 k)
 
-all_choice : (test : ℕ → Bool) (t : Bool) (a b : List ℕ) → AreAll test a → AreAll test b → AreAll test (cond t a b)
-all_choice test true a b h k = h
-all_choice test false a b h k = k
-
-one_of : (a b : Bool) → a ≡ true → (a || b) ≡ true
-one_of true b e = refl
-one_of false b e = absurd (true≢false (sym e))
-
--- what may stand in the name of a label may stand in that of a metric
-wider : (bs : List ℕ) → AreAll is_label_byte bs → AreAll is_metric_byte bs
-wider [] h = tt
-wider (b ∷ bs) h = (one_of (is_label_byte b) (b == 58) h.0, wider bs h.1)
-
-label_bytes : (n : List ℕ) → IsLabelName n → AreAll is_metric_byte n
-label_bytes [] h = absurd h
-label_bytes (b ∷ bs) h = (one_of (is_label_byte b) (b == 58) (one_of (is_letter b) (is_ascii_digit b) h.0), wider bs h.1)
-
 longer_name : (n s : List ℕ) → IsMetricName n → AreAll is_metric_byte s → IsMetricName (n ++ s)
 longer_name [] s h k = absurd h
 longer_name (b ∷ bs) s h k = (h.0, all_append is_metric_byte bs s h.1 k)
 
--- ======== units ========
-abbrev AllIn : Option (List ℕ) → Type 0
-AllIn None = Unit {0}
-AllIn (Some w) = AreAll is_metric_byte w
-
-chosen_word : (test : Bool) (w : List ℕ) (o : Option (List ℕ)) → AreAll is_metric_byte w → AllIn o → AllIn (cond test (Some w) o)
-chosen_word true w o h k = h
-chosen_word false w o h k = k
-
-word_in : (t : List (List ℕ × List ℕ)) (u : List ℕ) → list_all (λ entry. list_all is_metric_byte entry.1) t ≡ true → AllIn (word_at t u)
-word_in [] u e = tt
-word_in (entry ∷ t) u e =
-    let h = both (list_all is_metric_byte entry.1) (list_all (λ entry. list_all is_metric_byte entry.1) t) e in
-    chosen_word (bytes_eq u entry.0) entry.1 (word_at t u) (all_of is_metric_byte entry.1 h.0) (word_in t u h.1)
-
-other_in : (a b : Option (List ℕ)) → AllIn a → AllIn b → AllIn (or_other a b)
-other_in None b h k = k
-other_in (Some w) b h k = h
-
-unit_word_in : (u : List ℕ) → AllIn (unit_word u)
-unit_word_in u =
-    other_in (word_at times u) (or_other (word_at decimal_sizes u) (or_other (word_at binary_sizes u) (word_at measures u))) (word_in times u refl)
-    (other_in (word_at decimal_sizes u) (or_other (word_at binary_sizes u) (word_at measures u)) (word_in decimal_sizes u refl)
-    (other_in (word_at binary_sizes u) (word_at measures u) (word_in binary_sizes u refl) (word_in measures u refl)))
-
-name_in : (o : Option (List ℕ)) (u : List ℕ) → AllIn o → AreAll is_metric_byte (or_name o u)
-name_in None u h = label_bytes (name_of is_label_byte u) (label_name u)
-name_in (Some w) u h = h
-
-worded_in : (front : List ℕ) (o : Option (List ℕ)) (u : List ℕ) → AreAll is_metric_byte front → AllIn o → AreAll is_metric_byte (worded front o u)
-worded_in front o u h k = all_choice is_metric_byte (is_count u) [] (front ++ or_name o u) tt (all_append is_metric_byte front (or_name o u) h (name_in o u k))
-
-ratio_in : (over under : List ℕ) → AreAll is_metric_byte (ratio over under)
-ratio_in over under =
-    all_append is_metric_byte (worded (codes "_") (unit_word over) over) (worded (codes "_per_") (word_at rates under) under)
-    (worded_in (codes "_") (unit_word over) over (refl, tt) (unit_word_in over))
-    (worded_in (codes "_per_") (word_at rates under) under (all_of is_metric_byte (codes "_per_") refl) (word_in rates under refl))
-
-parts_in : (u : List ℕ) (o : Option ℕ) → AreAll is_metric_byte (unit_parts u o)
-parts_in u None = worded_in (codes "_") (unit_word u) u (refl, tt) (unit_word_in u)
-parts_in u (Some i) = ratio_in (take i u) (drop (suc i) u)
-
-suffix_in : (t : Bool) (u : List ℕ) → AreAll is_metric_byte (unit_suffix t u)
-suffix_in true u = all_choice is_metric_byte (bytes_eq u (codes "1")) (codes "_ratio") (unit_parts u (position (λ b. b == 47) u)) (all_of is_metric_byte (codes "_ratio") refl) (parts_in u (position (λ b. b == 47) u))
-suffix_in false u = parts_in u (position (λ b. b == 47) u)
-
 -- ======== names ========
-ended_name : (t : Bool) (n s : List ℕ) → IsMetricName n → AreAll is_metric_byte s → IsMetricName (cond t n (n ++ s))
-ended_name true n s h k = h
-ended_name false n s h k = longer_name n s h k
-
 family_name : (k : Kind) (m : Metric) → IsMetricName (base_name k m)
-family_name k m =
-    ended_name (ends_with ◌==◌ (plain_name k m.name) (unit_suffix (is_last_value m.content) m.unit))
-    (plain_name k m.name) (unit_suffix (is_last_value m.content) m.unit)
-    (metric_name (own_text k (name_of is_metric_byte m.name))) (suffix_in (is_last_value m.content) m.unit)
+family_name k m = metric_name (with_unit (plain_name k m.name) (unit_suffix (is_last_value m.content) m.unit))
 
 -- ======== labels ========
 valid_placed : (o : Ordering) (p l : Pair) (ls rest : List Pair) → IsLabelName p.0 → IsLabelName l.0 → AreLabels ls → AreLabels rest → AreLabels (placed o p l ls rest)

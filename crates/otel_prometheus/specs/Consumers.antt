@@ -1,5 +1,5 @@
 -- What who reads a text takes for points. It looks at nothing but lines.
-use Rattle.std.specs.Prelude.{ℕ, ℤ, List, [], ◌∷◌, ◌++◌, ◌&&◌, Bool, cond, not, Option, Some, None, drop, filter, flat_map, length, map, codes}
+use Rattle.std.specs.Prelude.{ℕ, ℤ, List, [], ◌∷◌, ◌&&◌, Bool, cond, not, Option, Some, None, drop, filter, flat_map, length, map, codes}
 use Rattle.std.specs.Cmp.Lexicographic.{pointwise}
 use Rattle.otel_common.specs.Equality.{bytes_eq}
 use Rattle.otel_prometheus.specs.Lines.{Line, help, kind, sample, finish}

@@ -1,5 +1,5 @@
 -- Families with their metrics, as one walk through a collection finds them by name.
-use Rattle.std.specs.Prelude.{ℕ, List, [], ◌∷◌, ◌++◌, Bool, cond, codes, filter, flat_map, fold, map}
+use Rattle.std.specs.Prelude.{ℕ, List, [], ◌∷◌, ◌++◌, Bool, cond, filter, flat_map, fold, map}
 use Rattle.std.specs.List.{list_any}
 use Rattle.otel_common.specs.declared.scopes.InstrumentationScope.{InstrumentationScope}
 use Rattle.otel_data.specs.declared.collections.Metric.{Metric}
@@ -7,15 +7,13 @@ use Rattle.otel_data.specs.declared.collections.ResourceMetrics.{ResourceMetrics
 use Rattle.otel_data.specs.declared.collections.ScopeMetrics.{ScopeMetrics}
 use Rattle.otel_prometheus.specs.Collections.{belongs, front_lines}
 use Rattle.otel_prometheus.specs.Families.{with_metric, conflicting_in}
-use Rattle.otel_prometheus.specs.Headings.{heading_of, same_heading}
+use Rattle.otel_prometheus.specs.Headings.{heading_of, same_heading, sample_ends}
 use Rattle.otel_prometheus.specs.Lines.{Line, sample}
 use Rattle.otel_prometheus.specs.Points.{content_series}
 use Rattle.otel_prometheus.specs.Series.{Series, kept}
 use Rattle.otel_prometheus.specs.Totals.{total}
 use Rattle.otel_prometheus.specs.declared.families.Family.{Family}
 use Rattle.otel_prometheus.specs.declared.headings.Heading.{Heading}
-use Rattle.otel_prometheus.specs.declared.headings.Kind.{Kind}
-use Rattle.otel_prometheus.specs.declared.headings.Kind.TheVariants as kinds
 use Rattle.otel_prometheus.specs.declared.settings.Settings.{Settings}
 
 -- a metric, with its scope
@@ -59,12 +57,6 @@ abbrev pub joined : Bool → Group → Member → Group
 joined joins g x = record { family = g.family; members = g.members ++ cond joins (x ∷ []) [] }
 
 -- ======== names ========
--- what a family of this type adds to its name in names of samples
-abbrev pub sample_ends : Kind → List (List ℕ)
-sample_ends kinds.Counter = codes "_total" ∷ (codes "_created" ∷ [])
-sample_ends kinds.Gauge = []
-sample_ends kinds.Histogram = codes "_bucket" ∷ (codes "_sum" ∷ (codes "_count" ∷ (codes "_created" ∷ [])))
-
 abbrev pub sample_names : Heading → List (List ℕ)
 sample_names h = map (λ end. h.name ++ end) (sample_ends h.kind)
 

@@ -1,6 +1,6 @@
 -- The names and types of families.
-use Rattle.std.specs.Prelude.{ℕ, ◌-◌, ◌==◌, ◌||◌, ◌&&◌, List, ◌++◌, Bool, true, false, cond, length, take, drop, Option, Some, None, codes}
-use Rattle.std.specs.List.{starts_with, ends_with}
+use Rattle.std.specs.Prelude.{ℕ, ◌==◌, ◌||◌, ◌&&◌, List, [], ◌∷◌, ◌++◌, Bool, true, false, cond, length, drop, Option, Some, None, codes}
+use Rattle.std.specs.List.{list_any, starts_with, ends_with}
 use Rattle.std.specs.Option.{option_map}
 use Rattle.otel_common.specs.Equality.{bytes_eq}
 use Rattle.otel_common.specs.declared.metrics.Temporality.{Temporality}
@@ -10,7 +10,7 @@ use Rattle.otel_data.specs.declared.aggregated.AggregatedMetrics.TheVariants as 
 use Rattle.otel_data.specs.declared.aggregated.MetricData.{MetricData}
 use Rattle.otel_data.specs.declared.aggregated.MetricData.TheVariants as aggregations
 use Rattle.otel_data.specs.declared.collections.Metric.{Metric}
-use Rattle.otel_prometheus.specs.Names.{name_of}
+use Rattle.otel_prometheus.specs.Names.{name_of, without_end, without_gap}
 use Rattle.otel_prometheus.specs.Samples.{is_metric_byte}
 use Rattle.otel_prometheus.specs.Units.{unit_suffix}
 use Rattle.otel_prometheus.specs.declared.headings.Heading.{Heading}
@@ -52,26 +52,27 @@ kind_eq kinds.Histogram kinds.Histogram = true
 kind_eq _ _ = false
 
 -- ======== names ========
--- a text without this end
-abbrev pub without_end : List ℕ → List ℕ → List ℕ
-without_end end text = cond (ends_with ◌==◌ text end) (take (length text - length end) text) text
-
--- the name of a counter's family has no `_total`: its samples have
+-- a name to which samples add ends is without a `_` before them, and that of a counter without `_total`
 abbrev pub own_text : Kind → List ℕ → List ℕ
-own_text kinds.Counter text = without_end (codes "_total") text
+own_text kinds.Counter text = without_gap (without_end (codes "_total") text)
 own_text kinds.Gauge text = text
-own_text kinds.Histogram text = text
+own_text kinds.Histogram text = without_gap text
 
 abbrev pub with_end : List ℕ → List ℕ → List ℕ
 with_end text end = cond (ends_with ◌==◌ text end) text (text ++ end)
 
--- a valid name without what a family of this type adds to it; `_` if that is all
-abbrev pub plain_name : Kind → List ℕ → List ℕ
-plain_name k text = name_of is_metric_byte (own_text k (name_of is_metric_byte text))
+-- a text with a unit once at its end
+abbrev pub with_unit : List ℕ → List ℕ → List ℕ
+with_unit text [] = text
+with_unit text (b ∷ unit) = with_end (without_gap text) (b ∷ unit)
 
--- the name of a metric's family
+-- a valid name without what a family of this type adds to it
+abbrev pub plain_name : Kind → List ℕ → List ℕ
+plain_name k text = own_text k (name_of is_metric_byte text)
+
+-- the name of a metric's family; `_` if nothing is left
 abbrev pub base_name : Kind → Metric → List ℕ
-base_name k m = with_end (plain_name k m.name) (unit_suffix (is_last_value m.content) m.unit)
+base_name k m = name_of is_metric_byte (with_unit (plain_name k m.name) (unit_suffix (is_last_value m.content) m.unit))
 
 abbrev pub heading_with : Metric → Kind → Heading
 heading_with m k = record { name = base_name k m; kind = k }
@@ -84,11 +85,14 @@ heading_of m = option_map (heading_with m) (content_kind m.content)
 abbrev pub same_heading : Heading → Heading → Bool
 same_heading a b = kind_eq a.kind b.kind && bytes_eq a.name b.name
 
--- what a family adds to its name in names of samples
+-- what a family of this type adds to its name in names of samples
+abbrev pub sample_ends : Kind → List (List ℕ)
+sample_ends kinds.Counter = codes "_total" ∷ (codes "_created" ∷ [])
+sample_ends kinds.Gauge = []
+sample_ends kinds.Histogram = codes "_bucket" ∷ (codes "_sum" ∷ (codes "_count" ∷ (codes "_created" ∷ [])))
+
 abbrev pub is_sample_end : Kind → List ℕ → Bool
-is_sample_end kinds.Counter end = bytes_eq end (codes "_total") || bytes_eq end (codes "_created")
-is_sample_end kinds.Gauge end = false
-is_sample_end kinds.Histogram end = bytes_eq end (codes "_bucket") || bytes_eq end (codes "_sum") || bytes_eq end (codes "_count") || bytes_eq end (codes "_created")
+is_sample_end k end = list_any (bytes_eq end) (sample_ends k)
 
 -- whether the name of b may be that of a sample of a
 abbrev pub may_be_sample : Heading → Heading → Bool

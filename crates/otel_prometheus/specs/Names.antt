@@ -1,6 +1,7 @@
 -- Any text as the name of a label or a metric.
-use Rattle.std.specs.Prelude.{ℕ, ◌==◌, ◌||◌, List, [], ◌∷◌, ◌++◌, Bool, true, false, cond, not}
+use Rattle.std.specs.Prelude.{ℕ, ◌-◌, ◌==◌, ◌||◌, List, [], ◌∷◌, ◌++◌, Bool, true, false, cond, not, length, take, codes}
 use Rattle.std.specs.Char.{is_ascii_digit}
+use Rattle.std.specs.List.{ends_with}
 use Rattle.otel_prometheus.specs.Samples.{is_label_byte, is_metric_byte}
 
 -- which bytes may stand in a name
@@ -27,3 +28,15 @@ needs_front (b ∷ bs) = is_ascii_digit b
 
 abbrev pub name_of : (ℕ → Bool) → List ℕ → List ℕ
 name_of test text = cond (needs_front text) (95 ∷ name_bytes test false text) (name_bytes test false text)
+
+-- a text without this end
+abbrev pub without_end : List ℕ → List ℕ → List ℕ
+without_end end text = cond (ends_with ◌==◌ text end) (take (length text - length end) text) text
+
+-- a text without a `_` at its end
+abbrev pub without_gap : List ℕ → List ℕ
+without_gap text = without_end (codes "_") text
+
+-- a text as a part of a name, with no `_` around it
+abbrev pub name_part : (ℕ → Bool) → List ℕ → List ℕ
+name_part test text = without_gap (name_bytes test true text)

@@ -10,7 +10,7 @@ use Rattle.otel_data.specs.declared.collections.Metric.{Metric}
 use Rattle.otel_data.specs.declared.collections.ResourceMetrics.{ResourceMetrics}
 use Rattle.otel_data.specs.declared.points.HistogramDataPoint.{HistogramDataPoint}
 use Rattle.otel_prometheus.specs.Collections.{belongs}
-use Rattle.otel_prometheus.specs.Consumers.{Histogram, Content, number, histogram, Point}
+use Rattle.otel_prometheus.specs.Consumers.{Histogram, number, histogram, Point}
 use Rattle.otel_prometheus.specs.Families.{families}
 use Rattle.otel_prometheus.specs.Headings.{heading_of}
 use Rattle.otel_prometheus.specs.Labels.{point_labels, resource_labels}

@@ -1,8 +1,7 @@
 -- Units in names of metrics (Prometheus and OpenMetrics Compatibility, "Metric Metadata").
-use Rattle.std.specs.Prelude.{ℕ, suc, ◌==◌, ◌||◌, List, [], ◌∷◌, ◌++◌, Bool, true, cond, Option, Some, None, codes, take, drop, position}
-use Rattle.std.specs.List.{list_any}
+use Rattle.std.specs.Prelude.{ℕ, suc, ◌==◌, ◌||◌, ◌&&◌, List, [], ◌∷◌, ◌++◌, Bool, false, cond, not, Option, Some, None, codes, take, drop, position}
 use Rattle.otel_common.specs.Equality.{bytes_eq}
-use Rattle.otel_prometheus.specs.Names.{name_of}
+use Rattle.otel_prometheus.specs.Names.{name_part}
 use Rattle.otel_prometheus.specs.Samples.{is_label_byte}
 
 -- the word at a key
@@ -41,19 +40,19 @@ or_other (Some w) other = Some w
 abbrev pub unit_word : List ℕ → Option (List ℕ)
 unit_word unit = or_other (word_at times unit) (or_other (word_at decimal_sizes unit) (or_other (word_at binary_sizes unit) (word_at measures unit)))
 
--- a unit with no word stands for itself, as a name
+-- a unit with no word stands for itself, as a part of a name
 abbrev pub or_name : Option (List ℕ) → List ℕ → List ℕ
-or_name None unit = name_of is_label_byte unit
+or_name None unit = name_part is_label_byte unit
 or_name (Some w) unit = w
 
--- nothing, `1` and what has a note in braces, as `{packet}`, count things
-abbrev pub is_count : List ℕ → Bool
-is_count [] = true
-is_count (b ∷ bs) = bytes_eq (b ∷ bs) (codes "1") || list_any (λ c. c == 123) (b ∷ bs)
+-- a word behind this front; nothing if there is no word
+abbrev pub behind : List ℕ → List ℕ → List ℕ
+behind front [] = []
+behind front (b ∷ word) = front ++ b ∷ word
 
--- the word of a unit behind this front; nothing for a count
+-- the word of a unit behind this front; `1` has none
 abbrev pub worded : List ℕ → Option (List ℕ) → List ℕ → List ℕ
-worded front word unit = cond (is_count unit) [] (front ++ or_name word unit)
+worded front word unit = cond (bytes_eq unit (codes "1")) [] (behind front (or_name word unit))
 
 -- `a/b` is a per b
 abbrev pub ratio : List ℕ → List ℕ → List ℕ
@@ -64,7 +63,18 @@ abbrev pub unit_parts : List ℕ → Option ℕ → List ℕ
 unit_parts unit None = worded (codes "_") (unit_word unit) unit
 unit_parts unit (Some i) = ratio (take i unit) (drop (suc i) unit)
 
--- what a unit adds to a name; `1` is a ratio where the last value is kept
+-- whether a byte is of a note in braces; one may be open before it
+abbrev pub is_in_note : Bool → ℕ → Bool
+is_in_note is_open b = is_open || (b == 123)
+
+-- a unit without its notes, as `By{sent}`
+abbrev pub without_notes : Bool → List ℕ → List ℕ
+without_notes is_open [] = []
+without_notes is_open (b ∷ bs) = cond (is_in_note is_open b) [] (b ∷ []) ++ without_notes (is_in_note is_open b && not (b == 125)) bs
+
+-- what a unit without notes adds to a name; `1` is a ratio where the last value is kept
+abbrev pub suffix_of : Bool → List ℕ → List ℕ
+suffix_of is_last_value unit = cond (is_last_value && bytes_eq unit (codes "1")) (codes "_ratio") (unit_parts unit (position (λ b. b == 47) unit))
+
 abbrev pub unit_suffix : Bool → List ℕ → List ℕ
-unit_suffix is_last_value unit =
-    cond (is_last_value) (cond (bytes_eq unit (codes "1")) (codes "_ratio") (unit_parts unit (position (λ b. b == 47) unit))) (unit_parts unit (position (λ b. b == 47) unit))
+unit_suffix is_last_value unit = suffix_of is_last_value (without_notes false unit)

@@ -1,11 +1,11 @@
 //! The names and types of families.
 
-ghost use Rattle.std.specs.Prelude.{◌≡◌, ◌==◌, ◌++◌, IfOk, OnOk, map};
+ghost use Rattle.std.specs.Prelude.{◌≡◌, ◌++◌, IfOk, map};
 ghost use Rattle.std.specs.String.{string_bytes};
-ghost use Rattle.otel_prometheus.specs.Headings.{if_cumulative, points_kind, content_kind, keeps_last, is_last_value, kind_eq, without_end, own_text, with_end, plain_name, base_name, heading_of, is_reserved};
+ghost use Rattle.otel_prometheus.specs.Headings.{if_cumulative, points_kind, content_kind, keeps_last, is_last_value, kind_eq, own_text, with_unit, base_name, heading_of, is_reserved};
 ghost use Rattle.otel_prometheus.specs.Groups.{sample_names};
 
-use crate::text::names::metric_name;
+use crate::text::names::{metric_name, without_end, without_gap};
 use crate::units::unit_suffix;
 use otel_common::metrics::Temporality;
 use otel_common::strings::StringValue;
@@ -105,54 +105,44 @@ pub(crate) fn is_same_kind(a: Kind, b: Kind) -> bool
     }
 }
 
-/// The text without this end, if it has it.
-fn without_end<'a>(text: &'a [u8], end: &[u8]) -> &'a [u8]
-    ensures { result.now ≡ without_end end.now text.now }
-{
-    if text.ends_with(end) {
-        return &text[..text.len() - end.len()];
-    }
-    text
-}
-
-/// The name of a metric without what a family of this type adds to it.
+/// The name of a metric without what a family of this type adds to it, and without a `_` before the ends of its samples.
 fn own_text(kind: Kind, text: &[u8]) -> &[u8]
     ensures { result.now ≡ own_text kind text.now }
 {
     match kind {
-        Kind::Counter => without_end(text, b"_total"),
+        Kind::Counter => without_gap(without_end(text, b"_total")),
         Kind::Gauge => text,
-        Kind::Histogram => text,
+        Kind::Histogram => without_gap(text),
     }
 }
 
-/// Appends an end to a text, unless it has it.
-fn add_end(text: &mut String, end: &str) -> Result<(), AllocError>
-    ensures { OnOk result (string_bytes text.new ≡ with_end (string_bytes text.old) end.now) }
+/// Returns a name with what a unit adds to it, unless it has that.
+fn with_unit(alloc: Global, name: &[u8], unit: &[u8]) -> Result<Vec<u8>, AllocError>
+    ensures { IfOk result (λ whole. whole.items ≡ with_unit name.now unit.now) }
 {
-    if text.as_str().as_bytes().ends_with(end.as_bytes()) {
-        return Ok(());
+    let mut whole = Vec::new(alloc);
+    if unit.is_empty() {
+        whole.extend_from_slice(name)?;
+        return Ok(whole);
     }
-    text.push_str(end)
+    let front = without_gap(name);
+    whole.extend_from_slice(front)?;
+    if !front.ends_with(unit) {
+        whole.extend_from_slice(unit)?;
+    }
+    Ok(whole)
 }
 
-/// Returns the valid name of a text without what a family of this type adds to it; `_` if that is all.
-fn plain_name(alloc: Global, text: &[u8], kind: Kind) -> Result<String, AllocError>
-    ensures { IfOk result (λ name. string_bytes name ≡ plain_name kind text.now) }
-{
-    let valid = metric_name(alloc, text)?;
-    metric_name(alloc, own_text(kind, valid.as_str().as_bytes()))
-}
-
-/// Returns the name of the family of a metric.
+/// Returns the name of the family of a metric; `_` if nothing is left of it.
 fn base_name(alloc: Global, metric: &Metric, kind: Kind) -> Result<String, AllocError>
     ensures { IfOk result (λ name. string_bytes name ≡ base_name kind metric.now) }
 {
-    let mut name = plain_name(alloc, metric.name().as_bytes(), kind)?;
+    let valid = metric_name(alloc, metric.name().as_bytes())?;
     let is_last_value = is_last_value(metric.data());
-    let suffix = unit_suffix(alloc, metric.unit().as_bytes(), is_last_value)?;
-    add_end(&mut name, suffix.as_str())?;
-    Ok(name)
+    let unit = unit_suffix(alloc, metric.unit().as_bytes(), is_last_value)?;
+    let plain = own_text(kind, valid.as_str().as_bytes());
+    let whole = with_unit(alloc, plain, unit.as_slice())?;
+    metric_name(alloc, whole.as_slice())
 }
 
 /// Returns the heading of a metric; none if it can't be shown.

@@ -1,11 +1,10 @@
 //! Units in names of metrics.
 
-ghost use Rattle.std.specs.Prelude.{◌≡◌, ◌++◌, ◌==◌, ◌<◌, OnOk, IfOk, IfSome, length, map, position};
+ghost use Rattle.std.specs.Prelude.{◌≡◌, ◌++◌, ◌==◌, ◌&&◌, ◌<◌, [], ◌∷◌, false, cond, not, OnOk, IfOk, IfSome, length, map, position};
 ghost use Rattle.std.specs.Option.{option_map};
-ghost use Rattle.std.specs.String.{string_bytes};
-ghost use Rattle.otel_prometheus.specs.Units.{word_at, rates, unit_word, is_count, worded, ratio, unit_parts, unit_suffix};
+ghost use Rattle.otel_prometheus.specs.Units.{word_at, rates, unit_word, behind, worded, ratio, unit_parts, is_in_note, without_notes, suffix_of, unit_suffix};
 
-use crate::text::names::label_name;
+use crate::text::names::{name_behind, without_gap};
 use std::alloc::{AllocError, Global};
 
 /// Units and their words: of time, of size with steps of 1,000 and of 1,024, and of other quantities.
@@ -74,38 +73,35 @@ fn rate_word(unit: &[u8]) -> Option<&'static str>
     word_at(&RATES, unit)
 }
 
-/// Whether the unit counts things.
-fn is_count(unit: &[u8]) -> bool
-    ensures { result ≡ is_count unit.now }
+/// Appends a word behind a front, if there is a word.
+fn push_behind(out: &mut Vec<u8>, front: &[u8], word: &[u8]) -> Result<(), AllocError>
+    ensures { OnOk result (out.new.items ≡ out.old.items ++ behind front.now word.now) }
 {
-    if unit.is_empty() {
-        return true;
+    if word.is_empty() {
+        return Ok(());
     }
-    if unit == b"1".as_slice() {
-        return true;
-    }
-    unit.contains(&b'{')
+    out.extend_from_slice(front)?;
+    out.extend_from_slice(word)
 }
 
-/// Appends a unit behind a front, by its word or else as a name, unless it counts things.
+/// Appends a unit behind a front, by its word or else as a part of a name. `1` has no word.
 fn push_worded(
     alloc: Global,
-    out: &mut String,
-    front: &str,
+    out: &mut Vec<u8>,
+    front: &[u8],
     word: Option<&'static str>,
     unit: &[u8],
 ) -> Result<(), AllocError>
-    ensures { OnOk result (string_bytes out.new ≡ string_bytes out.old ++ worded front.now (option_map (λ w. w.now) word.entry) unit.now) }
+    ensures { OnOk result (out.new.items ≡ out.old.items ++ worded front.now (option_map (λ w. w.now) word.entry) unit.now) }
 {
-    if is_count(unit) {
+    if unit == b"1".as_slice() {
         return Ok(());
     }
-    out.push_str(front)?;
     match word {
-        Some(word) => out.push_str(word),
+        Some(word) => push_behind(out, front, word.as_bytes()),
         None => {
-            let name = label_name(alloc, unit)?;
-            out.push_str(name.as_str())
+            let name = name_behind(alloc, unit)?;
+            push_behind(out, front, without_gap(name.as_str().as_bytes()))
         }
     }
 }
@@ -119,21 +115,59 @@ fn slash(unit: &[u8]) -> Option<usize>
 }
 
 /// Appends a unit and the unit that it is counted by.
-fn push_ratio(alloc: Global, out: &mut String, over: &[u8], under: &[u8]) -> Result<(), AllocError>
-    ensures { OnOk result (string_bytes out.new ≡ string_bytes out.old ++ ratio over.now under.now) }
+fn push_ratio(alloc: Global, out: &mut Vec<u8>, over: &[u8], under: &[u8]) -> Result<(), AllocError>
+    ensures { OnOk result (out.new.items ≡ out.old.items ++ ratio over.now under.now) }
 {
-    push_worded(alloc, out, "_", unit_word(over), over)?;
-    push_worded(alloc, out, "_per_", rate_word(under), under)
+    push_worded(alloc, out, b"_", unit_word(over), over)?;
+    push_worded(alloc, out, b"_per_", rate_word(under), under)
 }
 
 /// Appends what a unit adds to a name.
-fn push_parts(alloc: Global, out: &mut String, unit: &[u8]) -> Result<(), AllocError>
-    ensures { OnOk result (string_bytes out.new ≡ string_bytes out.old ++ unit_parts unit.now (position (λ b. b == 47) unit.now)) }
+fn push_parts(alloc: Global, out: &mut Vec<u8>, unit: &[u8]) -> Result<(), AllocError>
+    ensures { OnOk result (out.new.items ≡ out.old.items ++ unit_parts unit.now (position (λ b. b == 47) unit.now)) }
 {
     match slash(unit) {
         Some(index) => push_ratio(alloc, out, &unit[..index], &unit[index + 1..]),
-        None => push_worded(alloc, out, "_", unit_word(unit), unit),
+        None => push_worded(alloc, out, b"_", unit_word(unit), unit),
     }
+}
+
+/// Appends a byte of a unit, unless it is of a note in braces, which may be open before it. Returns whether one is open
+/// behind it.
+fn push_noted(out: &mut Vec<u8>, byte: u8, is_open: bool) -> Result<bool, AllocError>
+    ensures bytes { OnOk result (out.new.items ≡ out.old.items ++ cond (is_in_note is_open byte) [] (byte ∷ [])) }
+    ensures opened { IfOk result (λ opened. opened ≡ (is_in_note is_open byte && not (byte == 125))) }
+{
+    if is_open || byte == b'{' {
+        return Ok(byte != b'}');
+    }
+    out.extend_from_slice(&[byte])?;
+    Ok(false)
+}
+
+/// Returns a unit without its notes in braces.
+fn without_notes(alloc: Global, unit: &[u8]) -> Result<Vec<u8>, AllocError>
+    ensures { IfOk result (λ plain. plain.items ≡ without_notes false unit.now) }
+{
+    let mut plain = Vec::new(alloc);
+    let mut is_open = false;
+    for byte in unit {
+        is_open = push_noted(&mut plain, *byte, is_open)?;
+    }
+    Ok(plain)
+}
+
+/// Returns what a unit without notes adds to a name.
+fn suffix_of(alloc: Global, unit: &[u8], is_last_value: bool) -> Result<Vec<u8>, AllocError>
+    ensures { IfOk result (λ suffix. suffix.items ≡ suffix_of is_last_value unit.now) }
+{
+    let mut suffix = Vec::new(alloc);
+    if is_last_value && unit == b"1".as_slice() {
+        suffix.extend_from_slice(b"_ratio")?;
+        return Ok(suffix);
+    }
+    push_parts(alloc, &mut suffix, unit)?;
+    Ok(suffix)
 }
 
 /// Returns what a unit adds to a name.
@@ -141,13 +175,9 @@ pub(crate) fn unit_suffix(
     alloc: Global,
     unit: &[u8],
     is_last_value: bool,
-) -> Result<String, AllocError>
-    ensures { IfOk result (λ suffix. string_bytes suffix ≡ unit_suffix is_last_value unit.now) }
+) -> Result<Vec<u8>, AllocError>
+    ensures { IfOk result (λ suffix. suffix.items ≡ unit_suffix is_last_value unit.now) }
 {
-    if is_last_value && unit == b"1".as_slice() {
-        return String::from_str(alloc, "_ratio");
-    }
-    let mut suffix = String::new(alloc);
-    push_parts(alloc, &mut suffix, unit)?;
-    Ok(suffix)
+    let plain = without_notes(alloc, unit)?;
+    suffix_of(alloc, plain.as_slice(), is_last_value)
 }

@@ -1,8 +1,8 @@
 //! Any text as the name of a label or a metric.
 
-ghost use Rattle.std.specs.Prelude.{◌≡◌, ◌<◌, ◌++◌, [], ◌∷◌, false, IfOk, OnOk};
+ghost use Rattle.std.specs.Prelude.{◌≡◌, ◌<◌, ◌++◌, [], ◌∷◌, true, IfOk, OnOk};
 ghost use Rattle.std.specs.String.{string_bytes};
-ghost use Rattle.otel_prometheus.specs.Names.{test_of, is_gap, name_byte, name_bytes, needs_front, name_of};
+ghost use Rattle.otel_prometheus.specs.Names.{test_of, is_gap, name_byte, name_bytes, needs_front, name_of, without_end, without_gap};
 ghost use Rattle.otel_prometheus.specs.Samples.{is_label_byte, is_metric_byte, IsLabelName, IsMetricName};
 
 use std::alloc::{AllocError, Global};
@@ -48,11 +48,16 @@ fn push_byte(out: &mut String, byte: u8, is_metric: bool, after: bool) -> Result
     Ok(true)
 }
 
-/// Appends a text with one `_` for each run of `_` and of bytes that may not stand in a name.
-fn push_bytes(out: &mut String, text: &[u8], is_metric: bool) -> Result<(), AllocError>
-    ensures { OnOk result (string_bytes out.new ≡ string_bytes out.old ++ name_bytes (test_of is_metric) false text.now) }
+/// Appends a text, after a `_` or not, with one `_` for each run of `_` and of bytes that may not stand in a name.
+fn push_bytes(
+    out: &mut String,
+    text: &[u8],
+    is_metric: bool,
+    behind: bool,
+) -> Result<(), AllocError>
+    ensures { OnOk result (string_bytes out.new ≡ string_bytes out.old ++ name_bytes (test_of is_metric) behind text.now) }
 {
-    let mut after = false;
+    let mut after = behind;
     for byte in text {
         after = push_byte(out, *byte, is_metric, after)?;
     }
@@ -77,8 +82,34 @@ fn name_of(alloc: Global, text: &[u8], is_metric: bool) -> Result<String, AllocE
     if needs_front(text) {
         push_ascii(&mut name, b'_')?;
     }
-    push_bytes(&mut name, text, is_metric)?;
+    push_bytes(&mut name, text, is_metric, false)?;
     Ok(name)
+}
+
+/// Makes of a text what stands behind a `_` in the name of a label.
+pub(crate) fn name_behind(alloc: Global, text: &[u8]) -> Result<String, AllocError>
+    ensures { IfOk result (λ name. string_bytes name ≡ name_bytes is_label_byte true text.now) }
+{
+    let mut name = String::with_capacity(alloc, text.len())?;
+    push_bytes(&mut name, text, false, true)?;
+    Ok(name)
+}
+
+/// The text without this end, if it has it.
+pub(crate) fn without_end<'a>(text: &'a [u8], end: &[u8]) -> &'a [u8]
+    ensures { result.now ≡ without_end end.now text.now }
+{
+    if text.ends_with(end) {
+        return &text[..text.len() - end.len()];
+    }
+    text
+}
+
+/// The text without a `_` at its end.
+pub(crate) fn without_gap(text: &[u8]) -> &[u8]
+    ensures { result.now ≡ without_gap text.now }
+{
+    without_end(text, b"_")
 }
 
 /// Makes the name of a label of a text: each run of `_` and of bytes outside `[a-zA-Z0-9_]` is one `_`, and a `_` stands

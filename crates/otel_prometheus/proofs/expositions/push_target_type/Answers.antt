@@ -1,4 +1,4 @@
-use Rattle.std.proofs.Common.{rules, codes}
+use Rattle.std.proofs.Common.{codes}
 use Rattle.otel_prometheus.specs.Lines.{help, kind}
 use Rattle.otel_prometheus.proofs.LineLemmas.{two_lines}
 use Rattle.otel_prometheus.proofs.expositions.push_target_type.Goals as goal

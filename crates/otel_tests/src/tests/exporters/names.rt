@@ -14,8 +14,8 @@ use std::alloc::{AllocError, Global};
 use std::process::Abort;
 
 /// Names and units of gauges, and the names of their families: the 32 units that have a word, alone or behind a slash,
-/// others, and names that are made valid, or end with the unit.
-const NAMES: [(&str, &str, &str); 44] = [
+/// others, with notes in braces too, and names that are made valid, or end with the unit or with a gap.
+const NAMES: [(&str, &str, &str); 55] = [
     ("x", "d", "x_days"),
     ("x", "h", "x_hours"),
     ("x", "min", "x_minutes"),
@@ -52,7 +52,18 @@ const NAMES: [(&str, &str, &str); 44] = [
     ("x", "lm/{car}", "x_lm"),
     ("x", "{car}", "x"),
     ("x", "1", "x_ratio"),
-    ("x", "mm[Hg]", "x_mm_Hg_"),
+    ("x", "mm[Hg]", "x_mm_Hg"),
+    ("x", "[pH]", "x_pH"),
+    ("x", "10", "x_10"),
+    ("w", "By{sent}", "w_bytes"),
+    ("w", "{packet}/s", "w_per_second"),
+    ("w", "{a/b}", "w"),
+    ("w", "By{a}/s{b}", "w_bytes_per_second"),
+    ("w", "1{x}", "w_ratio"),
+    ("w", "[a]/[b]", "w_a_per_b"),
+    ("v", "[]", "v"),
+    ("v-", "", "v_"),
+    ("v-", "s", "v_seconds"),
     ("a.b-c/d", "", "a_b_c_d"),
     ("a..b__c", "", "a_b_c"),
     ("1a", "", "_1a"),

@@ -1,4 +1,4 @@
-use Rattle.std.proofs.Common.{◌≡◌, Some, refl, sym, ◌∙◌, rules}
+use Rattle.std.proofs.Common.{◌≡◌, Some, sym, ◌∙◌, rules}
 use Rattle.otel_prometheus.specs.Headings.{heading_of}
 use Rattle.otel_prometheus.proofs.StandingLemmas.{hidden_groups_stay, with_family, without_family}
 use Rattle.otel_prometheus.proofs.families.Groups.add.Goals as goal
