@@ -1,2 +1,5 @@
+pub mod RowsConsumers
 pub mod RowsExpositions
+pub mod RowsNames
+pub mod RowsNumbers
 pub mod RowsRequests

@@ -2,6 +2,5 @@ pub mod Depths
 pub mod Digits
 pub mod Fronts
 pub mod PointTokens
-pub mod RowsNumbers
 pub mod Says
 pub mod Steps

@@ -15,7 +15,6 @@ pub mod PlaceLemmas
 pub mod PlainLemmas
 pub mod RisingLemmas
 pub mod RoundTrip
-pub mod RowsConsumers
 pub mod SeriesLemmas
 pub mod ShownLemmas
 pub mod StandingLemmas
