@@ -100,7 +100,7 @@ const REPLIES: &[Case] = &[
                 meter none\n\
                 instrument 0\n",
     },
-    // The script `examples/requests.script`, and what the README says that it prints.
+    // The script `examples/requests.script`, and what `examples/requests.out` says that it prints.
     Case {
         name: "example",
         script: "# A shop counts its requests, and collects twice.\n\
