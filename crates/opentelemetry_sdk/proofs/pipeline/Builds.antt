@@ -7,7 +7,7 @@ use Rattle.std.proofs.lemmas.Bool.Decides.{nat_tests}
 use Rattle.otel_model.specs.Demands as model
 use Rattle.otel_model.specs.Demands.{Identity, Demand, identity_eq}
 use Rattle.otel_model.proofs.Gather.{identity_eq_true, identity_eq_self}
-use Rattle.opentelemetry_sdk.specs.pipeline.Pipelines.{identity_of, fates_of, stream_identities, stream_number, drops_at}
+use Rattle.opentelemetry_sdk.specs.pipeline.Pipelines.{IsStreamOf, identity_of, fates_of, stream_identities, stream_number, drops_at}
 use Rattle.opentelemetry_sdk.specs.pipeline.Streams.{StreamContents}
 use Rattle.opentelemetry_sdk.proofs.pipeline.Identities.{test-flip}
 
@@ -43,13 +43,6 @@ known x [] = refl
 known x (k ∷ ks) =
     (λ i. test-flip x (identity_of k) i || known x ks i)
     ∙ sym (ap is_some (position-cons (identity_eq x) (identity_of k) (stream_identities ks)) ∙ some_or (identity_eq x (identity_of k)) (stream_number x (stream_identities ks)))
-
--- the stream of this number has the identity, and its demand decides whether that drops
-pub record IsStreamOf (x : Identity) (ks : List StreamContents) (n : ℕ) : Type 0 where
-  pub held : StreamContents
-  pub at : slice_get ks n ≡ Some held
-  pub is : x ≡ identity_of held
-  pub drops : model.is_dropped (fates_of ks) x ≡ drops_at ks n
 
 next_stream : (x : Identity) (k : StreamContents) (ks : List StreamContents) (b : Bool) (o : Option ℕ) (n : ℕ) → identity_eq x (identity_of k) ≡ b
     → ((m : ℕ) → o ≡ Some m → IsStreamOf x ks m) → cond b (Some 0) (option_map suc o) ≡ Some n → IsStreamOf x (k ∷ ks) n

@@ -74,12 +74,9 @@ lawful-keys same law keys p unique sound = record {
   once = sound.3;
 }
 
--- a reader with these streams, without a plan
+-- a reader with these streams
 abbrev pub reader_of : ReaderAnswers → List StreamContents → List (List ℕ) → Piped
-reader_of answers streams feeds = record { answers = answers; streams = streams; feeds = feeds; plan = None; hash_seed = 0; room = false }
-
-pub all_true : (a b c : Bool) → a ≡ true → b ≡ true → c ≡ true → (a && (b && c)) ≡ true
-all_true a b c p q r = λ i. p i && (q i && r i)
+reader_of answers streams feeds = record { answers = answers; streams = streams; feeds = feeds; hash_seed = 0 }
 
 -- ======== the model's part ========
 -- the model does not see which streams are ready
