@@ -23,10 +23,10 @@ returns-in_default-clause-met c = λ before. met-same c.args.now before c.args.s
 
 pub returns-then-not-can_keep-clause-met : goal.returns-then-not-can_keep-clause-met
 returns-then-not-can_keep-clause-met c =
-    let kind = ap (λ (a : About). can_keep a.kind c.in-Some.stream.now.aggregation) c.about.view_is in
+    let kind = ap (λ (a : About). can_keep a.kind c.in-Some.stream.aggregation) c.about.view_is in
     λ before. met-same c.args.now before c.args.self.now c.args.feeds.now.items _
     (ap (usable_answer c.args.self.now.answers c.args.scope.now c.args.about.now) c.in-Some.is
-    ∙ unfit-demands c.args.self.now.answers c.args.scope.now c.args.about.now c.in-Some.stream.now (sym kind ∙ (sym c.can_keep.ensures ∙ c.if-not-can_keep.true)))
+    ∙ unfit-demands c.args.self.now.answers c.args.scope.now c.args.about.now c.in-Some.stream (sym kind ∙ (sym c.can_keep.ensures ∙ c.if-not-can_keep.true)))
 
 -- what can be used is met
 pub meet-requires : goal.meet-requires
@@ -34,10 +34,10 @@ meet-requires c = record { valid = c.in_ok-demand.ensures.valid c.requires }
 
 pub returns-clause-met : goal.returns-clause-met
 returns-clause-met c =
-    let same : c.in_ok-demand.demand ≡ demand_of c.args.self.now.answers c.args.scope.now c.args.about.now c.in-Some.stream.now =
-    c.in_ok-demand.ensures.demand ∙ ap (λ (p : Piped). demand_of p.answers c.args.scope.now c.args.about.now c.in-Some.stream.now) c.self.view_is in
-    let kind = ap (λ (a : About). can_keep a.kind c.in-Some.stream.now.aggregation) c.about.view_is in
-    let usable = ap (usable_answer c.args.self.now.answers c.args.scope.now c.args.about.now) c.in-Some.is ∙ fit-demands c.args.self.now.answers c.args.scope.now c.args.about.now c.in-Some.stream.now (sym kind ∙ (sym c.can_keep.ensures ∙ c.if-not-can_keep.false)) in
+    let same : c.in_ok-demand.demand ≡ demand_of c.args.self.now.answers c.args.scope.now c.args.about.now c.in-Some.stream =
+    c.in_ok-demand.ensures.demand ∙ ap (λ (p : Piped). demand_of p.answers c.args.scope.now c.args.about.now c.in-Some.stream) c.self.view_is in
+    let kind = ap (λ (a : About). can_keep a.kind c.in-Some.stream.aggregation) c.about.view_is in
+    let usable = ap (usable_answer c.args.self.now.answers c.args.scope.now c.args.about.now) c.in-Some.is ∙ fit-demands c.args.self.now.answers c.args.scope.now c.args.about.now c.in-Some.stream (sym kind ∙ (sym c.can_keep.ensures ∙ c.if-not-can_keep.false)) in
     OnOk-weaker c.meet.result
     (λ met before ds was. subst (λ (more : List Demand). AreMet c.args.now (ds ++ more) before c.meet.new.self c.meet.new.feeds.items) (ap (λ (x : Demand). x ∷ []) same ∙ sym usable) (met before ds was))
     c.meet.ensures.met
