@@ -1,5 +1,5 @@
 -- Which of a reader's streams an identity has.
-use Rattle.std.proofs.Common.{◌≡◌, ℕ, zero, suc, ◌+◌, ◌<◌, Bool, true, false, cond, not, ◌||◌, List, [], ◌∷◌, ◌++◌, length, Option, Some, None, slice_get, refl, sym, ◌∙◌, ap, subst, arith, true≢false}
+use Rattle.std.proofs.Common.{◌≡◌, ℕ, zero, suc, ◌+◌, Bool, true, false, cond, not, ◌||◌, List, [], ◌∷◌, ◌++◌, length, Option, Some, None, slice_get, refl, sym, ◌∙◌, ap, subst, arith, true≢false}
 use Rattle.std.specs.Prelude.{is_some, nat_lt, position}
 use Rattle.std.specs.List.{list_any, position_or_len}
 use Rattle.std.specs.Option.{option_map}
@@ -74,13 +74,3 @@ fate-new (x ∷ ds) d e = by (identity_eq x.identity d.identity) e (λ q. fate-n
         → model.is_drop_fate (cond b (Some x) (model.fate_of (ds ++ d ∷ []) d.identity)) ≡ model.is_drop d.aggregation
     by true q rest = absurd (true≢false q)
     by false q rest = rest q
-
--- a number that is found is that of an element
-pub position-within : {X : Type 0} (p : X → Bool) (xs : List X) (n : ℕ) → position p xs ≡ Some n → n < length xs
-position-within p [] n e = absurd (cc)
-position-within p (x ∷ xs) n e = next (p x) (position p xs) (λ m q. position-within p xs m q) (sym (position-cons p x xs) ∙ e)
-  where
-    next : (b : Bool) (o : Option ℕ) → ((m : ℕ) → o ≡ Some m → m < length xs) → cond b (Some 0) (option_map suc o) ≡ Some n → n < suc (length xs)
-    next true o rest q = let z : 0 ≡ n = cc in omega arith
-    next false None rest q = absurd (cc)
-    next false (Some m) rest q = let z : suc m ≡ n = cc in let r = rest m refl in omega arith

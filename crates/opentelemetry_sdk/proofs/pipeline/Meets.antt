@@ -2,7 +2,6 @@
 use Rattle.std.proofs.Common.{◌≡◌, ℕ, zero, suc, ◌+◌, ◌<◌, Bool, true, false, cond, not, ◌||◌, List, [], ◌∷◌, ◌++◌, map, filter, fold, length, Some, None, slice_get, refl, sym, ◌∙◌, ap, subst, arith, append_assoc, true≢false}
 use Rattle.std.specs.Prelude.{is_some, take, All, ◌&&◌}
 use Rattle.std.proofs.Math.Bool.{or-false, or_assoc}
-use Rattle.std.proofs.Math.Seq.{take-append_seam}
 use Rattle.std.proofs.lemmas.Option.{slice_get_within}
 use Rattle.std.specs.List.{list_any, IsDistinct, AllByRecursion}
 use Rattle.std.proofs.lemmas.List.{append-nil, map-append, length-append}
@@ -14,7 +13,7 @@ use Rattle.otel_model.specs.Demands.{Identity, Demand, ReaderAnswers, identity_e
 use Rattle.otel_model.specs.State.{ReaderPart}
 use Rattle.otel_model.specs.Machine as machine
 use Rattle.otel_model.proofs.Gather.{identity_eq_true, identity_eq_self, known-append}
-use Rattle.opentelemetry_sdk.specs.pipeline.Pipelines.{Piped, AreFedOnce, AreMet, AreNumbers, IsLonger, IsMetBy, IsStreamOf, after_cut, part_of, part_by, identity_at, named_identities, identity_of, fates_of, is_streamed, model_streams, stream_identities, stream_number, drops_at, fed_once}
+use Rattle.opentelemetry_sdk.specs.pipeline.Pipelines.{Piped, AreFedOnce, AreMet, AreNumbers, IsLonger, IsMetBy, part_of, part_by, identity_at, named_identities, identity_of, fates_of, is_streamed, model_streams, stream_identities, stream_number, drops_at, fed_once}
 use Rattle.opentelemetry_sdk.specs.pipeline.Streams.{StreamContents, new_contents}
 use Rattle.opentelemetry_sdk.proofs.pipeline.Builds.{found, known, fate-new, drops-is}
 use Rattle.opentelemetry_sdk.proofs.pipeline.Identities.{are_apart}
@@ -427,19 +426,7 @@ met-built now ds old new ns met =
     ∙ ap (machine.with_feeds ds) met.part
 
 -- ======== a build that is undone ========
-module _ (old new : Piped) (longer : IsLonger old new) (streams instruments : ℕ) (many : streams ≡ length old.streams) (fed : instruments ≡ length old.feeds) where
-  cut-streams : take streams new.streams ≡ old.streams
-  cut-streams = (λ i. take (many i) (longer.streams i)) ∙ take-append_seam old.streams longer.added
-
-  cut-feeds : take instruments new.feeds ≡ old.feeds
-  cut-feeds = (λ i. take (fed i) (longer.feeds i)) ∙ take-append_seam old.feeds longer.fed
-
-  pub cut-part : part_of (after_cut streams instruments new) ≡ part_of old
-  cut-part = λ i. part_by (longer.answers i) (cut-streams i) (cut-feeds i)
-
-  pub cut-numbers : All (AreNumbers old.streams) old.feeds → All (AreNumbers (take streams new.streams)) (take instruments new.feeds)
-  cut-numbers numbers = rw (cut-streams, cut-feeds) numbers
-
+-- what holds of all elements holds of the first
 pub each-taken : {X : Type 0} (P : X → Type 0) (n : ℕ) (xs : List X) → AllByRecursion P xs → AllByRecursion P (take n xs)
 each-taken P zero xs all = tt
 each-taken P (suc n) [] all = tt

@@ -141,10 +141,6 @@ module _ (answers : ReaderAnswers) (scope : InstrumentationScope) (about : About
       dropped : List Demand → Identity → Bool
       dropped ds = model.is_dropped (fold machine.enter (fates_of old.streams) ds)
 
--- without a scope nothing is demanded
-pub demands-none : (p : ReaderPart) (o : Option InstrumentationScope) (about : About) (l : List (Option StreamSpec)) → o ≡ None → build_demands (views_answering l) p o about ≡ []
-demands-none p o about l e = ap (λ s. build_demands (views_answering l) p s about) e
-
 -- a good instrument has good bounds
 pub good-bounds : (o : Option InstrumentationScope) (scope : InstrumentationScope) (about : About) → o ≡ Some scope → IsGoodIn o about → model.are_good_bounds about.kind about.bounds ≡ true
 good-bounds o scope about e good = (and_parts (is_none (optional_unit_fault about.unit)) (model.are_good_bounds about.kind about.bounds) (and_parts (is_good_name about.name) _ (subst (λ s. IsGoodIn s about) e good)).1).1

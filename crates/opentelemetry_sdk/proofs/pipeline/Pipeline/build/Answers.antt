@@ -1,4 +1,4 @@
-use Rattle.std.proofs.Common.{◌≡◌, ◌∙◌, ap, append_assoc, List, ℕ, [], ◌∷◌, ◌++◌}
+use Rattle.std.proofs.Common.{◌∙◌, ap, append_assoc, List, ℕ, [], ◌∷◌, ◌++◌}
 use Rattle.opentelemetry_sdk.specs.pipeline.Pipelines.{Piped, part_by}
 use Rattle.opentelemetry_sdk.proofs.pipeline.Meets.{met-built}
 use Rattle.opentelemetry_sdk.proofs.pipeline.Pipeline.build.Goals as goal

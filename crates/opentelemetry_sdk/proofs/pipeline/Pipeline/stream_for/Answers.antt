@@ -4,7 +4,7 @@ use Rattle.std.specs.List.{list_any}
 use Rattle.std.specs.Prelude.{is_some}
 use Rattle.otel_model.specs.Demands.{Identity}
 use Rattle.otel_model.specs.Streams.{is_delta}
-use Rattle.opentelemetry_sdk.specs.pipeline.Pipelines.{IsMetBy, identity_of, stream_identities, stream_number}
+use Rattle.opentelemetry_sdk.specs.pipeline.Pipelines.{identity_of, stream_identities, stream_number}
 use Rattle.opentelemetry_sdk.specs.pipeline.Streams.{StreamContents, new_contents}
 use Rattle.opentelemetry_sdk.proofs.pipeline.Answered.{answered-push}
 use Rattle.opentelemetry_sdk.proofs.pipeline.Builds.{any-position}
