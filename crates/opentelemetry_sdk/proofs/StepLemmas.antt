@@ -1,8 +1,7 @@
 -- Calls that the provider carries out are the model's.
-use Rattle.std.proofs.Common.{◌≡◌, ◌⊎◌, inl, inr, ℕ, zero, suc, ◌+◌, ◌<◌, Bool, true, false, cond, not, ◌||◌, List, [], ◌∷◌, ◌++◌, map, length, take, Option, Some, None, option_map, slice_get, refl, sym, ◌∙◌, ap, subst, arith, true≢false}
-use Rattle.std.specs.Prelude.{All, Result, Ok, Err, OnOk, OnErr, IfOk, IsOkUnless, is_none, is_some, position}
+use Rattle.std.proofs.Common.{◌≡◌, ℕ, zero, suc, ◌+◌, ◌<◌, Bool, true, false, cond, not, ◌||◌, List, [], ◌∷◌, ◌++◌, map, length, take, Option, Some, None, option_map, slice_get, refl, sym, ◌∙◌, ap, subst, arith, true≢false}
+use Rattle.std.specs.Prelude.{All, Result, Ok, Err, OnOk, OnErr, IfOk, IsOkUnless, is_some, position}
 use Rattle.std.specs.List.{list_any, position_or_len}
-use Rattle.std.proofs.lemmas.Bool.{and_parts}
 use Rattle.otel_common.specs.Scopes.{scope_eq, scope_eq-Decides}
 use Rattle.otel_common.specs.declared.attributes.KeyValue.{KeyValue}
 use Rattle.otel_common.specs.declared.faults.Fault.{Fault}
@@ -10,14 +9,13 @@ use Rattle.otel_common.specs.declared.faults.Fault.TheVariants as fault
 use Rattle.otel_common.specs.declared.scopes.InstrumentationScope.{InstrumentationScope}
 use Rattle.otel_data.specs.declared.numbers.NumberValue.{NumberValue}
 use Rattle.otel_model.specs.Calls as model
-use Rattle.otel_model.specs.Checks.{is_good_name, optional_unit_fault}
-use Rattle.otel_model.specs.Demands.{StreamSpec, Views, is_good, are_good_bounds}
+use Rattle.otel_model.specs.Demands.{StreamSpec, Views, is_good}
 use Rattle.otel_model.specs.Machine as machine
 use Rattle.otel_model.specs.Refusals.{meter_refusal, record_refusal}
 use Rattle.otel_model.specs.Sent.{has_scope}
 use Rattle.otel_model.specs.State.{ReaderPart, InstrumentState, Shared, State}
 use Rattle.otel_model.specs.Steps.{Step, number_from, reply_by, after_by}
-use Rattle.opentelemetry_sdk.specs.pipeline.Pipelines.{Piped, part_of, part_after_record, IsBuildableIn, IsPreparedFor}
+use Rattle.opentelemetry_sdk.specs.pipeline.Pipelines.{Piped, part_of, part_after_record, IsPreparedFor}
 use Rattle.opentelemetry_sdk.proofs.pipeline.Builds.{any-position, position-cons}
 use Rattle.opentelemetry_sdk.specs.pipeline.Views.{views_answering}
 use Rattle.opentelemetry_sdk.proofs.pipeline.Records.{recorded-sent}
@@ -76,16 +74,6 @@ meter_number scope ms n e = ap (λ m. Some m) (e ∙ omega arith) ∙ sym (by (l
     by false h = rw (has_scope-flip scope ms, h) (number_last scope 0 ms)
 
 -- ======== builds ========
-pub good-or-none : (scope : Option InstrumentationScope) (about : model.About) → IsGoodIn scope about → (scope ≡ None ⊎ is_good about ≡ true)
-good-or-none None about good = inl refl
-good-or-none (Some scope) about good = inr good
-
-pub buildable-in : (scope : Option InstrumentationScope) (about : model.About) → IsGoodIn scope about → IsBuildableIn scope about
-buildable-in None about good = tt
-buildable-in (Some scope) about good = record {
-  bounds = (and_parts (is_none (optional_unit_fault about.unit)) (are_good_bounds about.kind about.bounds) (and_parts (is_good_name about.name) _ good).1).1;
-}
-
 -- an instrument whose name, unit or bounds are bad has no scope
 pub good-in : (scope : Option InstrumentationScope) (about : model.About) (b : Bool) → is_good about ≡ b → IsGoodIn (cond b scope None) about
 good-in scope about false e = tt

@@ -10,7 +10,7 @@ pub mod Feeds
 pub mod DemandLemmas
 pub mod PipelineLemmas
 pub mod PipelinesLemmas
-pub mod Plans
+pub mod Meets
 pub mod Places
 pub mod Records
 pub mod Shows

@@ -3,14 +3,12 @@
 ghost use Rattle.std.specs.Prelude.{◌≡◌, [], true, ℕ, IfOk, OnOk, OnErr, IsOk, IsOkUnless, map};
 ghost use Rattle.otel_model.specs.Calls as model;
 ghost use Rattle.otel_model.specs.Machine.{part_after_call};
-ghost use Rattle.std.specs.Option.{option_map};
 ghost use Rattle.opentelemetry_sdk.specs.pipeline.Collections.{IsCollectedFrom};
 ghost use Rattle.opentelemetry_sdk.specs.pipeline.Handles.{AreObservableFor, FeedsSynchronous, IsHeldByFed, IsReadyToBindAt, part_after_bind};
 ghost use Rattle.opentelemetry_sdk.specs.pipeline.Known.{is_known_at};
 ghost use Rattle.opentelemetry_sdk.specs.pipeline.Observations.{AreTypedFor, observed_of};
-ghost use Rattle.opentelemetry_sdk.specs.pipeline.Pipelines.{part_of, has_stream_at, number_of, piped_after_build, part_after_record, FeedsType, HashesFrom, IsBuildableIn, IsPlanned, IsReadyFor, IsPreparedFor};
+ghost use Rattle.opentelemetry_sdk.specs.pipeline.Pipelines.{part_of, has_stream_at, number_of, part_after_record, FeedsType, IsPreparedFor};
 ghost use Rattle.otel_aggregate.specs.Any.{is_signed_value};
-ghost use Rattle.opentelemetry_sdk.specs.pipeline.Views.{views_answering};
 
 use crate::pipeline::about::About;
 use crate::pipeline::each_stream::{
@@ -19,8 +17,6 @@ use crate::pipeline::each_stream::{
 };
 use crate::pipeline::metric_stream::MetricStream;
 use crate::pipeline::observing::collect_observed;
-use crate::pipeline::plan::Plan;
-use crate::pipeline::vectors::insert_each;
 use indexmap::IndexSet;
 use otel_aggregate::value_map::hashed_key::GivenAttributes;
 use otel_aggregate::value_map::hashing::SetHashBuilder;
@@ -35,20 +31,18 @@ use otel_stream::answers::Answers;
 use otel_stream::demand::Identity;
 use otel_stream::laws::kind_laws;
 use otel_stream::observation::Observed;
-use otel_stream::stream::Stream;
 use std::alloc::{AllocError, Global};
 use std::marker::Model;
 
 pub mod about;
 mod aggregations;
+mod building;
 mod collecting;
 pub mod defaults;
 pub mod demands;
 mod each_stream;
 mod metric_stream;
 mod observing;
-mod plan;
-mod planning;
 mod saved;
 mod vectors;
 
@@ -62,14 +56,12 @@ pub struct Pipeline {
     /// shows it.
     pub(crate) streams: Vec<MetricStream>,
     feeds: Vec<Items<usize>>,
-    plan: Option<Plan>,
 }
 
 impl Model for Pipeline {
-    ghost use Rattle.std.specs.Prelude.{◌≡◌, ◌+◌, ◌&&◌, nat_lt, nat_le, All, vec_len, vec_capacity};
+    ghost use Rattle.std.specs.Prelude.{◌≡◌, All};
     ghost use Rattle.std.specs.List.{AllByRecursion};
-    ghost use Rattle.indexmap.specs.IndexSet.{spare};
-    ghost use Rattle.opentelemetry_sdk.specs.pipeline.Pipelines.{Piped, AreNumbers, AreAnswered, AreFedOnce, many_added, stream_identities};
+    ghost use Rattle.opentelemetry_sdk.specs.pipeline.Pipelines.{Piped, AreNumbers, AreAnswered, AreFedOnce, stream_identities};
 
     ghost Value = { Piped };
 
@@ -77,9 +69,7 @@ impl Model for Pipeline {
       answers = p.answers;
       streams = p.streams.items;
       feeds = p.feeds.items;
-      plan = p.plan;
       hash_seed = p.hasher.seed;
-      room = nat_le (many_added p.plan) (spare p.identities) && (nat_le (vec_len p.streams + many_added p.plan) (vec_capacity p.streams) && nat_lt (vec_len p.feeds) (vec_capacity p.feeds));
     } };
 
     ghost invariant = { λ p. (p.identities.keys ≡ stream_identities p.streams.items) × All (AreNumbers p.streams.items) p.feeds.items × AreAnswered p.answers p.streams.items × AllByRecursion AreFedOnce p.feeds.items };
@@ -95,7 +85,6 @@ impl Drop for Pipeline {
             identities: _identities,
             streams: _streams,
             feeds: _feeds,
-            plan: _plan,
         } = self;
     }
 }
@@ -114,60 +103,7 @@ impl Pipeline {
             identities: IndexSet::new(alloc),
             streams: Vec::new(alloc),
             feeds: Vec::new(alloc),
-            plan: None,
         }
-    }
-
-    /// Plans a build of this instrument at the moment `now`, in nanoseconds since 1970. `answered` has the answer of
-    /// each view; without a scope the instrument demands nothing. What the reader has stays unchanged, except that sets
-    /// are hashed with this hasher, in the new streams too.
-    ///
-    /// For each answer, and for the instrument's own stream if that is demanded, copies texts, keys and bounds, looks
-    /// up the identity, and takes memory for a new stream.
-    pub fn plan(
-        &mut self,
-        hasher: SetHashBuilder,
-        scope: Option<&InstrumentationScope>,
-        about: &About<'_>,
-        answered: &[Option<Stream>],
-        now: u64,
-    ) -> Result<(), Fault>
-        requires { IsBuildableIn (option_map (λ s. s.now) scope) about.now }
-        ensures same { part_of self.new ≡ part_of self.old }
-        ensures ready { OnOk result (IsReadyFor (views_answering answered.now) (option_map (λ s. s.now) scope.entry) about.now now self.new) }
-        ensures seeded { OnOk result (HashesFrom hasher.seed self.new) }
-        ensures only_memory { IsOkUnless result Fault.OutOfMemory }
-    {
-        let plan = self.plan_in(hasher, scope, about, answered, now)?;
-        kind_laws();
-        let many = plan.added.len();
-        self.plan = Some(plan);
-        self.hasher = hasher;
-        self.identities.reserve(many)?;
-        self.streams.reserve(many)?;
-        self.feeds.reserve(1)?;
-        Ok(())
-    }
-
-    /// Carries out the planned build. Takes no memory.
-    pub fn build(&mut self)
-        requires { IsPlanned self.old }
-        ensures built { part_of self.new ≡ part_of (piped_after_build self.old) }
-        ensures seeded { self.new.hash_seed ≡ self.old.hash_seed }
-    {
-        kind_laws();
-        let Some(plan) = self.plan.take() else {
-            return;
-        };
-        let Plan {
-            hasher: _,
-            feeds,
-            identities,
-            mut added,
-        } = plan;
-        insert_each(&mut self.identities, identities);
-        self.streams.append(&mut added).unwrap();
-        self.feeds.push_reserved(Items::from(feeds));
     }
 
     /// What sets of attributes are hashed with, as the last build said.

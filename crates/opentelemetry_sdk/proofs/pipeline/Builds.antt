@@ -1,5 +1,5 @@
 -- Which of a reader's streams an identity has.
-use Rattle.std.proofs.Common.{◌≡◌, ℕ, zero, suc, ◌+◌, ◌<◌, Bool, true, false, cond, not, ◌||◌, List, [], ◌∷◌, ◌++◌, length, Option, Some, None, slice_get, refl, sym, ◌∙◌, ap, subst, arith, true≢false}
+use Rattle.std.proofs.Common.{◌≡◌, ℕ, zero, suc, ◌+◌, Bool, true, false, cond, not, ◌||◌, List, [], ◌∷◌, ◌++◌, length, Option, Some, None, slice_get, refl, sym, ◌∙◌, ap, subst, arith, true≢false}
 use Rattle.std.specs.Prelude.{is_some, nat_lt, position}
 use Rattle.std.specs.List.{list_any, position_or_len}
 use Rattle.std.specs.Option.{option_map}
@@ -7,7 +7,7 @@ use Rattle.std.proofs.lemmas.Bool.Decides.{nat_tests}
 use Rattle.otel_model.specs.Demands as model
 use Rattle.otel_model.specs.Demands.{Identity, Demand, identity_eq}
 use Rattle.otel_model.proofs.Gather.{identity_eq_true, identity_eq_self}
-use Rattle.opentelemetry_sdk.specs.pipeline.Pipelines.{identity_of, fates_of, stream_identities, stream_number, drops_at}
+use Rattle.opentelemetry_sdk.specs.pipeline.Pipelines.{IsStreamOf, identity_of, fates_of, stream_identities, stream_number, drops_at}
 use Rattle.opentelemetry_sdk.specs.pipeline.Streams.{StreamContents}
 use Rattle.opentelemetry_sdk.proofs.pipeline.Identities.{test-flip}
 
@@ -44,13 +44,6 @@ known x (k ∷ ks) =
     (λ i. test-flip x (identity_of k) i || known x ks i)
     ∙ sym (ap is_some (position-cons (identity_eq x) (identity_of k) (stream_identities ks)) ∙ some_or (identity_eq x (identity_of k)) (stream_number x (stream_identities ks)))
 
--- the stream of this number has the identity, and its demand decides whether that drops
-pub record IsStreamOf (x : Identity) (ks : List StreamContents) (n : ℕ) : Type 0 where
-  pub held : StreamContents
-  pub at : slice_get ks n ≡ Some held
-  pub is : x ≡ identity_of held
-  pub drops : model.is_dropped (fates_of ks) x ≡ drops_at ks n
-
 next_stream : (x : Identity) (k : StreamContents) (ks : List StreamContents) (b : Bool) (o : Option ℕ) (n : ℕ) → identity_eq x (identity_of k) ≡ b
     → ((m : ℕ) → o ≡ Some m → IsStreamOf x ks m) → cond b (Some 0) (option_map suc o) ≡ Some n → IsStreamOf x (k ∷ ks) n
 next_stream x k ks true o zero t rest e =
@@ -81,13 +74,3 @@ fate-new (x ∷ ds) d e = by (identity_eq x.identity d.identity) e (λ q. fate-n
         → model.is_drop_fate (cond b (Some x) (model.fate_of (ds ++ d ∷ []) d.identity)) ≡ model.is_drop d.aggregation
     by true q rest = absurd (true≢false q)
     by false q rest = rest q
-
--- a number that is found is that of an element
-pub position-within : {X : Type 0} (p : X → Bool) (xs : List X) (n : ℕ) → position p xs ≡ Some n → n < length xs
-position-within p [] n e = absurd (cc)
-position-within p (x ∷ xs) n e = next (p x) (position p xs) (λ m q. position-within p xs m q) (sym (position-cons p x xs) ∙ e)
-  where
-    next : (b : Bool) (o : Option ℕ) → ((m : ℕ) → o ≡ Some m → m < length xs) → cond b (Some 0) (option_map suc o) ≡ Some n → n < suc (length xs)
-    next true o rest q = let z : 0 ≡ n = cc in omega arith
-    next false None rest q = absurd (cc)
-    next false (Some m) rest q = let z : suc m ≡ n = cc in let r = rest m refl in omega arith

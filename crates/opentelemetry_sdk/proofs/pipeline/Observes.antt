@@ -121,7 +121,7 @@ answered-observed os p all = answered-same (λ resets d. resets ≡ is_delta p.a
 
 -- the reader, with these streams
 abbrev with_streams : List StreamContents → Piped → Piped
-with_streams ks p = record { answers = p.answers; streams = ks; feeds = p.feeds; plan = p.plan; hash_seed = p.hash_seed; room = p.room }
+with_streams ks p = record { answers = p.answers; streams = ks; feeds = p.feeds; hash_seed = p.hash_seed }
 
 observed-sent : (os : List Observed) (p : Piped) → IsLawful p → AreTypedFor os (part_of p) → part_by p.answers (observed_all p.feeds os p.streams) p.feeds ≡ records_sent (map observed_of os) (part_of p)
 observed-sent [] p lawful typed = refl

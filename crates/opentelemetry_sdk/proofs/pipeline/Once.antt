@@ -22,10 +22,6 @@ once-push (m ∷ ns) n once new =
     (absent-push ns m n once.0 (ne_eqb n m (λ q. true≢false (sym (eq-eqb m n (sym q)) ∙ p.0))), once-push ns n once.1 p.1)
 
 -- ======== what instruments feed ========
-pub fed-push : (feeds : List (List ℕ)) (ns : List ℕ) → AllByRecursion AreFedOnce feeds → AreFedOnce ns → AllByRecursion AreFedOnce (feeds ++ ns ∷ [])
-fed-push [] ns all once = (once, tt)
-fed-push (ms ∷ feeds) ns all once = (all.0, fed-push feeds ns all.1 once)
-
 pub fed-once : (feeds : List (List ℕ)) (n : ℕ) → AllByRecursion AreFedOnce feeds → AreFedOnce (or_else (slice_get feeds n) [])
 fed-once [] n all = tt
 fed-once (ns ∷ feeds) zero all = all.0

@@ -1,5 +1,5 @@
 -- What calls leave of a reader's streams: their identities, and so their number.
-use Rattle.std.proofs.Common.{Bool, true, false, cond, ◌&&◌, ◌≡◌, ℕ, zero, suc, List, [], ◌∷◌, ◌++◌, map, filter, length, Option, Some, None, slice_get, refl, sym, ◌∙◌, ap, subst, arith}
+use Rattle.std.proofs.Common.{Bool, true, false, cond, ◌≡◌, ℕ, zero, suc, List, [], ◌∷◌, ◌++◌, map, filter, length, Option, Some, None, slice_get, refl, sym, ◌∙◌, ap, subst, arith}
 use Rattle.std.specs.Bool.{Decides}
 use Rattle.std.specs.List.{AllByRecursion, IsDistinct}
 use Rattle.std.specs.Prelude.{All}
@@ -74,18 +74,11 @@ lawful-keys same law keys p unique sound = record {
   once = sound.3;
 }
 
--- a reader with these streams, without a plan
+-- a reader with these streams
 abbrev pub reader_of : ReaderAnswers → List StreamContents → List (List ℕ) → Piped
-reader_of answers streams feeds = record { answers = answers; streams = streams; feeds = feeds; plan = None; hash_seed = 0; room = false }
-
-pub all_true : (a b c : Bool) → a ≡ true → b ≡ true → c ≡ true → (a && (b && c)) ≡ true
-all_true a b c p q r = λ i. p i && (q i && r i)
+reader_of answers streams feeds = record { answers = answers; streams = streams; feeds = feeds; hash_seed = 0 }
 
 -- ======== the model's part ========
--- the model does not see which streams are ready
-pub part-same : (answers : ReaderAnswers) (a b : List StreamContents) (feeds more : List (List ℕ)) → a ≡ b → feeds ≡ more → part_by answers a feeds ≡ part_by answers b more
-part-same answers a b feeds more e f = λ i. part_by answers (e i) (f i)
-
 pub filter-map : {X Y : Type 0} (p : Y → Bool) (f : X → Y) (xs : List X) → filter p (map f xs) ≡ map f (filter (λ x. p (f x)) xs)
 filter-map p f [] = refl
 filter-map p f (x ∷ xs) = by (p (f x)) (filter-map p f xs)

@@ -1,19 +1,24 @@
 -- What the answers of views demand.
-use Rattle.std.proofs.Common.{◌≡◌, ℕ, ◌+◌, ◌<◌, ℤ, Bool, true, false, cond, not, ◌&&◌, ◌||◌, List, [], ◌∷◌, ◌++◌, fold, take, get_or, length, Option, Some, None, is_some, refl, sym, ◌∙◌, ap, subst, append_assoc, add-one}
+use Rattle.std.proofs.Common.{◌≡◌, ℕ, ◌+◌, ◌<◌, ℤ, Bool, true, false, cond, not, ◌&&◌, ◌||◌, List, [], ◌∷◌, ◌++◌, fold, take, get_or, length, Option, Some, None, is_some, is_none, refl, sym, ◌∙◌, ap, subst, append_assoc, add-one}
 use Rattle.std.specs.List.{list_any}
 use Rattle.std.proofs.Math.Seq.{take-suc}
+use Rattle.std.proofs.lemmas.Bool.{and_parts}
 use Rattle.std.proofs.lemmas.List.{append-nil}
 use Rattle.otel_common.specs.declared.metrics.Aggregation.{Aggregation}
 use Rattle.otel_common.specs.declared.metrics.Aggregation.TheVariants.{Drop, Default, Sum, LastValue, ExplicitBucketHistogram}
 use Rattle.otel_common.specs.declared.scopes.InstrumentationScope.{InstrumentationScope}
 use Rattle.otel_model.specs.Calls.{About, InstrumentKind, Counter, UpDownCounter, Histogram, ObservableCounter, ObservableUpDownCounter, Gauge, ObservableGauge}
 use Rattle.otel_model.specs.Demands as model
-use Rattle.otel_model.specs.Demands.{Identity, Demand, ReaderAnswers, StreamSpec, answer_for, fits, is_valid, kind_default, default_from, reader_default, with_bounds, with_own, resolved_aggregation, demand_of, own_demand, view_demands, is_compatible}
+use Rattle.otel_model.specs.Demands.{Identity, Demand, ReaderAnswers, StreamSpec, answer_for, fits, is_valid, kind_default, default_from, reader_default, with_bounds, with_own, resolved_aggregation, demand_of, own_demand, demands_on, view_demands, is_compatible}
 use Rattle.otel_model.specs.Machine as machine
-use Rattle.opentelemetry_sdk.specs.pipeline.Pipelines.{Planned, part_by, named_identities, fates_of, demands_in, dropped_with, IsPlanOf}
+use Rattle.otel_model.specs.Machine.{build_demands}
+use Rattle.otel_model.specs.State.{ReaderPart}
+use Rattle.otel_model.specs.Checks.{is_good_name, optional_unit_fault}
+use Rattle.opentelemetry_sdk.specs.States.{IsGoodIn}
+use Rattle.opentelemetry_sdk.specs.pipeline.Pipelines.{AreMet, Piped, part_of, named_identities, fates_of}
 use Rattle.opentelemetry_sdk.specs.pipeline.Streams.{StreamContents}
 use Rattle.opentelemetry_sdk.specs.pipeline.Views.{views_answering, usable_answer, usable_demands, can_keep, is_unfit, has_none, demands_own}
-use Rattle.opentelemetry_sdk.proofs.pipeline.Plans.{demanded-fates, no_identity, fed-empty}
+use Rattle.opentelemetry_sdk.proofs.pipeline.Meets.{demanded-fates, no_identity, fed-empty}
 use Rattle.opentelemetry_sdk.proofs.pipeline.Records.{HaveStreams, identity_at-is, numbers-named}
 
 -- ======== which aggregations can be used ========
@@ -114,36 +119,31 @@ module _ (answers : ReaderAnswers) (scope : InstrumentationScope) (about : About
   unfit-is (Some s ∷ l) = λ i. not (compatible-is answers scope about s i) || unfit-is l i
 
   -- nothing is fed exactly if all that is demanded drops
-  module _ (made : List StreamContents) (now : ℕ) (plan : Planned) (ds : List Demand) (is : IsPlanOf answers made now ds plan) where
-    same-fates : fates_of (made ++ plan.added) ≡ fold machine.enter (fates_of made) ds
-    same-fates = ap (λ p. p.fates) is.streams ∙ demanded-fates now (part_by answers made []) ds
+  fed-none : (now : ℕ) (ds : List Demand) (old new : Piped) (ns : List ℕ) → AreMet now ds old new ns → has_none ns ≡ not (list_any (λ (d : Demand). not (model.is_dropped (fold machine.enter (fates_of old.streams) ds) d.identity)) ds)
+  fed-none now ds old new ns met =
+      none-named new.streams ns (numbers-named new.streams ns met.numbers)
+      ∙ (ap no_identity met.named
+      ∙ (fed-empty (model.is_dropped (fates_of new.streams)) ds
+      ∙ ap (λ fs. not (list_any (λ (d : Demand). not (model.is_dropped fs d.identity)) ds)) (ap (λ (p : ReaderPart). p.fates) met.part ∙ demanded-fates now (part_of old) ds)))
+    where
+      none-named : (ks : List StreamContents) (ns : List ℕ) → HaveStreams ns ks → has_none ns ≡ no_identity (named_identities ks ns)
+      none-named ks [] all = refl
+      none-named ks (n ∷ ns) all = sym (ap (λ xs. no_identity (xs ++ named_identities ks ns)) (identity_at-is ks n (all.0.0) all.0.1))
 
-    none-named : (ks : List StreamContents) (ns : List ℕ) → HaveStreams ns ks → has_none ns ≡ no_identity (named_identities ks ns)
-    none-named ks [] all = refl
-    none-named ks (n ∷ ns) all = sym (ap (λ xs. no_identity (xs ++ named_identities ks ns)) (identity_at-is ks n (all.0.0) all.0.1))
+  -- so the streams that what can be used feeds tell whether the own one is demanded, and so all that is
+  pub demands-with : (now : ℕ) (old new : Piped) (o : Option InstrumentationScope) (l : List (Option StreamSpec)) (ns : List ℕ) (b : Bool) → old.answers ≡ answers → o ≡ Some scope → IsGoodIn o about → AreMet now (usable l) old new ns → demands_own about.kind l ns ≡ b
+      → build_demands (views_answering l) (part_of old) o about ≡ usable l ++ cond b (own_demand answers scope about ∷ []) []
+  demands-with now old new o l ns b same e good met needs =
+      (λ i. demands_on dropped (views_answering l) (same i) (e i) about)
+      ∙ (ap (λ g. cond g (model.demands_with dropped (views_answering l) answers scope about) []) (subst (λ s. IsGoodIn s about) e good)
+      ∙ ap (λ n. usable l ++ cond n (own_demand answers scope about ∷ []) []) (sym (λ i. sym (is_empty-is l) i || (sym (unfit-is l) i && fed-none now (usable l) old new ns met i)) ∙ needs))
+    where
+      dropped : List Demand → Identity → Bool
+      dropped ds = model.is_dropped (fold machine.enter (fates_of old.streams) ds)
 
-    pub fed-none : has_none plan.feeds ≡ not (list_any (λ (d : Demand). not (dropped_with made ds d.identity)) ds)
-    fed-none =
-        none-named (made ++ plan.added) plan.feeds (numbers-named (made ++ plan.added) plan.feeds is.numbers)
-        ∙ (ap no_identity is.feeds
-        ∙ (fed-empty (model.is_dropped (fates_of (made ++ plan.added))) ds
-        ∙ ap (λ fs. not (list_any (λ (d : Demand). not (model.is_dropped fs d.identity)) ds)) same-fates))
-
-  -- so the plan of what can be used tells whether the own stream is demanded
-  pub demands_own-is : (made : List StreamContents) (now : ℕ) (plan : Planned) (l : List (Option StreamSpec)) → IsPlanOf answers made now (usable l) plan
-      → demands_own about.kind l plan.feeds ≡ model.needs_own (dropped_with made (usable l)) (demands l)
-  demands_own-is made now plan l is = λ i. sym (is_empty-is l) i || (sym (unfit-is l) i && fed-none made now plan (usable l) is i)
-
-  -- all that an instrument demands
-  pub demands-with : (made : List StreamContents) (o : Option InstrumentationScope) (l : List (Option StreamSpec)) (b : Bool) → o ≡ Some scope → model.needs_own (dropped_with made (usable l)) (demands l) ≡ b
-      → demands_in (dropped_with made) (views_answering l) answers o about ≡ usable l ++ cond b (own_demand answers scope about ∷ []) []
-  demands-with made o l b e needs =
-      ap (λ s. demands_in (dropped_with made) (views_answering l) answers s about) e
-      ∙ ap (λ n. usable l ++ cond n (own_demand answers scope about ∷ []) []) needs
-
--- without a scope nothing is demanded
-pub demands-none : (made : List StreamContents) (answers : ReaderAnswers) (o : Option InstrumentationScope) (about : About) (l : List (Option StreamSpec)) → o ≡ None → demands_in (dropped_with made) (views_answering l) answers o about ≡ []
-demands-none made answers o about l e = ap (λ s. demands_in (dropped_with made) (views_answering l) answers s about) e
+-- a good instrument has good bounds
+pub good-bounds : (o : Option InstrumentationScope) (scope : InstrumentationScope) (about : About) → o ≡ Some scope → IsGoodIn o about → model.are_good_bounds about.kind about.bounds ≡ true
+good-bounds o scope about e good = (and_parts (is_none (optional_unit_fault about.unit)) (model.are_good_bounds about.kind about.bounds) (and_parts (is_good_name about.name) _ (subst (λ s. IsGoodIn s about) e good)).1).1
 
 -- an aggregation that can't be used is not demanded
 pub unfit-demands : (answers : ReaderAnswers) (scope : InstrumentationScope) (about : About) (s : StreamSpec) → can_keep about.kind s.aggregation ≡ false → usable_answer answers scope about (Some s) ≡ []
@@ -154,5 +154,5 @@ pub fit-demands : (answers : ReaderAnswers) (scope : InstrumentationScope) (abou
 fit-demands answers scope about s e = ap (λ b. cond b (demand_of answers scope about s ∷ []) []) (compatible-is answers scope about s ∙ e)
 
 -- nothing more
-pub plan-same : (answers : ReaderAnswers) (made : List StreamContents) (now : ℕ) (plan : Planned) (more : List Demand) → more ≡ [] → (ds : List Demand) → IsPlanOf answers made now ds plan → IsPlanOf answers made now (ds ++ more) plan
-plan-same answers made now plan more e ds is = subst (λ (l : List Demand). IsPlanOf answers made now l plan) (sym (append-nil ds) ∙ ap (λ m. ds ++ m) (sym e)) is
+pub met-same : (now : ℕ) (old new : Piped) (ns : List ℕ) (more : List Demand) → more ≡ [] → (ds : List Demand) → AreMet now ds old new ns → AreMet now (ds ++ more) old new ns
+met-same now old new ns more e ds met = subst (λ (l : List Demand). AreMet now l old new ns) (sym (append-nil ds) ∙ ap (λ m. ds ++ m) (sym e)) met

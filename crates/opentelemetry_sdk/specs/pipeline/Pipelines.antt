@@ -1,40 +1,25 @@
 -- One reader's streams: as the model's part of a reader, and with what the model leaves out.
-use Rattle.std.specs.Prelude.{◌≡◌, ◌<◌, ◌+◌, ℕ, Bool, not, cond, ◌||◌, true, false, List, [], ◌∷◌, ◌++◌, map, filter, fold, length, All, IsTrue, Option, None, Some, slice_get, position}
-use Rattle.std.specs.Option.{option_map}
+use Rattle.std.specs.Prelude.{◌≡◌, ◌<◌, ℕ, Bool, not, cond, ◌||◌, true, false, List, [], ◌∷◌, ◌++◌, map, filter, fold, length, take, All, Option, None, Some, slice_get, position}
 use Rattle.std.specs.List.{IsDistinct, AllByRecursion}
 use Rattle.otel_common.specs.declared.attributes.KeyValue.{KeyValue}
-use Rattle.otel_common.specs.declared.scopes.InstrumentationScope.{InstrumentationScope}
 use Rattle.otel_data.specs.declared.numbers.NumberValue.{NumberValue}
 use Rattle.otel_aggregate.specs.Any.{is_signed_value, amount_of}
-use Rattle.otel_model.specs.Calls.{About, Number, or_else}
-use Rattle.otel_model.specs.Demands.{Identity, Demand, ReaderAnswers, Views, identity_eq, is_drop, is_dropped, are_good_bounds, demands_with, fed_identities}
+use Rattle.otel_model.specs.Calls.{Number, or_else}
+use Rattle.otel_model.specs.Demands.{Identity, Demand, ReaderAnswers, identity_eq, is_drop, is_dropped, fed_identities}
 use Rattle.otel_model.specs.State.{Stream, ReaderPart}
-use Rattle.otel_model.specs.Machine.{changed_at, part_after_demand, enter}
+use Rattle.otel_model.specs.Machine.{changed_at, part_after_demand}
 use Rattle.otel_model.specs.Sent.{is_fed, set_for}
 use Rattle.otel_model.specs.Streams.{is_delta}
 use Rattle.otel_model_stream.specs.Totals.{has_number}
 use Rattle.opentelemetry_sdk.specs.pipeline.Streams.{StreamContents, contents_after_commit, without_pending, contents_after_collection}
 
--- what a build is going to do: the numbers of the streams that the instrument will feed, and the new streams
-pub record Planned : Type 0 where
-  pub feeds : List ℕ
-  pub added : List StreamContents
-
--- a reader's answers; its streams, in order of making; for each instrument the numbers of those that it feeds; what is
--- planned, if anything; the seed from which it hashes the sets of records; and whether there is room for the plan. A
--- demand that drops is kept among the streams, so that it is known
+-- a reader's answers; its streams, in order of making; for each instrument the numbers of those that it feeds; and the
+-- seed from which it hashes the sets of records. A demand that drops is kept among the streams, so that it is known
 pub record Piped : Type 0 where
   pub answers : ReaderAnswers
   pub streams : List StreamContents
   pub feeds : List (List ℕ)
-  pub plan : Option Planned
   pub hash_seed : ℕ
-  pub room : Bool
-
--- how many streams the plan adds, if there is one
-abbrev pub many_added : Option Planned → ℕ
-many_added None = 0
-many_added (Some plan) = length plan.added
 
 -- ======== the model's part ========
 abbrev pub identity_of : StreamContents → Identity
@@ -110,25 +95,6 @@ pub record IsLawful (p : Piped) : Type 0 where
   pub once : AllByRecursion AreFedOnce p.feeds
 
 -- ======== builds ========
--- the instrument can be built: if it is a histogram with bounds of its own, these rise
-pub record IsBuildable (about : About) : Type 0 where
-  pub bounds : are_good_bounds about.kind about.bounds ≡ true
-
--- the same of an instrument with a scope; one without demands nothing
-abbrev pub IsBuildableIn : Option InstrumentationScope → About → Type 0
-IsBuildableIn None about = Unit {0}
-IsBuildableIn (Some scope) about = IsBuildable about
-
--- the demands of an instrument whose name, unit and bounds are valid; without a scope there are none. `dropped` tells
--- which identities drop once the demands given are made
-abbrev pub demands_in : (List Demand → Identity → Bool) → Views → ReaderAnswers → Option InstrumentationScope → About → List Demand
-demands_in dropped views answers None about = []
-demands_in dropped views answers (Some scope) about = demands_with dropped views answers scope about
-
--- which identities drop at a reader with these streams, once these demands are made
-abbrev pub dropped_with : List StreamContents → List Demand → Identity → Bool
-dropped_with made demands = is_dropped (fold enter (fates_of made) demands)
-
 -- the number of the stream with this identity, if there is one
 abbrev pub stream_number : Identity → List Identity → Option ℕ
 stream_number x keys = position (identity_eq x) keys
@@ -141,59 +107,47 @@ drops_at streams n = by (slice_get streams n)
     by None = false
     by (Some h) = is_drop h.stream.demand.aggregation
 
--- a number, and whether its stream drops
-abbrev pub with_drop : List StreamContents → ℕ → ℕ × Bool
-with_drop streams n = (n, drops_at streams n)
-
--- the number of the stream with this identity, and whether it drops, if there is one
-abbrev pub found_at : Identity → List StreamContents → Option (ℕ × Bool)
-found_at x streams = option_map (with_drop streams) (stream_number x (stream_identities streams))
-
--- the same, with the numbers counted from `first` on
-abbrev pub counted_from : ℕ → ℕ × Bool → ℕ × Bool
-counted_from first p = (first + p.0, p.1)
+-- the stream of this number has the identity, and its demand decides whether that drops
+pub record IsStreamOf (x : Identity) (streams : List StreamContents) (n : ℕ) : Type 0 where
+  pub held : StreamContents
+  pub at : slice_get streams n ≡ Some held
+  pub is : x ≡ identity_of held
+  pub drops : is_dropped (fates_of streams) x ≡ drops_at streams n
 
 -- these numbers and n, unless it is there already or its stream drops: nothing feeds a stream that drops
 abbrev pub fed_once : Bool → ℕ → List ℕ → List ℕ
 fed_once drops n ns = cond (drops || has_number n ns) ns (ns ++ n ∷ [])
 
--- the plan makes these demands, at a reader with these answers and streams
-pub record IsPlanOf (answers : ReaderAnswers) (made : List StreamContents) (now : ℕ) (demands : List Demand) (plan : Planned) : Type 0 where
-  pub apart : IsDistinct identity_eq (stream_identities (made ++ plan.added))
-  pub numbers : AreNumbers (made ++ plan.added) plan.feeds
-  pub answered : AreAnswered answers plan.added
-  pub streams : part_by answers (made ++ plan.added) [] ≡ fold (part_after_demand now) (part_by answers made []) demands
-  pub feeds : named_identities (made ++ plan.added) plan.feeds ≡ fed_identities (is_dropped (fates_of (made ++ plan.added))) demands
+-- the new reader has the streams and the instruments of the old one, and may have more after them
+pub record IsLonger (old new : Piped) : Type 0 where
+  pub added : List StreamContents
+  pub fed : List (List ℕ)
+  pub answers : new.answers ≡ old.answers
+  pub streams : new.streams ≡ old.streams ++ added
+  pub feeds : new.feeds ≡ old.feeds ++ fed
+
+-- the reader with its first streams and instruments alone
+abbrev pub after_cut : ℕ → ℕ → Piped → Piped
+after_cut streams instruments p = record { answers = p.answers; streams = take streams p.streams; feeds = take instruments p.feeds; hash_seed = p.hash_seed }
+
+-- the old reader has met this demand, and the demand's stream has the number n
+pub record IsMetBy (now : ℕ) (d : Demand) (old new : Piped) (n : ℕ) : Type 0 where
+  pub longer : IsLonger old new
+  pub part : part_of new ≡ part_after_demand now (part_of old) d
+  pub hash_seed : new.hash_seed ≡ old.hash_seed
+  pub at : IsStreamOf d.identity new.streams n
+
+-- the old reader has met these demands of an instrument, which is to feed the streams of these numbers, each once
+pub record AreMet (now : ℕ) (demands : List Demand) (old new : Piped) (feeds : List ℕ) : Type 0 where
+  pub part : part_of new ≡ fold (part_after_demand now) (part_of old) demands
+  pub hash_seed : new.hash_seed ≡ old.hash_seed
+  pub numbers : AreNumbers new.streams feeds
+  pub once : AreFedOnce feeds
+  pub named : named_identities new.streams feeds ≡ fed_identities (is_dropped (fates_of new.streams)) demands
 
 -- the reader's part hashes sets from this seed
 abbrev pub HashesFrom : ℕ → Piped → Type 0
 HashesFrom seed p = p.hash_seed ≡ seed
-
--- there is a plan for some demands, and room to carry it out
-pub record IsPlanned (p : Piped) : Type 0 where
-  pub planned : Planned
-  pub demands : List Demand
-  pub now : ℕ
-  pub plan : p.plan ≡ Some planned
-  pub meets : IsPlanOf p.answers p.streams now demands planned
-  pub room : IsTrue p.room
-
--- the reader is ready for a build of this instrument: there is a plan for the instrument's demands, and room to carry
--- it out
-pub record IsReadyFor (views : Views) (scope : Option InstrumentationScope) (about : About) (now : ℕ) (p : Piped) : Type 0 where
-  pub lawful : IsLawful p
-  pub planned : Planned
-  pub plan : p.plan ≡ Some planned
-  pub meets : IsPlanOf p.answers p.streams now (demands_in (dropped_with p.streams) views p.answers scope about) planned
-  pub room : IsTrue p.room
-
-abbrev pub built_by : Option Planned → Piped → Piped
-built_by None p = p
-built_by (Some plan) p = record { answers = p.answers; streams = p.streams ++ plan.added; feeds = p.feeds ++ plan.feeds ∷ []; plan = None; hash_seed = p.hash_seed; room = p.room }
-
--- after the plan, if there is one, is carried out
-abbrev pub piped_after_build : Piped → Piped
-piped_after_build p = built_by p.plan p
 
 -- ======== records ========
 -- a value in the words of the model

@@ -8,7 +8,7 @@ ghost use Rattle.otel_model.specs.Machine as machine;
 ghost use Rattle.otel_model.specs.Machine.{part_after_call};
 ghost use Rattle.opentelemetry_sdk.specs.pipeline.Handles.{FeedsSynchronous, IsNewAt, IsHeldByFed, IsReadyToBindAt, part_after_bind};
 ghost use Rattle.opentelemetry_sdk.specs.pipeline.Known.{is_known_at};
-ghost use Rattle.opentelemetry_sdk.specs.pipeline.Pipelines.{part_of, has_stream_at, piped_after_build, part_after_record, HashesFrom, IsBuildableIn, IsPlanned, IsReadyFor, IsPreparedFor};
+ghost use Rattle.opentelemetry_sdk.specs.pipeline.Pipelines.{part_of, has_stream_at, part_after_record, HashesFrom, IsPreparedFor};
 ghost use Rattle.opentelemetry_sdk.specs.pipeline.Views.{views_answering};
 ghost use Rattle.opentelemetry_sdk.specs.Correspondence.{number_of};
 ghost use Rattle.opentelemetry_sdk.specs.States.{IsGoodIn, FeedType};
@@ -23,39 +23,6 @@ use otel_common::scopes::InstrumentationScope;
 use otel_data::numbers::NumberValue;
 use otel_stream::stream::Stream;
 use std::alloc::AllocError;
-
-/// Plans a build at all readers, given each view's answer. What the readers have doesn't change, but that all hash with
-/// this hasher.
-fn plan_all(
-    pipelines: &mut [Pipeline],
-    hasher: SetHashBuilder,
-    scope: Option<&InstrumentationScope>,
-    about: &About<'_>,
-    answered: &[Option<Stream>],
-    now: u64,
-) -> Result<(), Fault>
-    requires { IsBuildableIn (option_map (λ s. s.now) scope) about.now }
-    ensures same { map part_of pipelines.new ≡ map part_of pipelines.old }
-    ensures ready { OnOk result (All (IsReadyFor (views_answering answered.now) (option_map (λ s. s.now) scope.entry) about.now now) pipelines.new) }
-    ensures seeded { OnOk result (All (HashesFrom hasher.seed) pipelines.new) }
-    ensures only_memory { IsOkUnless result Fault.OutOfMemory }
-{
-    for i in 0..pipelines.len() {
-        pipelines[i].plan(hasher, scope, about, answered, now)?;
-    }
-    Ok(())
-}
-
-/// Carries out the planned build at all readers.
-fn build_all(pipelines: &mut [Pipeline])
-    requires { All IsPlanned pipelines.old }
-    ensures built { map part_of pipelines.new ≡ map (λ p. part_of (piped_after_build p)) pipelines.old }
-    ensures seeded { (seed : ℕ) → All (HashesFrom seed) pipelines.old → All (HashesFrom seed) pipelines.new }
-{
-    for i in 0..pipelines.len() {
-        pipelines[i].build();
-    }
-}
 
 /// Prepares a record in the streams that an instrument feeds, at all readers.
 #[inline(always)]
@@ -149,8 +116,18 @@ pub(crate) fn build_or_none(
     ensures err { OnErr result (map part_of pipelines.new ≡ map part_of pipelines.old) }
     ensures only_memory { IsOkUnless result Fault.OutOfMemory }
 {
-    plan_all(pipelines, hasher, scope, about, answered, now)?;
-    build_all(pipelines);
+    let Some((first, rest)) = pipelines.split_first_mut() else {
+        return Ok(());
+    };
+    let (streams, instruments) = first.sizes();
+    if let Err(fault) = first.build(hasher, scope, about, answered, now) {
+        first.cut_back(streams, instruments);
+        return Err(fault);
+    }
+    if let Err(fault) = build_or_none(rest, hasher, scope, about, answered, now) {
+        first.cut_back(streams, instruments);
+        return Err(fault);
+    }
     Ok(())
 }
 

@@ -1,0 +1,433 @@
+-- What meets demands, one after another.
+use Rattle.std.proofs.Common.{◌≡◌, ℕ, zero, suc, ◌+◌, ◌<◌, Bool, true, false, cond, not, ◌||◌, List, [], ◌∷◌, ◌++◌, map, filter, fold, length, Some, None, slice_get, refl, sym, ◌∙◌, ap, subst, arith, append_assoc, true≢false}
+use Rattle.std.specs.Prelude.{is_some, take, All, ◌&&◌}
+use Rattle.std.proofs.Math.Bool.{or-false, or_assoc}
+use Rattle.std.proofs.lemmas.Option.{slice_get_within}
+use Rattle.std.specs.List.{list_any, IsDistinct, AllByRecursion}
+use Rattle.std.proofs.lemmas.List.{append-nil, map-append, length-append}
+use Rattle.std.proofs.lemmas.List.Elements.{All-push, filter-append}
+use Rattle.std.proofs.lemmas.List.Sums.{fold-append}
+use Rattle.otel_model_stream.specs.Totals.{has_number}
+use Rattle.otel_model.specs.Demands as model
+use Rattle.otel_model.specs.Demands.{Identity, Demand, ReaderAnswers, identity_eq}
+use Rattle.otel_model.specs.State.{ReaderPart}
+use Rattle.otel_model.specs.Machine as machine
+use Rattle.otel_model.proofs.Gather.{identity_eq_true, identity_eq_self, known-append}
+use Rattle.opentelemetry_sdk.specs.pipeline.Pipelines.{Piped, AreFedOnce, AreMet, AreNumbers, IsLonger, IsMetBy, part_of, part_by, identity_at, named_identities, identity_of, fates_of, is_streamed, model_streams, stream_identities, stream_number, drops_at, fed_once}
+use Rattle.opentelemetry_sdk.specs.pipeline.Streams.{StreamContents, new_contents}
+use Rattle.opentelemetry_sdk.proofs.pipeline.Builds.{found, known, fate-new, drops-is}
+use Rattle.opentelemetry_sdk.proofs.pipeline.Identities.{are_apart}
+use Rattle.opentelemetry_sdk.proofs.pipeline.Once.{once-push}
+use Rattle.opentelemetry_sdk.proofs.pipeline.Records.{HaveStreams, identity_at-is, numbers-named, named-has}
+
+-- ======== identities, each once ========
+abbrev pub ids : List Demand → List Identity
+ids ds = map (λ (d : Demand). d.identity) ds
+
+abbrev has : List Identity → Identity → Bool
+has xs x = model.has_identity xs x
+
+-- who has one that is the same has it
+has-same : (xs : List Identity) (x y : Identity) → identity_eq y x ≡ true → has xs y ≡ has xs x
+has-same xs x y e = ap (has xs) (identity_eq_true y x e)
+
+-- one identity more
+each-push : (seen xs : List Identity) (x : Identity) → model.each_once seen (xs ++ x ∷ []) ≡ model.each_once seen xs ++ cond (has seen x || has xs x) [] (x ∷ [])
+each-push seen [] x = by (has seen x)
+  where
+    by : (b : Bool) → cond b [] (x ∷ []) ≡ cond (b || false) [] (x ∷ [])
+    by true = refl
+    by false = refl
+each-push seen (y ∷ xs) x = by (has seen y) refl (λ s. each-push s xs x)
+  where
+    or_in : (s e h : Bool) → (e ≡ true → s ≡ true) → (s || h) ≡ (s || (e || h))
+    or_in true e h f = refl
+    or_in false true h f = absurd (true≢false (sym (f refl)))
+    or_in false false h f = refl
+
+    turn : (s e h : Bool) → ((e || s) || h) ≡ (s || (e || h))
+    turn true true h = refl
+    turn true false h = refl
+    turn false true h = refl
+    turn false false h = refl
+
+    by : (b : Bool) → has seen y ≡ b
+        → ((s : List Identity) → model.each_once s (xs ++ x ∷ []) ≡ model.each_once s xs ++ cond (has s x || has xs x) [] (x ∷ []))
+        → cond b (model.each_once seen (xs ++ x ∷ [])) (y ∷ model.each_once (y ∷ seen) (xs ++ x ∷ []))
+        ≡ cond b (model.each_once seen xs) (y ∷ model.each_once (y ∷ seen) xs) ++ cond (has seen x || (identity_eq y x || has xs x)) [] (x ∷ [])
+    by true t rest = rest seen ∙ ap (λ c. model.each_once seen xs ++ cond c [] (x ∷ [])) (or_in (has seen x) (identity_eq y x) (has xs x) (λ e. sym (has-same seen x y e) ∙ t))
+    by false f rest = ap (λ l. y ∷ l) (rest (y ∷ seen) ∙ ap (λ c. model.each_once (y ∷ seen) xs ++ cond c [] (x ∷ [])) (turn (has seen x) (identity_eq y x) (has xs x)))
+
+-- what is fed, with one demand more
+fed-push : (q : Identity → Bool) (ds : List Demand) (d : Demand) → model.fed_identities q (ds ++ d ∷ []) ≡ model.fed_identities q ds ++ cond (q d.identity || has (ids ds) d.identity) [] (d.identity ∷ [])
+fed-push q ds d =
+    ap (λ xs. filter (λ x. not (q x)) (model.each_once [] xs)) (map-append (λ (d : Demand). d.identity) ds (d ∷ []))
+    ∙ (ap (filter (λ x. not (q x))) (each-push [] (ids ds) d.identity)
+    ∙ (filter-append (λ x. not (q x)) (model.each_once [] (ids ds)) (cond (has (ids ds) d.identity) [] (d.identity ∷ []))
+    ∙ ap (λ l. model.fed_identities q ds ++ l) (by (has (ids ds) d.identity) (q d.identity))))
+  where
+    kept : (c : Bool) → cond (not c) (d.identity ∷ []) [] ≡ cond (c || false) [] (d.identity ∷ [])
+    kept true = refl
+    kept false = refl
+
+    gone : (c : Bool) → [] ≡ cond (c || true) [] (d.identity ∷ [])
+    gone true = refl
+    gone false = refl
+
+    by : (b c : Bool) → filter (λ x. not (q x)) (cond b [] (d.identity ∷ [])) ≡ cond (q d.identity || b) [] (d.identity ∷ [])
+    by true c = gone (q d.identity)
+    by false c = kept (q d.identity)
+
+or_true : (b c : Bool) → c ≡ true → (b || c) ≡ true
+or_true true c q = refl
+or_true false c q = q
+
+-- what is kept of these identities, each once
+abbrev kept_once : (Identity → Bool) → List Identity → List Identity → List Identity
+kept_once q seen xs = filter (λ y. not (q y)) (model.each_once seen xs)
+
+module _ (q : Identity → Bool) (x : Identity) (kept : q x ≡ false) where
+  skipped : (e h s : Bool) → (e ≡ true → s ≡ true) → (h || s) ≡ ((e || h) || s)
+  skipped true true s f = refl
+  skipped true false s f = f refl
+  skipped false h s f = refl
+
+  without : (e a b s : Bool) → e ≡ false → (a || (e || s)) ≡ (b || (e || s)) → (a || s) ≡ ((e || b) || s)
+  without true a b s f h = absurd (true≢false f)
+  without false a b s f h = h
+
+  with_it : (e a b s : Bool) → (a || (e || s)) ≡ (b || (e || s)) → ((e || a) || s) ≡ ((e || b) || s)
+  with_it true a b s h = refl
+  with_it false a b s h = h
+
+  other : (y : Identity) → q y ≡ true → (e : Bool) → identity_eq y x ≡ e → e ≡ false
+  other y t true e = absurd (true≢false (sym t ∙ (ap q (identity_eq_true y x e) ∙ kept)))
+  other y t false e = refl
+
+  kept_by : (seen xs : List Identity) (y : Identity) (b c : Bool) → has seen y ≡ b → q y ≡ c
+      → ((s : List Identity) → (has (kept_once q s xs) x || has s x) ≡ (has xs x || has s x))
+      → (has (filter (λ y. not (q y)) (cond b (model.each_once seen xs) (y ∷ model.each_once (y ∷ seen) xs))) x || has seen x) ≡ ((identity_eq y x || has xs x) || has seen x)
+  kept_by seen xs y true c t f rest = rest seen ∙ skipped (identity_eq y x) (has xs x) (has seen x) (λ e. sym (has-same seen x y e) ∙ t)
+  kept_by seen xs y false true t f rest =
+      ap (λ b. has (cond (not b) (y ∷ kept_once q (y ∷ seen) xs) (kept_once q (y ∷ seen) xs)) x || has seen x) f
+      ∙ without (identity_eq y x) (has (kept_once q (y ∷ seen) xs) x) (has xs x) (has seen x) (other y f (identity_eq y x) refl) (rest (y ∷ seen))
+  kept_by seen xs y false false t f rest =
+      ap (λ b. has (cond (not b) (y ∷ kept_once q (y ∷ seen) xs) (kept_once q (y ∷ seen) xs)) x || has seen x) f
+      ∙ with_it (identity_eq y x) (has (kept_once q (y ∷ seen) xs) x) (has xs x) (has seen x) (rest (y ∷ seen))
+
+  kept_has : (seen xs : List Identity) → (has (kept_once q seen xs) x || has seen x) ≡ (has xs x || has seen x)
+  kept_has seen [] = refl
+  kept_has seen (y ∷ xs) = kept_by seen xs y (has seen y) (q y) refl refl (λ s. kept_has s xs)
+
+-- an identity that is not dropped is fed exactly if it is demanded
+fed-has : (q : Identity → Bool) (ds : List Demand) (x : Identity) → q x ≡ false → has (model.fed_identities q ds) x ≡ has (ids ds) x
+fed-has q ds x kept = sym (or-false (has (model.fed_identities q ds) x)) ∙ (kept_has q x kept [] (ids ds) ∙ or-false (has (ids ds) x))
+
+-- two that drop the same of what is demanded
+kept-same : (p q : Identity → Bool) (seen xs : List Identity) → ((y : Identity) → has xs y ≡ true → p y ≡ q y) → kept_once p seen xs ≡ kept_once q seen xs
+kept-same p q seen [] same = refl
+kept-same p q seen (y ∷ xs) same =
+    by (has seen y) (same y (ap (λ b. b || has xs y) (identity_eq_self y))) (λ s. kept-same p q s xs (λ z h. same z (or_true (identity_eq y z) (has xs z) h)))
+  where
+    by : (b : Bool) → p y ≡ q y → ((s : List Identity) → kept_once p s xs ≡ kept_once q s xs)
+        → filter (λ x. not (p x)) (cond b (model.each_once seen xs) (y ∷ model.each_once (y ∷ seen) xs)) ≡ filter (λ x. not (q x)) (cond b (model.each_once seen xs) (y ∷ model.each_once (y ∷ seen) xs))
+    by true here rest = rest seen
+    by false here rest = λ i. cond (not (here i)) (y ∷ rest (y ∷ seen) i) (rest (y ∷ seen) i)
+
+fed-same : (p q : Identity → Bool) (ds : List Demand) → ((y : Identity) → has (ids ds) y ≡ true → p y ≡ q y) → model.fed_identities p ds ≡ model.fed_identities q ds
+fed-same p q ds same = kept-same p q [] (ids ds) same
+
+-- whether there is no identity
+abbrev pub no_identity : List Identity → Bool
+no_identity [] = true
+no_identity (x ∷ xs) = false
+
+-- nothing is fed exactly if all that is demanded drops
+kept-empty : (q : Identity → Bool) (seen xs : List Identity) → (no_identity (kept_once q seen xs) && not (list_any (λ x. not (q x)) seen)) ≡ (not (list_any (λ x. not (q x)) xs) && not (list_any (λ x. not (q x)) seen))
+kept-empty q seen [] = refl
+kept-empty q seen (y ∷ xs) = by (has seen y) (q y) refl refl (λ s. kept-empty q s xs)
+  where
+    seen-undropped : (zs : List Identity) → has zs y ≡ true → q y ≡ false → list_any (λ x. not (q x)) zs ≡ true
+    seen-undropped [] t f = absurd (true≢false (sym t))
+    seen-undropped (z ∷ zs) t f = go (identity_eq z y) refl t (λ r. seen-undropped zs r f)
+      where
+        go : (e : Bool) → identity_eq z y ≡ e → (e || has zs y) ≡ true → (has zs y ≡ true → list_any (λ x. not (q x)) zs ≡ true) → (not (q z) || list_any (λ x. not (q x)) zs) ≡ true
+        go true s r rest = ap (λ b. not b || list_any (λ x. not (q x)) zs) (ap q (identity_eq_true z y s) ∙ f)
+        go false s r rest = or_true (not (q z)) (list_any (λ x. not (q x)) zs) (rest r)
+
+    last-false : (a b s : Bool) → s ≡ true → (a && not s) ≡ (b && not s)
+    last-false true true s e = refl
+    last-false false false s e = refl
+    last-false true false s e = ap not e
+    last-false false true s e = sym (ap not e)
+
+    by : (b c : Bool) → has seen y ≡ b → q y ≡ c
+        → ((s : List Identity) → (no_identity (kept_once q s xs) && not (list_any (λ x. not (q x)) s)) ≡ (not (list_any (λ x. not (q x)) xs) && not (list_any (λ x. not (q x)) s)))
+        → (no_identity (filter (λ y. not (q y)) (cond b (model.each_once seen xs) (y ∷ model.each_once (y ∷ seen) xs))) && not (list_any (λ x. not (q x)) seen))
+        ≡ (not (not (q y) || list_any (λ x. not (q x)) xs) && not (list_any (λ x. not (q x)) seen))
+    by true true t f rest = rest seen ∙ ap (λ b. not (not b || list_any (λ x. not (q x)) xs) && not (list_any (λ x. not (q x)) seen)) (sym f)
+    by true false t f rest = last-false _ _ (list_any (λ x. not (q x)) seen) (seen-undropped seen t f)
+    by false true t f rest =
+        ap (λ b. no_identity (cond (not b) (y ∷ kept_once q (y ∷ seen) xs) (kept_once q (y ∷ seen) xs)) && not (list_any (λ x. not (q x)) seen)) f
+        ∙ ((ap (λ b. no_identity (kept_once q (y ∷ seen) xs) && not (not b || list_any (λ x. not (q x)) seen)) (sym f)
+        ∙ (rest (y ∷ seen) ∙ ap (λ b. not (list_any (λ x. not (q x)) xs) && not (not b || list_any (λ x. not (q x)) seen)) f))
+        ∙ ap (λ b. not (not b || list_any (λ x. not (q x)) xs) && not (list_any (λ x. not (q x)) seen)) (sym f))
+    by false false t f rest =
+        ap (λ b. no_identity (cond (not b) (y ∷ kept_once q (y ∷ seen) xs) (kept_once q (y ∷ seen) xs)) && not (list_any (λ x. not (q x)) seen)) f
+        ∙ ap (λ b. not (not b || list_any (λ x. not (q x)) xs) && not (list_any (λ x. not (q x)) seen)) (sym f)
+
+pub fed-empty : (q : Identity → Bool) (ds : List Demand) → no_identity (model.fed_identities q ds) ≡ not (list_any (λ (d : Demand). not (q d.identity)) ds)
+fed-empty q ds = sym (and_true (no_identity (model.fed_identities q ds))) ∙ (kept-empty q [] (ids ds) ∙ (and_true (not (list_any (λ x. not (q x)) (ids ds))) ∙ ap not (among ds)))
+  where
+    and_true : (b : Bool) → (b && true) ≡ b
+    and_true true = refl
+    and_true false = refl
+
+    among : (ds : List Demand) → list_any (λ x. not (q x)) (ids ds) ≡ list_any (λ (d : Demand). not (q d.identity)) ds
+    among [] = refl
+    among (d ∷ ds) = ap (λ b. not (q d.identity) || b) (among ds)
+
+-- ======== the table of fates ========
+-- what is known once these demands are entered
+enter-known : (fs : List Demand) (d : Demand) (y : Identity) → model.is_known (machine.enter fs d) y ≡ (model.is_known fs y || identity_eq d.identity y)
+enter-known fs d y = by (model.is_known fs d.identity) refl
+  where
+    within : (k e : Bool) → (e ≡ true → k ≡ true) → k ≡ (k || e)
+    within true e f = refl
+    within false true f = f refl
+    within false false f = refl
+
+    by : (b : Bool) → model.is_known fs d.identity ≡ b → model.is_known (cond b fs (fs ++ d ∷ [])) y ≡ (model.is_known fs y || identity_eq d.identity y)
+    by true t = within (model.is_known fs y) (identity_eq d.identity y) (λ e. ap (model.is_known fs) (sym (identity_eq_true d.identity y e)) ∙ t)
+    by false f = known-append fs (d ∷ []) y ∙ ap (λ b. model.is_known fs y || b) (or-false (identity_eq d.identity y))
+
+entered-known : (fs ds : List Demand) (y : Identity) → model.is_known (fold machine.enter fs ds) y ≡ (model.is_known fs y || has (ids ds) y)
+entered-known fs [] y = sym (or-false (model.is_known fs y))
+entered-known fs (d ∷ ds) y =
+    entered-known (machine.enter fs d) ds y
+    ∙ (ap (λ b. b || has (ids ds) y) (enter-known fs d y) ∙ or_assoc (model.is_known fs y) (identity_eq d.identity y) (has (ids ds) y))
+
+-- a longer table gives what is known the same fate
+fate-known : (fs ms : List Demand) (y : Identity) → model.is_known fs y ≡ true → model.is_dropped (fs ++ ms) y ≡ model.is_dropped fs y
+fate-known [] ms y e = absurd (true≢false (sym e))
+fate-known (d ∷ fs) ms y e = by (identity_eq d.identity y) e (λ k. fate-known fs ms y k)
+  where
+    by : (b : Bool) → (b || model.is_known fs y) ≡ true → (model.is_known fs y ≡ true → model.is_dropped (fs ++ ms) y ≡ model.is_dropped fs y)
+        → model.is_drop_fate (cond b (Some d) (model.fate_of (fs ++ ms) y)) ≡ model.is_drop_fate (cond b (Some d) (model.fate_of fs y))
+    by true k rest = refl
+    by false k rest = rest k
+
+-- ======== parts ========
+-- the fates of a part after demands
+pub demanded-fates : (now : ℕ) (p : ReaderPart) (ds : List Demand) → (fold (machine.part_after_demand now) p ds).fates ≡ fold machine.enter p.fates ds
+demanded-fates now p [] = refl
+demanded-fates now p (d ∷ ds) = demanded-fates now (machine.part_after_demand now p d) ds
+
+-- ======== longer lists of streams ========
+get-append : (ks ms : List StreamContents) (n : ℕ) (m : StreamContents) → slice_get ks n ≡ Some m → slice_get (ks ++ ms) n ≡ Some m
+get-append [] ms n m e = absurd (cc)
+get-append (x ∷ ks) ms zero m e = e
+get-append (x ∷ ks) ms (suc n) m e = get-append ks ms n m e
+
+get-last : (ks : List StreamContents) (k : StreamContents) → slice_get (ks ++ k ∷ []) (length ks) ≡ Some k
+get-last [] k = refl
+get-last (x ∷ ks) k = get-last ks k
+
+-- the streams there keep their numbers
+named-front : (ks ms : List StreamContents) (ns : List ℕ) → HaveStreams ns ks → named_identities (ks ++ ms) ns ≡ named_identities ks ns
+named-front ks ms [] all = refl
+named-front ks ms (n ∷ ns) all =
+    λ i. (identity_at-is (ks ++ ms) n (all.0.0) (get-append ks ms n (all.0.0) all.0.1) ∙ sym (identity_at-is ks n (all.0.0) all.0.1)) i ++ named-front ks ms ns all.1 i
+
+named-push : (ks : List StreamContents) (ns : List ℕ) (n : ℕ) (k : StreamContents) → slice_get ks n ≡ Some k → named_identities ks (ns ++ n ∷ []) ≡ named_identities ks ns ++ identity_of k ∷ []
+named-push ks [] n k e = ap (λ xs. xs ++ []) (identity_at-is ks n k e)
+named-push ks (m ∷ ns) n k e = ap (λ xs. identity_at ks m ++ xs) (named-push ks ns n k e) ∙ sym (append_assoc (identity_at ks m) (named_identities ks ns) (identity_of k ∷ []))
+
+all_named-front : (ks ms : List StreamContents) (feeds : List (List ℕ)) → All (AreNumbers ks) feeds → map (named_identities (ks ++ ms)) feeds ≡ map (named_identities ks) feeds
+all_named-front ks ms [] all = refl
+all_named-front ks ms (ns ∷ feeds) all = λ i. named-front ks ms ns (numbers-named ks ns (all 0 ns (omega arith))) i ∷ all_named-front ks ms feeds (λ j d h. all (suc j) d (omega arith)) i
+
+streamed-push : (ks : List StreamContents) (k : StreamContents) → model_streams (ks ++ k ∷ []) ≡ model_streams ks ++ cond (is_streamed k) (k.stream ∷ []) []
+streamed-push [] k = by (is_streamed k)
+  where
+    by : (b : Bool) → map (λ (h : StreamContents). h.stream) (cond b (k ∷ []) []) ≡ cond b (k.stream ∷ []) []
+    by true = refl
+    by false = refl
+streamed-push (x ∷ ks) k = by (is_streamed x) (streamed-push ks k)
+  where
+    by : (b : Bool) → model_streams (ks ++ k ∷ []) ≡ model_streams ks ++ cond (is_streamed k) (k.stream ∷ []) []
+        → map (λ (h : StreamContents). h.stream) (cond b (x ∷ filter is_streamed (ks ++ k ∷ [])) (filter is_streamed (ks ++ k ∷ [])))
+        ≡ map (λ (h : StreamContents). h.stream) (cond b (x ∷ filter is_streamed ks) (filter is_streamed ks)) ++ cond (is_streamed k) (k.stream ∷ []) []
+    by true rest = ap (λ ss. x.stream ∷ ss) rest
+    by false rest = rest
+
+-- ======== one demand more ========
+if_dropped : {X : Type 0} (b : Bool) (x : X) → cond (not b) (x ∷ []) [] ≡ cond b [] (x ∷ [])
+if_dropped true x = refl
+if_dropped false x = refl
+
+-- a demand that is known changes nothing
+demanded-known : (now : ℕ) (p : Piped) (d : Demand) → model.is_known (fates_of p.streams) d.identity ≡ true → part_of p ≡ machine.part_after_demand now (part_of p) d
+demanded-known now p d e = λ i. record {
+  answers = p.answers;
+  fates = cond (sym e i) (fates_of p.streams) (fates_of p.streams ++ d ∷ []);
+  streams = cond (sym e i) (model_streams p.streams) (model_streams p.streams ++ cond (model.is_drop d.aggregation) [] (machine.new_stream now d ∷ []));
+  feeds = map (named_identities p.streams) p.feeds;
+}
+
+-- one that isn't makes a stream
+demanded-new : (now : ℕ) (answers : ReaderAnswers) (ks : List StreamContents) (feeds : List (List ℕ)) (d : Demand) (resets : Bool) → All (AreNumbers ks) feeds → model.is_known (fates_of ks) d.identity ≡ false
+    → part_by answers (ks ++ new_contents resets d now ∷ []) feeds ≡ machine.part_after_demand now (part_by answers ks feeds) d
+demanded-new now answers ks feeds d resets numbers e =
+    (λ i. record {
+      answers = answers;
+      fates = map-append (λ (k : StreamContents). k.stream.demand) ks (new_contents resets d now ∷ []) i;
+      streams = (streamed-push ks (new_contents resets d now) ∙ ap (λ s. model_streams ks ++ s) (if_dropped (model.is_drop d.aggregation) (machine.new_stream now d))) i;
+      feeds = all_named-front ks (new_contents resets d now ∷ []) feeds numbers i;
+    })
+    ∙ λ i. record {
+      answers = answers;
+      fates = cond (sym e i) (fates_of ks) (fates_of ks ++ d ∷ []);
+      streams = cond (sym e i) (model_streams ks) (model_streams ks ++ cond (model.is_drop d.aggregation) [] (machine.new_stream now d ∷ []));
+      feeds = map (named_identities ks) feeds;
+    }
+
+-- nothing more
+pub longer-refl : (p : Piped) → IsLonger p p
+longer-refl p = record { added = []; fed = []; answers = refl; streams = sym (append-nil p.streams); feeds = sym (append-nil p.feeds) }
+
+pub longer-same : (old new : Piped) → new ≡ old → IsLonger old new
+longer-same old new e = subst (IsLonger old) (sym e) (longer-refl old)
+
+pub longer-trans : (a b c : Piped) → IsLonger a b → IsLonger b c → IsLonger a c
+longer-trans a b c p q = record {
+  added = p.added ++ q.added;
+  fed = p.fed ++ q.fed;
+  answers = q.answers ∙ p.answers;
+  streams = q.streams ∙ (ap (λ l. l ++ q.added) p.streams ∙ append_assoc a.streams p.added q.added);
+  feeds = q.feeds ∙ (ap (λ l. l ++ q.fed) p.feeds ∙ append_assoc a.feeds p.fed q.fed);
+}
+
+-- the demand of an identity that has a stream
+pub met-known : (now : ℕ) (d : Demand) (p : Piped) (n : ℕ) → stream_number d.identity (stream_identities p.streams) ≡ Some n → IsMetBy now d p p n
+met-known now d p n e = record {
+  longer = longer-refl p;
+  part = demanded-known now p d (known d.identity p.streams ∙ ap is_some e);
+  hash_seed = refl;
+  at = found d.identity p.streams n e;
+}
+
+-- and of one that has none
+pub met-new : (now : ℕ) (d : Demand) (resets : Bool) (p : Piped) → stream_number d.identity (stream_identities p.streams) ≡ None → All (AreNumbers p.streams) p.feeds
+    → IsMetBy now d p (record { answers = p.answers; streams = p.streams ++ new_contents resets d now ∷ []; feeds = p.feeds; hash_seed = p.hash_seed }) (length p.streams)
+met-new now d resets p e numbers = record {
+  longer = record { added = fresh ∷ []; fed = []; answers = refl; streams = refl; feeds = sym (append-nil p.feeds) };
+  part = demanded-new now p.answers p.streams p.feeds d resets numbers unknown;
+  hash_seed = refl;
+  at = record {
+    held = fresh;
+    at = get-last p.streams fresh;
+    is = refl;
+    drops = ap (λ fs. model.is_dropped fs d.identity) (map-append (λ (k : StreamContents). k.stream.demand) p.streams (fresh ∷ []))
+        ∙ (fate-new (fates_of p.streams) d unknown ∙ sym (drops-is (p.streams ++ fresh ∷ []) (length p.streams) fresh (get-last p.streams fresh)));
+  };
+}
+  where
+    fresh : StreamContents
+    fresh = new_contents resets d now
+
+    unknown : model.is_known (fates_of p.streams) d.identity ≡ false
+    unknown = known d.identity p.streams ∙ ap is_some e
+
+-- ======== the demands of an instrument ========
+-- the numbers that are fed, with one more
+numbers-once : (ks : List StreamContents) (b : Bool) (n : ℕ) (ns : List ℕ) → n < length ks → AreNumbers ks ns → AreNumbers ks (fed_once b n ns)
+numbers-once ks b n ns h all = by (b || has_number n ns)
+  where
+    by : (c : Bool) → AreNumbers ks (cond c ns (ns ++ n ∷ []))
+    by true = all
+    by false = All-push (λ n. n < length ks) ns n all h
+
+once-more : (b : Bool) (n : ℕ) (ns : List ℕ) → AreFedOnce ns → AreFedOnce (fed_once b n ns)
+once-more b n ns once = by b (has_number n ns) refl
+  where
+    by : (b h : Bool) → has_number n ns ≡ h → AreFedOnce (cond (b || h) ns (ns ++ n ∷ []))
+    by true h e = once
+    by false true e = once
+    by false false e = once-push ns n once e
+
+pub met-none : (now : ℕ) (p : Piped) → AreMet now [] p p []
+met-none now p = record { part = refl; hash_seed = refl; numbers = λ j n h. absurd (omega arith); once = tt; named = refl }
+
+-- one demand more
+module _ (now : ℕ) (ds : List Demand) (d : Demand) (first old new : Piped) (n : ℕ) (feeds : List ℕ) (was : AreMet now ds first old feeds) (by : IsMetBy now d old new n) where
+  abbrev dropped : Identity → Bool
+  dropped = model.is_dropped (fates_of new.streams)
+
+  abbrev fed : List Identity
+  fed = model.fed_identities dropped ds
+
+  -- what was demanded is known, and keeps its fate
+  known-demanded : (y : Identity) → has (ids ds) y ≡ true → model.is_known (fates_of old.streams) y ≡ true
+  known-demanded y h =
+      ap (λ (p : ReaderPart). model.is_known p.fates y) was.part
+      ∙ (ap (λ fs. model.is_known fs y) (demanded-fates now (part_of first) ds)
+      ∙ (entered-known (fates_of first.streams) ds y ∙ or_true (model.is_known (fates_of first.streams) y) (has (ids ds) y) h))
+
+  same-fate : (y : Identity) → has (ids ds) y ≡ true → model.is_dropped (fates_of old.streams) y ≡ dropped y
+  same-fate y h =
+      sym (ap (λ ks. model.is_dropped (fates_of ks) y) by.longer.streams
+      ∙ (ap (λ fs. model.is_dropped fs y) (map-append (λ (k : StreamContents). k.stream.demand) old.streams by.longer.added)
+      ∙ fate-known (fates_of old.streams) (fates_of by.longer.added) y (known-demanded y h)))
+
+  numbers-more : AreNumbers new.streams feeds
+  numbers-more j m h = let q = was.numbers j m h in omega (arith, ap length by.longer.streams, length-append {A = StreamContents})
+
+  named-old : named_identities new.streams feeds ≡ fed
+  named-old =
+      ap (λ ks. named_identities ks feeds) by.longer.streams
+      ∙ (named-front old.streams by.longer.added feeds (numbers-named old.streams feeds was.numbers)
+      ∙ (was.named ∙ fed-same (model.is_dropped (fates_of old.streams)) dropped ds same-fate))
+
+  module _ (apart : IsDistinct identity_eq (stream_identities new.streams)) where
+    -- the number is fed already exactly if the identity is demanded already
+    same : dropped d.identity ≡ false → has_number n feeds ≡ has (ids ds) d.identity
+    same undropped =
+        sym (named-has new.streams (are_apart new.streams apart) feeds (numbers-named new.streams feeds numbers-more) n by.at.held by.at.at)
+        ∙ (ap (has (named_identities new.streams feeds)) (sym by.at.is)
+        ∙ (ap (λ xs. has xs d.identity) named-old ∙ fed-has dropped ds d.identity undropped))
+
+    more : (c h : Bool) → c ≡ h → named_identities new.streams (cond c feeds (feeds ++ n ∷ [])) ≡ fed ++ cond h [] (d.identity ∷ [])
+    more true true q = named-old ∙ sym (append-nil fed)
+    more false false q = named-push new.streams feeds n by.at.held by.at.at ∙ λ i. named-old i ++ sym by.at.is i ∷ []
+    more true false q = absurd (true≢false q)
+    more false true q = absurd (true≢false (sym q))
+
+    named : (b : Bool) → drops_at new.streams n ≡ b → named_identities new.streams (fed_once b n feeds) ≡ fed ++ cond (dropped d.identity || has (ids ds) d.identity) [] (d.identity ∷ [])
+    named true t = named-old ∙ (sym (append-nil fed) ∙ ap (λ b. fed ++ cond (b || has (ids ds) d.identity) [] (d.identity ∷ [])) (sym (by.at.drops ∙ t)))
+    named false t =
+        more (has_number n feeds) (has (ids ds) d.identity) (same (by.at.drops ∙ t))
+        ∙ ap (λ b. fed ++ cond (b || has (ids ds) d.identity) [] (d.identity ∷ [])) (sym (by.at.drops ∙ t))
+
+    pub met-more : (all : List ℕ) → all ≡ fed_once (drops_at new.streams n) n feeds → AreMet now (ds ++ d ∷ []) first new all
+    met-more all e = subst (AreMet now (ds ++ d ∷ []) first new) (sym e) (record {
+      part = by.part ∙ (ap (λ p. machine.part_after_demand now p d) was.part ∙ sym (fold-append (machine.part_after_demand now) (part_of first) ds (d ∷ [])));
+      hash_seed = by.hash_seed ∙ was.hash_seed;
+      numbers = numbers-once new.streams (drops_at new.streams n) n feeds (slice_get_within new.streams n by.at.held by.at.at) numbers-more;
+      once = once-more (drops_at new.streams n) n feeds was.once;
+      named = named (drops_at new.streams n) refl ∙ sym (fed-push dropped ds d);
+    })
+
+-- ======== a build ========
+-- with the new instrument it is what the machine makes of the demands
+pub met-built : (now : ℕ) (ds : List Demand) (old new : Piped) (ns : List ℕ) → AreMet now ds old new ns → part_by new.answers new.streams (new.feeds ++ ns ∷ []) ≡ machine.with_feeds ds (fold (machine.part_after_demand now) (part_of old) ds)
+met-built now ds old new ns met =
+    (λ i. record { answers = new.answers; fates = fates_of new.streams; streams = model_streams new.streams; feeds = (map-append (named_identities new.streams) new.feeds (ns ∷ []) ∙ λ j. map (named_identities new.streams) new.feeds ++ met.named j ∷ []) i })
+    ∙ ap (machine.with_feeds ds) met.part
+
+-- ======== a build that is undone ========
+-- what holds of all elements holds of the first
+pub each-taken : {X : Type 0} (P : X → Type 0) (n : ℕ) (xs : List X) → AllByRecursion P xs → AllByRecursion P (take n xs)
+each-taken P zero xs all = tt
+each-taken P (suc n) [] all = tt
+each-taken P (suc n) (x ∷ xs) all = (all.0, each-taken P n xs all.1)
