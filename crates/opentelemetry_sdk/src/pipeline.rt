@@ -121,7 +121,7 @@ impl Pipeline {
     /// Prepares a record with these attributes in the streams that the instrument feeds. What the reader has stays
     /// unchanged.
     ///
-    /// Looks the attributes up in each of these streams; `AnyAggregate::prepare` tells when that takes memory.
+    /// Looks the attributes up in each of these streams; `AggregateStream::prepare` tells when that takes memory.
     #[inline(always)]
     pub fn prepare(
         &mut self,

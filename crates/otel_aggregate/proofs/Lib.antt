@@ -2,6 +2,5 @@ pub mod HandleLemmas
 pub mod LinkLemmas
 pub mod PlaceLemmas
 pub mod StepLemmas
-pub mod Taken
 pub mod ObservedLemmas
 pub mod KeptLemmas

@@ -1,11 +1,11 @@
 -- What draining leaves, and what a stream of observed sums shows.
-use Rattle.std.proofs.Common.{ℕ, ◌≡◌, ◌∙◌, List, [], ◌∷◌, map, Bool, true, false, cond, Option, Some, None, length, refl, ap, sym, true≢false}
-use Rattle.std.specs.Prelude.{ℤ, IsSome}
+use Rattle.std.proofs.Common.{ℕ, ◌≡◌, ◌∙◌, List, [], ◌∷◌, map, Bool, true, false, cond, Option, Some, None, length, refl, ap, sym}
+use Rattle.std.specs.Prelude.{ℤ}
 use Rattle.otel_common.specs.Equality.{set_eq}
 use Rattle.otel_common.specs.declared.metrics.Temporality.{Temporality}
 use Rattle.otel_data.specs.declared.points.SumDataPoint.{SumDataPoint}
 use Rattle.otel_model_stream.specs.Sets.{AttributeSet, none_set}
-use Rattle.otel_model_stream.specs.Folds.{Amount, Sample, Fold, Total, Last, Spreads, clear_fold, clear_fold_no_spread, sample_of}
+use Rattle.otel_model_stream.specs.Folds.{Sample, Fold, Total, Last, Spreads, clear_fold, clear_fold_no_spread}
 use Rattle.otel_model_stream.specs.Entries.{Entry, Point, Table, is_of, on, write, reset, entry_for, entries_with_place}
 use Rattle.otel_model_stream.specs.Maps.{MapState, measured_map, drained_map}
 use Rattle.otel_model_stream.specs.Observed.{fold_in, value_before, difference}
@@ -13,8 +13,9 @@ use Rattle.otel_model_stream.specs.Totals.{value_of}
 use Rattle.otel_model_stream.specs.Data.{sum_point}
 use Rattle.otel_model_stream.proofs.Clearing.{cleared-recorded}
 use Rattle.otel_aggregate.specs.value_map.Slots.{HasForm}
-use Rattle.otel_aggregate.specs.Streams.{AggregateState, AggregateContents, recorded_set, stream_after_commit, taken_from}
+use Rattle.otel_aggregate.specs.Any.{LastValues}
 use Rattle.otel_aggregate.specs.Data.{temporality_of}
+use Rattle.otel_aggregate.specs.Kept.{form_of_fold}
 use Rattle.otel_aggregate.specs.Observed.{ObservedState, values_now, since_reported, sums_now, observed_data}
 
 -- ======== draining ========
@@ -38,39 +39,25 @@ drained-measured s v m = ap (λ (none : Entry). record m { table = record { none
 pub drained-drained : (m : MapState) → drained_map (drained_map m) ≡ drained_map m
 drained-drained m = ap (λ f. record m { table = record { none = record m.table.none { updated = false; fold = f }; entries = [] } }) (cleared-cleared m.table.none.fold)
 
--- after a record that was prepared
-pub drained-set : (old new : AggregateContents) (v : Amount) (o : Option AttributeSet) → old.pending ≡ o → IsSome o → ((s : AttributeSet) → old.pending ≡ Some s → new.state ≡ recorded_set s v old.state)
-    → drained_map new.state.map_state ≡ drained_map old.state.map_state
-drained-set old new v None e some measured = absurd (true≢false (sym some))
-drained-set old new v (Some s) e some measured = ap (λ (st : AggregateState). drained_map st.map_state) (measured s e) ∙ drained-measured s (sample_of old.state.aggregate v) old.state.map_state
+-- a last value is forgotten
+cleared-last : (f : Fold) → form_of_fold f ≡ LastValues → clear_fold f ≡ Last 0
+cleared-last (Total n) e = absurd (cc)
+cleared-last (Last n) e = refl
+cleared-last (Spreads s) e = absurd (cc)
 
--- and if there was one
-pub drained-taken : (v : Amount) (h : AggregateContents) → drained_map (stream_after_commit v h).state.map_state ≡ drained_map h.state.map_state
-drained-taken v h = by h.pending
-  where
-    by : (o : Option AttributeSet) → drained_map (taken_from o v h).state.map_state ≡ drained_map h.state.map_state
-    by None = refl
-    by (Some s) = drained-measured s (sample_of h.state.aggregate v) h.state.map_state
-
--- which leaves the live handles
-pub live-taken : (v : Amount) (h : AggregateContents) → (stream_after_commit v h).live ≡ h.live
-live-taken v h = by h.pending
-  where
-    by : (o : Option AttributeSet) → (taken_from o v h).live ≡ h.live
-    by None = refl
-    by (Some s) = refl
-
--- the entry of the empty set, forgotten, where no records come to a last value of 0
-reset-form : {A : Type 0} (meaning : A → Fold) → ((a : A) → clear_fold (meaning a) ≡ Last 0) → (t : Table) → HasForm meaning t
+-- the entry of the empty set, forgotten, if it keeps a last value
+reset-form : {A : Type 0} (meaning : A → Fold) (t : Table) → HasForm meaning t → form_of_fold t.none.fold ≡ LastValues
     → reset t.none ≡ record { set = none_set; counted = false; updated = false; fold = Last 0; handles = t.none.handles }
-reset-form meaning forgets t h = ap reset h.1 ∙ ap (λ f. record { set = none_set; counted = false; updated = false; fold = f; handles = t.none.handles }) (forgets h.0)
+reset-form meaning t h last =
+    ap reset h.1
+    ∙ ap (λ f. record { set = none_set; counted = false; updated = false; fold = f; handles = t.none.handles }) (cleared-last (meaning h.0) (ap (λ (e : Entry). form_of_fold e.fold) (sym h.1) ∙ last))
 
--- a map is drained to the same with another table
-pub drained-restored : {A : Type 0} (meaning : A → Fold) → ((a : A) → clear_fold (meaning a) ≡ Last 0) → (m : MapState) (t : Table) → HasForm meaning m.table → HasForm meaning t → t.none.handles ≡ m.table.none.handles
+-- a map of last values is drained to the same with another table of these
+pub drained-restored : {A : Type 0} (meaning : A → Fold) (m : MapState) (t : Table) → HasForm meaning m.table → HasForm meaning t → form_of_fold m.table.none.fold ≡ LastValues → form_of_fold t.none.fold ≡ LastValues → t.none.handles ≡ m.table.none.handles
     → drained_map (record m { table = t }) ≡ drained_map m
-drained-restored meaning forgets m t was is held =
+drained-restored meaning m t was is before after held =
     ap (λ (none : Entry). record m { table = record { none = none; entries = [] } })
-    (reset-form meaning forgets t is ∙ ap (λ n. record { set = none_set; counted = false; updated = false; fold = Last 0; handles = n }) held ∙ sym (reset-form meaning forgets m.table was))
+    (reset-form meaning t is after ∙ ap (λ n. record { set = none_set; counted = false; updated = false; fold = Last 0; handles = n }) held ∙ sym (reset-form meaning m.table was before))
 
 -- ======== points ========
 pub value_before-none : (ps : List Point) (x : AttributeSet) → fold_in ps x ≡ None → value_before ps x ≡ 0

@@ -8,15 +8,17 @@ use Rattle.std.proofs.lemmas.List.{map-append}
 use Rattle.otel_common.specs.Canonical.{canon}
 use Rattle.otel_common.specs.Equality.{set_eq}
 use Rattle.otel_common.specs.declared.attributes.KeyValue.{KeyValue}
-use Rattle.otel_model_stream.specs.Sets.{AttributeSet, none_set}
+use Rattle.otel_model_stream.specs.Sets.{AttributeSet, AllowList, none_set, set_of}
 use Rattle.otel_model_stream.specs.Folds.{Amount, Sample, sample_of}
 use Rattle.otel_model_stream.specs.Events.{Handles, held_by, without}
 use Rattle.otel_model_stream.specs.Entries.{Table, entry_for, place, take_handle}
-use Rattle.otel_model_stream.specs.Maps.{MapState, KnownMap, measured_map, measured_list, bound_map, bound_to, updated_bound, unbound_map}
+use Rattle.otel_model_stream.specs.Maps.{MapState, KnownMap, measured_map, measured_list, bound_map, bound_to, updated_bound, unbound_map, evicted_map}
 use Rattle.otel_aggregate.specs.value_map.Contents.{MapContents, known_of}
 use Rattle.otel_aggregate.specs.value_map.Numbers.{Numbers, number_of, set_named, is_placed, KeepNumbers, AreNamed, AreNumbered}
 use Rattle.otel_aggregate.specs.Links.{Link, handle_of, handles_of, IsLinked, AreHeld}
-use Rattle.otel_aggregate.specs.Streams.{AggregateContents, recorded_set, bind_of, stream_after_bind, update_at, stream_after_update, unbind_at, stream_after_unbind}
+use Rattle.otel_aggregate.specs.Any.{any_after_collection, observed_in, with_observed}
+use Rattle.otel_aggregate.specs.Observed.{drained_at}
+use Rattle.otel_aggregate.specs.Streams.{AggregateContents, recorded_set, recorded_attributes, taken_from, stream_after_commit, bind_of, stream_after_bind, update_at, stream_after_update, unbind_at, stream_after_unbind}
 use Rattle.otel_aggregate.proofs.LinkLemmas.{IsLinkedStill, still-kept, handles-still, linked-still, linked-push, held-linked}
 use Rattle.otel_aggregate.proofs.HandleLemmas.{has-on, held-written, held-taken, held-placed}
 
@@ -32,6 +34,61 @@ pub held-listed : {T E : Type 0} (old new : MapContents) (l : List KeyValue) (v 
 held-listed old new l v hs (Ok t) is same held =
     held-measured old.state new.state hs (Some (canon l)) v refl (λ s e. (let one : canon l ≡ s = cc in ap (λ (k : KnownMap). k.map_state) is ∙ ap (λ (x : AttributeSet). measured_map x v old.state) one)) held
 held-listed old new l v hs (Err e) is same held = subst (λ (k : KnownMap). AreHeld k.map_state.table hs) (sym same) held
+
+-- ======== in a stream that takes the value ========
+-- what is done to a stream of the value's number type
+pub if-typed : {X : Type 0} {b : Bool} {new x : X} (old : X) → b ≡ true → new ≡ x → new ≡ cond b x old
+if-typed {X} {b} {new} {x} old e is = is ∙ sym (ap (λ t. cond t x old) e)
+
+-- what is done to a stream that no collection empties
+pub if-undrained : {X : Type 0} {b : Bool} {new x : X} (old : X) → b ≡ false → new ≡ x → new ≡ cond b old x
+if-undrained {X} {b} {new} {x} old e is = is ∙ sym (ap (λ t. cond t old x) e)
+
+-- once the record that was prepared is made
+pub taken-made : {s old : AggregateContents} → s ≡ old → (v : Amount) (w : Sample) (after : MapState) (live : Handles) (pending : Option AttributeSet) → IsSome s.pending → w ≡ sample_of s.state.aggregate v
+    → ((x : AttributeSet) → s.pending ≡ Some x → after ≡ measured_map x w s.state.map_state) → live ≡ s.live → pending ≡ None
+    → record s { state = record s.state { map_state = after }; live = live; pending = pending } ≡ stream_after_commit v old
+taken-made {s} {old} was v w after live pending some sampled is same spent = by s.pending refl some ∙ ap (stream_after_commit v) was
+  where
+    by : (o : Option AttributeSet) → s.pending ≡ o → IsSome o → record s { state = record s.state { map_state = after }; live = live; pending = pending } ≡ stream_after_commit v s
+    by None e t = absurd (true≢false (sym t))
+    by (Some x) e t =
+        (λ i. record s { state = record s.state { map_state = (is x e ∙ ap (λ z. measured_map x z s.state.map_state) sampled) i }; live = same i; pending = spent i })
+        ∙ sym (ap (λ o. taken_from o v s) e)
+
+-- once a record of attributes is made where there is no allow-list
+pub listed-made : {s old : AggregateContents} → s ≡ old → (v : Amount) (w : Sample) (l : List KeyValue) (before after : MapContents) (live : Handles) (pending : Option AttributeSet) → is_some s.state.allow ≡ false → before.state ≡ s.state.map_state
+    → w ≡ sample_of s.state.aggregate v → known_of after ≡ measured_list l w (known_of before) → live ≡ s.live → pending ≡ None
+    → record s { state = record s.state { map_state = after.state }; live = live; pending = pending } ≡ record old { state = recorded_attributes l v old.state; pending = None }
+listed-made {s} {old} was v w l before after live pending whole at sampled is same spent =
+    (λ i. record s { state = record s.state { map_state = map_is i }; live = same i; pending = spent i })
+    ∙ by s.state.allow whole
+    ∙ ap (λ (x : AggregateContents). record x { state = recorded_attributes l v x.state; pending = None }) was
+  where
+    map_is : after.state ≡ measured_map (canon l) (sample_of s.state.aggregate v) s.state.map_state
+    map_is = ap (λ (k : KnownMap). k.map_state) is ∙ λ i. measured_map (canon l) (sampled i) (at i)
+
+    by : (allow : AllowList) → is_some allow ≡ false → record s { state = record s.state { map_state = measured_map (canon l) (sample_of s.state.aggregate v) s.state.map_state }; pending = None } ≡ record s { state = recorded_set (set_of allow l) v s.state; pending = None }
+    by None e = refl
+    by (Some keys) e = absurd (true≢false e)
+
+-- and one that is refused
+pub listed-refused : {s old : AggregateContents} → s ≡ old → (before after : MapContents) (live : Handles) (pending : Option AttributeSet) → before.state ≡ s.state.map_state → known_of after ≡ known_of before → live ≡ s.live → pending ≡ None
+    → record s { state = record s.state { map_state = after.state }; live = live; pending = pending } ≡ record old { pending = None }
+listed-refused {s} {old} was before after live pending at is same spent =
+    (λ i. record s { state = record s.state { map_state = (ap (λ (k : KnownMap). k.map_state) is ∙ at) i }; live = same i; pending = spent i })
+    ∙ ap (λ (x : AggregateContents). record x { pending = None }) was
+
+-- once a stream that resets has ended a collection
+pub collected-made : {s old : AggregateContents} → s ≡ old → (now : ℕ) (after : MapState) (live : Handles) (pending : Option AttributeSet) → s.drains ≡ false → s.state.resets ≡ true → after ≡ evicted_map s.state.map_state → live ≡ s.live → pending ≡ None
+    → record s { state = record s.state { map_state = after; start = now }; live = live; pending = pending } ≡ any_after_collection now old
+collected-made {s} {old} was now after live pending undrained resets is same spent =
+    (λ i. record s { state = record s.state { map_state = is i; start = now }; live = same i; pending = spent i })
+    ∙ sym (λ i. record (by_drains (undrained i) (resets i)) { pending = cond (undrained i || resets i) None s.pending })
+    ∙ ap (any_after_collection now) was
+  where
+    by_drains : Bool → Bool → AggregateContents
+    by_drains b c = cond b (with_observed s (drained_at now (observed_in s))) (record s { state = cond c (record s.state { map_state = evicted_map s.state.map_state; start = now }) s.state })
 
 -- no handles, no links
 pub no-links : (ns : Numbers) (ps : List Link) → handles_of ns ps ≡ [] → ps ≡ []
@@ -128,12 +185,6 @@ no_bind-live s h e = by s.room (held_by h s.live) e
     by false o e = refl
 
 -- ======== a record of the empty set ========
-pub none-made : {s old : AggregateContents} → s ≡ old → (v : Amount) (w : Sample) (after : MapState) (live : Handles) (pending : Option AttributeSet) → w ≡ sample_of s.state.aggregate v → after ≡ measured_map none_set w s.state.map_state → live ≡ s.live → pending ≡ None
-    → record s { state = record s.state { map_state = after }; live = live; pending = pending } ≡ record old { state = recorded_set none_set v old.state; pending = None }
-none-made {s} {old} was v w after live pending sampled is same spent =
-    (λ i. record s { state = record s.state { map_state = (is ∙ ap (λ x. measured_map none_set x s.state.map_state) sampled) i }; live = same i; pending = spent i })
-    ∙ ap (λ (x : AggregateContents). record x { state = recorded_set none_set v x.state; pending = None }) was
-
 -- ======== a record through a handle, and its end ========
 -- a handle that isn't live
 without-none : (h : ℕ) (hs : Handles) → held_by h hs ≡ None → without h hs ≡ hs

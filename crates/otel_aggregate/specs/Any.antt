@@ -22,18 +22,6 @@ use Rattle.otel_aggregate.specs.Data.{sum_data, gauge_data, histogram_data}
 use Rattle.otel_aggregate.specs.Streams.{AggregateState, AggregateContents, recorded_set, recorded_attributes, points_now, stream_after_collection, stream_after_commit, stream_after_bind, stream_after_update, stream_after_unbind}
 use Rattle.otel_aggregate.specs.Observed.{ObservedState, drained_at, observed_data}
 
--- whether its numbers are signed; the stream; its live handles; the set of the prepared record or bind, if any; whether
--- room is made for a handle; whether each collection empties it, as it does observed sums; and what a stream of these
--- reported in the last collection. A stream of observed sums has no handles
-pub record AnyContents : Type 0 where
-  pub is_signed : Bool
-  pub state : AggregateState
-  pub live : Handles
-  pub pending : Option AttributeSet
-  pub room : Bool
-  pub drains : Bool
-  pub reported : List Point
-
 -- the aggregate of these settings
 abbrev pub aggregate_of : AnySettings → Aggregate
 aggregate_of (settings.Sum is_monotonic) = Sum
@@ -65,57 +53,48 @@ abbrev pub amount_of : NumberValue → Amount
 amount_of (number.U64 n) = record { bits = n; wide = pos n }
 amount_of (number.I64 z) = record { bits = cast_unsigned w64 z; wide = z }
 
--- ======== streams ========
--- the stream alone
-abbrev pub stream_in : AnyContents → AggregateContents
-stream_in a = record { state = a.state; live = a.live; pending = a.pending; room = a.room }
-
--- with this stream in its place
-abbrev pub with_stream : AnyContents → AggregateContents → AnyContents
-with_stream a s = record a { state = s.state; live = s.live; pending = s.pending; room = s.room }
-
 -- ======== records ========
 -- after the prepared record, if there is one, of a value; a stream of the other number type doesn't change
-abbrev pub any_after_commit : NumberValue → AnyContents → AnyContents
-any_after_commit value a = cond (beq (is_signed_value value) a.is_signed) (with_stream a (stream_after_commit (amount_of value) (stream_in a))) a
+abbrev pub any_after_commit : NumberValue → AggregateContents → AggregateContents
+any_after_commit value a = cond (beq (is_signed_value value) a.is_signed) (stream_after_commit (amount_of value) a) a
 
 -- after a record of a value without attributes; a stream of the other number type doesn't change
-abbrev pub any_after_none : NumberValue → AnyContents → AnyContents
+abbrev pub any_after_none : NumberValue → AggregateContents → AggregateContents
 any_after_none value a = cond (beq (is_signed_value value) a.is_signed) (record a { state = recorded_set none_set (amount_of value) a.state; pending = None }) a
 
 -- after a record of a value with attributes; a stream of the other number type doesn't change
-abbrev pub any_after_record : NumberValue → List KeyValue → AnyContents → AnyContents
+abbrev pub any_after_record : NumberValue → List KeyValue → AggregateContents → AggregateContents
 any_after_record value l a = cond (beq (is_signed_value value) a.is_signed) (record a { state = recorded_attributes l (amount_of value) a.state; pending = None }) a
 
 -- whether the prepared record is made
-abbrev pub is_taken : NumberValue → AnyContents → Bool
+abbrev pub is_taken : NumberValue → AggregateContents → Bool
 is_taken value a = beq (is_signed_value value) a.is_signed && is_some a.pending
 
 -- ======== handles ========
 -- with room made for a handle; in a stream of observed sums there is none
-abbrev pub any_with_room : AnyContents → AnyContents
+abbrev pub any_with_room : AggregateContents → AggregateContents
 any_with_room a = record a { room = not a.drains }
 
 -- after the prepared bind as this handle, if room is made and no such handle is live; a stream of observed sums
 -- doesn't change
-abbrev pub any_after_bind : ℕ → AnyContents → AnyContents
-any_after_bind h a = cond a.drains a (with_stream a (stream_after_bind h (stream_in a)))
+abbrev pub any_after_bind : ℕ → AggregateContents → AggregateContents
+any_after_bind h a = cond a.drains a (stream_after_bind h a)
 
 -- whether the stream takes values of this number type through handles; one of observed sums has none
-abbrev pub takes_bound : NumberValue → AnyContents → Bool
+abbrev pub takes_bound : NumberValue → AggregateContents → Bool
 takes_bound value a = not a.drains && beq (is_signed_value value) a.is_signed
 
 -- after a record of a value through this handle, if it is live; what was prepared is given up
-abbrev pub any_after_update : ℕ → NumberValue → AnyContents → AnyContents
-any_after_update h value a = cond (takes_bound value a) (with_stream a (stream_after_update h (amount_of value) (stream_in a))) a
+abbrev pub any_after_update : ℕ → NumberValue → AggregateContents → AggregateContents
+any_after_update h value a = cond (takes_bound value a) (stream_after_update h (amount_of value) a) a
 
 -- whether that makes a record
-abbrev pub is_updated : ℕ → NumberValue → AnyContents → Bool
+abbrev pub is_updated : ℕ → NumberValue → AggregateContents → Bool
 is_updated h value a = takes_bound value a && is_some (held_by h a.live)
 
 -- after the end of this handle, if it is live; what was prepared is given up. A stream of observed sums doesn't change
-abbrev pub any_after_unbind : ℕ → AnyContents → AnyContents
-any_after_unbind h a = cond a.drains a (with_stream a (stream_after_unbind h (stream_in a)))
+abbrev pub any_after_unbind : ℕ → AggregateContents → AggregateContents
+any_after_unbind h a = cond a.drains a (stream_after_unbind h a)
 
 -- ======== collections ========
 -- what a collection at a moment gives of a stream, by its aggregate
@@ -131,7 +110,7 @@ metrics_of false now a = metrics.U64 (data_of (λ n. n) natural_of a.aggregate n
 metrics_of true now a = metrics.I64 (data_of signed_of (λ z. z) a.aggregate now a)
 
 -- the stream, as one of observed sums
-abbrev pub observed_in : AnyContents → ObservedState
+abbrev pub observed_in : AggregateContents → ObservedState
 observed_in a = record { stream = a.state; reported = a.reported }
 
 -- what a collection at a moment gives of observed sums, by their number type
@@ -140,23 +119,23 @@ observed_metrics false now a = metrics.U64 (metric.Sum (observed_data (λ n. n) 
 observed_metrics true now a = metrics.I64 (metric.Sum (observed_data signed_of (λ z. z) now a))
 
 -- what a collection at a moment gives of any stream
-abbrev pub metrics_now : ℕ → AnyContents → AggregatedMetrics
+abbrev pub metrics_now : ℕ → AggregateContents → AggregatedMetrics
 metrics_now now a = cond a.drains (observed_metrics a.is_signed now (observed_in a)) (metrics_of a.is_signed now a.state)
 
 -- the points that are added up to the total of a collection: of observed sums the values, not the differences shown
-abbrev pub any_points : AnyContents → List Point
+abbrev pub any_points : AggregateContents → List Point
 any_points a = cond a.drains (draining_points a.state.map_state) (points_now a.state)
 
 -- with this stream of observed sums in its place
-abbrev pub with_observed : AnyContents → ObservedState → AnyContents
+abbrev pub with_observed : AggregateContents → ObservedState → AggregateContents
 with_observed a s = record a { state = s.stream; reported = s.reported }
 
 -- the stream after a collection at a moment, but for what was prepared
-abbrev pub state_after_collection : ℕ → AnyContents → AnyContents
+abbrev pub state_after_collection : ℕ → AggregateContents → AggregateContents
 state_after_collection now a = cond a.drains (with_observed a (drained_at now (observed_in a))) (record a { state = stream_after_collection now a.state })
 
 -- after a collection at a moment; if it empties or resets the stream, what was prepared is given up
-abbrev pub any_after_collection : ℕ → AnyContents → AnyContents
+abbrev pub any_after_collection : ℕ → AggregateContents → AggregateContents
 any_after_collection now a = record (state_after_collection now a) { pending = cond (a.drains || a.state.resets) None a.pending }
 
 -- ======== saved entries ========
@@ -178,15 +157,15 @@ pub record SavedContents : Type 0 where
   pub table : Table
 
 -- the entries of this stream, without its handles
-abbrev pub saved_of : AnyContents → SavedContents
+abbrev pub saved_of : AggregateContents → SavedContents
 saved_of a = record { is_signed = a.is_signed; form = form_of a.state.aggregate; table = without_handles a.state.map_state.table }
 
 -- the saved entries can replace those of the stream: the number type and the form are the same, and no handle is live
-pub record IsLike (saved : SavedContents) (a : AnyContents) : Type 0 where
+pub record IsLike (saved : SavedContents) (a : AggregateContents) : Type 0 where
   pub number : saved.is_signed ≡ a.is_signed
   pub form : saved.form ≡ form_of a.state.aggregate
   pub unheld : a.live ≡ []
 
 -- with the saved entries in place of its own; what was prepared is given up
-abbrev pub with_saved : SavedContents → AnyContents → AnyContents
+abbrev pub with_saved : SavedContents → AggregateContents → AggregateContents
 with_saved saved a = record a { state = record a.state { map_state = record a.state.map_state { table = saved.table } }; pending = None }

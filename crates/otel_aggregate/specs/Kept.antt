@@ -10,7 +10,8 @@ use Rattle.otel_model_stream.specs.Maps.{MapState, draining_points, drained_map}
 use Rattle.otel_model_stream.specs.Data.{spread_of}
 use Rattle.otel_aggregate.specs.value_map.Contents.{MapContents}
 use Rattle.otel_aggregate.specs.Streams.{AggregateContents}
-use Rattle.otel_aggregate.specs.Any.{Form, Sums, LastValues, Spreads as SpreadForm, AnyContents, form_of, observed_in, data_of}
+use Rattle.otel_aggregate.specs.Links.{Link}
+use Rattle.otel_aggregate.specs.Any.{Form, Sums, LastValues, Spreads as SpreadForm, observed_in, data_of}
 use Rattle.otel_aggregate.specs.Observed.{observed_data}
 
 -- ======== by form and number type ========
@@ -51,10 +52,6 @@ abbrev pub AreShowable : Bool → Form → List Point → Type 0
 AreShowable is_signed form ps = AllByRecursion (λ (p : Point). IsKept is_signed form p.1) ps
 
 -- ======== a stream's parts ========
--- a stream keeps what its aggregate says, in values of this number type
-abbrev pub IsKeptStream : Bool → AggregateContents → Type 0
-IsKeptStream is_signed s = IsKeptMap is_signed (form_of s.state.aggregate) s.state.map_state
-
 -- the state of a map of what was reported, if there is one
 abbrev pub state_of : Option (Box MapContents Global) → Option MapState
 state_of None = None
@@ -65,14 +62,14 @@ abbrev pub reported_in : Option MapState → List Point
 reported_in None = []
 reported_in (Some m) = draining_points m
 
--- a stream that has a map of what was reported keeps last values, and has no handles and no room for one; drained they
--- are the same
-abbrev pub IsReportedOf : AggregateContents → Option MapState → Type 0
-IsReportedOf s None = Unit
-IsReportedOf s (Some m) = (drained_map m ≡ drained_map s.state.map_state) × (s.live ≡ []) × (s.room ≡ false) × (form_of s.state.aggregate ≡ LastValues)
+-- a stream with this map that has a map of what was reported keeps last values, and has no handles and no room for one;
+-- drained the maps are the same
+abbrev pub IsReportedOf : Form → MapState → List Link → Bool → Option MapState → Type 0
+IsReportedOf form m links room None = Unit
+IsReportedOf form m links room (Some r) = (drained_map r ≡ drained_map m) × (links ≡ []) × (room ≡ false) × (form ≡ LastValues)
 
 -- ======== collections ========
 -- what a collection at a moment gives of a stream, in a number type
 module _ {T : Type 0} (of_bits : ℕ → T) (of_whole : ℤ → T) where
-  abbrev pub any_data : ℕ → AnyContents → MetricData T
+  abbrev pub any_data : ℕ → AggregateContents → MetricData T
   any_data now a = cond a.drains (metric.Sum (observed_data of_bits of_whole now (observed_in a))) (data_of of_bits of_whole a.state.aggregate now a.state)

@@ -3,13 +3,13 @@
 use Rattle.std.specs.Prelude.{ℕ, ℤ, Bool, false, cond, List, [], map, Option, None, Some}
 use Rattle.otel_common.specs.declared.attributes.KeyValue.{KeyValue}
 use Rattle.otel_data.specs.declared.sums.Sum.{Sum}
-use Rattle.otel_model_stream.specs.Sets.{AttributeSet, AllowList}
+use Rattle.otel_model_stream.specs.Sets.{AllowList}
 use Rattle.otel_model_stream.specs.Folds.{LastValue, Amount}
 use Rattle.otel_model_stream.specs.Entries.{Point}
 use Rattle.otel_model_stream.specs.Maps.{draining_points, drained_map}
 use Rattle.otel_model_stream.specs.Observed.{difference}
 use Rattle.otel_model_stream.specs.Data.{sum}
-use Rattle.otel_aggregate.specs.Streams.{AggregateState, AggregateContents, new_aggregate, recorded_set, recorded_attributes, stream_after_commit}
+use Rattle.otel_aggregate.specs.Streams.{AggregateState, new_aggregate, recorded_attributes}
 use Rattle.otel_aggregate.specs.Data.{temporality_of}
 
 -- what was observed since the last collection, and the values that a delta stream reported in that collection
@@ -17,35 +17,14 @@ pub record ObservedState : Type 0 where
   pub stream : AggregateState
   pub reported : List Point
 
--- that, and the set of the prepared observation, if there is one
-pub record ObservedContents : Type 0 where
-  pub state : ObservedState
-  pub pending : Option AttributeSet
-
 -- a stream without observations, with this limit, made at this moment
 abbrev pub new_observed : Bool → AllowList → Bool → ℕ → ℕ → ObservedState
 new_observed is_monotonic allow resets limit start = record { stream = new_aggregate LastValue is_monotonic allow resets limit start; reported = [] }
 
 -- ======== observations ========
--- after an observation of an amount under a set
-abbrev pub observed_set : AttributeSet → Amount → ObservedState → ObservedState
-observed_set s v a = record { stream = recorded_set s v a.stream; reported = a.reported }
-
 -- after an observation of an amount with these attributes
 abbrev pub observed_attributes : List KeyValue → Amount → ObservedState → ObservedState
 observed_attributes l v a = record { stream = recorded_attributes l v a.stream; reported = a.reported }
-
--- the stream without the reported values
-abbrev pub stream_in : ObservedContents → AggregateContents
-stream_in s = record { state = s.state.stream; live = []; pending = s.pending; room = false }
-
--- the stream with these reported values
-abbrev pub with_reported : List Point → AggregateContents → ObservedContents
-with_reported ps s = record { state = record { stream = s.state; reported = ps }; pending = s.pending }
-
--- after the prepared observation, if there is one
-abbrev pub observed_after_commit : Amount → ObservedContents → ObservedContents
-observed_after_commit v s = with_reported s.state.reported (stream_after_commit v (stream_in s))
 
 -- ======== collections ========
 -- the observed values

@@ -28,12 +28,17 @@ new_aggregate aggregate is_monotonic allow resets limit start = record {
   start = start;
 }
 
--- a stream, its live handles, the set of the prepared record or bind, if any, and whether room is made for a handle
+-- whether its numbers are signed; the stream; its live handles; the set of the prepared record or bind, if any; whether
+-- room is made for a handle; whether each collection empties it, as it does observed sums; and what a stream of these
+-- reported in the last collection. A stream of observed sums has no handles
 pub record AggregateContents : Type 0 where
+  pub is_signed : Bool
   pub state : AggregateState
   pub live : Handles
   pub pending : Option AttributeSet
   pub room : Bool
+  pub drains : Bool
+  pub reported : List Point
 
 -- whether the set of these attributes has an entry; the empty one always has
 abbrev pub is_known : AllowList → List KeyValue → MapState → Bool
@@ -69,7 +74,7 @@ stream_after_commit v s = taken_from s.pending v s
 -- after a bind of this set, if there is one, as this handle; it uses the room
 abbrev pub bind_of : Option AttributeSet → ℕ → AggregateContents → AggregateContents
 bind_of None h s = s
-bind_of (Some set) h s = record { state = record s.state { map_state = bound_map set s.state.map_state }; live = s.live ++ (h, bound_to set s.state.map_state) ∷ []; pending = None; room = false }
+bind_of (Some set) h s = record s { state = record s.state { map_state = bound_map set s.state.map_state }; live = s.live ++ (h, bound_to set s.state.map_state) ∷ []; pending = None; room = false }
 
 -- after the prepared bind as the handle with this number, if room is made and no such handle is live
 abbrev pub stream_after_bind : ℕ → AggregateContents → AggregateContents

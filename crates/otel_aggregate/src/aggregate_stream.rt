@@ -1,36 +1,38 @@
-//! One stream of one reader, whatever its aggregate.
+//! One stream of one reader, of any aggregate and either number type.
 
-ghost use Rattle.std.specs.Prelude.{◌≡◌, [], true, false, cond, map, is_some, None, Some, IsTrue, IsSome, IfOk, OnOk, OnErr, IsOk, IsOkUnless};
-ghost use Rattle.std.specs.List.{AllByRecursion};
+ghost use Rattle.std.specs.Bool.{beq};
+ghost use Rattle.std.specs.Prelude.{◌≡◌, [], true, false, cond, None, Some, IsTrue, OnOk, OnErr, IfOk, IsOk, IsOkUnless};
 ghost use Rattle.otel_common.specs.Temporalities.{resets};
 ghost use Rattle.otel_common.specs.declared.metrics.Temporality.TheVariants as shown;
-ghost use Rattle.otel_model_stream.specs.Sets.{AttributeSet, none_set, set_of};
-ghost use Rattle.otel_model_stream.specs.Events.{held_by};
-ghost use Rattle.otel_model_stream.specs.Folds.{wrap};
-ghost use Rattle.otel_model_stream.specs.Totals.{points_total};
-ghost use Rattle.otel_model_stream.specs.Maps.{draining_points, drained_map};
+ghost use Rattle.otel_model_stream.specs.Sets.{set_of};
+ghost use Rattle.otel_model_stream.specs.Folds.{Last, wrap};
+ghost use Rattle.otel_model_stream.specs.Maps.{new_map};
+ghost use Rattle.otel_model_stream.specs.Totals.{points_total, size};
 ghost use Rattle.otel_aggregate.specs.value_map.Numbers.{without_handles};
-ghost use Rattle.otel_aggregate.specs.value_map.Slots.{HasForm};
-ghost use Rattle.otel_aggregate.specs.Data.{temporality_of};
-ghost use Rattle.otel_aggregate.specs.Streams.{new_aggregate, is_known, recorded_set, recorded_attributes, ready_to_bind, stream_after_bind, stream_after_update, stream_after_unbind, stream_after_commit, stream_after_collection, points_now};
+ghost use Rattle.otel_aggregate.specs.Any.{aggregate_of, is_monotonic_of, drains_of, amount_of, any_after_commit, any_after_none, any_after_record, is_taken, is_signed_value, any_with_room, any_after_bind, any_after_update, is_updated, any_after_unbind, metrics_now, any_points, any_after_collection, saved_of, IsLike, with_saved};
+ghost use Rattle.otel_aggregate.specs.Kept.{IsWithin, state_of};
+ghost use Rattle.otel_aggregate.specs.Streams.{new_aggregate, is_known};
 
+use crate::any_aggregator::{AnyAggregator, AnyConfig};
 use crate::links::{Links, add, make_room, number_in, number_near, take_out};
-use crate::measures::Measures;
+use crate::saved::SavedAggregate;
 use crate::sets::allowed_keys::AllowedKeys;
-use crate::shows::{ShownPoints, Shows};
+use crate::settings::AnySettings;
 use crate::value_map::ValueMap;
 use crate::value_map::hashed_key::GivenAttributes;
 use crate::value_map::hashing::SetHashBuilder;
-use crate::value_map::maker::PointMaker;
-use crate::value_map::saved::Saved;
+use crate::values::{bits_of, is_signed, law_of_range};
 use otel_common::attributes::KeyValue;
 use otel_common::faults::Fault;
 use otel_common::keys::Key;
 use otel_common::lists::Items;
 use otel_common::metrics::Temporality;
+use otel_data::numbers::NumberValue;
 use std::alloc::{AllocError, Global};
 use std::marker::Model;
 use std::mem::swap;
+
+pub mod shown;
 
 /// Whether a stream resets at each collection, given its reader's answer.
 fn is_delta(temporality: Temporality) -> bool
@@ -40,17 +42,6 @@ fn is_delta(temporality: Temporality) -> bool
         Temporality::Delta => true,
         Temporality::Cumulative => false,
         Temporality::LowMemory => false,
-    }
-}
-
-/// The temporality of a stream's points, given whether it resets at each collection.
-pub(crate) fn shown_temporality(resets: bool) -> Temporality
-    ensures { result ≡ cond resets shown.Delta shown.Cumulative }
-{
-    if resets {
-        Temporality::Delta
-    } else {
-        Temporality::Cumulative
     }
 }
 
@@ -65,14 +56,40 @@ fn allow_list(alloc: Global, keys: Option<Items<Key>>) -> Result<Option<AllowedK
     }
 }
 
-/// The records of a stream, by set (Metrics SDK, "MetricReader"), and the handles, numbered by the caller, that hold
-/// entries.
+/// A map for what was reported, if each collection empties a stream with these settings.
+#[inline(never)]
+fn reported_map(
+    alloc: Global,
+    hasher: SetHashBuilder,
+    settings: &AnySettings,
+    limit: usize,
+) -> Result<Option<Box<ValueMap<AnyAggregator>>>, Fault>
+    ensures made { IfOk result (λ made. state_of made ≡ cond (drains_of settings.now) (Some (new_map limit (Last 0))) None) }
+    ensures only_memory { IsOkUnless result Fault.OutOfMemory }
+{
+    if settings.drains() {
+        let map = ValueMap::new(alloc, hasher, AnyConfig::LastValue, limit)?;
+        Ok(Some(Box::new(alloc, map)?))
+    } else {
+        Ok(None)
+    }
+}
+
+/// The records of a stream of any aggregate and either number type, by set (Metrics SDK, "Aggregation" and
+/// "MetricReader"), and the handles, numbered by the caller, that hold entries.
 ///
 /// An entry that a live handle holds stays at a resetting collection. A handle stays with its entry for good, even
 /// with the overflow entry once its set could have an entry of its own.
-pub struct AggregateStream<A: Measures> {
-    settings: A::Settings,
-    map: ValueMap<A>,
+///
+/// Observed sums have two maps, one for what is observed and one for what was reported. With `Delta` a collection
+/// swaps them, so that no value is copied to be kept.
+pub struct AggregateStream {
+    settings: AnySettings,
+    map: ValueMap<AnyAggregator>,
+    /// What the last collection of observed sums reported; always empty in a stream that doesn't reset. Boxed, so that
+    /// other streams take less room.
+    reported: Option<Box<ValueMap<AnyAggregator>>>,
+    is_signed: bool,
     live: Links,
     /// Whether room is made for one more handle.
     room: bool,
@@ -82,19 +99,22 @@ pub struct AggregateStream<A: Measures> {
     start: u64,
 }
 
-impl<A: Measures> Model for AggregateStream<A> {
-    ghost use Rattle.std.specs.Prelude.{◌<◌, IsTrue};
+impl Model for AggregateStream {
+    ghost use Rattle.std.specs.Prelude.{◌<◌, IsTrue, is_some};
     ghost use Rattle.std.specs.List.{AllByRecursion};
+    ghost use Rattle.otel_aggregate.specs.Any.{aggregate_of, is_monotonic_of, form_of};
+    ghost use Rattle.otel_aggregate.specs.Kept.{IsKeptMap, IsReportedOf, reported_in, state_of};
     ghost use Rattle.otel_aggregate.specs.Links.{spare, handles_of, IsLinked, AreHeld};
     ghost use Rattle.otel_aggregate.specs.Streams.{AggregateContents};
 
     ghost Value = { AggregateContents };
 
     ghost view = { λ s. record {
+      is_signed = s.is_signed;
       state = record {
         map_state = s.map.state;
-        aggregate = A.aggregate s.settings;
-        is_monotonic = A.is_monotonic s.settings;
+        aggregate = aggregate_of s.settings;
+        is_monotonic = is_monotonic_of s.settings;
         allow = s.allow;
         resets = s.resets;
         start = s.start;
@@ -102,19 +122,25 @@ impl<A: Measures> Model for AggregateStream<A> {
       live = handles_of s.map.numbers s.live.entries;
       pending = s.map.pending;
       room = s.room;
+      drains = is_some s.reported;
+      reported = reported_in (state_of s.reported);
     } };
 
     ghost invariant = { λ s. AllByRecursion (IsLinked s.map.numbers) s.live.entries
         × AreHeld s.map.state.table (handles_of s.map.numbers s.live.entries)
-        × (IsTrue s.room → 0 < spare s.live) };
+        × (IsTrue s.room → 0 < spare s.live)
+        × IsKeptMap s.is_signed (form_of (aggregate_of s.settings)) s.map.state
+        × IsReportedOf (form_of (aggregate_of s.settings)) s.map.state s.live.entries s.room (state_of s.reported) };
 }
 
-impl<A: Measures> Drop for AggregateStream<A> {
+impl Drop for AggregateStream {
     /// A function of its own, so that no proof about who lets one go looks into it.
     fn drop(self) {
         let AggregateStream {
             settings: _settings,
             map: _map,
+            reported: _reported,
+            is_signed: _,
             live: _live,
             room: _,
             allow: _allow,
@@ -124,10 +150,10 @@ impl<A: Measures> Drop for AggregateStream<A> {
     }
 }
 
-impl<A: Measures> AggregateStream<A> {
-    /// Makes a stream without records at the moment `start`, in nanoseconds since 1970. `temporality` is the reader's
-    /// answer: with `Delta` the stream starts again at each collection; with any other it goes on from `start`. Any
-    /// limit is accepted; with 0, every set but the empty one goes to the overflow point.
+impl AggregateStream {
+    /// Makes a stream without records, of unsigned or signed numbers, at the moment `start`, in nanoseconds since 1970.
+    /// `temporality` is the reader's answer: with `Delta` the stream starts again at each collection; with any other
+    /// it goes on from `start`. Any limit is accepted; with 0, every set but the empty one goes to the overflow point.
     ///
     /// Sets are hashed with `hasher`, which has no visible effect. An allow-list of more than 8 keys is sorted too, so that a
     /// record looks up a key of its attributes by a binary search.
@@ -135,23 +161,30 @@ impl<A: Measures> AggregateStream<A> {
     pub fn new(
         alloc: Global,
         hasher: SetHashBuilder,
-        settings: A::Settings,
+        settings: AnySettings,
+        is_signed: bool,
         temporality: Temporality,
         allow: Option<Items<Key>>,
         limit: usize,
         start: u64,
     ) -> Result<Self, Fault>
-        ensures made { IfOk result (λ made. made.state ≡ new_aggregate (A.aggregate settings) (A.is_monotonic settings) allow (resets temporality) limit start) }
+        ensures made { IfOk result (λ made. made.state ≡ new_aggregate (aggregate_of settings) (is_monotonic_of settings) allow (resets temporality) limit start) }
+        ensures number { IfOk result (λ made. made.is_signed ≡ is_signed) }
         ensures handles { IfOk result (λ made. made.live ≡ []) }
         ensures unprepared { IfOk result (λ made. made.pending ≡ None) }
         ensures room { IfOk result (λ made. made.room ≡ false) }
+        ensures drains { IfOk result (λ made. made.drains ≡ drains_of settings) }
+        ensures reported { IfOk result (λ made. made.reported ≡ []) }
         ensures only_memory { IsOkUnless result Fault.OutOfMemory }
     {
+        let reported = reported_map(alloc, hasher, &settings, limit)?;
         let allow = allow_list(alloc, allow)?;
-        let map = ValueMap::new(alloc, hasher, A::config(&settings), limit)?;
+        let map = ValueMap::new(alloc, hasher, settings.config(), limit)?;
         Ok(AggregateStream {
             settings,
             map,
+            reported,
+            is_signed,
             live: Links::new(alloc, hasher),
             room: false,
             allow,
@@ -172,6 +205,9 @@ impl<A: Measures> AggregateStream<A> {
         ensures same { self.new.state ≡ self.old.state }
         ensures live { self.new.live ≡ self.old.live }
         ensures room { self.new.room ≡ self.old.room }
+        ensures number { self.new.is_signed ≡ self.old.is_signed }
+        ensures drains { self.new.drains ≡ self.old.drains }
+        ensures reported { self.new.reported ≡ self.old.reported }
         ensures ready { OnOk result (self.new.pending ≡ Some (set_of self.old.state.allow given.now)) }
         ensures refused { OnErr result (self.new.pending ≡ None) }
         ensures known { IsTrue (is_known self.old.state.allow given.now self.old.state.map_state) → IsOk result }
@@ -185,80 +221,103 @@ impl<A: Measures> AggregateStream<A> {
         }
     }
 
-    /// Whether a record is prepared.
-    pub fn is_prepared(&self) -> bool
-        ensures { result ≡ is_some self.now.pending }
+    /// What a record of a value adds to the total of the records: the value's bits, 1 for a histogram, or 0 for last
+    /// values and observed sums.
+    #[inline(always)]
+    pub fn size(&self, value: NumberValue) -> u64
+        ensures { result ≡ size self.now.state.aggregate (amount_of value) }
     {
-        self.map.is_prepared()
+        match &self.settings {
+            AnySettings::Sum { is_monotonic: _ } => bits_of(value),
+            AnySettings::Histogram(_) => 1,
+            _ => 0,
+        }
     }
 
-    /// Takes in the prepared record. This is the second phase.
+    /// Whether a value has the stream's number type.
     #[inline(always)]
-    pub(crate) fn take_in(&mut self, value: A::Value)
-        requires { IsSome self.old.pending }
-        ensures measured { (s : AttributeSet) → self.old.pending ≡ Some s → self.new.state ≡ recorded_set s (A.amount value) self.old.state }
-        ensures live { self.new.live ≡ self.old.live }
-        ensures room { self.new.room ≡ self.old.room }
-        ensures spent { self.new.pending ≡ None }
+    fn takes(&self, value: NumberValue) -> bool
+        ensures told { result ≡ beq (is_signed_value value) self.now.is_signed }
+        ensures within { result ≡ true → IsWithin self.now.is_signed (amount_of value).wide }
     {
-        let record = A::record(&self.settings, value);
-        self.map.commit(record);
-        // Tells the prover that the entries that kept their numbers are still named by them.
-        self.map.law_of_numbers();
+        law_of_range(value);
+        is_signed(value) == self.is_signed
     }
 
-    /// Takes in the prepared record, if there is one, and returns whether there was.
+    /// Takes in the prepared record, if there is one and the value has the stream's number type, and returns whether
+    /// it did. This is the second phase; it takes no memory, and looks nothing up for a set that has an entry.
     #[inline(always)]
-    pub fn commit(&mut self, value: A::Value) -> bool
-        ensures taken { self.new ≡ stream_after_commit (A.amount value) self.old }
-        ensures told { result ≡ is_some self.old.pending }
+    pub fn commit(&mut self, value: NumberValue) -> bool
+        ensures taken { self.new ≡ any_after_commit value self.old }
+        ensures told { result ≡ is_taken value self.old }
     {
+        if !self.takes(value) {
+            return false;
+        }
         if !self.map.is_prepared() {
             return false;
         }
-        self.take_in(value);
+        let record = self.settings.record(value);
+        self.map.commit(record);
+        // Tells the prover that the entries that kept their numbers are still named by them.
+        self.map.law_of_numbers();
         true
     }
 
-    /// Takes in a record with these attributes, in one pass if there is no allow-list. Takes no memory where `prepare`
-    /// takes none.
+    /// Takes in a record with these attributes, in place of one that was prepared, and returns whether the value has the
+    /// stream's number type; if not, nothing changes. It is made in one pass if there is no allow-list. Takes no memory
+    /// where `prepare` takes none.
     #[inline(always)]
-    pub fn measure(&mut self, value: A::Value, attributes: &[KeyValue]) -> Result<(), Fault>
-        ensures ok { OnOk result (self.new.state ≡ recorded_attributes attributes.now (A.amount value) self.old.state) }
-        ensures err { OnErr result (self.new.state ≡ self.old.state) }
-        ensures live { self.new.live ≡ self.old.live }
-        ensures room { self.new.room ≡ self.old.room }
-        ensures spent { self.new.pending ≡ None }
+    pub fn measure(
+        &mut self,
+        value: NumberValue,
+        attributes: &[KeyValue],
+    ) -> Result<bool, AllocError>
+        ensures taken { OnOk result (self.new ≡ any_after_record value attributes.now self.old) }
+        ensures told { IfOk result (λ taken. taken ≡ beq (is_signed_value value) self.old.is_signed) }
+        ensures refused { OnErr result (self.new ≡ record self.old { pending = None }) }
         ensures known { IsTrue (is_known self.old.state.allow attributes.now self.old.state.map_state) → IsOk result }
-        ensures only_memory { IsOkUnless result Fault.OutOfMemory }
     {
+        if !self.takes(value) {
+            return Ok(false);
+        }
         if self.allow.is_some() {
             self.prepare(&GivenAttributes::new(attributes))?;
-            self.take_in(value);
-            return Ok(());
+            return Ok(self.commit(value));
         }
-        let record = A::record(&self.settings, value);
+        let record = self.settings.record(value);
         let measured = self.map.measure(record, attributes);
-        // Tells the prover that the entries that kept their numbers are still named by them.
         self.map.law_of_numbers();
-        measured
+        match measured {
+            Ok(()) => Ok(true),
+            Err(_) => Err(AllocError),
+        }
     }
 
-    /// Takes in a record without attributes. Looks nothing up, takes no memory, and gives up what was prepared.
+    /// Takes in a record without attributes, if the value has the stream's number type, and returns whether it does;
+    /// then it gives up what was prepared. Looks nothing up, and takes no memory.
     #[inline(always)]
-    pub fn measure_none(&mut self, value: A::Value)
-        ensures { self.new ≡ record self.old { state = recorded_set none_set (A.amount value) self.old.state; pending = None } }
+    pub fn measure_none(&mut self, value: NumberValue) -> bool
+        ensures taken { self.new ≡ any_after_none value self.old }
+        ensures told { result ≡ beq (is_signed_value value) self.old.is_signed }
     {
-        let record = A::record(&self.settings, value);
+        if !self.takes(value) {
+            return false;
+        }
+        let record = self.settings.record(value);
         self.map.measure_none(record);
+        true
     }
 
-    /// Makes room for a handle, which a bind uses up.
+    /// Makes room for a handle, which a bind uses up. Observed sums have no handles.
     pub fn make_room(&mut self) -> Result<(), Fault>
-        ensures room { OnOk result (self.new ≡ record self.old { room = true }) }
+        ensures room { OnOk result (self.new ≡ any_with_room self.old) }
         ensures refused { OnErr result (self.new ≡ self.old) }
         ensures only_memory { IsOkUnless result Fault.OutOfMemory }
     {
+        if self.reported.is_some() {
+            return Ok(());
+        }
         make_room(&mut self.live)?;
         self.room = true;
         Ok(())
@@ -268,8 +327,11 @@ impl<A: Measures> AggregateStream<A> {
     /// handle and no live handle has the number, and returns the handle's place, for `update_bound`. This is the second
     /// phase; it takes no memory.
     pub fn commit_bind(&mut self, handle: u64) -> usize
-        ensures bound { self.new ≡ stream_after_bind handle self.old }
+        ensures bound { self.new ≡ any_after_bind handle self.old }
     {
+        if self.reported.is_some() {
+            return 0;
+        }
         if !self.room || !self.map.is_prepared() || number_in(&self.live, handle).is_some() {
             return 0;
         }
@@ -282,33 +344,21 @@ impl<A: Measures> AggregateStream<A> {
         place
     }
 
-    /// Binds a handle with this number to these attributes (Metrics API, "Synchronous Instrument API"). Its records go,
-    /// for good, to the entry that a record with the attributes would go to now.
-    ///
-    /// If a live handle has the number, it stays with its own entry: nothing is bound, what was prepared stays prepared,
-    /// and the answer is `Ok`. Refused only for want of memory.
-    pub fn bind(&mut self, handle: u64, attributes: &[KeyValue]) -> Result<(), Fault>
-        ensures ok { OnOk result (self.new ≡ stream_after_bind handle (ready_to_bind attributes.now self.old)) }
-        ensures err { OnErr result (self.new.state ≡ self.old.state) }
-        ensures live { OnErr result (self.new.live ≡ self.old.live) }
-        ensures only_memory { IsOkUnless result Fault.OutOfMemory }
-    {
-        self.prepare(&GivenAttributes::new(attributes))?;
-        self.make_room()?;
-        self.commit_bind(handle);
-        Ok(())
-    }
-
-    /// Takes in a record through a handle, if it is live, and returns whether it is. Looks for the handle at this place
-    /// first, and looks it up only if it is not there. Takes no memory, and gives up what was prepared.
+    /// Takes in a record through a handle, if it is live and the value has the stream's number type, and returns
+    /// whether it did. Looks for the handle at this place first, and looks it up only if it is not there. Takes no
+    /// memory, and gives up what was prepared. Observed sums have no handles; they, and streams of the other number type,
+    /// stay unchanged.
     #[inline(always)]
-    pub fn update_bound(&mut self, handle: u64, place: usize, value: A::Value) -> bool
-        ensures updated { self.new ≡ stream_after_update handle (A.amount value) self.old }
-        ensures told { result ≡ is_some (held_by handle self.old.live) }
+    pub fn update_bound(&mut self, handle: u64, place: usize, value: NumberValue) -> bool
+        ensures updated { self.new ≡ any_after_update handle value self.old }
+        ensures told { result ≡ is_updated handle value self.old }
     {
+        if self.reported.is_some() || !self.takes(value) {
+            return false;
+        }
         match number_near(&self.live, handle, place) {
             Some(number) => {
-                let record = A::record(&self.settings, value);
+                let record = self.settings.record(value);
                 self.map.update_bound(number, record);
                 true
             }
@@ -319,10 +369,14 @@ impl<A: Measures> AggregateStream<A> {
         }
     }
 
-    /// Ends a handle, if it is live. Takes no memory, and constant time, amortized. Gives up what was prepared.
+    /// Ends a handle, if it is live. Takes no memory, and constant time, amortized. Gives up what was prepared, except in
+    /// observed sums, which have no handles.
     pub fn unbind(&mut self, handle: u64)
-        ensures unbound { self.new ≡ stream_after_unbind handle self.old }
+        ensures unbound { self.new ≡ any_after_unbind handle self.old }
     {
+        if self.reported.is_some() {
+            return;
+        }
         match number_in(&self.live, handle) {
             Some(number) => {
                 self.map.unbind(number);
@@ -332,56 +386,12 @@ impl<A: Measures> AggregateStream<A> {
         }
     }
 
-    /// The points that this makes of what a collection shows. Shares the sets.
-    pub(crate) fn shown<M: PointMaker<A>>(
-        &self,
-        alloc: Global,
-        maker: &M,
-    ) -> Result<Items<M::Point>, Fault>
-        requires { AllByRecursion (M.can_show maker.now) (points_now self.now.state) }
-        ensures points { IfOk result (λ given. map M.seen given ≡ map (M.shown maker.now) (points_now self.now.state)) }
-        ensures only_memory { IsOkUnless result Fault.OutOfMemory }
-    {
-        Ok(Items::from(self.map.shown(alloc, maker, !self.resets)?))
-    }
-
-    /// The points that this makes of every set that has an entry, and of the empty set if it was updated. Shares the
-    /// sets.
-    pub(crate) fn shown_of_every<M: PointMaker<A>>(
-        &self,
-        alloc: Global,
-        maker: &M,
-    ) -> Result<Items<M::Point>, Fault>
-        requires { AllByRecursion (M.can_show maker.now) (draining_points self.now.state.map_state) }
-        ensures points { IfOk result (λ given. map M.seen given ≡ map (M.shown maker.now) (draining_points self.now.state.map_state)) }
-        ensures only_memory { IsOkUnless result Fault.OutOfMemory }
-    {
-        Ok(Items::from(self.map.shown(alloc, maker, true)?))
-    }
-
     /// What the points of a collection made now would add up to, modulo 2^64: the 64 bits of the values of a sum, the
-    /// number of records in a histogram, and 0 for last values.
+    /// number of records in a histogram, and 0 for last values and observed sums.
     pub fn total(&self) -> u64
-        ensures { result ≡ wrap (points_total (points_now self.now.state)) }
+        ensures { result ≡ wrap (points_total (any_points self.now)) }
     {
-        self.map.total(!self.resets)
-    }
-
-    /// What the points of every set that has an entry, and of the empty set if it was updated, would add up to, modulo
-    /// 2^64.
-    pub(crate) fn total_of_every(&self) -> u64
-        ensures { result ≡ wrap (points_total (draining_points self.now.state.map_state)) }
-    {
-        self.map.total(true)
-    }
-
-    /// The settings that all its sets share.
-    #[inline(always)]
-    pub(crate) fn settings(&self) -> &A::Settings
-        ensures aggregate { self.now.state.aggregate ≡ A.aggregate result.now }
-        ensures monotonic { self.now.state.is_monotonic ≡ A.is_monotonic result.now }
-    {
-        &self.settings
+        self.map.total(self.reported.is_some() || !self.resets)
     }
 
     /// Whether the stream starts again at each collection.
@@ -392,118 +402,62 @@ impl<A: Measures> AggregateStream<A> {
     }
 
     /// Ends a collection, whose points were taken, at the moment `now`, in nanoseconds since 1970. If the stream
-    /// resets, it starts again from then, and a prepared record is given up.
+    /// resets, it starts again from then; if it drains, what was observed is forgotten. In either case a prepared
+    /// record is given up.
     pub fn finish(&mut self, now: u64)
-        ensures state { self.new.state ≡ stream_after_collection now self.old.state }
-        ensures live { self.new.live ≡ self.old.live }
-        ensures room { self.new.room ≡ self.old.room }
-        ensures pending { self.new.pending ≡ cond self.old.state.resets None self.old.pending }
+        ensures ended { self.new ≡ any_after_collection now self.old }
     {
-        if self.resets {
-            self.map.reset_and_evict();
-            self.map.law_of_numbers();
-            self.start = now;
+        match &mut self.reported {
+            None => {
+                if self.resets {
+                    self.map.reset_and_evict();
+                    self.map.law_of_numbers();
+                    self.start = now;
+                }
+            }
+            Some(reported) => {
+                if self.resets {
+                    // The two maps, which drained are the same, are swapped; nothing is copied.
+                    let kept: &mut ValueMap<AnyAggregator> = reported;
+                    kept.drain();
+                    swap(&mut self.map, kept);
+                    self.start = now;
+                } else {
+                    self.map.drain();
+                }
+            }
         }
     }
 
-    /// The moment from which its records count, in nanoseconds since 1970.
-    pub(crate) fn start(&self) -> u64
-        ensures { result ≡ self.now.state.start }
-    {
-        self.start
-    }
-
-    /// Forgets all records, and all entries but that of the empty set. No handle may be live. A prepared record is
-    /// given up.
-    pub(crate) fn drain(&mut self)
-        requires { self.old.live ≡ [] }
-        ensures state { self.new.state ≡ record self.old.state { map_state = drained_map self.old.state.map_state } }
-        ensures live { self.new.live ≡ [] }
-        ensures room { self.new.room ≡ self.old.room }
-        ensures unprepared { self.new.pending ≡ None }
-    {
-        self.map.drain();
-    }
-
     /// A copy of the entries, held by no handle, to be restored later. Takes memory even if there are no entries.
-    pub(crate) fn save(&self, alloc: Global) -> Result<Saved<A>, Fault>
-        ensures saved { IfOk result (λ saved. saved ≡ without_handles self.now.state.map_state.table) }
+    pub fn save(&self, alloc: Global) -> Result<SavedAggregate, Fault>
+        ensures saved { IfOk result (λ saved. saved ≡ saved_of self.now) }
         ensures only_memory { IsOkUnless result Fault.OutOfMemory }
     {
-        self.map.save(alloc)
+        Ok(SavedAggregate {
+            is_signed: self.is_signed,
+            entries: self.map.save(alloc)?,
+        })
     }
 
-    /// Puts saved entries in place of the stream's own, and gives up a prepared record. No handle may be live. Takes
-    /// no memory.
-    pub(crate) fn restore(&mut self, saved: Saved<A>)
-        requires { self.old.live ≡ [] }
-        ensures state { self.new.state ≡ record self.old.state { map_state = record self.old.state.map_state { table = saved } } }
-        ensures live { self.new.live ≡ [] }
-        ensures room { self.new.room ≡ self.old.room }
-        ensures unprepared { self.new.pending ≡ None }
-        ensures was { HasForm A.meaning self.old.state.map_state.table }
-        ensures is { HasForm A.meaning saved }
-        ensures unheld { without_handles saved ≡ saved }
+    /// Puts saved entries in place of the stream's own, and gives up a prepared record. No handle may be live. What
+    /// observed sums reported stays unchanged. Takes no memory.
+    pub fn restore(&mut self, saved: SavedAggregate)
+        requires { IsLike saved self.old }
+        ensures { self.new ≡ with_saved saved self.old }
     {
-        self.map.restore(saved);
+        let SavedAggregate {
+            is_signed: _,
+            entries,
+        } = saved;
+        self.map.restore(entries);
     }
 
-    /// The law that no entry is held if no handle is live.
+    /// The law that no entry is held if no handle is live, and that observed sums have no handles.
     pub fn law_of_handles(&self)
-        ensures { self.now.live ≡ [] → without_handles self.now.state.map_state.table ≡ self.now.state.map_state.table }
+        ensures unheld { self.now.live ≡ [] → without_handles self.now.state.map_state.table ≡ self.now.state.map_state.table }
+        ensures observed { self.now.drains ≡ true → self.now.live ≡ [] }
     {
         let _room = self.room;
-    }
-
-    /// Moves its records into a map, whose own are forgotten, and starts again without any at the moment `now`, in
-    /// nanoseconds since 1970. No handle may be live. The two maps, which drained are the same, are swapped; nothing is
-    /// copied.
-    pub(crate) fn drain_into(&mut self, kept: &mut ValueMap<A>, now: u64)
-        requires unheld { self.old.live ≡ [] }
-        requires alike { drained_map kept.old.state ≡ drained_map self.old.state.map_state }
-        ensures kept { kept.new.state ≡ self.old.state.map_state }
-        ensures state { self.new.state ≡ record self.old.state { map_state = drained_map kept.old.state; start = now } }
-        ensures live { self.new.live ≡ [] }
-        ensures room { self.new.room ≡ self.old.room }
-        ensures unprepared { self.new.pending ≡ None }
-    {
-        kept.drain();
-        swap(&mut self.map, kept);
-        self.start = now;
-    }
-}
-
-impl<A: Shows> AggregateStream<A> {
-    /// What a collection at the moment `now`, in nanoseconds since 1970, gives: the start, the points and `now`. The
-    /// stream stays unchanged. Shares the sets that it shows, and copies none.
-    pub fn points(&self, alloc: Global, now: u64) -> Result<A::Data, Fault>
-        ensures kind { (s : A.Settings) × (self.now.state.aggregate ≡ A.aggregate s) }
-        ensures points { IfOk result (λ given. given ≡ A.collection self.now.state.aggregate self.now.state.is_monotonic (temporality_of self.now.state) self.now.state.start now (map (A.point self.now.state.aggregate) (points_now self.now.state))) }
-        ensures only_memory { IsOkUnless result Fault.OutOfMemory }
-    {
-        let maker = ShownPoints {
-            settings: self.settings(),
-        };
-        let points = self.shown(alloc, &maker)?;
-        let temporality = shown_temporality(self.resets);
-        Ok(A::into_data(&self.settings, points, temporality, self.start, now))
-    }
-
-    /// Makes a collection at the moment `now`, in nanoseconds since 1970: `points`, and then `finish`. If it fails,
-    /// nothing changes, and a prepared record stays prepared.
-    pub fn collect(&mut self, alloc: Global, now: u64) -> Result<A::Data, Fault>
-        ensures kind { (s : A.Settings) × (self.old.state.aggregate ≡ A.aggregate s) }
-        ensures points { IfOk result (λ given. given ≡ A.collection self.old.state.aggregate self.old.state.is_monotonic (temporality_of self.old.state) self.old.state.start now (map (A.point self.old.state.aggregate) (points_now self.old.state))) }
-        ensures ok { OnOk result (self.new.state ≡ stream_after_collection now self.old.state) }
-        ensures err { OnErr result (self.new.state ≡ self.old.state) }
-        ensures live { self.new.live ≡ self.old.live }
-        ensures room { self.new.room ≡ self.old.room }
-        ensures pending { OnOk result (self.new.pending ≡ cond self.old.state.resets None self.old.pending) }
-        ensures refused { OnErr result (self.new.pending ≡ self.old.pending) }
-        ensures only_memory { IsOkUnless result Fault.OutOfMemory }
-    {
-        let given = self.points(alloc, now)?;
-        self.finish(now);
-        Ok(given)
     }
 }

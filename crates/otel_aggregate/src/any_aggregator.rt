@@ -3,14 +3,11 @@
 ghost use Rattle.std.specs.Prelude.{◌≡◌, cond, IfOk, IsOkUnless, refl};
 ghost use Rattle.otel_model_stream.specs.Folds.{Fold, Spreads, lesser, greater, record_spread, clear_fold, clear_fold_no_spread, no_spread};
 ghost use Rattle.otel_model_stream.specs.Totals.{value_of};
-ghost use Rattle.otel_aggregate.specs.Any.{amount_of, aggregate_of, is_monotonic_of};
 ghost use Rattle.otel_aggregate.specs.AnyKept.{spread_in, fold_in, empty_for, sample_in};
 ghost use Rattle.otel_aggregate.specs.declared.any_aggregator.AnyConfig.TheVariants as config;
 
 use crate::aggregators::aggregator::Aggregator;
 use crate::aggregators::buckets::{Buckets, BucketsConfig};
-use crate::measures::Measures;
-use crate::settings::AnySettings;
 use crate::values::{bits_of, wide_of};
 use otel_common::faults::Fault;
 use otel_data::numbers::NumberValue;
@@ -204,37 +201,5 @@ impl Aggregator for AnyAggregator {
             AnyAggregator::LastValue(last) => *last = 0,
             AnyAggregator::Histogram(buckets) => buckets.reset(),
         }
-    }
-}
-
-impl Measures for AnyAggregator {
-    type Value = NumberValue;
-
-    type Settings = AnySettings;
-
-    ghost amount = { amount_of };
-
-    ghost aggregate = { aggregate_of };
-
-    ghost is_monotonic = { is_monotonic_of };
-
-    fn config(settings: &AnySettings) -> AnyConfig {
-        match settings {
-            AnySettings::Sum { is_monotonic: _ } => AnyConfig::Sum,
-            AnySettings::PrecomputedSum { is_monotonic: _ } => AnyConfig::LastValue,
-            AnySettings::LastValue => AnyConfig::LastValue,
-            AnySettings::Histogram(settings) => {
-                AnyConfig::Histogram(Buckets::<u64>::config(settings))
-            }
-        }
-    }
-
-    #[inline(always)]
-    fn record(settings: &AnySettings, value: NumberValue) -> AnyRecord {
-        let bucket = match settings {
-            AnySettings::Histogram(settings) => settings.bounds.bucket_of(wide_of(value)),
-            _ => 0,
-        };
-        AnyRecord { value, bucket }
     }
 }

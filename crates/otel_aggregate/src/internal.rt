@@ -1,5 +1,6 @@
 //! Aggregation of records.
 
+pub use crate::aggregate_stream::AggregateStream;
 pub use crate::aggregators::aggregator::{
     Aggregator, Increment, create_fold, reset_fold, update_fold,
 };
@@ -7,13 +8,13 @@ pub use crate::aggregators::assign::Assign;
 pub use crate::aggregators::bounds::Bounds;
 pub use crate::aggregators::buckets::{Buckets, BucketsConfig, counted_once};
 pub use crate::aggregators::number::Number;
-pub use crate::any::AnyAggregate;
-pub use crate::histogram::Histogram;
-pub use crate::last_value::LastValue;
+pub use crate::histogram::{Histogram, HistogramAggregate};
+pub use crate::last_value::{LastValue, LastValueAggregate};
 pub use crate::precomputed_sum::PrecomputedSum;
 pub use crate::saved::SavedAggregate;
 pub use crate::settings::{AnySettings, HistogramSettings};
-pub use crate::sum::Sum;
+pub use crate::sum::{Sum, SumAggregate};
+pub use crate::typed::{TypedAggregate, TypedStream};
 pub use crate::value_map::ValueMap;
 pub use crate::value_map::hashed_key::GivenAttributes;
 pub use crate::value_map::hashing::SetHashBuilder;

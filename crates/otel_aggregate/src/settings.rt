@@ -1,9 +1,15 @@
 //! What a stream makes of its records.
 
 ghost use Rattle.std.specs.Prelude.{◌≡◌};
-ghost use Rattle.otel_aggregate.specs.Any.{is_monotonic_of, drains_of};
+ghost use Rattle.otel_model_stream.specs.Folds.{empty_of, sample_of};
+ghost use Rattle.otel_aggregate.specs.Any.{aggregate_of, amount_of, is_monotonic_of, drains_of};
+ghost use Rattle.otel_aggregate.specs.AnyKept.{empty_for, sample_in};
 
 use crate::aggregators::bounds::Bounds;
+use crate::aggregators::buckets::BucketsConfig;
+use crate::any_aggregator::{AnyConfig, AnyRecord};
+use crate::values::wide_of;
+use otel_data::numbers::NumberValue;
 
 /// The bounds of a histogram's buckets, and what it keeps besides their counts.
 pub struct HistogramSettings {
@@ -46,6 +52,34 @@ pub enum AnySettings {
 }
 
 impl AnySettings {
+    /// What the aggregator of a set is made from.
+    pub(crate) fn config(&self) -> AnyConfig
+        ensures { empty_for result ≡ empty_of (aggregate_of self.now) }
+    {
+        match self {
+            AnySettings::Sum { is_monotonic: _ } => AnyConfig::Sum,
+            AnySettings::PrecomputedSum { is_monotonic: _ } => AnyConfig::LastValue,
+            AnySettings::LastValue => AnyConfig::LastValue,
+            AnySettings::Histogram(settings) => AnyConfig::Histogram(BucketsConfig {
+                number: settings.bounds.number_of_buckets(),
+                has_min_max: settings.has_min_max,
+                has_sum: settings.has_sum,
+            }),
+        }
+    }
+
+    /// The record that a value makes.
+    #[inline(always)]
+    pub(crate) fn record(&self, value: NumberValue) -> AnyRecord
+        ensures { sample_in result ≡ sample_of (aggregate_of self.now) (amount_of value) }
+    {
+        let bucket = match self {
+            AnySettings::Histogram(settings) => settings.bounds.bucket_of(wide_of(value)),
+            _ => 0,
+        };
+        AnyRecord { value, bucket }
+    }
+
     /// Whether it is a sum to which only values of at least 0 are added.
     pub(crate) fn is_monotonic(&self) -> bool
         ensures { result ≡ is_monotonic_of self.now }

@@ -12,8 +12,8 @@ use Rattle.otel_model_stream.specs.Events.{Kind, held_by}
 use Rattle.otel_model_stream.specs.Machine.{points, machine_after_collection, bind_handle, through, let_go}
 use Rattle.otel_model_stream.specs.Observed.{difference}
 use Rattle.otel_model_stream.specs.Totals.{size, points_total}
-use Rattle.otel_aggregate.specs.Any.{AnyContents, is_signed_value, amount_of}
-use Rattle.otel_aggregate.specs.Streams.{AggregateState}
+use Rattle.otel_aggregate.specs.Any.{is_signed_value, amount_of}
+use Rattle.otel_aggregate.specs.Streams.{AggregateState, AggregateContents}
 use Rattle.otel_model.specs.Calls.{is_observable}
 use Rattle.otel_model.specs.Demands.{Aggregation, Drop, Default, Sum, LastValue, ExplicitBucketHistogram, Demand, is_valid}
 use Rattle.otel_model.specs.Collections.{aggregated_metrics, has_points}
@@ -58,14 +58,14 @@ pub record IsMakeable (d : Demand) : Type 0 where
   pub valid : is_valid d.aggregation ≡ true
 
 -- the aggregate is the one that the demand asks for; if the instrument is observable, it has no live handles
-pub record IsAsked (d : Demand) (a : AnyContents) : Type 0 where
+pub record IsAsked (d : Demand) (a : AggregateContents) : Type 0 where
   pub state : a.state ≡ asked_aggregate d a.state.resets a.state.map_state.table a.state.start
   pub signed : a.is_signed ≡ d.identity.signed
   pub drains : a.drains ≡ is_drained d
   pub unheld : is_observable d.identity.kind ≡ true → a.live ≡ []
 
 -- the stream of this demand with this aggregate, and these totals of what it recorded and exported
-abbrev pub contents_of : Demand → AnyContents → ℕ → ℕ → StreamContents
+abbrev pub contents_of : Demand → AggregateContents → ℕ → ℕ → StreamContents
 contents_of d a recorded exported = record {
   stream = record {
     demand = d;

@@ -12,7 +12,7 @@ ghost use Rattle.opentelemetry_sdk.specs.pipeline.Streams.{IsAsked, IsMakeable, 
 
 use crate::pipeline::aggregations::settings_of;
 use crate::pipeline::saved::SavedStream;
-use otel_aggregate::any::AnyAggregate;
+use otel_aggregate::aggregate_stream::AggregateStream;
 use otel_aggregate::value_map::hashed_key::GivenAttributes;
 use otel_aggregate::value_map::hashing::SetHashBuilder;
 use otel_common::attributes::KeyValue;
@@ -30,7 +30,7 @@ use std::marker::Model;
 /// A stream: what was demanded, and the records so far.
 pub(crate) struct MetricStream {
     demand: Demand,
-    aggregate: AnyAggregate,
+    aggregate: AggregateStream,
     /// The total of all records, modulo 2^64.
     recorded: u64,
     /// The total of all points given by collections that then reset the stream, modulo 2^64.
@@ -98,7 +98,7 @@ fn new_aggregate(
     temporality: Temporality,
     demand: &Demand,
     now: u64,
-) -> Result<AnyAggregate, Fault>
+) -> Result<AggregateStream, Fault>
     requires { IsMakeable demand.now }
     ensures asked { IfOk result (λ made. IsAsked demand.now made) }
     ensures made { IfOk result (λ made. contents_of demand.now made 0 0 ≡ new_contents (resets temporality) demand.now now) }
@@ -107,7 +107,7 @@ fn new_aggregate(
     copied_attributes();
     let settings = settings_of(demand)?;
     let allow = demand.allow.clone()?;
-    AnyAggregate::new(
+    AggregateStream::new(
         alloc,
         hasher,
         settings,

@@ -121,6 +121,3 @@ module _ (look other : Look) (none : ℕ) (es gs : List Keyed) (set : AttributeS
     single = subst (IsDistinct set_eq) (sym (ap (map canon) (map-append (λ (e : Keyed). e.0) gs ((l, n) ∷ [])) ∙ map-append canon (keys_of gs) (l ∷ [])))
         (IsDistinct-push set_eq_equiv (map canon (keys_of gs)) (canon l) laws.single (ap (is_member set_eq (map canon (keys_of gs))) can.0 ∙ unlisted));
   }
-
-  pub number-added : number_of set (record { none = none; sets = es ++ (set, n) ∷ [] }) ≡ Some n
-  number-added = ap (λ b. cond b (Some none) (lookup (set_eq set) (es ++ (set, n) ∷ []))) new.some ∙ lookup-pushed set es n new.absent

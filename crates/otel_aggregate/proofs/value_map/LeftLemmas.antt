@@ -137,9 +137,6 @@ module _ (look other : Look) (w : (n : ℕ) → other n ≡ left_of (look n)) wh
           (ap is_some new, ap (entry_of none_set) new)
 
   module _ (none : ℕ) (es gs : List Keyed) (laws : IsConsistent look none es gs) where
-    abbrev left_keys : List Keyed
-    left_keys = filter (is_left other) es
-
     lookup-left : (s : AttributeSet) (n : ℕ) → lookup (set_eq s) es ≡ Some n → lookup (set_eq s) (filter (is_left other) es) ≡ option_filter (λ m. is_some (other m)) (Some n)
     lookup-left s n e = lookup-filter-values set_eq_equiv (λ m. is_some (other m)) s es laws.unique ∙ ap (option_filter (λ m. is_some (other m))) e
 

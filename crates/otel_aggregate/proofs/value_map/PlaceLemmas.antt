@@ -107,14 +107,6 @@ sound-nothing t few room p is = subst (IsSound t few room) (sym is) tt
 pub sound-at : (t : Slotted) (few room : Bool) (p : Pending) (n : ℕ) → p ≡ At n → IsSound t few room (At n) → IsSound t few room p
 sound-at t few room p n is found = subst (IsSound t few room) (sym is) found
 
--- the set that is prepared and has an entry
-pub at-prepared : (t : Slotted) (few room : Bool) (p : Pending) (n : ℕ) (s : AttributeSet) → IsSound t few room p → At n ≡ p → pending_in t.numbers p ≡ Some s → (number_of s t.numbers ≡ Some n) × (is_placed s t.table.entries ≡ true)
-at-prepared t few room p n s sound is e =
-    let found : IsSound t few room (At n) = subst (IsSound t few room) (sym is) sound in
-    let there : Some (set_named n t.numbers) ≡ Some s = ap (pending_in t.numbers) is ∙ e in
-    let same : set_named n t.numbers ≡ s = cc in
-    (subst (λ x. number_of x t.numbers ≡ Some n) same found.0, subst (λ x. is_placed x t.table.entries ≡ true) same found.1)
-
 -- and the one that is new
 pub new-prepared : (t : Slotted) (few room : Bool) (p : Pending) (set : AttributeSet) (list : Option (List KeyValue)) → IsSound t few room p → New set list ≡ p → IsReady t few room set list
 new-prepared t few room p set list sound is = subst (IsSound t few room) (sym is) sound
@@ -129,10 +121,6 @@ new-there t few room (At n) s sound is e = absurd (cc)
 new-there t few room (New set list) s sound is e =
     let same : set ≡ s = cc in
     (subst (λ x. set_eq x none_set ≡ false) same sound.new.some, subst (λ x. has x t.table.entries ≡ false) same sound.absent)
-
--- nothing is prepared
-pub nothing-prepared : (ns : Numbers) (p : Pending) (s : AttributeSet) {C : Type 0} → Nothing ≡ p → pending_in ns p ≡ Some s → C
-nothing-prepared ns p s is e = let none : None ≡ Some s = ap (pending_in ns) is ∙ e in absurd (cc)
 
 -- the key that was made in advance
 pub made_key : (o : Option AttributeSet) (key : AttributeSet) → IfSome o (λ k. k ≡ over_set) → o ≡ Some key → key ≡ over_set

@@ -49,28 +49,3 @@ updated_few look (e ∷ es) = by (entry_at look e).updated (updated_cons (entry_
 -- the points that entries show
 abbrev pub shown_of : Bool → List Entry → List Point
 shown_of every es = map point_of_entry (filter (λ (e : Entry). every || e.updated) es)
-
--- the points of all the entries of a table, of which these are that of the empty set and those of the others
-module _ {X : Type 0} (shown : Point → X) where
-  pub points-apart : (firsts others : List Entry) → map shown (map point_of_entry (firsts ++ others)) ≡ map shown (map point_of_entry firsts) ++ map shown (map point_of_entry others)
-  points-apart firsts others = ap (map shown) (map-append point_of_entry firsts others) ∙ map-append shown (map point_of_entry firsts) (map point_of_entry others)
-
-  -- a turn that shows a point
-  pub point-turn : {Y : Type 0} (seen : Y → X) (look : Look) (every : Bool) (ys : List Y) (y : Y) (s : AttributeSet) (n : ℕ) (rest : List Keyed) (all : List X) (k : Kept) → look n ≡ Some k → (every || k.updated) ≡ true
-      → seen y ≡ shown (s, k.fold)
-      → map seen ys ++ map shown (shown_of every (map (entry_at look) ((s, n) ∷ rest))) ≡ all
-      → map seen (ys ++ y ∷ []) ++ map shown (shown_of every (map (entry_at look) rest)) ≡ all
-  point-turn seen look every ys y s n rest all k is shows same e =
-      ap (λ l. l ++ map shown (shown_of every (map (entry_at look) rest))) (map-append seen ys (y ∷ []) ∙ ap (λ p. map seen ys ++ p ∷ []) same)
-      ∙ append_assoc (map seen ys) (shown (s, k.fold) ∷ []) (map shown (shown_of every (map (entry_at look) rest)))
-      ∙ ap (λ l. map seen ys ++ l) (rw (is, shows) refl) ∙ e
-
--- the points of the entries that are left, after one that is shown
-pub points-left : (look : Look) (every : Bool) (s : AttributeSet) (n : ℕ) (rest : List Keyed) (k : Kept) → look n ≡ Some k → (every || k.updated) ≡ true
-    → shown_of every (map (entry_at look) ((s, n) ∷ rest)) ≡ (s, k.fold) ∷ shown_of every (map (entry_at look) rest)
-points-left look every s n rest k is shows = rw (is, shows) refl
-
--- and after one that is not
-pub points-after : (look : Look) (every : Bool) (s : AttributeSet) (n : ℕ) (rest : List Keyed) (k : Kept) → look n ≡ Some k → (every || k.updated) ≡ false
-    → shown_of every (map (entry_at look) ((s, n) ∷ rest)) ≡ shown_of every (map (entry_at look) rest)
-points-after look every s n rest k is shows = rw (is, shows) refl

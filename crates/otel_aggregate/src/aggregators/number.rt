@@ -1,10 +1,17 @@
 //! Numbers of 64 bits, unsigned or signed.
 
-ghost use Rattle.std.specs.Prelude.{◌≡◌, ℕ, ℤ, pos, int_lt, ◌+◌, ◌-◌, ◌%◌, ◌^◌};
+ghost use Rattle.std.specs.Prelude.{◌≡◌, Bool, false, ℕ, ℤ, pos, int_lt, ◌+◌, ◌-◌, ◌%◌, ◌^◌};
 ghost use Rattle.otel_model_stream.specs.Data.{natural_of};
+ghost use Rattle.otel_aggregate.specs.Any.{amount_of, is_signed_value};
+ghost use Rattle.otel_aggregate.specs.Kept.{IsWithin};
+
+use otel_data::numbers::NumberType;
 
 /// A number of 64 bits.
-pub trait Number: Copy {
+pub trait Number: NumberType {
+    /// Whether the number type is `i64`.
+    ghost is_signed: { Bool };
+
     /// The 64 bits.
     ghost bits: { Self → ℕ };
 
@@ -25,9 +32,27 @@ pub trait Number: Copy {
     fn law_of_wide(self)
         ensures { of_wide (wide self) ≡ self };
 
+    /// The law that the value with its type is this number.
+    fn law_of_value(self)
+        ensures amount { amount_of (Self.value self) ≡ record { bits = bits self; wide = wide self } }
+        ensures signed { is_signed_value (Self.value self) ≡ is_signed };
+
+    /// Whether the number type is `i64`.
+    fn is_signed() -> bool
+        ensures { result ≡ is_signed };
+
     /// Zero.
     fn zero() -> Self
         ensures { bits result ≡ 0 };
+
+    /// The number with these 64 bits.
+    fn from_bits(word: u64) -> Self
+        ensures { result ≡ of_bits word };
+
+    /// The number with this value.
+    fn from_wide(value: i128) -> Self
+        requires { IsWithin is_signed value }
+        ensures { result ≡ of_wide value };
 
     /// The sum modulo 2^64.
     fn add(self, other: Self) -> Self
@@ -51,6 +76,8 @@ pub trait Number: Copy {
 }
 
 impl Number for u64 {
+    ghost is_signed = { false };
+
     ghost bits = { λ n. n };
 
     ghost wide = { pos };
@@ -63,8 +90,22 @@ impl Number for u64 {
 
     fn law_of_wide(self) {}
 
+    fn law_of_value(self) {}
+
+    fn is_signed() -> bool {
+        false
+    }
+
     fn zero() -> u64 {
         0
+    }
+
+    fn from_bits(word: u64) -> u64 {
+        word
+    }
+
+    fn from_wide(value: i128) -> u64 {
+        value as u64
     }
 
     fn add(self, other: u64) -> u64 {

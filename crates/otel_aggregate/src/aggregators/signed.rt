@@ -1,11 +1,14 @@
 //! Signed numbers of 64 bits.
 
+ghost use Rattle.std.specs.Prelude.{true};
 ghost use Rattle.std.specs.Int.{cast_unsigned, w64};
 ghost use Rattle.otel_model_stream.specs.Data.{signed_of};
 
 use crate::aggregators::number::Number;
 
 impl Number for i64 {
+    ghost is_signed = { true };
+
     ghost bits = { cast_unsigned w64 };
 
     ghost wide = { λ z. z };
@@ -18,8 +21,22 @@ impl Number for i64 {
 
     fn law_of_wide(self) {}
 
+    fn law_of_value(self) {}
+
+    fn is_signed() -> bool {
+        true
+    }
+
     fn zero() -> i64 {
         0
+    }
+
+    fn from_bits(word: u64) -> i64 {
+        word.cast_signed()
+    }
+
+    fn from_wide(value: i128) -> i64 {
+        value as i64
     }
 
     fn add(self, other: i64) -> i64 {

@@ -212,16 +212,18 @@ mod data {
 mod internal {
     use super::{Defaulted, Sent, Small, Threaded};
     use opentelemetry_sdk::metrics::internal::{
-        Aggregator, AnyAggregate, AnySettings, Assign, Bounds, Buckets, BucketsConfig,
+        AggregateStream, Aggregator, AnySettings, Assign, Bounds, Buckets, BucketsConfig,
         GivenAttributes, Histogram, HistogramSettings, Increment, LastValue, Number,
-        PrecomputedSum, Saved, SavedAggregate, SetHashBuilder, Sum, ValueMap, counted_once,
-        create_fold, reset_fold, update_fold,
+        PrecomputedSum, Saved, SavedAggregate, SetHashBuilder, Sum, TypedAggregate, TypedStream,
+        ValueMap, counted_once, create_fold, reset_fold, update_fold,
     };
     use std::marker::PhantomData;
 
     struct Numbers<T: Number>(PhantomData<T>);
 
     struct Aggregators<A: Aggregator>(PhantomData<A>);
+
+    struct Streams<T: Number + Drop, A: TypedAggregate<T>>(TypedStream<T, A>);
 
     /// The types with values of one type.
     struct Typed<T: Number + Drop> {
@@ -246,7 +248,7 @@ mod internal {
         bounds: Sent<Bounds>,
         settings: Sent<HistogramSettings>,
         any_settings: Sent<AnySettings>,
-        any: Sent<AnyAggregate>,
+        stream: Sent<AggregateStream>,
         saved: Sent<SavedAggregate>,
         given: GivenAttributes<'a>,
     }

@@ -4,10 +4,9 @@
 use super::bounds;
 use super::scripts::Made;
 use super::steps::{Readable, Step, Stepped, assert_steps, show, show_set};
-use otel_aggregate::aggregate_stream::AggregateStream;
-use otel_aggregate::internal::GivenAttributes;
+use otel_aggregate::aggregators::number::Number;
 use otel_aggregate::settings::HistogramSettings;
-use otel_aggregate::shows::Shows;
+use otel_aggregate::typed::{TypedAggregate, TypedStream};
 use otel_aggregate::value_map::hashing::SetHashBuilder;
 use otel_common::faults::Fault;
 use otel_common::keys::Key;
@@ -106,21 +105,14 @@ fn tell(text: &mut String, given: Result<impl Told + Drop, Fault>) -> Result<(),
     given?.tell(text)
 }
 
-impl<A: Shows> Stepped for AggregateStream<A>
+impl<T: Number + Drop + Readable, A: TypedAggregate<T>> Stepped for TypedStream<T, A>
 where
-    A::Value: Readable,
     A::Data: Told,
 {
     fn step(&mut self, alloc: Global, step: &Step, text: &mut String) -> Result<(), Fault> {
         let number = u64::read(step.place);
         match step.name {
             "measure" => self.measure(Readable::read(step.value), step.set),
-            "prepare" => Ok(self.prepare(&GivenAttributes::new(step.set))?),
-            "is_prepared" => show(text, &self.is_prepared()),
-            "commit" => show(text, &self.commit(Readable::read(step.value))),
-            "resets" => show(text, &self.resets()),
-            "total" => show(text, &self.total()),
-            "make_room" => self.make_room(),
             "bind" => self.bind(u64::read(step.value), step.set),
             "update" => show(
                 text,
@@ -130,11 +122,6 @@ where
                 self.unbind(number);
                 Ok(())
             }
-            "points" => tell(text, self.points(alloc, number)),
-            "finish" => {
-                self.finish(number);
-                Ok(())
-            }
             "collect" => tell(text, self.collect(alloc, number)),
             _ => show(text, &"no such step"),
         }
@@ -142,7 +129,7 @@ where
 }
 
 /// Makes a stream at 100, and asserts what its steps answer.
-pub fn assert_stream<A: Shows>(
+pub fn assert_stream<T: Number + Drop + Readable, A: TypedAggregate<T>>(
     rt: &impl Abort,
     alloc: Global,
     settings: A::Settings,
@@ -150,10 +137,9 @@ pub fn assert_stream<A: Shows>(
     made: &Made,
 )
 where
-    A::Value: Readable,
     A::Data: Told,
 {
-    let mut stream: AggregateStream<A> = AggregateStream::new(
+    let mut stream: TypedStream<T, A> = TypedStream::new(
         alloc,
         SetHashBuilder::default(),
         settings,

@@ -7,7 +7,9 @@ use super::steps::{Readable, parts};
 use super::value_maps::maps::assert_map;
 use otel_aggregate::aggregators::aggregator::Increment;
 use otel_aggregate::aggregators::assign::Assign;
-use otel_aggregate::aggregators::buckets::Buckets;
+use otel_aggregate::histogram::HistogramAggregate;
+use otel_aggregate::last_value::LastValueAggregate;
+use otel_aggregate::sum::SumAggregate;
 use otel_common::metrics::Temporality;
 use std::alloc::Global;
 use std::process::Abort;
@@ -33,27 +35,27 @@ pub fn assert_script(rt: &impl Abort, alloc: Global, script: &str) {
         lines,
     };
     match kind {
-        "sum of u64" => assert_stream::<Increment<u64>>(rt, alloc, true, None, &made),
+        "sum of u64" => assert_stream::<u64, SumAggregate>(rt, alloc, true, None, &made),
         "sum of u64 by keys" => {
             let allow = keys(alloc, list).expect(rt, head);
-            assert_stream::<Increment<u64>>(rt, alloc, true, Some(allow), &made);
+            assert_stream::<u64, SumAggregate>(rt, alloc, true, Some(allow), &made);
         }
-        "sum of i64" => assert_stream::<Increment<i64>>(rt, alloc, false, None, &made),
+        "sum of i64" => assert_stream::<i64, SumAggregate>(rt, alloc, false, None, &made),
         "observed sum of u64" => assert_observed::<u64>(rt, alloc, &made),
         "observed sum of i64" => assert_observed::<i64>(rt, alloc, &made),
-        "last value of u64" => assert_stream::<Assign<u64>>(rt, alloc, (), None, &made),
-        "last value of i64" => assert_stream::<Assign<i64>>(rt, alloc, (), None, &made),
+        "last value of u64" => assert_stream::<u64, LastValueAggregate>(rt, alloc, (), None, &made),
+        "last value of i64" => assert_stream::<i64, LastValueAggregate>(rt, alloc, (), None, &made),
         "histogram of u64" => {
             let settings = histogram(rt, alloc, list, true);
-            assert_stream::<Buckets<u64>>(rt, alloc, settings, None, &made);
+            assert_stream::<u64, HistogramAggregate>(rt, alloc, settings, None, &made);
         }
         "histogram of i64" => {
             let settings = histogram(rt, alloc, list, true);
-            assert_stream::<Buckets<i64>>(rt, alloc, settings, None, &made);
+            assert_stream::<i64, HistogramAggregate>(rt, alloc, settings, None, &made);
         }
         "counts of i64" => {
             let settings = histogram(rt, alloc, list, false);
-            assert_stream::<Buckets<i64>>(rt, alloc, settings, None, &made);
+            assert_stream::<i64, HistogramAggregate>(rt, alloc, settings, None, &made);
         }
         "map of sums of u64" => assert_map::<Increment<u64>>(rt, alloc, &made),
         "map of sums of i64" => assert_map::<Increment<i64>>(rt, alloc, &made),

@@ -3,5 +3,5 @@ use Rattle.otel_aggregate.specs.Links.{AreHeld}
 use Rattle.otel_aggregate.proofs.HandleLemmas.{held-without}
 use Rattle.otel_aggregate.proofs.aggregate_stream.AggregateStream.law_of_handles.Goals as goal
 
-pub returns : goal.returns
-returns g c = rw (← c.self.view_is) (λ none. held-without c.self.inside.map.state.table (subst (AreHeld c.self.inside.map.state.table) none c.self.invariant.1))
+pub returns-clause-unheld : goal.returns-clause-unheld
+returns-clause-unheld c = rw (← c.self.view_is) (λ none. held-without c.self.inside.map.state.table (subst (AreHeld c.self.inside.map.state.table) none c.self.invariant.1))

@@ -7,7 +7,6 @@ use super::super::scripts::assert_script;
 fn check_buckets_are_selected_correctly(rt: HostRuntime) {
     let script = "
         counts of i64, limit 10, Cumulative: 1 3 6
-        resets => false
         measure: 1
         measure: 2
         measure: 3
@@ -28,7 +27,6 @@ fn explicit_bucket_histogram_aggregation(rt: HostRuntime) {
     // Cumulative.
     let script = "
         histogram of u64, limit 10, Cumulative: 1
-        resets => false
         measure b=2: 3
         collect 200 => 100..200 Cumulative; b=2 -> (1, Some(3), Some(3), 3) [1] [0, 1]
     ";
@@ -36,7 +34,6 @@ fn explicit_bucket_histogram_aggregation(rt: HostRuntime) {
     // Delta.
     let script = "
         histogram of u64, limit 10, Delta: 1
-        resets => true
         measure b=2: 3
         collect 200 => 100..200 Delta; b=2 -> (1, Some(3), Some(3), 3) [1] [0, 1]
     ";
@@ -48,7 +45,6 @@ fn histograms_of_signed_numbers(rt: HostRuntime) {
     // Signed values are compared as whole numbers.
     let script = "
         histogram of i64, limit 10, Cumulative: -5 0
-        resets => false
         measure: 0
         measure: -4
         measure: -6
@@ -57,26 +53,12 @@ fn histograms_of_signed_numbers(rt: HostRuntime) {
         collect 200 => 100..200 Cumulative; -> (5, Some(-6), Some(1), -14) [-5, 0] [2, 2, 1]
     ";
     assert_script(&rt, rt.alloc(), script);
-    // A record is prepared.
-    let script = "
-        histogram of i64, limit 10, Cumulative: -5 0
-        resets => false
-        is_prepared => false
-        prepare
-        commit: -1 => true
-        is_prepared => false
-        total => 1
-    ";
-    assert_script(&rt, rt.alloc(), script);
     // A delta histogram starts again after a collection of two records.
     let script = "
         histogram of i64, limit 10, Delta: -5 0
-        resets => true
         measure: -1
         measure: 1
-        points 200 => 100..200 Delta; -> (2, Some(-1), Some(1), 0) [-5, 0] [0, 1, 1]
-        finish 200
-        total => 0
+        collect 200 => 100..200 Delta; -> (2, Some(-1), Some(1), 0) [-5, 0] [0, 1, 1]
         measure: 5
         collect 300 => 200..300 Delta; -> (1, Some(5), Some(5), 5) [-5, 0] [0, 0, 1]
     ";

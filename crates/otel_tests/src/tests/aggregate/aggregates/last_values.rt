@@ -6,7 +6,6 @@ use super::super::scripts::assert_script;
 fn last_value_aggregation(rt: HostRuntime) {
     let script = "
         last value of u64, limit 10, Cumulative
-        resets => false
         measure b=2: 2
         collect 200 => Some(100)..200; b=2 -> 2
     ";
@@ -18,7 +17,6 @@ fn last_value_aggregation(rt: HostRuntime) {
 fn bind_writes_through_bound_handle(rt: HostRuntime) {
     let script = "
         last value of u64, limit 100, Cumulative
-        resets => false
         bind k=v: 0
         update 0: 7 => true
         update 0: 42 => true
@@ -32,7 +30,6 @@ fn bind_writes_through_bound_handle(rt: HostRuntime) {
 fn bound_handle_drop_decrements_bound_count(rt: HostRuntime) {
     let script = "
         last value of u64, limit 100, Delta
-        resets => true
         bind k=v: 0
         update 0: 5 => true
         unbind 0
@@ -49,21 +46,15 @@ fn last_values_of_signed_numbers(rt: HostRuntime) {
     // The last of two values stays from one collection to the next.
     let script = "
         last value of i64, limit 10, Cumulative
-        resets => false
-        is_prepared => false
         measure: 7
-        prepare
-        commit: -3 => true
-        total => 0
-        points 200 => Some(100)..200; -> -3
-        finish 200
+        measure: -3
+        collect 200 => Some(100)..200; -> -3
         collect 300 => Some(100)..300; -> -3
     ";
     assert_script(&rt, rt.alloc(), script);
     // A delta value is shown once.
     let script = "
         last value of i64, limit 10, Delta
-        resets => true
         measure x=1: 7
         collect 200 => Some(100)..200; x=1 -> 7
         collect 300 => Some(200)..300

@@ -15,10 +15,6 @@ impl<T: Number + Drop + Display + Readable> Stepped for PrecomputedSum<T> {
     fn step(&mut self, alloc: Global, step: &Step, text: &mut String) -> Result<(), Fault> {
         match step.name {
             "measure" => self.measure(Readable::read(step.value), step.set),
-            "prepare" => self.prepare(step.set),
-            "is_prepared" => show(text, &self.is_prepared()),
-            "commit" => show(text, &self.commit(Readable::read(step.value))),
-            "resets" => show(text, &self.resets()),
             "collect" => tell(text, self.collect(alloc, u64::read(step.place))),
             _ => show(text, &"no such step"),
         }
@@ -66,19 +62,12 @@ fn precomputed_sum_aggregation(rt: HostRuntime) {
 fn a_delta_shows_what_is_added(rt: HostRuntime) {
     let script = "
         observed sum of i64, limit 10, Delta
-        resets => true
-        prepare x=1
-        is_prepared => true
-        commit: 5 => true
+        measure x=1: 5
         collect 200 => 100..200 Delta monotonic; x=1 -> 5
-        prepare x=1
-        is_prepared => true
-        commit: 3 => true
+        measure x=1: 3
         collect 300 => 200..300 Delta monotonic; x=1 -> -2
         collect 400 => 300..400 Delta monotonic
-        prepare x=1
-        is_prepared => true
-        commit: 4 => true
+        measure x=1: 4
         collect 500 => 400..500 Delta monotonic; x=1 -> 4
     ";
     assert_script(&rt, rt.alloc(), script);
