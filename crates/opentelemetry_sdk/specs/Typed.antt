@@ -12,6 +12,7 @@ use Rattle.opentelemetry_sdk.specs.Providers.{identity_of}
 use Rattle.opentelemetry_sdk.specs.declared.values.async_builders.AsyncInstrumentBuilder.{AsyncInstrumentBuilder}
 use Rattle.opentelemetry_sdk.specs.declared.values.asynchronous.Asynchronous.{Asynchronous}
 use Rattle.opentelemetry_sdk.specs.declared.values.bound.Bound.{Bound}
+use Rattle.opentelemetry_sdk.specs.declared.values.bound.Kept.{Kept}
 use Rattle.opentelemetry_sdk.specs.declared.values.builders.InstrumentBuilder.{InstrumentBuilder}
 use Rattle.opentelemetry_sdk.specs.declared.values.meters.Meter.{Meter}
 use Rattle.opentelemetry_sdk.specs.declared.provider.Provider.{Provider}
@@ -71,15 +72,25 @@ IsObservableOf i p = i.identity ≡ identity_of p
 
 -- ======== handles ========
 abbrev pub handle_number : {T : Type 0} → Bound T → ℕ
-handle_number b = b.handle.number
+handle_number b = b.kept.handle.number
 
 -- the identity of the provider that it belongs to
 abbrev pub handle_identity : {T : Type 0} → Bound T → ℕ
-handle_identity b = b.identity
+handle_identity b = b.kept.identity
 
 -- the handle has the provider's identity
 abbrev pub IsBoundOf : {T P V R U I : Type 0} → Bound T → Provider P V R U I → Type 0
-IsBoundOf b p = b.identity ≡ identity_of p
+IsBoundOf b p = b.kept.identity ≡ identity_of p
+
+-- the same for a handle that is kept
+abbrev pub kept_number : {T : Type 0} → Kept T → ℕ
+kept_number k = k.handle.number
+
+abbrev pub kept_identity : {T : Type 0} → Kept T → ℕ
+kept_identity k = k.identity
+
+abbrev pub IsKeptOf : {T P V R U I : Type 0} → Kept T → Provider P V R U I → Type 0
+IsKeptOf k p = k.identity ≡ identity_of p
 
 -- ======== replies ========
 -- the replies to a call for a meter, to builds and to a record
@@ -97,7 +108,7 @@ record_reply r = reply_from (λ _. model.Reply.Done) r
 
 -- the reply to a bind
 abbrev pub bind_reply : {T : Type 0} → Result (Bound T) Fault → model.Reply
-bind_reply r = reply_from (λ b. model.Reply.Handle b.handle.number) r
+bind_reply r = reply_from (λ b. model.Reply.Handle b.kept.handle.number) r
 
 -- the reply to the end of a handle, which is handed back if it is refused
 abbrev pub unbind_reply : {T : Type 0} → Result (Unit {0}) (Bound T × Fault) → model.Reply

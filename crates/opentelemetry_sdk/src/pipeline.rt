@@ -35,7 +35,7 @@ use std::alloc::{AllocError, Global};
 use std::marker::Model;
 
 pub mod about;
-mod aggregations;
+pub(crate) mod aggregations;
 mod building;
 mod collecting;
 pub mod defaults;

@@ -9,7 +9,7 @@ pub use crate::values::asynchronous::{
     Asynchronous, ObservableCounter, ObservableCounterKind, ObservableGauge, ObservableGaugeKind,
     ObservableUpDownCounter, ObservableUpDownCounterKind,
 };
-pub use crate::values::bound::Bound;
+pub use crate::values::bound::{Bound, Kept};
 pub use crate::values::builders::{HistogramBuilder, InstrumentBuilder};
 pub use crate::values::meters::Meter;
 pub use crate::values::synchronous::{

@@ -1,7 +1,8 @@
-//! What a stream makes of its records, given its demand.
+//! What a stream makes of its records, given its demand, and the tables of kinds that it follows.
 
 ghost use Rattle.std.specs.Prelude.{◌≡◌, false, IfOk, IsOkUnless};
 ghost use Rattle.otel_aggregate.specs.Any as any;
+ghost use Rattle.otel_model.specs.Calls.{is_observable};
 ghost use Rattle.otel_model.specs.Demands as demands;
 ghost use Rattle.otel_model.specs.Demands.{resets};
 ghost use Rattle.otel_model.specs.Streams.{aggregate_of, always_resets, has_sum, is_delta, is_drained, is_monotonic_kind, observes_sums};
@@ -26,6 +27,21 @@ pub(crate) fn is_drop(aggregation: &Aggregation) -> bool
         Aggregation::Sum => false,
         Aggregation::LastValue => false,
         Aggregation::ExplicitBucketHistogram { .. } => false,
+    }
+}
+
+/// Whether an instrument of this kind is observable.
+pub(crate) fn is_observable(kind: InstrumentKind) -> bool
+    ensures { result ≡ is_observable kind }
+{
+    match kind {
+        InstrumentKind::Counter => false,
+        InstrumentKind::UpDownCounter => false,
+        InstrumentKind::Histogram => false,
+        InstrumentKind::ObservableCounter => true,
+        InstrumentKind::ObservableUpDownCounter => true,
+        InstrumentKind::Gauge => false,
+        InstrumentKind::ObservableGauge => true,
     }
 }
 

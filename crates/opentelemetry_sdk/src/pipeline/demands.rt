@@ -34,23 +34,13 @@ fn lowered_text(alloc: Global, text: &StringValue) -> Result<StringValue, Fault>
 }
 
 /// The text, or an empty one if there is none.
-fn text_or_empty(alloc: Global, text: &Option<StringValue>) -> Result<StringValue, Fault>
+pub(crate) fn text_or_empty(alloc: Global, text: &Option<StringValue>) -> Result<StringValue, Fault>
     ensures text { IfOk result (λ t. t ≡ or_else text.now []) }
     ensures only_memory { IsOkUnless result Fault.OutOfMemory }
 {
     match text {
         Some(text) => Ok(text.clone()?),
         None => Ok(String::new(alloc).into()),
-    }
-}
-
-/// The cardinality limit if no view gives one: what the reader wants for the kind, or else the default.
-fn own_limit(answers: &Answers, kind: InstrumentKind) -> usize
-    ensures { result ≡ or_else (answer_for answers.now kind).limit default_limit }
-{
-    match answers.limit(kind) {
-        Some(wanted) => wanted,
-        None => DEFAULT_LIMIT,
     }
 }
 
@@ -107,9 +97,10 @@ fn identity_of(
 fn limit_of(answers: &Answers, kind: InstrumentKind, settings: &StreamSpec) -> usize
     ensures { result ≡ or_else settings.now.limit (or_else (answer_for answers.now kind).limit default_limit) }
 {
-    match settings.limit {
-        Some(set) => set,
-        None => own_limit(answers, kind),
+    match (settings.limit, answers.limit(kind)) {
+        (Some(set), _) => set,
+        (None, Some(wanted)) => wanted,
+        (None, None) => DEFAULT_LIMIT,
     }
 }
 

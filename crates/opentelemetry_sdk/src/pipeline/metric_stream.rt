@@ -10,7 +10,7 @@ ghost use Rattle.opentelemetry_sdk.specs.pipeline.Handles.{IsReadyToBind};
 ghost use Rattle.opentelemetry_sdk.specs.pipeline.Observations.{IsSavedOf, contents_after_restore, saved_by};
 ghost use Rattle.opentelemetry_sdk.specs.pipeline.Streams.{IsAsked, IsMakeable, contents_of, new_contents, without_pending, contents_after_commit, contents_after_none, contents_after_record, contents_after_bind, contents_after_update, contents_after_unbind, contents_after_collection, shown_metric, if_points};
 
-use crate::pipeline::aggregations::settings_of;
+use crate::pipeline::aggregations::{is_observable, settings_of};
 use crate::pipeline::saved::SavedStream;
 use otel_aggregate::aggregate_stream::AggregateStream;
 use otel_aggregate::value_map::hashed_key::GivenAttributes;
@@ -23,7 +23,6 @@ use otel_data::aggregated::{AggregatedMetrics, MetricData};
 use otel_data::collections::Metric;
 use otel_data::numbers::NumberValue;
 use otel_stream::demand::Demand;
-use otel_stream::instrument::InstrumentKind;
 use std::alloc::{AllocError, Global};
 use std::marker::Model;
 
@@ -56,21 +55,6 @@ impl Drop for MetricStream {
             recorded: _,
             exported: _,
         } = self;
-    }
-}
-
-/// Whether an instrument of this kind is observable.
-fn is_observable(kind: InstrumentKind) -> bool
-    ensures { result ≡ is_observable kind }
-{
-    match kind {
-        InstrumentKind::Counter => false,
-        InstrumentKind::UpDownCounter => false,
-        InstrumentKind::Histogram => false,
-        InstrumentKind::ObservableCounter => true,
-        InstrumentKind::ObservableUpDownCounter => true,
-        InstrumentKind::Gauge => false,
-        InstrumentKind::ObservableGauge => true,
     }
 }
 

@@ -1,31 +1,19 @@
 //! What views answer about an instrument.
 
-ghost use Rattle.std.specs.Prelude.{◌≡◌, [], map, IfOk, IsOkUnless};
+ghost use Rattle.std.specs.Prelude.{◌≡◌, map, IfOk, IsOkUnless};
 ghost use Rattle.std.specs.Option.{option_map};
-ghost use Rattle.otel_model.specs.Calls.{or_else};
 ghost use Rattle.otel_model.specs.Demands.{instrument_of};
 ghost use Rattle.opentelemetry_sdk.specs.States.{AreAsked};
 
 use crate::pipeline::about::About;
+use crate::pipeline::demands::text_or_empty;
 use otel_common::faults::Fault;
 use otel_common::laws::copied_scope;
 use otel_common::scopes::InstrumentationScope;
-use otel_common::strings::StringValue;
 use otel_stream::instrument::Instrument;
 use otel_stream::stream::Stream;
 use otel_stream::view::View;
 use std::alloc::Global;
-
-/// Returns a copy of the text, or the empty text if there is none.
-fn text_of(alloc: Global, text: &Option<StringValue>) -> Result<StringValue, Fault>
-    ensures text { IfOk result (λ t. t ≡ or_else text.now []) }
-    ensures only_memory { IsOkUnless result Fault.OutOfMemory }
-{
-    match text {
-        Some(text) => Ok(text.clone()?),
-        None => Ok(String::new(alloc).into()),
-    }
-}
 
 /// Makes the instrument of a build, as views see it.
 fn seen_by_views(
@@ -39,9 +27,9 @@ fn seen_by_views(
     copied_scope();
     Ok(Instrument {
         name: about.name.clone()?,
-        description: text_of(alloc, about.description)?,
+        description: text_or_empty(alloc, about.description)?,
         kind: about.kind,
-        unit: text_of(alloc, about.unit)?,
+        unit: text_or_empty(alloc, about.unit)?,
         scope: scope.clone()?,
     })
 }

@@ -17,7 +17,7 @@ use otel_common::faults::Fault;
 use otel_data::numbers::NumberValue;
 
 /// The number of a handle, and where it is looked for first.
-#[derive(Clone, Copy)]
+#[derive(Clone, Copy, Debug)]
 pub struct BoundHandle {
     pub number: u64,
     /// Its place among the handles of the provider.

@@ -1,6 +1,7 @@
 //! Lists of attributes, written out.
 
-ghost use Rattle.std.specs.Prelude.{◌≡◌, IfOk, IsOkUnless};
+ghost use Rattle.std.specs.Prelude.{◌≡◌, pos, IfOk, IsOkUnless};
+ghost use Rattle.std.specs.String.{string_bytes};
 ghost use Rattle.otel_common.specs.declared.attributes.Value.{Value};
 ghost use Rattle.otel_common.specs.declared.attributes.Value.TheVariants as made;
 ghost use Rattle.otel_common.specs.declared.faults.Fault.TheVariants.{OutOfMemory};
@@ -10,8 +11,8 @@ use otel_common::faults::Fault;
 use otel_common::strings::StringValue;
 use std::alloc::Global;
 
-/// What `attributes!` takes as the value of an attribute: a text, a whole number or a boolean (Common specification,
-/// "Attribute").
+/// What `attributes!` takes as the value of an attribute: a text (`&str`, `String`, `StringValue`), a whole number (`i64`,
+/// `i32`, `u32`), a boolean, or any `Value` (Common specification, "Attribute").
 pub trait AttributeValue {
     /// The value of the attribute.
     ghost value: { Self → Value };
@@ -27,6 +28,46 @@ impl AttributeValue for &str {
 
     fn into_value(self, alloc: Global) -> Result<Value, Fault> {
         Ok(Value::String(StringValue::new(alloc, self)?))
+    }
+}
+
+impl AttributeValue for String {
+    ghost value = { λ text. made.String (string_bytes text) };
+
+    fn into_value(self, _alloc: Global) -> Result<Value, Fault> {
+        Ok(Value::String(self.into()))
+    }
+}
+
+impl AttributeValue for StringValue {
+    ghost value = { λ text. made.String text };
+
+    fn into_value(self, _alloc: Global) -> Result<Value, Fault> {
+        Ok(Value::String(self))
+    }
+}
+
+impl AttributeValue for Value {
+    ghost value = { λ value. value };
+
+    fn into_value(self, _alloc: Global) -> Result<Value, Fault> {
+        Ok(self)
+    }
+}
+
+impl AttributeValue for i32 {
+    ghost value = { λ number. made.I64 number };
+
+    fn into_value(self, _alloc: Global) -> Result<Value, Fault> {
+        Ok(Value::I64(i64::from(self)))
+    }
+}
+
+impl AttributeValue for u32 {
+    ghost value = { λ number. made.I64 (pos number) };
+
+    fn into_value(self, _alloc: Global) -> Result<Value, Fault> {
+        Ok(Value::I64(i64::from(self)))
     }
 }
 
@@ -46,8 +87,8 @@ impl AttributeValue for bool {
     }
 }
 
-/// An array of attributes: `attributes![in alloc; "path" => "/cart", "items" => 3, "paid" => true]`. Names and texts are
-/// copied. Without memory for them, the function that it stands in returns, as with `?`.
+/// An array of attributes: `attributes![in alloc; "path" => "/cart", "items" => 3, "paid" => true]`. Names, and texts
+/// that are lent, are copied. Without memory for them, the function that it stands in returns, as with `?`.
 #[macro_export]
 macro_rules! attributes {
     (in $alloc:expr; $($name:expr => $value:expr),+ $(,)?) => {

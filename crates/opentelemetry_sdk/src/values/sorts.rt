@@ -4,6 +4,7 @@ ghost use Rattle.std.specs.Prelude.{◌≡◌};
 ghost use Rattle.otel_model.specs.Calls.{is_observable};
 ghost use Rattle.opentelemetry_sdk.specs.Correspondence.{kind_of, is_signed};
 
+use crate::pipeline::aggregations::is_observable;
 use otel_stream::instrument::InstrumentKind;
 
 /// What a build makes: an instrument of some kind, with values of some type (Metrics API, "Instrument").
@@ -68,16 +69,6 @@ impl InstrumentSort {
     pub fn is_observable(self) -> bool
         ensures { result ≡ is_observable (kind_of self) }
     {
-        match self {
-            InstrumentSort::U64Counter => false,
-            InstrumentSort::U64ObservableCounter => true,
-            InstrumentSort::I64UpDownCounter => false,
-            InstrumentSort::I64ObservableUpDownCounter => true,
-            InstrumentSort::U64Gauge => false,
-            InstrumentSort::I64Gauge => false,
-            InstrumentSort::U64ObservableGauge => true,
-            InstrumentSort::I64ObservableGauge => true,
-            InstrumentSort::U64Histogram => false,
-        }
+        is_observable(self.kind())
     }
 }

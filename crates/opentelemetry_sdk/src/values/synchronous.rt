@@ -1,10 +1,11 @@
 //! Synchronous instruments: counters, gauges and histograms to which a program hands values.
 
-ghost use Rattle.std.specs.Prelude.{◌≡◌, true, Err, IfErr};
+ghost use Rattle.std.specs.Prelude.{◌≡◌, true, false, Err, IfErr};
 ghost use Rattle.otel_model.specs.Calls as model;
 ghost use Rattle.otel_model.specs.Laws.{KeepsReaders};
 ghost use Rattle.otel_model.specs.Steps.{Step};
 ghost use Rattle.otel_model.specs.Lawful.{Balances};
+ghost use Rattle.opentelemetry_sdk.specs.Checks.{has_stream};
 ghost use Rattle.opentelemetry_sdk.specs.Correspondence.{number_of};
 ghost use Rattle.opentelemetry_sdk.specs.Known.{is_known};
 ghost use Rattle.opentelemetry_sdk.specs.Providers.{state_of, hash_seed_of, views_of, provider_readers, provider_views, callbacks_of};
@@ -80,6 +81,18 @@ impl<K, T> Synchronous<K, T> {
         ensures { result ≡ instrument_identity self.now }
     {
         self.identity
+    }
+
+    /// Whether any reader has a stream that the instrument feeds (Metrics API, "Enabled"): if not, its records go nowhere,
+    /// and a program need not make their attributes. An instrument whose name, unit or bounds are bad has none, and none
+    /// has one that a view drops at each reader. It stays as the build of the instrument left it.
+    ///
+    /// False if the instrument belongs to a provider of another identity. Goes once over the readers.
+    pub fn enabled<P: Parts>(&self, provider: &Provider<P>) -> bool
+        ensures own { IsInstrumentOf self.now provider.now → result ≡ has_stream (instrument_number self.now) (state_of provider.now) }
+        ensures foreign { ¬ IsInstrumentOf self.now provider.now → result ≡ false }
+    {
+        self.identity == provider.core.identity() && provider.core.has_stream(self.number)
     }
 }
 

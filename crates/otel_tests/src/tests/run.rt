@@ -3,6 +3,7 @@
 
 mod callbacks;
 mod cases;
+mod kept;
 mod metered;
 mod numbers;
 mod readers;

@@ -337,7 +337,7 @@ mod meter {
     use super::{Sent, Shown, Small, Threaded};
     use opentelemetry_sdk::metrics::meter::{
         Adds, AsyncInstrumentBuilder, Asynchronous, Bound, Counter, CounterKind, Gauge, GaugeKind,
-        Histogram, HistogramBuilder, HistogramKind, InstrumentBuilder, Meter, NumberType,
+        Histogram, HistogramBuilder, HistogramKind, InstrumentBuilder, Kept, Meter, NumberType,
         ObservableCounter, ObservableCounterKind, ObservableGauge, ObservableGaugeKind,
         ObservableUpDownCounter, ObservableUpDownCounterKind, Records, Synchronous, UpDownCounter,
         UpDownCounterKind, copied_instruments, copied_meter, copied_observables, keeps_identity,
@@ -360,6 +360,7 @@ mod meter {
         observable_up_down_counter: Small<ObservableUpDownCounter<T>>,
         observable_gauge: Small<ObservableGauge<T>>,
         handle: Threaded<Bound<T>>,
+        kept: Small<Kept<T>>,
     }
 
     struct Types {

@@ -1,10 +1,11 @@
 //! Records that wait to be made.
 
 ghost use Rattle.std.specs.Prelude.{◌≡◌};
-ghost use Rattle.opentelemetry_sdk.specs.Correspondence.{number_of, call_of};
+ghost use Rattle.opentelemetry_sdk.specs.Correspondence.{call_of};
 ghost use Rattle.opentelemetry_sdk.specs.Pending.{call_in, bits_in};
 
 use crate::calls::Call;
+use otel_aggregate::values::bits_of;
 use otel_common::attributes::KeyValue;
 use otel_common::lists::Items;
 use otel_data::numbers::NumberValue;
@@ -23,16 +24,6 @@ pub enum PendingRecord {
         handle: u64,
         value: NumberValue,
     },
-}
-
-/// The 64 bits of a value.
-fn bits_of(value: NumberValue) -> u64
-    ensures { result ≡ (number_of value).amount.bits }
-{
-    match value {
-        NumberValue::U64(value) => value,
-        NumberValue::I64(value) => value.cast_unsigned(),
-    }
 }
 
 impl PendingRecord {
