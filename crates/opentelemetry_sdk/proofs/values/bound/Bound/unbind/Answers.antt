@@ -1,6 +1,0 @@
-use Rattle.opentelemetry_sdk.specs.Providers.{views_of}
-use Rattle.opentelemetry_sdk.proofs.values.bound.Bound.unbind.Goals as goal
-
--- with the provider's views
-pub returns-in-Ok-clause-step : goal.returns-in-Ok-clause-step
-returns-in-Ok-clause-step g c = λ own. c.in-Ok.ensures.step own (views_of g.P.View.View.answer c.args.provider.now)
