@@ -1,1 +1,2 @@
 pub mod EqualExemplars
+pub mod ReadOff
