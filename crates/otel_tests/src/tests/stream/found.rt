@@ -9,6 +9,7 @@ use otel_common::resource::Resource;
 use otel_common::scopes::InstrumentationScope;
 use otel_data::aggregated::{AggregatedMetrics, MetricData};
 use otel_data::collections::{Metric, ResourceMetrics, ScopeMetrics};
+use otel_data::copies::canonical_sets;
 use otel_data::gauges::Gauge;
 use otel_data::histograms::Histogram;
 use otel_data::points::{GaugeDataPoint, HistogramDataPoint, SumDataPoint};
@@ -180,6 +181,7 @@ const PLACES: &[(&str, &str, &[(&str, i64)], &str)] = &[
 fn values_and_counts(rt: HostRuntime) {
     let rt = &rt;
     let alloc = rt.alloc();
+    canonical_sets();
     let collected = collection(rt, alloc);
     for (scope, name, pairs, text) in PLACES {
         let attributes = attributes_of(rt, alloc, pairs);
