@@ -209,7 +209,7 @@ fn parts_are_given_back(rt: HostRuntime) {
         unit.into_string(),
     );
     assert_shows(rt, alloc, &texts, "(\"histogram\", \"all\", \"1\")");
-    assert!(rt; matches!(data, AggregatedMetrics::U64(_)));
+    assert!(rt; matches!(&data, AggregatedMetrics::U64(_)));
     let attribute = KeyValue::int(alloc, "a", 1).expect(rt, "memory");
     let (key, value) = attribute.into_parts();
     assert_shows(rt, alloc, &(key.as_str(), &value), "(\"a\", I64(1))");
