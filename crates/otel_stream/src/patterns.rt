@@ -16,7 +16,7 @@ enum Followed {
 }
 
 /// Whether the whole text fits the pattern, in which `*` stands for any text, `?` for any byte, and each other byte for
-/// itself. Takes no memory, and at most as many steps as the product of the lengths.
+/// itself. Takes no memory, and a number of steps in the order of the product of the lengths at most.
 pub(crate) fn is_match(pattern: &[u8], text: &[u8]) -> bool
     ensures { result ≡ matches pattern.now text.now }
 {

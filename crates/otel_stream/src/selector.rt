@@ -179,8 +179,8 @@ impl InstrumentSelector {
         Ok(selector)
     }
 
-    /// Whether the instrument meets all criteria. Takes no memory, and for a pattern at most as many steps as the product
-    /// of its length and the name's.
+    /// Whether the instrument meets all criteria. Takes no memory, and for a pattern a number of steps in the order of the
+    /// product of its length and the name's at most.
     pub fn selects(&self, instrument: &Instrument) -> bool
         ensures { result ≡ selects self.now instrument.now }
     {
