@@ -213,7 +213,7 @@ impl AggregateStream {
         ensures known { IsTrue (is_known self.old.state.allow given.now self.old.state.map_state) → IsOk result }
     {
         match &self.allow {
-            None => self.map.prepare_given(given),
+            None => self.map.prepare(given),
             Some(allow) => match self.map.prepare_allowed(allow, given.as_slice()) {
                 Ok(()) => Ok(()),
                 Err(_) => Err(AllocError),

@@ -34,7 +34,11 @@ impl<T: Number + Drop> TypedAggregate<T> for HistogramAggregate {
         AnySettings::Histogram(settings)
     }
 
-    fn collected(stream: &AggregateStream, alloc: Global, now: u64) -> Result<HistogramData<T>, Fault> {
+    fn collected(
+        stream: &AggregateStream,
+        alloc: Global,
+        now: u64,
+    ) -> Result<HistogramData<T>, Fault> {
         stream.histogram_data(alloc, now)
     }
 }

@@ -1,6 +1,5 @@
 //! Aggregation of records.
 
-pub use crate::aggregate_stream::AggregateStream;
 pub use crate::aggregators::aggregator::{
     Aggregator, Increment, create_fold, reset_fold, update_fold,
 };
@@ -11,11 +10,8 @@ pub use crate::aggregators::number::Number;
 pub use crate::histogram::{Histogram, HistogramAggregate};
 pub use crate::last_value::{LastValue, LastValueAggregate};
 pub use crate::precomputed_sum::PrecomputedSum;
-pub use crate::saved::SavedAggregate;
-pub use crate::settings::{AnySettings, HistogramSettings};
+pub use crate::settings::HistogramSettings;
 pub use crate::sum::{Sum, SumAggregate};
 pub use crate::typed::{TypedAggregate, TypedStream};
 pub use crate::value_map::ValueMap;
-pub use crate::value_map::hashed_key::GivenAttributes;
 pub use crate::value_map::hashing::SetHashBuilder;
-pub use crate::value_map::saved::Saved;

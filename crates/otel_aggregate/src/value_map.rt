@@ -269,25 +269,9 @@ impl<A: Aggregator> ValueMap<A> {
     /// is all, and it takes no memory; the same holds if there are no attributes. Otherwise it sorts references to them
     /// and looks these up, unless the keys rise as given; attributes are copied only for a set without an entry. Up to 16
     /// keys are sorted without memory. More are sorted with memory; if it is refused, a set that has an entry is still
-    /// found, in quadratic time.
-    pub fn prepare(&mut self, attributes: &[KeyValue]) -> Result<(), Fault>
-        ensures same { self.new.state ≡ self.old.state }
-        ensures numbers { self.new.numbers ≡ self.old.numbers }
-        ensures given { self.new.given ≡ self.old.given }
-        ensures ready { OnOk result (self.new.pending ≡ Some (canon attributes.now)) }
-        ensures spelling { OnOk result (self.new.spelling ≡ spelling_of attributes.now self.old.state) }
-        ensures refused { OnErr result (self.new.pending ≡ None) }
-        ensures known { SucceedsIfKnown attributes.now (known_of self.old) result }
-        ensures placed { IsTrue (is_placed (canon attributes.now) self.old.state.table.entries) → IsOk result }
-        ensures only_memory { IsOkUnless result Fault.OutOfMemory }
-    {
-        self.prepare_given(&GivenAttributes::new(attributes))?;
-        Ok(())
-    }
-
-    /// Prepares a record or a bind as `prepare` does. Attributes that have their hash already are not hashed again.
+    /// found, in quadratic time. Attributes that have their hash already are not hashed again.
     #[inline(always)]
-    pub fn prepare_given(&mut self, given: &GivenAttributes) -> Result<(), AllocError>
+    pub(crate) fn prepare(&mut self, given: &GivenAttributes) -> Result<(), AllocError>
         ensures same { self.new.state ≡ self.old.state }
         ensures numbers { self.new.numbers ≡ self.old.numbers }
         ensures given { self.new.given ≡ self.old.given }
@@ -307,7 +291,7 @@ impl<A: Aggregator> ValueMap<A> {
     /// It looks up what is kept without copying it, as given, by references to up to 16 attributes that it finds once,
     /// and otherwise by sorted references.
     #[inline(never)]
-    pub fn prepare_allowed(
+    pub(crate) fn prepare_allowed(
         &mut self,
         allow: &AllowedKeys,
         attributes: &[KeyValue],
@@ -358,7 +342,7 @@ impl<A: Aggregator> ValueMap<A> {
     }
 
     /// Gives up the prepared record or bind, if there is one.
-    pub fn give_up(&mut self)
+    pub(crate) fn give_up(&mut self)
         ensures same { self.new.state ≡ self.old.state }
         ensures numbers { self.new.numbers ≡ self.old.numbers }
         ensures given { self.new.given ≡ self.old.given }
@@ -368,7 +352,7 @@ impl<A: Aggregator> ValueMap<A> {
     }
 
     /// Whether a record or a bind is prepared.
-    pub fn is_prepared(&self) -> bool
+    pub(crate) fn is_prepared(&self) -> bool
         ensures { result ≡ is_some self.now.pending }
     {
         self.pending.is_some()
@@ -377,7 +361,7 @@ impl<A: Aggregator> ValueMap<A> {
     /// Takes in the prepared record; `is_prepared` tells whether there is one. This is the second phase; it looks nothing
     /// up for a set that has an entry.
     #[inline(always)]
-    pub fn commit(&mut self, value: A::PreComputedValue)
+    pub(crate) fn commit(&mut self, value: A::PreComputedValue)
         requires { IsSome self.old.pending }
         ensures measured { (s : AttributeSet) → self.old.pending ≡ Some s → self.new.state ≡ measured_map s (A.sample value) self.old.state }
         ensures numbers { KeepNumbers self.old.numbers self.new.numbers }
@@ -391,7 +375,7 @@ impl<A: Aggregator> ValueMap<A> {
     /// Takes in a record for the empty set, which always has an entry. Looks nothing up, takes no memory, and gives up
     /// what was prepared.
     #[inline(always)]
-    pub fn measure_none(&mut self, value: A::PreComputedValue)
+    pub(crate) fn measure_none(&mut self, value: A::PreComputedValue)
         ensures measured { self.new.state ≡ measured_map none_set (A.sample value) self.old.state }
         ensures numbers { self.new.numbers ≡ self.old.numbers }
         ensures given { self.new.given ≡ self.old.given }
@@ -523,7 +507,7 @@ impl<A: Aggregator> ValueMap<A> {
         ensures placed { handles_at (bound_to (canon attributes.now) self.old.state) self.old.state.table < 2 ^ 64 - 1 → IsTrue (is_placed (canon attributes.now) self.old.state.table.entries) → IsOk result }
         ensures refused { IfErr result (IsBindFault (handles_at (bound_to (canon attributes.now) self.old.state) self.old.state.table)) }
     {
-        self.prepare(attributes)?;
+        self.prepare(&GivenAttributes::new(attributes))?;
         if self.handles_there() == u64::MAX {
             self.give_up();
             return Err(Fault::Exhausted);
@@ -596,7 +580,7 @@ impl<A: Aggregator> ValueMap<A> {
 
     /// The sets with copies of their aggregators: the empty set if it was updated, then the entries in order of
     /// making, either all or those that were updated. The map stays unchanged. It shares their sets, and copies none.
-    pub fn points(
+    pub(crate) fn points(
         &self,
         alloc: Global,
         every: bool,
@@ -631,7 +615,7 @@ impl<A: Aggregator> ValueMap<A> {
 
     /// Forgets all records, and evicts the entries that had none since the last time and that no handle holds, except
     /// the overflow entry. With an entry goes the list that admitted it. A prepared record is given up.
-    pub fn reset_and_evict(&mut self)
+    pub(crate) fn reset_and_evict(&mut self)
         ensures state { self.new.state ≡ evicted_map self.old.state }
         ensures numbers { KeepLeft (evicted_map self.old.state).table.entries self.old.numbers self.new.numbers }
         ensures given { self.new.given ≡ given_left (evicted_map self.old.state) self.old.given }
@@ -646,7 +630,7 @@ impl<A: Aggregator> ValueMap<A> {
     /// memory for about as many entries as it had, for later ones.
     ///
     /// No handle should be live: its entry is gone, and the entry's number may be given to another one.
-    pub fn drain(&mut self)
+    pub(crate) fn drain(&mut self)
         ensures state { self.new.state ≡ drained_map self.old.state }
         ensures none { self.new.numbers.none ≡ self.old.numbers.none }
         ensures given { self.new.given ≡ [] }
@@ -659,7 +643,7 @@ impl<A: Aggregator> ValueMap<A> {
 
     /// A copy of the entries, held by no handle, to be restored later, which shares their sets. For a map without other
     /// entries it takes memory for that of the empty set.
-    pub fn save(&self, alloc: Global) -> Result<Saved<A>, Fault>
+    pub(crate) fn save(&self, alloc: Global) -> Result<Saved<A>, Fault>
         ensures saved { IfOk result (λ saved. saved ≡ without_handles self.now.state.table) }
         ensures only_memory { IsOkUnless result Fault.OutOfMemory }
     {
@@ -668,7 +652,7 @@ impl<A: Aggregator> ValueMap<A> {
 
     /// Puts saved entries in place of the map's own, and gives up a prepared record. Takes no memory. Entries may get
     /// other numbers, so no handle should be live.
-    pub fn restore(&mut self, saved: Saved<A>)
+    pub(crate) fn restore(&mut self, saved: Saved<A>)
         ensures state { self.new.state ≡ record self.old.state { table = saved } }
         ensures unprepared { self.new.pending ≡ None }
         ensures was { HasForm A.meaning self.old.state.table }

@@ -4,7 +4,7 @@ use crate::calls::{counter, print_collection};
 use crate::parts::provider_with;
 use anyhow::Error;
 use opentelemetry_sdk::common::{Fault, KeyValue};
-use opentelemetry_sdk::metrics::meter::{Bound, Histogram, ObservableGauge};
+use opentelemetry_sdk::metrics::meter::{Histogram, ObservableGauge};
 use opentelemetry_sdk::metrics::provider::{Parts, Provider};
 use std::alloc::Global;
 
@@ -35,28 +35,18 @@ pub fn latency_of<P: Parts>(
         .build(provider, 100)
 }
 
-/// Records durations in milliseconds through a handle.
-fn record_each<P: Parts>(
-    provider: &mut Provider<P>,
-    handle: &Bound<u64>,
-    durations: &[u64],
-) -> Result<(), Fault> {
-    for milliseconds in durations {
-        handle.record(provider, *milliseconds)?;
-    }
-    Ok(())
-}
-
-/// Records durations of requests that have the same attributes, which are looked up once.
+/// Records durations in milliseconds of requests that have the same attributes, which are looked up once.
 pub fn record_all<P: Parts>(
     provider: &mut Provider<P>,
     latency: Histogram<u64>,
     attributes: &[KeyValue],
     durations: &[u64],
 ) -> Result<(), Fault> {
-    let handle = latency.bind(provider, attributes)?;
-    let recorded = record_each(provider, &handle, durations);
-    handle.end(provider).and(recorded)
+    let handle = latency.bind(provider, attributes)?.keep();
+    for milliseconds in durations {
+        handle.record(provider, *milliseconds)?;
+    }
+    handle.end(provider)
 }
 
 /// Serves two requests of a path: counts them, and how long each took.

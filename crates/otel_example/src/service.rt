@@ -7,7 +7,7 @@ use opentelemetry_sdk::attributes;
 use opentelemetry_sdk::common::Fault;
 use opentelemetry_sdk::metrics::callback::{NoCallback, Observation, ObserveU64};
 use opentelemetry_sdk::metrics::instrument::SelectorView;
-use opentelemetry_sdk::metrics::meter::{Bound, Counter};
+use opentelemetry_sdk::metrics::meter::{Counter, Kept};
 use opentelemetry_sdk::metrics::provider::{Plain, Provider};
 use opentelemetry_sdk::metrics::{ManualReader, Stream, Temporality};
 use std::alloc::Global;
@@ -30,9 +30,10 @@ impl ObserveU64 for Waiting {
 type Shop = Provider<Plain<Waiting, NoCallback>>;
 
 /// What is recorded of each request: that it was served, and how many milliseconds it took.
+#[derive(Clone, Copy)]
 struct Requests {
     served: Counter<u64>,
-    took: Bound<u64>,
+    took: Kept<u64>,
 }
 
 impl Requests {
@@ -43,7 +44,7 @@ impl Requests {
         let served = meter.u64_counter(String::from_str(alloc, "served")?);
         let served = served.build(shop, 100)?;
         let took = meter.u64_histogram(String::from_str(alloc, "took")?);
-        let took = took.build(shop, 100)?.bind(shop, &[])?;
+        let took = took.build(shop, 100)?.bind(shop, &[])?.keep();
         Ok(Requests { served, took })
     }
 
@@ -51,11 +52,6 @@ impl Requests {
         let attributes = attributes![in alloc; "path" => path, "paid" => true];
         self.served.add(shop, 1, &attributes)?;
         self.took.record(shop, 7)
-    }
-
-    fn close(self, shop: &mut Shop) -> Result<(), Fault> {
-        let Requests { served: _, took } = self;
-        took.end(shop)
     }
 }
 
@@ -69,7 +65,7 @@ fn serve<R: Print + Threads + Wait + Sync>(rt: &R, alloc: Global, mut shop: Shop
         || requests.serve(alloc, &mut shop.lock(rt), "/cart"),
     );
     let mut shop = shop.into_inner();
-    first.and(second).and(requests.close(&mut shop))?;
+    first.and(second)?;
     Ok(print!(rt; "{}{}", shop.collected(0, 200)?, shop.collected(1, 200)?)?)
 }
 

@@ -2,9 +2,10 @@
 use Rattle.std.specs.Prelude.{◌≡◌}
 use Rattle.std.proofs.Common.{refl, sym, ◌∙◌, arith}
 use Rattle.opentelemetry_sdk.specs.Providers.{state_of, identity_of}
-use Rattle.opentelemetry_sdk.specs.Typed.{IsMeterOf, IsInstrumentOf, instrument_identity, IsObservableOf, handle_identity, IsBoundOf}
+use Rattle.opentelemetry_sdk.specs.Typed.{IsMeterOf, IsInstrumentOf, instrument_identity, IsObservableOf, handle_identity, IsBoundOf, kept_identity, IsKeptOf}
 use Rattle.opentelemetry_sdk.specs.declared.values.asynchronous.Asynchronous.{Asynchronous}
 use Rattle.opentelemetry_sdk.specs.declared.values.bound.Bound.{Bound}
+use Rattle.opentelemetry_sdk.specs.declared.values.bound.Kept.{Kept}
 use Rattle.opentelemetry_sdk.specs.declared.values.meters.Meter.{Meter}
 use Rattle.opentelemetry_sdk.specs.declared.provider.Provider.{Provider}
 use Rattle.opentelemetry_sdk.specs.declared.values.synchronous.Synchronous.{Synchronous}
@@ -37,3 +38,9 @@ own_handle b p e f = e ∙ sym f
 
 pub other_handle : {T P V R U I : Type 0} (b : Bound T) (p : Provider P V R U I) → handle_identity b ≡ 8 → identity_of p ≡ 7 → IsBoundOf b p → ⊥
 other_handle b p e f h = absurd (omega (e, f, h, arith))
+
+pub own_kept : {T P V R U I : Type 0} (k : Kept T) (p : Provider P V R U I) → kept_identity k ≡ 7 → identity_of p ≡ 7 → IsKeptOf k p
+own_kept k p e f = e ∙ sym f
+
+pub other_kept : {T P V R U I : Type 0} (k : Kept T) (p : Provider P V R U I) → kept_identity k ≡ 8 → identity_of p ≡ 7 → IsKeptOf k p → ⊥
+other_kept k p e f h = absurd (omega (e, f, h, arith))

@@ -212,10 +212,10 @@ mod data {
 mod internal {
     use super::{Defaulted, Sent, Small, Threaded};
     use opentelemetry_sdk::metrics::internal::{
-        AggregateStream, Aggregator, AnySettings, Assign, Bounds, Buckets, BucketsConfig,
-        GivenAttributes, Histogram, HistogramSettings, Increment, LastValue, Number,
-        PrecomputedSum, Saved, SavedAggregate, SetHashBuilder, Sum, TypedAggregate, TypedStream,
-        ValueMap, counted_once, create_fold, reset_fold, update_fold,
+        Aggregator, Assign, Bounds, Buckets, BucketsConfig, Histogram, HistogramAggregate,
+        HistogramSettings, Increment, LastValue, LastValueAggregate, Number, PrecomputedSum,
+        SetHashBuilder, Sum, SumAggregate, TypedAggregate, TypedStream, ValueMap, counted_once,
+        create_fold, reset_fold, update_fold,
     };
     use std::marker::PhantomData;
 
@@ -232,14 +232,13 @@ mod internal {
         assign: Aggregators<Assign<T>>,
         buckets: Aggregators<Buckets<T>>,
         map: ValueMap<Increment<T>>,
-        saved: Saved<Increment<T>>,
         sum: Sum<T>,
         observed_sum: PrecomputedSum<T>,
         last_value: LastValue<T>,
         histogram: Histogram<T>,
     }
 
-    struct Types<'a> {
+    struct Types {
         unsigned: Typed<u64>,
         signed: Typed<i64>,
         config: Small<BucketsConfig>,
@@ -247,10 +246,9 @@ mod internal {
         fixed_hasher: Defaulted<SetHashBuilder>,
         bounds: Sent<Bounds>,
         settings: Sent<HistogramSettings>,
-        any_settings: Sent<AnySettings>,
-        stream: Sent<AggregateStream>,
-        saved: Sent<SavedAggregate>,
-        given: GivenAttributes<'a>,
+        counts: TypedStream<u64, SumAggregate>,
+        lasts: TypedStream<i64, LastValueAggregate>,
+        spreads: TypedStream<u64, HistogramAggregate>,
     }
 }
 

@@ -50,8 +50,8 @@ fn counter(
 #[test]
 fn kept_handles(rt: HostRuntime) -> Result<(), Fault> {
     let alloc = rt.alloc();
-    let mut provider = cumulative(&rt, alloc, 1);
-    let mut other = cumulative(&rt, alloc, 2);
+    let mut provider = cumulative(&rt, alloc, 7);
+    let mut other = cumulative(&rt, alloc, 8);
     let hits = counter(&rt, alloc, &mut provider, "hits");
     let mut kept: Vec<Kept<u64>> = Vec::new(alloc);
     for path in &["/", "/cart"] {
@@ -63,7 +63,7 @@ fn kept_handles(rt: HostRuntime) -> Result<(), Fault> {
     }
     let copy = kept[1];
     copy.record(&mut provider, 5)?;
-    assert_eq!(rt; (copy.number(), copy.identity()), (1, 1));
+    assert_eq!(rt; (copy.number(), copy.identity()), (1, 7));
     assert_eq!(rt; kept[0].end(&mut other), Err(Fault::UnknownHandle));
     kept[0].end(&mut provider)?;
     assert_eq!(rt; kept[0].add(&mut provider, 1), Err(Fault::UnknownHandle));
@@ -94,8 +94,10 @@ fn enabled(rt: HostRuntime) {
         .expect(&rt, "an observable counter");
     assert!(rt; observed.enabled(&provider), "observed");
     assert!(rt; !observed.enabled(&other), "observed elsewhere");
-    let dropping = ManualReader::builder()
-        .with_default_aggregation(InstrumentKind::Counter, Aggregation::Drop);
+    let dropping = ManualReader::builder().with_default_aggregation(
+        InstrumentKind::Counter,
+        Aggregation::Drop,
+    );
     let mut provider = with_reader(&rt, alloc, 3, dropping);
     let dropped = counter(&rt, alloc, &mut provider, "hits");
     assert!(rt; !dropped.enabled(&provider), "dropped");
@@ -117,6 +119,9 @@ fn attributes_of_each_type(rt: HostRuntime) -> Result<(), Fault> {
     for attribute in &attributes {
         write!(text, "{attribute} ")?;
     }
-    assert_eq!(rt; text.as_str(), "a=x b=y c=false d=-7 e=4000000000 f=5000000000 ");
+    assert_eq!(rt;
+        text.as_str(),
+        "a=x b=y c=false d=-7 e=4000000000 f=5000000000 "
+    );
     Ok(())
 }

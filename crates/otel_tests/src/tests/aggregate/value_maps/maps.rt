@@ -24,21 +24,6 @@ fn write_all<A: Written>(
     Ok(())
 }
 
-/// Takes in a record, writes what the map then shows, and restores the map.
-fn undo<A: Written>(
-    alloc: Global,
-    map: &mut ValueMap<A>,
-    set: &[KeyValue],
-    value: A::PreComputedValue,
-    text: &mut String,
-) -> Result<(), Fault> {
-    let saved = map.save(alloc)?;
-    let measured = map.measure(value, set);
-    let written = write_all(text, map.collect_readonly(alloc));
-    map.restore(saved);
-    measured.and(written)
-}
-
 impl<A: Written> Stepped for ValueMap<A>
 where
     A::PreComputedValue: Readable,
@@ -46,19 +31,6 @@ where
     fn step(&mut self, alloc: Global, step: &Step, text: &mut String) -> Result<(), Fault> {
         match step.name {
             "measure" => self.measure(Readable::read(step.value), step.set),
-            "prepare" => self.prepare(step.set),
-            "commit" => {
-                let is_prepared = self.is_prepared();
-                if is_prepared {
-                    self.commit(Readable::read(step.value));
-                }
-                show(text, &is_prepared)
-            }
-            "give_up" => {
-                self.give_up();
-                Ok(())
-            }
-            "undo" => undo(alloc, self, step.set, Readable::read(step.value), text),
             "get" => match self.get(step.set) {
                 Some(kept) => kept.write(text),
                 None => Ok(()),
@@ -98,36 +70,11 @@ const DRAINED: &str = "
     total => 0
 ";
 
-/// A map is restored, empty and with sets at and past the limit.
-const RESTORED: &str = "
-    map of sums of u64, limit 1
-    undo: 8 => -> 8;
-    readonly
-    total => 0
-    undo a=2 b=1: 8 => a=2 b=1 -> 8;
-    readonly
-    total => 0
-    measure: 4
-    measure c=1: 1
-    undo c=1: 8 => -> 4;c=1 -> 9;
-    readonly => -> 4;c=1 -> 1;
-    total => 5
-    undo a=2 b=1: 8 => -> 4;c=1 -> 1;otel.metric.overflow=true -> 8;
-    readonly => -> 4;c=1 -> 1;
-    total => 5
-    measure c=1: 2
-    reset => -> 4;c=1 -> 3;
-";
-
-/// A map gives its sets in order, and once, but for a record that is given up.
+/// A map gives its sets in order, and once.
 const IN_ORDER: &str = "
     map of sums of u64, limit 2
     measure b=1 a=2: 1
-    prepare a=2 b=1
-    commit: 2 => true
-    prepare c=1
-    give_up
-    commit: 1 => false
+    measure a=2 b=1: 2
     measure: 4
     readonly => -> 4;a=2 b=1 -> 3;
     total => 7
@@ -159,7 +106,7 @@ const MANY_FOUND: &str = "
 
 #[test]
 fn maps_of_sums(rt: HostRuntime) {
-    for script in [DRAINED, RESTORED, IN_ORDER, FEW_FOUND, MANY_FOUND] {
+    for script in [DRAINED, IN_ORDER, FEW_FOUND, MANY_FOUND] {
         assert_script(&rt, rt.alloc(), script);
     }
 }
@@ -169,8 +116,7 @@ fn a_map_of_signed_sums(rt: HostRuntime) {
     let script = "
         map of sums of i64, limit 2
         measure b=1 a=2: 1
-        prepare
-        commit: -4 => true
+        measure: -4
         measure a=2 b=1: 2
         readonly => -> -4;a=2 b=1 -> 3;
         total => 18446744073709551615
