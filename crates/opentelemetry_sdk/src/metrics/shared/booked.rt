@@ -137,8 +137,6 @@ fn make_collection(
     ensures seeded { core.new.hash_seed ≡ core.old.hash_seed }
     ensures count { count_in core.new.state % 2 ^ 64 ≡ count_in core.old.state % 2 ^ 64 }
     ensures sum { sum_in core.new.state % 2 ^ 64 ≡ sum_in core.old.state % 2 ^ 64 }
-    ensures readers { KeepsReaders core.old.state core.new.state }
-    ensures balances { Balances core.new.state }
 {
     core.collect(reader, now, observations)
 }
@@ -187,7 +185,7 @@ impl<C: Account, S: Account> Booked<C, S> {
         ensures count { count_in self.now.core.state % 2 ^ 64 ≡ (C.before + self.now.records.total) % 2 ^ 64 }
         ensures sum { sum_in self.now.core.state % 2 ^ 64 ≡ (S.before + self.now.values.total) % 2 ^ 64 }
     {
-        let _ = self.core.allocator();
+        self.core.law_of_state();
     }
 
     /// The allocator.
@@ -242,7 +240,6 @@ impl<C: Account, S: Account> Booked<C, S> {
     pub(crate) fn check_collection(&self, reader: usize) -> Result<(), Fault>
         ensures ok { OnOk result (collect_refusal self.now.core.state reader ≡ None) }
         ensures fault { IfErr result (λ f. collect_refusal self.now.core.state reader ≡ Some (fault_of f)) }
-        ensures balances { Balances self.now.core.state }
     {
         self.core.check_collection(reader)
     }
@@ -256,8 +253,6 @@ impl<C: Account, S: Account> Booked<C, S> {
     ) -> Result<ResourceMetrics, Fault>
         ensures step { (views : Views) → Step views self.old.core.state (model.Call.Collect reader now (map observed_of observations.now)) (reply_from (λ c. model.Reply.Collected c) result) self.new.core.state }
         ensures seeded { self.new.core.hash_seed ≡ self.old.core.hash_seed }
-        ensures readers { KeepsReaders self.old.core.state self.new.core.state }
-        ensures balances { Balances self.new.core.state }
         ensures kept { (self.new.opened ≡ self.old.opened) × (self.new.records.total ≡ self.old.records.total) × (self.new.values.total ≡ self.old.values.total) }
     {
         make_collection(&mut self.core, reader, now, observations)

@@ -1,4 +1,4 @@
-use Rattle.std.proofs.Common.{Ok, Err, arith, map, refl, subst, sym}
+use Rattle.std.proofs.Common.{Ok, Err, arith, map, refl, subst, sym, []}
 use Rattle.otel_stream.specs.Runs.{Ran, RanAll}
 use Rattle.otel_model.specs.Calls as model
 use Rattle.otel_model.specs.Steps.{Step}
@@ -6,6 +6,7 @@ use Rattle.opentelemetry_sdk.specs.Correspondence.{observed_of}
 use Rattle.opentelemetry_sdk.specs.Providers.{views_of}
 use Rattle.opentelemetry_sdk.specs.Typed.{collected_reply}
 use Rattle.opentelemetry_sdk.proofs.StepLemmas.{lent_back}
+use Rattle.otel_model.proofs.Kept.{kept_at_once}
 use Rattle.opentelemetry_sdk.proofs.provider.Provider.collected.Goals as goal
 
 -- the callbacks come back as they were lent. They answered a fault
@@ -26,5 +27,8 @@ returns-clause-ran g c = λ none.
       Ok c.in-Ok.observations.items,
       subst (λ cs. RanAll (Ran g.P.ObserveU64.ObserveU64.observes g.P.ObserveI64.ObserveI64.observes) c.args.self.now.callbacks.items cs (Ok c.in-Ok.observations.items)) (sym lent)
           (subst (λ cs. RanAll (Ran g.P.ObserveU64.ObserveU64.observes g.P.ObserveI64.ObserveI64.observes) cs c.run_callbacks.new.callbacks (Ok c.in-Ok.observations.items)) c.deref_mut.ensures.value c.in-Ok.ensures),
-      subst (λ os. Step views c.args.self.now.core.state (model.Call.Collect c.args.reader c.args.now (map observed_of os)) (collected_reply c.collect.result) c.collect.new.self.state) c.deref.ensures.value (c.collect.ensures.step views),
+      subst (λ os. Step views c.args.self.now.core.state (model.Call.Collect c.args.reader c.args.now (map observed_of os)) (collected_reply c.collect-collected.result) c.collect-collected.new.self.state) c.deref.ensures.value (c.collect-collected.ensures.step views),
     )
+
+pub returns-clause-readers : goal.returns-clause-readers
+returns-clause-readers g c = kept_at_once [] _ (model.Call.Collect c.args.reader c.args.now (map observed_of c.deref.result.now)) _ _ (c.collect-collected.ensures.step [])

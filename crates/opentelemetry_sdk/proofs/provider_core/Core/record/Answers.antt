@@ -1,35 +1,26 @@
 use Rattle.std.proofs.Common.{◌≡◌, ◌<◌, ◌∙◌, rules, refl, true≢false, ap, sym, subst, [], map, length, slice_get, set, None, arith}
 use Rattle.otel_model.specs.Calls as model
-use Rattle.otel_model.specs.Laws.{answers_in}
 use Rattle.otel_model.specs.Machine.{instrument_after_record, changed_at, part_after_call}
 use Rattle.otel_model.specs.Refusals.{record_refusal}
 use Rattle.otel_model.specs.Steps.{Step}
 use Rattle.otel_model.specs.State.{State}
-use Rattle.otel_model.proofs.Kept.{kept_at_once}
-use Rattle.otel_model.specs.Lawful.{Balances}
 use Rattle.opentelemetry_sdk.specs.pipeline.Pipelines.{part_of}
 use Rattle.opentelemetry_sdk.proofs.pipeline.Writes.{set-changed}
 use Rattle.opentelemetry_sdk.specs.Cores.{state_in}
 use Rattle.opentelemetry_sdk.specs.Correspondence.{fault_of, number_of}
 use Rattle.opentelemetry_sdk.specs.States.{CoreContents, IsTakenBy, IsFault, IsNamed, IsSound, AreTyped}
-use Rattle.opentelemetry_sdk.proofs.Sound.{sound-balances, sound-step, balances-step}
+use Rattle.opentelemetry_sdk.proofs.Sound.{sound-step}
 use Rattle.opentelemetry_sdk.proofs.Stepped.{refused-step, memory-result, record-takes}
 use Rattle.opentelemetry_sdk.proofs.StepLemmas.{lent-parts, record-made, get-inside}
 use Rattle.opentelemetry_sdk.proofs.Typed.{typed-feeds}
 use Rattle.opentelemetry_sdk.proofs.provider_core.Core.record.Goals.{After-accept, In_err-record_or_none}
 use Rattle.opentelemetry_sdk.proofs.provider_core.Core.record.Goals as goal
 
-pub returns-then-identity-self-clause-balances : goal.returns-then-identity-self-clause-balances
-returns-then-identity-self-clause-balances c = subst (λ (k : CoreContents). Balances k.state) c.self.view_is (sound-balances (state_in c.self.inside) c.self.invariant)
-
 pub returns-in-Err-clause-step : goal.returns-in-Err-clause-step
 returns-in-Err-clause-step c =
     let old : State = state_in c.self.inside in
     λ own views. subst (λ (k : CoreContents). Step views k.state (model.Call.Record c.args.instrument (number_of c.args.value) c.args.attributes.now) (model.Reply.Refused (fault_of c.in-Err.fault)) k.state) c.self.view_is (refused-step views old old (model.Call.Record c.args.instrument (number_of c.args.value) c.args.attributes.now) c.in-Err.fault (λ e. absurd (subst IsNamed e c.in-Err.ensures.named))
     (subst (λ is. IsFault (record_refusal (slice_get is c.args.instrument) (number_of c.args.value).signed) c.in-Err.fault) c.deref.ensures.value c.in-Err.ensures.fault) refl)
-
-pub returns-in-Err-clause-balances : goal.returns-in-Err-clause-balances
-returns-in-Err-clause-balances c = subst (λ (k : CoreContents). Balances k.state) c.self.view_is (sound-balances (state_in c.self.inside) c.self.invariant)
 
 -- the instrument feeds streams of its number type, which is the value's
 pub record_or_none-requires : goal.record_or_none-requires
@@ -56,18 +47,6 @@ returns-in_err-record_or_none-clause-step c =
     rw (← c.self.view_is) (λ own views. memory-result (λ _. model.Reply.Done) views old _ (model.Call.Record c.args.instrument (number_of c.args.value) c.args.attributes.now) c.from_residual.result (record-takes c.args.instrument (number_of c.args.value) c.args.attributes.now (λ e. true≢false (sym (c.in_err-record_or_none.ensures.free e)))) (search rules)
     (ap (λ is. record_refusal (slice_get is c.args.instrument) (number_of c.args.value).signed) (sym c.deref.ensures.value) ∙ c.in_default.ensures.fits)
     (ap (λ ps. record old { readers = ps }) (lent-parts c.self.inside.pipelines.len c.record_or_none.new.pipelines _ _ (omega arith) (unsent w))))
-
-pub returns-in_err-record_or_none-clause-balances : goal.returns-in_err-record_or_none-clause-balances
-returns-in_err-record_or_none-clause-balances c =
-    let w = (goal.at.returns-in_err-record_or_none-clause-balances c).In_err-record_or_none in
-    let old : State = state_in c.self.inside in
-    subst Balances (sym (ap (λ ps. record old { readers = ps }) (lent-parts c.self.inside.pipelines.len c.record_or_none.new.pipelines _ _ (omega arith) (unsent w)))) (sound-balances old c.self.invariant)
-
-pub returns-in_err-record_or_none-clause-readers : goal.returns-in_err-record_or_none-clause-readers
-returns-in_err-record_or_none-clause-readers c =
-    let w = (goal.at.returns-in_err-record_or_none-clause-readers c).In_err-record_or_none in
-    let old : State = state_in c.self.inside in
-    rw (← c.self.view_is) (ap answers_in (ap (λ ps. record old { readers = ps }) (lent-parts c.self.inside.pipelines.len c.record_or_none.new.pipelines _ _ (omega arith) (unsent w))))
 
 pub index_mut-requires : goal.index_mut-requires
 index_mut-requires c =
@@ -101,17 +80,3 @@ returns-clause-step c =
     let w = (goal.at.returns-clause-step c).After-accept in
     let old : State = state_in c.self.inside in
     rw (← c.self.view_is) (λ own. record-made old c.args.instrument (number_of c.args.value) c.args.attributes.now _ _ (fits w) (accepted w) (lent-parts c.self.inside.pipelines.len c.record_or_none.new.pipelines _ _ (omega arith) (sent w)))
-
-pub returns-clause-balances : goal.returns-clause-balances
-returns-clause-balances c =
-    let w = (goal.at.returns-clause-balances c).After-accept in
-    let old : State = state_in c.self.inside in
-    balances-step [] old _ (model.Call.Record c.args.instrument (number_of c.args.value) c.args.attributes.now) model.Reply.Done c.self.invariant
-    (record-made old c.args.instrument (number_of c.args.value) c.args.attributes.now _ _ (fits w) (accepted w) (lent-parts c.self.inside.pipelines.len c.record_or_none.new.pipelines _ _ (omega arith) (sent w)) [])
-
-pub returns-clause-readers : goal.returns-clause-readers
-returns-clause-readers c =
-    let w = (goal.at.returns-clause-readers c).After-accept in
-    let old : State = state_in c.self.inside in
-    rw (← c.self.view_is) (kept_at_once [] old (model.Call.Record c.args.instrument (number_of c.args.value) c.args.attributes.now) model.Reply.Done _
-    (record-made old c.args.instrument (number_of c.args.value) c.args.attributes.now _ _ (fits w) (accepted w) (lent-parts c.self.inside.pipelines.len c.record_or_none.new.pipelines _ _ (omega arith) (sent w)) []))

@@ -5,8 +5,6 @@ use Rattle.otel_model.specs.Machine.{instrument_after_record, changed_at, part_a
 use Rattle.otel_model.specs.Refusals.{held_refusal, handle_refusal, instrument_held}
 use Rattle.otel_model.specs.Steps.{Step}
 use Rattle.otel_model.specs.State.{State}
-use Rattle.otel_model.proofs.Kept.{kept_at_once}
-use Rattle.otel_model.specs.Lawful.{Balances}
 use Rattle.opentelemetry_sdk.specs.pipeline.Handles.{FeedsSynchronous, IsHeldByFed}
 use Rattle.opentelemetry_sdk.specs.pipeline.Pipelines.{part_of}
 use Rattle.opentelemetry_sdk.proofs.pipeline.Writes.{set-changed}
@@ -14,24 +12,18 @@ use Rattle.opentelemetry_sdk.specs.Cores.{state_in}
 use Rattle.opentelemetry_sdk.specs.Correspondence.{fault_of, number_of}
 use Rattle.opentelemetry_sdk.specs.States.{CoreContents, IsFault, IsNamed, IsTakenBy, AreTyped}
 use Rattle.opentelemetry_sdk.proofs.Held.{held-as, held-fed, synchronous-held, update-made}
-use Rattle.opentelemetry_sdk.proofs.Sound.{sound-balances, sound-step, balances-step}
+use Rattle.opentelemetry_sdk.proofs.Sound.{sound-step}
 use Rattle.opentelemetry_sdk.proofs.Stepped.{named-step, refused-step}
 use Rattle.opentelemetry_sdk.proofs.StepLemmas.{lent-parts, get-inside}
 use Rattle.opentelemetry_sdk.proofs.Typed.{typed-feeds}
 use Rattle.opentelemetry_sdk.proofs.provider_core.Core.record_bound.Goals.{After-accept}
 use Rattle.opentelemetry_sdk.proofs.provider_core.Core.record_bound.Goals as goal
 
-pub returns-then-identity-self-clause-balances : goal.returns-then-identity-self-clause-balances
-returns-then-identity-self-clause-balances c = subst (λ (k : CoreContents). Balances k.state) c.self.view_is (sound-balances (state_in c.self.inside) c.self.invariant)
-
 -- there is no such handle
 pub returns-in-None-clause-step : goal.returns-in-None-clause-step
 returns-in-None-clause-step c =
     let old : State = state_in c.self.inside in
     rw (← c.self.view_is) (λ own views. named-step views old old (model.Call.RecordBound c.args.handle.number (number_of c.args.value)) model.Fault.UnknownHandle (ap (λ o. handle_refusal o old.shared.instruments (number_of c.args.value).signed) (held-as c.args.handle.number old.shared.live None c.in-None.ensures)) refl)
-
-pub returns-in-None-clause-balances : goal.returns-in-None-clause-balances
-returns-in-None-clause-balances c = subst (λ (k : CoreContents). Balances k.state) c.self.view_is (sound-balances (state_in c.self.inside) c.self.invariant)
 
 -- the value is of the other number type
 pub returns-in-Err-clause-step : goal.returns-in-Err-clause-step
@@ -41,9 +33,6 @@ returns-in-Err-clause-step c =
     (subst (λ o. IsFault o c.in-Err.fault)
     (ap (λ is. held_refusal (slice_get is c.in-Some.instrument) (number_of c.args.value).signed) c.deref.ensures.value ∙ ap (λ o. handle_refusal o old.shared.instruments (number_of c.args.value).signed) (sym (held-as c.args.handle.number old.shared.live (Some c.in-Some.instrument) c.in-Some.ensures)))
     c.in-Err.ensures.fault) refl)
-
-pub returns-in-Err-clause-balances : goal.returns-in-Err-clause-balances
-returns-in-Err-clause-balances c = subst (λ (k : CoreContents). Balances k.state) c.self.view_is (sound-balances (state_in c.self.inside) c.self.invariant)
 
 -- the instrument feeds streams of its number type, which is the value's
 pub record_held-requires-clause-typed : goal.record_held-requires-clause-typed
@@ -101,17 +90,3 @@ returns-clause-step c =
     let w = (goal.at.returns-clause-step c).After-accept in
     let old : State = state_in c.self.inside in
     rw (← c.self.view_is) (λ own. update-made old c.args.handle.number c.in-Some.instrument (number_of c.args.value) _ _ (held w) (fits w) (accepted w) (lent-parts c.self.inside.pipelines.len c.record_held.new.pipelines _ _ (omega arith) (sent w)))
-
-pub returns-clause-balances : goal.returns-clause-balances
-returns-clause-balances c =
-    let w = (goal.at.returns-clause-balances c).After-accept in
-    let old : State = state_in c.self.inside in
-    balances-step [] old _ (model.Call.RecordBound c.args.handle.number (number_of c.args.value)) model.Reply.Done c.self.invariant
-    (update-made old c.args.handle.number c.in-Some.instrument (number_of c.args.value) _ _ (held w) (fits w) (accepted w) (lent-parts c.self.inside.pipelines.len c.record_held.new.pipelines _ _ (omega arith) (sent w)) [])
-
-pub returns-clause-readers : goal.returns-clause-readers
-returns-clause-readers c =
-    let w = (goal.at.returns-clause-readers c).After-accept in
-    let old : State = state_in c.self.inside in
-    rw (← c.self.view_is) (kept_at_once [] old (model.Call.RecordBound c.args.handle.number (number_of c.args.value)) model.Reply.Done _
-    (update-made old c.args.handle.number c.in-Some.instrument (number_of c.args.value) _ _ (held w) (fits w) (accepted w) (lent-parts c.self.inside.pipelines.len c.record_held.new.pipelines _ _ (omega arith) (sent w)) []))
