@@ -15,7 +15,7 @@ use Rattle.opentelemetry_sdk.specs.States.{CoreContents, IsBindable, IsFault, Is
 use Rattle.opentelemetry_sdk.proofs.Held.{feeds-synchronous, next-new, next-absent, bind-made}
 use Rattle.opentelemetry_sdk.proofs.Sound.{sound-step}
 use Rattle.opentelemetry_sdk.proofs.Stepped.{refused-step, memory-result}
-use Rattle.opentelemetry_sdk.proofs.StepLemmas.{lent-parts}
+use Rattle.opentelemetry_sdk.proofs.StepLemmas.{unchanged, lent-parts}
 use Rattle.opentelemetry_sdk.proofs.provider_core.Core.bind.Goals.{After-add-place}
 use Rattle.opentelemetry_sdk.proofs.provider_core.Core.bind.Goals as goal
 
@@ -59,15 +59,13 @@ add-place-requires-clause-absent c =
 pub invariant_of-self-in_err-stream_place : goal.invariant_of-self-in_err-stream_place
 invariant_of-self-in_err-stream_place c =
     let old : State = state_in c.self.inside in
-    subst IsSound (sym (ap (λ ps. record { shared = record old.shared { live = c.make_room.new.links.entries }; readers = ps }) (lent-parts c.self.inside.pipelines.len c.bind_or_none.new.pipelines _ _ (omega arith) (c.in_err-stream_place.ensures.err ∙ ap (map part_of) c.deref_mut.ensures.value))
-    ∙ ap (λ (live : List LiveHandle). record old { shared = record old.shared { live = live } }) c.make_room.ensures.links)) c.self.invariant
+    subst IsSound (sym (unchanged old c.make_room.new.links.entries c.self.inside.pipelines.len _ c.bind_or_none.new.pipelines _ (omega arith) c.make_room.ensures.links (ap (map part_of) c.deref_mut.ensures.value) c.in_err-stream_place.ensures.err)) c.self.invariant
 
 pub returns-in_err-stream_place-clause-step : goal.returns-in_err-stream_place-clause-step
 returns-in_err-stream_place-clause-step c =
     let old : State = state_in c.self.inside in
     rw (← c.self.view_is) (λ own views. memory-result (λ (h : BoundHandle). model.Reply.Handle h.number) views old _ (model.Call.Bind c.args.instrument c.args.attributes.now) c.from_residual-in_err-stream_place.result refl (search rules) (ap (λ is. bind_refusal c.self.inside.next (slice_get is c.args.instrument)) (sym c.deref.ensures.value) ∙ c.in_default.ensures.fits)
-    (ap (λ ps. record { shared = record old.shared { live = c.make_room.new.links.entries }; readers = ps }) (lent-parts c.self.inside.pipelines.len c.bind_or_none.new.pipelines _ _ (omega arith) (c.in_err-stream_place.ensures.err ∙ ap (map part_of) c.deref_mut.ensures.value))
-    ∙ ap (λ (live : List LiveHandle). record old { shared = record old.shared { live = live } }) c.make_room.ensures.links))
+    (unchanged old c.make_room.new.links.entries c.self.inside.pipelines.len _ c.bind_or_none.new.pipelines _ (omega arith) c.make_room.ensures.links (ap (map part_of) c.deref_mut.ensures.value) c.in_err-stream_place.ensures.err))
 
 -- the bind fits, the readers made it, and the core keeps which instrument the handle has
 fits : (c : After-add-place) → bind_refusal c.self.inside.next (slice_get c.self.inside.instruments.items c.args.instrument) ≡ None
