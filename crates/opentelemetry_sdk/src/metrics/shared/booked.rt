@@ -107,40 +107,6 @@ fn make(core: &mut Core, pending: &PendingRecord) -> Result<(), Fault>
     answer_to(core, pending)
 }
 
-/// Makes a call that is no record. What all instruments accepted stays.
-fn make_other<V: View, R: MetricReader>(
-    core: &mut Core,
-    views: &[V],
-    readers: &mut [R],
-    call: &Call,
-) -> Reply
-    requires { is_record (call_of call.now) ≡ false }
-    ensures step { Step (map V.answer views.now) core.old.state (call_of call.now) (reply_of result) core.new.state }
-    ensures seeded { core.new.hash_seed ≡ core.old.hash_seed }
-    ensures count { count_in core.new.state % 2 ^ 64 ≡ count_in core.old.state % 2 ^ 64 }
-    ensures sum { sum_in core.new.state % 2 ^ 64 ≡ sum_in core.old.state % 2 ^ 64 }
-    ensures readers { KeepsReaders core.old.state core.new.state }
-    ensures reached { StepReaches R.flushes R.shuts core.old.state.shared.shut (call_of call.now) readers.old (reply_of result) readers.new }
-    ensures wants { map (wanted_by R.preference R.limit R.aggregation) readers.new ≡ map (wanted_by R.preference R.limit R.aggregation) readers.old }
-{
-    core.step(views, readers, call)
-}
-
-/// Makes a collection. What all instruments accepted stays.
-fn make_collection(
-    core: &mut Core,
-    reader: usize,
-    now: u64,
-    observations: &[Observed],
-) -> Result<ResourceMetrics, Fault>
-    ensures step { (views : Views) → Step views core.old.state (model.Call.Collect reader now (map observed_of observations.now)) (reply_from (λ c. model.Reply.Collected c) result) core.new.state }
-    ensures seeded { core.new.hash_seed ≡ core.old.hash_seed }
-    ensures count { count_in core.new.state % 2 ^ 64 ≡ count_in core.old.state % 2 ^ 64 }
-    ensures sum { sum_in core.new.state % 2 ^ 64 ≡ sum_in core.old.state % 2 ^ 64 }
-{
-    core.collect(reader, now, observations)
-}
-
 /// Whether a call is a record.
 fn makes_record(call: &Call) -> bool
     ensures { result ≡ is_record (call_of call.now) }
@@ -233,7 +199,7 @@ impl<C: Account, S: Account> Booked<C, S> {
         if makes_record(call) {
             return Reply::Refused(Fault::UseWorker);
         }
-        make_other(&mut self.core, views, readers, call)
+        self.core.step(views, readers, call)
     }
 
     /// Checks that a collection of this reader is not refused before its callbacks run.
@@ -255,7 +221,7 @@ impl<C: Account, S: Account> Booked<C, S> {
         ensures seeded { self.new.core.hash_seed ≡ self.old.core.hash_seed }
         ensures kept { (self.new.opened ≡ self.old.opened) × (self.new.records.total ≡ self.old.records.total) × (self.new.values.total ≡ self.old.values.total) }
     {
-        make_collection(&mut self.core, reader, now, observations)
+        self.core.collect(reader, now, observations)
     }
 
     /// Makes the records of a worker, in order, up to the first that is refused. Frees none.
