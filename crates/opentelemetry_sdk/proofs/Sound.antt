@@ -67,6 +67,3 @@ sound-step views old new call reply sound step = record {
 
 pub sound-balances : (st : State) → IsSound st → Balances st
 sound-balances st sound = balances_law st sound.lawful
-
-pub balances-step : (views : Views) (old new : State) (call : Call) (reply : Reply) → IsSound old → Step views old call reply new → Balances new
-balances-step views old new call reply sound step = sound-balances new (sound-step views old new call reply sound step)

@@ -13,7 +13,7 @@ use Rattle.otel_model.specs.Demands.{StreamSpec, Views, is_good}
 use Rattle.otel_model.specs.Machine as machine
 use Rattle.otel_model.specs.Refusals.{meter_refusal, record_refusal}
 use Rattle.otel_model.specs.Sent.{has_scope}
-use Rattle.otel_model.specs.State.{ReaderPart, InstrumentState, Shared, State}
+use Rattle.otel_model.specs.State.{ReaderPart, InstrumentState, LiveHandle, Shared, State}
 use Rattle.otel_model.specs.Steps.{Step, number_from, reply_by, after_by}
 use Rattle.opentelemetry_sdk.specs.pipeline.Pipelines.{Piped, part_of, part_after_record, IsPreparedFor}
 use Rattle.opentelemetry_sdk.proofs.pipeline.Builds.{any-position, position-cons}
@@ -21,8 +21,9 @@ use Rattle.opentelemetry_sdk.specs.pipeline.Views.{views_answering}
 use Rattle.opentelemetry_sdk.proofs.pipeline.Records.{recorded-sent}
 use Rattle.opentelemetry_sdk.proofs.Asked.{built-answered}
 use Rattle.opentelemetry_sdk.proofs.Stepped.{memory-step}
+use Rattle.opentelemetry_sdk.proofs.Typed.{typed-feeds}
 use Rattle.opentelemetry_sdk.specs.Correspondence.{number_of, reply_from}
-use Rattle.opentelemetry_sdk.specs.States.{IsFault, IsScopeOf, IsNoMeter, IsGoodIn, AreAsked, FeedType}
+use Rattle.opentelemetry_sdk.specs.States.{IsFault, IsScopeOf, IsNoMeter, IsGoodIn, AreAsked, FeedType, IsTakenBy, AreTyped}
 
 -- ======== meters ========
 scope_eq-flip : (a b : InstrumentationScope) → scope_eq a b ≡ scope_eq b a
@@ -114,6 +115,10 @@ lent_back zero (y ∷ ys) zs e = absurd (omega arith)
 lent_back (suc n) [] zs e = absurd (omega arith)
 lent_back (suc n) (y ∷ ys) zs e = ap (λ xs. y ∷ xs) (lent_back n ys zs (omega arith))
 
+-- so what was done to it while it was lent was done to it
+pub lent_as : {X : Type 0} (P : List X → List X → Type 0) (n : ℕ) (old lent new zs : List X) → n ≡ length new → lent ≡ old → P lent new → P old (take n (new ++ zs))
+lent_as P n old lent new zs e is done = subst (P old) (sym (lent_back n new zs e)) (subst (λ xs. P xs new) is done)
+
 -- so the readers' parts are what was made of them
 pub lent-parts : (n : ℕ) (ys zs : List Piped) (ps : List ReaderPart) → n ≡ length ys → map part_of ys ≡ ps → map part_of (take n (ys ++ zs)) ≡ ps
 lent-parts n ys zs ps e is = ap (map part_of) (lent_back n ys zs e) ∙ is
@@ -122,6 +127,24 @@ pub get-inside : {X : Type 0} (xs : List X) (n : ℕ) (x : X) → slice_get xs n
 get-inside [] n x e = absurd (cc)
 get-inside (y ∷ xs) zero x e = omega arith
 get-inside (y ∷ xs) (suc n) x e = let q = get-inside xs n x e in omega arith
+
+-- what was lent unchanged leaves the state unchanged
+pub unchanged : (old : State) (live : List LiveHandle) (n : ℕ) (lent new zs : List Piped) → n ≡ length new → live ≡ old.shared.live → map part_of lent ≡ old.readers → map part_of new ≡ map part_of lent
+    → record { shared = record old.shared { live = live }; readers = map part_of (take n (new ++ zs)) } ≡ old
+unchanged old live n lent new zs e same was is =
+    λ i. record { shared = record old.shared { live = same i }; readers = lent-parts n new zs old.readers e (is ∙ was) i }
+
+-- ======== an instrument that takes a value ========
+module _ (n : ℕ) (v : model.Number) (is shown : List InstrumentState) (same : shown ≡ is) (taken : IsTakenBy shown n v) where
+  there : slice_get is n ≡ Some taken.instrument
+  there = ap (λ l. slice_get l n) (sym same) ∙ taken.there
+
+  pub taken-inside : n < length is
+  taken-inside = get-inside is n taken.instrument there
+
+  -- it feeds streams of the value's number type
+  pub taken-feeds : (ps lent : List Piped) → lent ≡ ps → AreTyped is (map part_of ps) → FeedType n v (map part_of lent)
+  taken-feeds ps lent back typed = typed-feeds n v is taken.instrument (map part_of lent) there taken.typed (subst (λ qs. AreTyped is (map part_of qs)) (sym back) typed)
 
 -- ======== whole calls ========
 -- a build of a meter that isn't there

@@ -57,10 +57,6 @@ provider_readers p = p.readers.items
 abbrev pub wants_of : {P V R U I : Type 0} → (R → InstrumentKind → Temporality) → (R → InstrumentKind → Option ℕ) → (R → InstrumentKind → Option Aggregation) → Provider P V R U I → List Wanted
 wants_of preference limit aggregation p = map (wanted_by preference limit aggregation) p.readers.items
 
--- the views of a builder, as what they answer
-abbrev pub views_of_builder : {P V R U I : Type 0} → (V → Instrument → Option StreamSpec) → ProviderBuilder P V R U I → Views
-views_of_builder answer b = map answer b.views.items
-
 -- the views of a provider, as what they answer
 abbrev pub views_of : {P V R U I : Type 0} → (V → Instrument → Option StreamSpec) → Provider P V R U I → Views
 views_of answer p = map answer p.views.items

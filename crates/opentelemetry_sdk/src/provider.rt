@@ -328,7 +328,7 @@ impl<P: Parts> Provider<P> {
         ensures balances { Balances (state_of self.now) }
         ensures lawful { IsLawful (state_of self.now) }
     {
-        let _ = self.core.allocator();
+        self.core.law_of_state();
     }
 
     /// Makes one call and returns its reply.
@@ -380,7 +380,9 @@ impl<P: Parts> Provider<P> {
         ensures views { provider_views self.new ≡ provider_views self.old }
         ensures callbacks { callbacks_of self.new ≡ callbacks_of self.old }
     {
-        self.core.step(&self.views, &mut self.readers, call)
+        let reply = self.core.step(&self.views, &mut self.readers, call);
+        self.core.law_of_state();
+        reply
     }
 
     /// Makes a collection of a reader at a moment, in nanoseconds since 1970, and returns it (Metrics SDK, "Collect").
@@ -401,13 +403,16 @@ impl<P: Parts> Provider<P> {
         ensures kept { provider_readers self.new ≡ provider_readers self.old }
         ensures views { provider_views self.new ≡ provider_views self.old }
     {
+        self.core.law_of_state();
         self.core.check_collection(reader)?;
         let alloc = self.core.allocator();
         let observations = match run_callbacks(alloc, &mut self.callbacks) {
             Ok(observations) => observations,
             Err(fault) => return Err(fault),
         };
-        self.core.collect(reader, now, &observations)
+        let collected = self.core.collect(reader, now, &observations);
+        self.core.law_of_state();
+        collected
     }
 
     /// Makes a collection as [`Provider::collected`] does, and puts it into `metrics`, in place of what that held. If it
@@ -452,7 +457,9 @@ impl<P: Parts> Provider<P> {
         ensures views { provider_views self.new ≡ provider_views self.old }
         ensures callbacks { callbacks_of self.new ≡ callbacks_of self.old }
     {
-        self.core.force_flush(&mut self.readers)
+        let flushed = self.core.force_flush(&mut self.readers);
+        self.core.law_of_state();
+        flushed
     }
 
     /// Shuts the provider down and asks each reader to shut down, in order, including those after one that failed
@@ -472,7 +479,9 @@ impl<P: Parts> Provider<P> {
         ensures views { provider_views self.new ≡ provider_views self.old }
         ensures callbacks { callbacks_of self.new ≡ callbacks_of self.old }
     {
-        self.core.shutdown(&mut self.readers)
+        let ended = self.core.shutdown(&mut self.readers);
+        self.core.law_of_state();
+        ended
     }
 
     /// Does the same as `shutdown`. The timeout is ignored: each reader is asked to shut down with its own.
@@ -536,8 +545,7 @@ impl<P: Parts> Provider<P> {
         ensures few { IfOk result (λ replies. OfAnswers (OfEachMetric HasFewPoints) (views_of P.View.answer self.old) (state_of self.old) calls.now replies.items) }
     {
         let replies = self.core.run(&self.views, &mut self.readers, alloc, calls);
-        // Tells the prover that the streams balance.
-        let _ = self.core.allocator();
+        self.core.law_of_state();
         replies
     }
 }

@@ -100,11 +100,17 @@ impl Core {
         }
     }
 
-    /// Returns the allocator. The clauses say what holds before a call too.
-    pub fn allocator(&self) -> Global
+    /// Does nothing. Its clauses say that the streams balance, and that the state is lawful, whatever was called before.
+    #[inline(always)]
+    pub fn law_of_state(&self)
         ensures balances { Balances self.now.state }
         ensures lawful { IsLawful self.now.state }
     {
+        let _ = &self.pipelines;
+    }
+
+    /// Returns the allocator.
+    pub fn allocator(&self) -> Global {
         self.alloc
     }
 
@@ -120,7 +126,6 @@ impl Core {
         ensures step { (views : Views) → Step views self.old.state model.Call.Flush (reply_to result) self.new.state }
         ensures asked { AreReached R.flushes self.old.state.shared.shut readers.old readers.new result }
         ensures shut { self.new.state.shared.shut ≡ self.old.state.shared.shut }
-        ensures balances { Balances self.new.state }
         ensures seeded { self.new.hash_seed ≡ self.old.hash_seed }
         ensures wants { map (wanted_by R.preference R.limit R.aggregation) readers.new ≡ map (wanted_by R.preference R.limit R.aggregation) readers.old }
     {
@@ -135,7 +140,6 @@ impl Core {
         ensures step { (views : Views) → Step views self.old.state model.Call.Shutdown (reply_to result) self.new.state }
         ensures asked { AreReached (ShutsDown R.shuts) self.old.state.shared.shut readers.old readers.new result }
         ensures shut { self.new.state.shared.shut ≡ true }
-        ensures balances { Balances self.new.state }
         ensures seeded { self.new.hash_seed ≡ self.old.hash_seed }
         ensures wants { map (wanted_by R.preference R.limit R.aggregation) readers.new ≡ map (wanted_by R.preference R.limit R.aggregation) readers.old }
     {

@@ -4,12 +4,10 @@ ghost use Rattle.std.specs.Prelude.{◌≡◌, ◌++◌, ◌∷◌, [], All, map
 ghost use Rattle.std.specs.Option.{option_map};
 ghost use Rattle.otel_model.specs.Calls as model;
 ghost use Rattle.otel_model.specs.Demands.{Views};
-ghost use Rattle.otel_model.specs.Laws.{KeepsReaders};
 ghost use Rattle.otel_model.specs.Machine.{new_instrument, part_after_build};
 ghost use Rattle.otel_model.specs.Refusals.{meter_refusal};
 ghost use Rattle.otel_model.specs.Sent.{has_scope};
 ghost use Rattle.otel_model.specs.Steps.{Step};
-ghost use Rattle.otel_model.specs.Lawful.{Balances};
 ghost use Rattle.opentelemetry_sdk.specs.pipeline.Pipelines.{part_of, HashesFrom};
 ghost use Rattle.opentelemetry_sdk.specs.pipeline.Views.{views_answering};
 ghost use Rattle.opentelemetry_sdk.specs.Checks.{has_stream};
@@ -76,9 +74,7 @@ impl Core {
         ensures step { (views : Views) → Step views self.old.state (model.Call.Meter scope.now) (reply_from (λ n. model.Reply.Meter n) result) self.new.state }
         ensures shut { self.old.state.shared.shut ≡ true → IfOk result (λ n. n ≡ None) }
         ensures known { has_scope scope.now self.old.state.shared.meters ≡ true → IsOk result }
-        ensures balances { Balances self.new.state }
         ensures seeded { self.new.hash_seed ≡ self.old.hash_seed }
-        ensures readers { KeepsReaders self.old.state self.new.state }
     {
         if self.shut {
             return Ok(None);
@@ -91,13 +87,12 @@ impl Core {
     }
 
     /// Checks that a build of the meter of this number, at a provider of this identity, is refused for nothing but want
-    /// of memory. `balances` says that the streams balance before a call too.
+    /// of memory.
     pub fn check_meter(&self, identity: u64, meter: Option<usize>) -> Result<(), Fault>
         ensures own { OnOk result (identity ≡ self.now.state.shared.identity) }
         ensures known { OnOk result (meter_refusal self.now.state.shared meter ≡ None) }
         ensures foreign { ¬ (identity ≡ self.now.state.shared.identity) → result ≡ Err Fault.UnknownMeter }
         ensures fault { IfErr result (λ f. (f ≡ Fault.UnknownMeter) × (identity ≡ self.now.state.shared.identity → meter_refusal self.now.state.shared meter ≡ Some model.Fault.UnknownMeter)) }
-        ensures balances { Balances self.now.state }
     {
         if identity != self.identity {
             return Err(Fault::UnknownMeter);
@@ -132,9 +127,7 @@ impl Core {
         ensures foreign { ¬ (identity ≡ self.old.state.shared.identity) → (result ≡ Err Fault.UnknownMeter) × (self.new.state ≡ self.old.state) }
         ensures identity { self.new.state.shared.identity ≡ self.old.state.shared.identity }
         ensures hashed { OnOk result (self.new.reader_seeds ≡ map (λ _. self.old.hash_seed) self.new.state.readers) }
-        ensures balances { Balances self.new.state }
         ensures seeded { self.new.hash_seed ≡ self.old.hash_seed }
-        ensures readers { KeepsReaders self.old.state self.new.state }
     {
         if identity != self.identity {
             return Err(Fault::UnknownMeter);

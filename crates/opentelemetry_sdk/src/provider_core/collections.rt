@@ -3,9 +3,7 @@
 ghost use Rattle.std.specs.Prelude.{◌≡◌, map, None, Some, IfErr, OnOk};
 ghost use Rattle.otel_model.specs.Calls as model;
 ghost use Rattle.otel_model.specs.Demands.{Views};
-ghost use Rattle.otel_model.specs.Laws.{KeepsReaders};
 ghost use Rattle.otel_model.specs.Steps.{Step};
-ghost use Rattle.otel_model.specs.Lawful.{Balances};
 ghost use Rattle.opentelemetry_sdk.specs.Checks.{collect_refusal};
 ghost use Rattle.opentelemetry_sdk.specs.Correspondence.{fault_of, observed_of, reply_from};
 
@@ -16,12 +14,10 @@ use otel_data::collections::ResourceMetrics;
 use otel_stream::observation::Observed;
 
 impl Core {
-    /// Checks that a collection of this reader is not refused before what was observed is checked. `balances` says that
-    /// the streams balance before a call too.
+    /// Checks that a collection of this reader is not refused before what was observed is checked.
     pub fn check_collection(&self, reader: usize) -> Result<(), Fault>
         ensures ok { OnOk result (collect_refusal self.now.state reader ≡ None) }
         ensures fault { IfErr result (λ f. collect_refusal self.now.state reader ≡ Some (fault_of f)) }
-        ensures balances { Balances self.now.state }
     {
         if reader >= self.pipelines.len() {
             return Err(Fault::UnknownReader);
@@ -41,9 +37,7 @@ impl Core {
         observations: &[Observed],
     ) -> Result<ResourceMetrics, Fault>
         ensures step { (views : Views) → Step views self.old.state (model.Call.Collect reader now (map observed_of observations.now)) (reply_from (λ c. model.Reply.Collected c) result) self.new.state }
-        ensures balances { Balances self.new.state }
         ensures seeded { self.new.hash_seed ≡ self.old.hash_seed }
-        ensures readers { KeepsReaders self.old.state self.new.state }
     {
         if reader >= self.pipelines.len() {
             return Err(Fault::UnknownReader);

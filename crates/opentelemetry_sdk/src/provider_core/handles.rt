@@ -3,9 +3,7 @@
 ghost use Rattle.std.specs.Prelude.{◌≡◌, Err};
 ghost use Rattle.otel_model.specs.Calls as model;
 ghost use Rattle.otel_model.specs.Demands.{Views};
-ghost use Rattle.otel_model.specs.Laws.{KeepsReaders};
 ghost use Rattle.otel_model.specs.Steps.{Step};
-ghost use Rattle.otel_model.specs.Lawful.{Balances};
 ghost use Rattle.opentelemetry_sdk.specs.Correspondence.{number_of, reply_from};
 
 use crate::provider_core::Core;
@@ -50,9 +48,7 @@ impl Core {
         ensures step { identity ≡ self.old.state.shared.identity → (views : Views) → Step views self.old.state (model.Call.Bind instrument attributes.now) (reply_from (λ (h : BoundHandle). model.Reply.Handle h.number) result) self.new.state }
         ensures foreign { ¬ (identity ≡ self.old.state.shared.identity) → (result ≡ Err Fault.UnknownInstrument) × (self.new.state ≡ self.old.state) }
         ensures identity { self.new.state.shared.identity ≡ self.old.state.shared.identity }
-        ensures balances { Balances self.new.state }
         ensures seeded { self.new.hash_seed ≡ self.old.hash_seed }
-        ensures readers { KeepsReaders self.old.state self.new.state }
     {
         if identity != self.identity {
             return Err(Fault::UnknownInstrument);
@@ -83,9 +79,7 @@ impl Core {
     ) -> Result<(), Fault>
         ensures step { identity ≡ self.old.state.shared.identity → (views : Views) → Step views self.old.state (model.Call.RecordBound handle.number (number_of value)) (reply_from (λ _. model.Reply.Done) result) self.new.state }
         ensures foreign { ¬ (identity ≡ self.old.state.shared.identity) → (result ≡ Err Fault.UnknownHandle) × (self.new.state ≡ self.old.state) }
-        ensures balances { Balances self.new.state }
         ensures seeded { self.new.hash_seed ≡ self.old.hash_seed }
-        ensures readers { KeepsReaders self.old.state self.new.state }
     {
         if identity != self.identity {
             return Err(Fault::UnknownHandle);
@@ -112,9 +106,7 @@ impl Core {
     pub fn unbind(&mut self, identity: u64, handle: u64) -> Result<(), Fault>
         ensures step { identity ≡ self.old.state.shared.identity → (views : Views) → Step views self.old.state (model.Call.Unbind handle) (reply_from (λ _. model.Reply.Done) result) self.new.state }
         ensures foreign { ¬ (identity ≡ self.old.state.shared.identity) → (result ≡ Err Fault.UnknownHandle) × (self.new.state ≡ self.old.state) }
-        ensures balances { Balances self.new.state }
         ensures seeded { self.new.hash_seed ≡ self.old.hash_seed }
-        ensures readers { KeepsReaders self.old.state self.new.state }
     {
         if identity != self.identity {
             return Err(Fault::UnknownHandle);

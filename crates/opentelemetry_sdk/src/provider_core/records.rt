@@ -3,9 +3,7 @@
 ghost use Rattle.std.specs.Prelude.{◌≡◌, true, Err, IfErr};
 ghost use Rattle.otel_model.specs.Calls as model;
 ghost use Rattle.otel_model.specs.Demands.{Views};
-ghost use Rattle.otel_model.specs.Laws.{KeepsReaders};
 ghost use Rattle.otel_model.specs.Steps.{Step};
-ghost use Rattle.otel_model.specs.Lawful.{Balances};
 ghost use Rattle.opentelemetry_sdk.specs.Correspondence.{number_of, reply_from};
 ghost use Rattle.opentelemetry_sdk.specs.Known.{is_known};
 ghost use Rattle.opentelemetry_sdk.specs.States.{IsNamed};
@@ -31,9 +29,7 @@ impl Core {
         ensures step { identity ≡ self.old.state.shared.identity → (views : Views) → Step views self.old.state (model.Call.Record instrument (number_of value) attributes.now) (reply_from (λ _. model.Reply.Done) result) self.new.state }
         ensures foreign { ¬ (identity ≡ self.old.state.shared.identity) → (result ≡ Err Fault.UnknownInstrument) × (self.new.state ≡ self.old.state) }
         ensures known { is_known instrument attributes.now self.old.state ≡ true → IfErr result IsNamed }
-        ensures balances { Balances self.new.state }
         ensures seeded { self.new.hash_seed ≡ self.old.hash_seed }
-        ensures readers { KeepsReaders self.old.state self.new.state }
     {
         if identity != self.identity {
             return Err(Fault::UnknownInstrument);

@@ -4,7 +4,6 @@ ghost use Rattle.std.specs.Prelude.{◌≡◌, true, map, IfOk, OnErr, IsOkUnles
 ghost use Rattle.otel_model.specs.Calls as model;
 ghost use Rattle.otel_model.specs.Demands.{Views};
 ghost use Rattle.otel_model.specs.Steps.{Step, Run};
-ghost use Rattle.otel_model.specs.Lawful.{Balances};
 ghost use Rattle.opentelemetry_sdk.specs.Correspondence.{kind_of, is_signed, number_of, observed_of, call_of, reply_of, reply_to};
 ghost use Rattle.opentelemetry_sdk.specs.Known.{is_known, IsKnown, HasMemory, EachKnownHasMemory};
 ghost use Rattle.opentelemetry_sdk.specs.Readers.{AreReachedBy, ShutsDown, StepReaches, RunReaches};
@@ -38,7 +37,6 @@ impl Core {
     #[inline(never)]
     fn step_meter(&mut self, scope: &InstrumentationScope) -> Reply
         ensures step { (views : Views) → Step views self.old.state (model.Call.Meter scope.now) (reply_of result) self.new.state }
-        ensures balances { Balances self.new.state }
         ensures seeded { self.new.hash_seed ≡ self.old.hash_seed }
     {
         match self.meter(scope) {
@@ -59,7 +57,6 @@ impl Core {
         requires kind { about.now.kind ≡ kind_of sort }
         requires signed { about.now.signed ≡ is_signed sort }
         ensures step { Step (map V.answer views.now) self.old.state (model.Call.Build meter about.now now) (reply_of result) self.new.state }
-        ensures balances { Balances self.new.state }
         ensures seeded { self.new.hash_seed ≡ self.old.hash_seed }
     {
         let identity = self.identity();
@@ -77,7 +74,6 @@ impl Core {
         attributes: &[KeyValue],
     ) -> Reply
         ensures step { (views : Views) → Step views self.old.state (model.Call.Record instrument (number_of value) attributes.now) (reply_of result) self.new.state }
-        ensures balances { Balances self.new.state }
         ensures seeded { self.new.hash_seed ≡ self.old.hash_seed }
         ensures known { is_known instrument attributes.now self.old.state ≡ true → HasMemory result }
     {
@@ -91,7 +87,6 @@ impl Core {
     #[inline(never)]
     fn step_bind(&mut self, instrument: usize, attributes: &[KeyValue]) -> Reply
         ensures step { (views : Views) → Step views self.old.state (model.Call.Bind instrument attributes.now) (reply_of result) self.new.state }
-        ensures balances { Balances self.new.state }
         ensures seeded { self.new.hash_seed ≡ self.old.hash_seed }
     {
         let identity = self.identity();
@@ -104,7 +99,6 @@ impl Core {
     #[inline(always)]
     fn step_record_bound(&mut self, handle: u64, value: NumberValue) -> Reply
         ensures step { (views : Views) → Step views self.old.state (model.Call.RecordBound handle (number_of value)) (reply_of result) self.new.state }
-        ensures balances { Balances self.new.state }
         ensures seeded { self.new.hash_seed ≡ self.old.hash_seed }
     {
         let identity = self.identity();
@@ -117,7 +111,6 @@ impl Core {
     #[inline(never)]
     fn step_unbind(&mut self, handle: u64) -> Reply
         ensures step { (views : Views) → Step views self.old.state (model.Call.Unbind handle) (reply_of result) self.new.state }
-        ensures balances { Balances self.new.state }
         ensures seeded { self.new.hash_seed ≡ self.old.hash_seed }
     {
         let identity = self.identity();
@@ -130,7 +123,6 @@ impl Core {
     #[inline(never)]
     fn step_collect(&mut self, reader: usize, now: u64, observations: &[Observed]) -> Reply
         ensures step { (views : Views) → Step views self.old.state (model.Call.Collect reader now (map observed_of observations.now)) (reply_of result) self.new.state }
-        ensures balances { Balances self.new.state }
         ensures seeded { self.new.hash_seed ≡ self.old.hash_seed }
     {
         match self.collect(reader, now, observations) {
@@ -142,7 +134,6 @@ impl Core {
     #[inline(never)]
     fn step_flush<R: MetricReader>(&mut self, readers: &mut [R]) -> Reply
         ensures step { (views : Views) → Step views self.old.state model.Call.Flush (reply_of result) self.new.state }
-        ensures balances { Balances self.new.state }
         ensures seeded { self.new.hash_seed ≡ self.old.hash_seed }
         ensures reached { AreReachedBy R.flushes self.old.state.shared.shut readers.old (reply_of result) readers.new }
         ensures wants { map (wanted_by R.preference R.limit R.aggregation) readers.new ≡ map (wanted_by R.preference R.limit R.aggregation) readers.old }
@@ -153,7 +144,6 @@ impl Core {
     #[inline(never)]
     fn step_shutdown<R: MetricReader>(&mut self, readers: &mut [R]) -> Reply
         ensures step { (views : Views) → Step views self.old.state model.Call.Shutdown (reply_of result) self.new.state }
-        ensures balances { Balances self.new.state }
         ensures seeded { self.new.hash_seed ≡ self.old.hash_seed }
         ensures reached { AreReachedBy (ShutsDown R.shuts) self.old.state.shared.shut readers.old (reply_of result) readers.new }
         ensures wants { map (wanted_by R.preference R.limit R.aggregation) readers.new ≡ map (wanted_by R.preference R.limit R.aggregation) readers.old }
@@ -169,7 +159,6 @@ impl Core {
         call: &Call,
     ) -> Reply
         ensures step { Step (map V.answer views.now) self.old.state (call_of call.now) (reply_of result) self.new.state }
-        ensures balances { Balances self.new.state }
         ensures seeded { self.new.hash_seed ≡ self.old.hash_seed }
         ensures known { IsKnown self.old.state (call_of call.now) → HasMemory result }
         ensures reached { StepReaches R.flushes R.shuts self.old.state.shared.shut (call_of call.now) readers.old (reply_of result) readers.new }
@@ -200,7 +189,6 @@ impl Core {
         call: &Call,
     ) -> Reply
         ensures step { Step (map V.answer views.now) self.old.state (call_of call.now) (reply_of result) self.new.state }
-        ensures balances { Balances self.new.state }
         ensures seeded { self.new.hash_seed ≡ self.old.hash_seed }
         ensures known { IsKnown self.old.state (call_of call.now) → HasMemory result }
         ensures reached { StepReaches R.flushes R.shuts self.old.state.shared.shut (call_of call.now) readers.old (reply_of result) readers.new }

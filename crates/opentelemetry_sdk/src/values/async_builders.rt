@@ -124,6 +124,7 @@ impl<K, T, P: Parts> AsyncInstrumentBuilder<K, T, P> {
     {
         let AsyncInstrumentBuilder { builder, callbacks } = self;
         let Meter { identity, number } = builder.meter();
+        provider.core.law_of_state();
         provider.core.check_meter(identity, number)?;
         provider.callbacks.reserve(callbacks.len())?;
         let number = builder.make(&mut provider.core, &provider.views, now)?;

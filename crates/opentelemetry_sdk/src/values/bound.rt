@@ -68,7 +68,9 @@ impl<K, T: NumberType> Synchronous<K, T> {
         ensures views { provider_views provider.new ≡ provider_views provider.old }
         ensures callbacks { callbacks_of provider.new ≡ callbacks_of provider.old }
     {
-        match provider.core.bind(self.identity, self.number, attributes) {
+        let bound = provider.core.bind(self.identity, self.number, attributes);
+        provider.core.law_of_state();
+        match bound {
             Ok(handle) => Ok(Bound {
                 kept: Kept {
                     identity: self.identity,
@@ -212,9 +214,11 @@ impl<T: NumberType> Kept<T> {
         ensures views { provider_views provider.new ≡ provider_views provider.old }
         ensures callbacks { callbacks_of provider.new ≡ callbacks_of provider.old }
     {
-        provider
+        let made = provider
             .core
-            .record_bound(self.identity, self.handle, value.into_value())
+            .record_bound(self.identity, self.handle, value.into_value());
+        provider.core.law_of_state();
+        made
     }
 
     /// Records a value. The same as `add`.
@@ -261,6 +265,8 @@ impl<T> Kept<T> {
         ensures views { provider_views provider.new ≡ provider_views provider.old }
         ensures callbacks { callbacks_of provider.new ≡ callbacks_of provider.old }
     {
-        provider.core.unbind(self.identity, self.handle.number)
+        let ended = provider.core.unbind(self.identity, self.handle.number);
+        provider.core.law_of_state();
+        ended
     }
 }

@@ -152,7 +152,9 @@ impl<K, T> InstrumentBuilder<K, T> {
             bounds: &self.boundaries,
         };
         let Meter { identity, number } = self.meter;
-        core.build(views, identity, number, self.sort, &about, now)
+        let built = core.build(views, identity, number, self.sort, &about, now);
+        core.law_of_state();
+        built
     }
 }
 

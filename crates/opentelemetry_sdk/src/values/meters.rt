@@ -154,7 +154,9 @@ impl<P: Parts> Provider<P> {
         ensures views { provider_views self.new ≡ provider_views self.old }
         ensures callbacks { callbacks_of self.new ≡ callbacks_of self.old }
     {
-        match self.core.meter(&scope) {
+        let given = self.core.meter(&scope);
+        self.core.law_of_state();
+        match given {
             Ok(number) => Ok(Meter {
                 identity: self.core.identity(),
                 number,
@@ -178,6 +180,7 @@ impl<P: Parts> Provider<P> {
         ensures views { provider_views self.new ≡ provider_views self.old }
         ensures callbacks { callbacks_of self.new ≡ callbacks_of self.old }
     {
+        self.core.law_of_state();
         let alloc = self.core.allocator();
         let name = String::from_str(alloc, name)?;
         let scope = scope_named(alloc, name)?;

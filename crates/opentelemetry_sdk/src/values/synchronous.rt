@@ -122,9 +122,11 @@ impl<K: Adds, T: NumberType> Synchronous<K, T> {
         ensures views { provider_views provider.new ≡ provider_views provider.old }
         ensures callbacks { callbacks_of provider.new ≡ callbacks_of provider.old }
     {
-        provider
+        let made = provider
             .core
-            .record(self.identity, self.number, value.into_value(), attributes)
+            .record(self.identity, self.number, value.into_value(), attributes);
+        provider.core.law_of_state();
+        made
     }
 }
 
@@ -147,8 +149,10 @@ impl<K: Records, T: NumberType> Synchronous<K, T> {
         ensures views { provider_views provider.new ≡ provider_views provider.old }
         ensures callbacks { callbacks_of provider.new ≡ callbacks_of provider.old }
     {
-        provider
+        let made = provider
             .core
-            .record(self.identity, self.number, value.into_value(), attributes)
+            .record(self.identity, self.number, value.into_value(), attributes);
+        provider.core.law_of_state();
+        made
     }
 }

@@ -107,42 +107,6 @@ fn make(core: &mut Core, pending: &PendingRecord) -> Result<(), Fault>
     answer_to(core, pending)
 }
 
-/// Makes a call that is no record. What all instruments accepted stays.
-fn make_other<V: View, R: MetricReader>(
-    core: &mut Core,
-    views: &[V],
-    readers: &mut [R],
-    call: &Call,
-) -> Reply
-    requires { is_record (call_of call.now) ≡ false }
-    ensures step { Step (map V.answer views.now) core.old.state (call_of call.now) (reply_of result) core.new.state }
-    ensures seeded { core.new.hash_seed ≡ core.old.hash_seed }
-    ensures count { count_in core.new.state % 2 ^ 64 ≡ count_in core.old.state % 2 ^ 64 }
-    ensures sum { sum_in core.new.state % 2 ^ 64 ≡ sum_in core.old.state % 2 ^ 64 }
-    ensures readers { KeepsReaders core.old.state core.new.state }
-    ensures reached { StepReaches R.flushes R.shuts core.old.state.shared.shut (call_of call.now) readers.old (reply_of result) readers.new }
-    ensures wants { map (wanted_by R.preference R.limit R.aggregation) readers.new ≡ map (wanted_by R.preference R.limit R.aggregation) readers.old }
-{
-    core.step(views, readers, call)
-}
-
-/// Makes a collection. What all instruments accepted stays.
-fn make_collection(
-    core: &mut Core,
-    reader: usize,
-    now: u64,
-    observations: &[Observed],
-) -> Result<ResourceMetrics, Fault>
-    ensures step { (views : Views) → Step views core.old.state (model.Call.Collect reader now (map observed_of observations.now)) (reply_from (λ c. model.Reply.Collected c) result) core.new.state }
-    ensures seeded { core.new.hash_seed ≡ core.old.hash_seed }
-    ensures count { count_in core.new.state % 2 ^ 64 ≡ count_in core.old.state % 2 ^ 64 }
-    ensures sum { sum_in core.new.state % 2 ^ 64 ≡ sum_in core.old.state % 2 ^ 64 }
-    ensures readers { KeepsReaders core.old.state core.new.state }
-    ensures balances { Balances core.new.state }
-{
-    core.collect(reader, now, observations)
-}
-
 /// Whether a call is a record.
 fn makes_record(call: &Call) -> bool
     ensures { result ≡ is_record (call_of call.now) }
@@ -187,7 +151,7 @@ impl<C: Account, S: Account> Booked<C, S> {
         ensures count { count_in self.now.core.state % 2 ^ 64 ≡ (C.before + self.now.records.total) % 2 ^ 64 }
         ensures sum { sum_in self.now.core.state % 2 ^ 64 ≡ (S.before + self.now.values.total) % 2 ^ 64 }
     {
-        let _ = self.core.allocator();
+        self.core.law_of_state();
     }
 
     /// The allocator.
@@ -235,14 +199,13 @@ impl<C: Account, S: Account> Booked<C, S> {
         if makes_record(call) {
             return Reply::Refused(Fault::UseWorker);
         }
-        make_other(&mut self.core, views, readers, call)
+        self.core.step(views, readers, call)
     }
 
     /// Checks that a collection of this reader is not refused before its callbacks run.
     pub(crate) fn check_collection(&self, reader: usize) -> Result<(), Fault>
         ensures ok { OnOk result (collect_refusal self.now.core.state reader ≡ None) }
         ensures fault { IfErr result (λ f. collect_refusal self.now.core.state reader ≡ Some (fault_of f)) }
-        ensures balances { Balances self.now.core.state }
     {
         self.core.check_collection(reader)
     }
@@ -256,11 +219,9 @@ impl<C: Account, S: Account> Booked<C, S> {
     ) -> Result<ResourceMetrics, Fault>
         ensures step { (views : Views) → Step views self.old.core.state (model.Call.Collect reader now (map observed_of observations.now)) (reply_from (λ c. model.Reply.Collected c) result) self.new.core.state }
         ensures seeded { self.new.core.hash_seed ≡ self.old.core.hash_seed }
-        ensures readers { KeepsReaders self.old.core.state self.new.core.state }
-        ensures balances { Balances self.new.core.state }
         ensures kept { (self.new.opened ≡ self.old.opened) × (self.new.records.total ≡ self.old.records.total) × (self.new.values.total ≡ self.old.values.total) }
     {
-        make_collection(&mut self.core, reader, now, observations)
+        self.core.collect(reader, now, observations)
     }
 
     /// Makes the records of a worker, in order, up to the first that is refused. Frees none.

@@ -164,13 +164,16 @@ impl<P: Parts, C: Account, S: Account> Locked<P, C, S> {
         ensures book { (records_in self.new ≡ records_in self.old) × (values_in self.new ≡ values_in self.old) }
         ensures workers { workers_in self.new ≡ workers_in self.old }
     {
+        self.booked.balances();
         self.booked.check_collection(reader)?;
         let alloc = self.booked.allocator();
         let observations = match run_callbacks(alloc, &mut self.callbacks) {
             Ok(observations) => observations,
             Err(fault) => return Err(fault),
         };
-        match self.booked.collect(reader, now, &observations) {
+        let collected = self.booked.collect(reader, now, &observations);
+        self.booked.balances();
+        match collected {
             Ok(collected) => {
                 *metrics = collected;
                 Ok(())

@@ -1,12 +1,11 @@
-use Rattle.std.specs.Prelude.{map, IfOk}
-use Rattle.std.proofs.Common.{◌∙◌, ap, arith, subst, sym}
+use Rattle.std.specs.Prelude.{map, IfOk, OnErr}
+use Rattle.std.proofs.Common.{◌≡◌, arith, subst}
 use Rattle.std.specs.Global.{Vec}
 use Rattle.std.proofs.lemmas.Result.{IfOk-weaker}
 use Rattle.otel_stream.specs.Requests.{wanted_by}
 use Rattle.opentelemetry_sdk.specs.Readers.{RunReaches}
-use Rattle.opentelemetry_sdk.proofs.Outcomes.{OnErr-weaker}
 use Rattle.opentelemetry_sdk.proofs.Reached.{unasked}
-use Rattle.opentelemetry_sdk.proofs.StepLemmas.{lent_back}
+use Rattle.opentelemetry_sdk.proofs.StepLemmas.{lent_as}
 use Rattle.otel_model.proofs.Runs.{streams_law, feeds_law, places_law, counted_law, collections_law}
 use Rattle.otel_model.proofs.Answered.{few_answered_law, totals_answered_law, all_answered_law}
 use Rattle.otel_model.proofs.Shown.{recorded_law, exported_law, pending_law, conserved_law}
@@ -86,22 +85,16 @@ returns-clause-readers g c = kept_run (views_of g.P.View.View.answer c.args.self
 
 -- the readers come back as they were lent
 pub returns-clause-reached : goal.returns-clause-reached
-returns-clause-reached g c =
-    let lent = lent_back c.args.self.now.readers.len c.run-replies.new.readers _ (omega arith) in
-    subst (λ rs. IfOk c.run-replies.result (λ (replies : Vec Reply). RunReaches g.P.Reader.MetricReader.flushes g.P.Reader.MetricReader.shuts c.args.self.now.core.state.shared.shut (map call_of c.args.calls.now) c.args.self.now.readers.items (map reply_of replies.items) rs)) (sym lent)
-    (subst (λ rs. IfOk c.run-replies.result (λ (replies : Vec Reply). RunReaches g.P.Reader.MetricReader.flushes g.P.Reader.MetricReader.shuts c.args.self.now.core.state.shared.shut (map call_of c.args.calls.now) rs (map reply_of replies.items) c.run-replies.new.readers)) c.deref_mut.ensures.value c.run-replies.ensures.reached)
+returns-clause-reached g c = lent_as (λ before after. IfOk c.run-replies.result (λ (replies : Vec Reply). RunReaches g.P.Reader.MetricReader.flushes g.P.Reader.MetricReader.shuts c.args.self.now.core.state.shared.shut (map call_of c.args.calls.now) before (map reply_of replies.items) after)) c.args.self.now.readers.len _ _ c.run-replies.new.readers _ (omega arith) c.deref_mut.ensures.value c.run-replies.ensures.reached
 
 pub returns-clause-unreached : goal.returns-clause-unreached
-returns-clause-unreached g c =
-    let lent = lent_back c.args.self.now.readers.len c.run-replies.new.readers _ (omega arith) in
-    OnErr-weaker c.run-replies.result (λ same. lent ∙ (same ∙ c.deref_mut.ensures.value)) c.run-replies.ensures.unreached
+returns-clause-unreached g c = lent_as (λ before after. OnErr c.run-replies.result (after ≡ before)) c.args.self.now.readers.len _ _ c.run-replies.new.readers _ (omega arith) c.deref_mut.ensures.value c.run-replies.ensures.unreached
 
 pub returns-clause-unasked : goal.returns-clause-unasked
-returns-clause-unasked g c = λ none.
-    (let lent = lent_back c.args.self.now.readers.len c.run-replies.new.readers _ (omega arith) in
-    lent ∙ (unasked g.P.Reader.MetricReader.flushes g.P.Reader.MetricReader.shuts c.args.self.now.core.state.shared.shut c.run-replies.result (map call_of c.args.calls.now) (λ (replies : Vec Reply). map reply_of replies.items) c.deref_mut.result.now c.run-replies.new.readers c.run-replies.ensures.reached c.run-replies.ensures.unreached none ∙ c.deref_mut.ensures.value))
+returns-clause-unasked g c = λ none. lent_as (λ before after. after ≡ before) c.args.self.now.readers.len _ _ c.run-replies.new.readers _ (omega arith) c.deref_mut.ensures.value
+    (unasked g.P.Reader.MetricReader.flushes g.P.Reader.MetricReader.shuts c.args.self.now.core.state.shared.shut c.run-replies.result (map call_of c.args.calls.now) (λ (replies : Vec Reply). map reply_of replies.items) c.deref_mut.result.now c.run-replies.new.readers c.run-replies.ensures.reached c.run-replies.ensures.unreached none)
 
 pub returns-clause-wants : goal.returns-clause-wants
 returns-clause-wants g c =
-    let lent = lent_back c.args.self.now.readers.len c.run-replies.new.readers _ (omega arith) in
-    ap (map (wanted_by g.P.Reader.MetricReader.preference g.P.Reader.MetricReader.limit g.P.Reader.MetricReader.aggregation)) lent ∙ (c.run-replies.ensures.wants ∙ ap (map (wanted_by g.P.Reader.MetricReader.preference g.P.Reader.MetricReader.limit g.P.Reader.MetricReader.aggregation)) c.deref_mut.ensures.value)
+    let wanted = map (wanted_by g.P.Reader.MetricReader.preference g.P.Reader.MetricReader.limit g.P.Reader.MetricReader.aggregation) in
+    lent_as (λ before after. wanted after ≡ wanted before) c.args.self.now.readers.len _ _ c.run-replies.new.readers _ (omega arith) c.deref_mut.ensures.value c.run-replies.ensures.wants

@@ -1,29 +1,23 @@
-use Rattle.std.proofs.Common.{◌∙◌, ap, arith, map, subst, sym}
+use Rattle.std.proofs.Common.{◌≡◌, [], arith, map}
 use Rattle.otel_model.specs.Calls as model
 use Rattle.otel_model.proofs.Kept.{kept_at_once}
 use Rattle.otel_stream.specs.Requests.{wanted_by}
-use Rattle.opentelemetry_sdk.specs.Correspondence.{reply_to}
 use Rattle.opentelemetry_sdk.specs.Providers.{views_of}
 use Rattle.opentelemetry_sdk.specs.Readers.{AreReached, ShutsDown}
-use Rattle.opentelemetry_sdk.proofs.StepLemmas.{lent_back}
+use Rattle.opentelemetry_sdk.proofs.StepLemmas.{lent_as}
 use Rattle.opentelemetry_sdk.proofs.provider.Provider.shutdown.Goals as goal
 
 pub returns-clause-step : goal.returns-clause-step
-returns-clause-step g c = c.shutdown.ensures.step (views_of g.P.View.View.answer c.args.self.now)
+returns-clause-step g c = c.shutdown-ended.ensures.step (views_of g.P.View.View.answer c.args.self.now)
 
 -- the readers come back as they were lent
 pub returns-clause-asked : goal.returns-clause-asked
-returns-clause-asked g c =
-    let lent = lent_back c.args.self.now.readers.len c.shutdown.new.readers _ (omega arith) in
-    subst (λ rs. AreReached (ShutsDown g.P.Reader.MetricReader.shuts) c.args.self.now.core.state.shared.shut c.args.self.now.readers.items rs c.shutdown.result) (sym lent)
-    (subst (λ rs. AreReached (ShutsDown g.P.Reader.MetricReader.shuts) c.args.self.now.core.state.shared.shut rs c.shutdown.new.readers c.shutdown.result) c.deref_mut.ensures.value c.shutdown.ensures.asked)
+returns-clause-asked g c = lent_as (λ before after. AreReached (ShutsDown g.P.Reader.MetricReader.shuts) c.args.self.now.core.state.shared.shut before after c.shutdown-ended.result) c.args.self.now.readers.len _ _ c.shutdown-ended.new.readers _ (omega arith) c.deref_mut.ensures.value c.shutdown-ended.ensures.asked
 
 pub returns-clause-readers : goal.returns-clause-readers
-returns-clause-readers g c =
-    let views = views_of g.P.View.View.answer c.args.self.now in
-    kept_at_once views c.args.self.now.core.state model.Call.Shutdown (reply_to c.shutdown.result) c.shutdown.new.self.state (c.shutdown.ensures.step views)
+returns-clause-readers g c = kept_at_once [] _ model.Call.Shutdown _ _ (c.shutdown-ended.ensures.step [])
 
 pub returns-clause-wants : goal.returns-clause-wants
 returns-clause-wants g c =
-    let lent = lent_back c.args.self.now.readers.len c.shutdown.new.readers _ (omega arith) in
-    ap (map (wanted_by g.P.Reader.MetricReader.preference g.P.Reader.MetricReader.limit g.P.Reader.MetricReader.aggregation)) lent ∙ (c.shutdown.ensures.wants ∙ ap (map (wanted_by g.P.Reader.MetricReader.preference g.P.Reader.MetricReader.limit g.P.Reader.MetricReader.aggregation)) c.deref_mut.ensures.value)
+    let wanted = map (wanted_by g.P.Reader.MetricReader.preference g.P.Reader.MetricReader.limit g.P.Reader.MetricReader.aggregation) in
+    lent_as (λ before after. wanted after ≡ wanted before) c.args.self.now.readers.len _ _ c.shutdown-ended.new.readers _ (omega arith) c.deref_mut.ensures.value c.shutdown-ended.ensures.wants

@@ -2,13 +2,10 @@ use Rattle.std.proofs.Common.{◌≡◌, ◌∙◌, ◌++◌, ◌∷◌, [], rul
 use Rattle.std.specs.List.{AllByRecursion as EachOf}
 use Rattle.std.specs.Map.{lookup}
 use Rattle.otel_model.specs.Calls as model
-use Rattle.otel_model.specs.Laws.{answers_in}
 use Rattle.otel_model.specs.Machine.{part_after_call}
 use Rattle.otel_model.specs.Refusals.{bind_refusal}
 use Rattle.otel_model.specs.Steps.{Step}
 use Rattle.otel_model.specs.State.{LiveHandle, State}
-use Rattle.otel_model.proofs.Kept.{kept_at_once}
-use Rattle.otel_model.specs.Lawful.{Balances}
 use Rattle.opentelemetry_sdk.specs.pipeline.Handles.{IsNewAt}
 use Rattle.opentelemetry_sdk.specs.pipeline.Pipelines.{part_of}
 use Rattle.opentelemetry_sdk.specs.Cores.{state_in}
@@ -16,23 +13,17 @@ use Rattle.opentelemetry_sdk.specs.declared.provider_core.handles.BoundHandle.{B
 use Rattle.opentelemetry_sdk.specs.Correspondence.{fault_of}
 use Rattle.opentelemetry_sdk.specs.States.{CoreContents, IsBindable, IsFault, IsSound, AreTyped}
 use Rattle.opentelemetry_sdk.proofs.Held.{feeds-synchronous, next-new, next-absent, bind-made}
-use Rattle.opentelemetry_sdk.proofs.Sound.{sound-balances, sound-step, balances-step}
+use Rattle.opentelemetry_sdk.proofs.Sound.{sound-step}
 use Rattle.opentelemetry_sdk.proofs.Stepped.{refused-step, memory-result}
-use Rattle.opentelemetry_sdk.proofs.StepLemmas.{lent-parts}
+use Rattle.opentelemetry_sdk.proofs.StepLemmas.{unchanged, lent-parts}
 use Rattle.opentelemetry_sdk.proofs.provider_core.Core.bind.Goals.{After-add-place}
 use Rattle.opentelemetry_sdk.proofs.provider_core.Core.bind.Goals as goal
-
-pub returns-then-identity-self-clause-balances : goal.returns-then-identity-self-clause-balances
-returns-then-identity-self-clause-balances c = subst (λ (k : CoreContents). Balances k.state) c.self.view_is (sound-balances (state_in c.self.inside) c.self.invariant)
 
 pub returns-in-Err-clause-step : goal.returns-in-Err-clause-step
 returns-in-Err-clause-step c =
     let old : State = state_in c.self.inside in
     λ own views. subst (λ (k : CoreContents). Step views k.state (model.Call.Bind c.args.instrument c.args.attributes.now) (model.Reply.Refused (fault_of c.in-Err.fault)) k.state) c.self.view_is (refused-step views old old (model.Call.Bind c.args.instrument c.args.attributes.now) c.in-Err.fault (λ _. refl)
     (subst (λ is. IsFault (bind_refusal c.self.inside.next (slice_get is c.args.instrument)) c.in-Err.fault) c.deref.ensures.value c.in-Err.ensures.fault) refl)
-
-pub returns-in-Err-clause-balances : goal.returns-in-Err-clause-balances
-returns-in-Err-clause-balances c = subst (λ (k : CoreContents). Balances k.state) c.self.view_is (sound-balances (state_in c.self.inside) c.self.invariant)
 
 -- there is no memory for one more handle
 pub invariant_of-self : goal.invariant_of-self
@@ -45,16 +36,6 @@ returns-in_err-make_room-clause-step c =
     let old : State = state_in c.self.inside in
     rw (← c.self.view_is) (λ own views. memory-result (λ (h : BoundHandle). model.Reply.Handle h.number) views old _ (model.Call.Bind c.args.instrument c.args.attributes.now) c.from_residual.result refl (search rules) (ap (λ is. bind_refusal c.self.inside.next (slice_get is c.args.instrument)) (sym c.deref.ensures.value) ∙ c.in_default.ensures.fits)
     (ap (λ (live : List LiveHandle). record old { shared = record old.shared { live = live } }) c.make_room.ensures.links))
-
-pub returns-in_err-make_room-clause-balances : goal.returns-in_err-make_room-clause-balances
-returns-in_err-make_room-clause-balances c =
-    let old : State = state_in c.self.inside in
-    subst Balances (sym (ap (λ (live : List LiveHandle). record old { shared = record old.shared { live = live } }) c.make_room.ensures.links)) (sound-balances old c.self.invariant)
-
-pub returns-in_err-make_room-clause-readers : goal.returns-in_err-make_room-clause-readers
-returns-in_err-make_room-clause-readers c =
-    let old : State = state_in c.self.inside in
-    rw (← c.self.view_is) (ap answers_in (ap (λ (live : List LiveHandle). record old { shared = record old.shared { live = live } }) c.make_room.ensures.links))
 
 -- the instrument feeds no observable stream
 pub bind_or_none-requires-clause-synchronous : goal.bind_or_none-requires-clause-synchronous
@@ -78,27 +59,13 @@ add-place-requires-clause-absent c =
 pub invariant_of-self-in_err-stream_place : goal.invariant_of-self-in_err-stream_place
 invariant_of-self-in_err-stream_place c =
     let old : State = state_in c.self.inside in
-    subst IsSound (sym (ap (λ ps. record { shared = record old.shared { live = c.make_room.new.links.entries }; readers = ps }) (lent-parts c.self.inside.pipelines.len c.bind_or_none.new.pipelines _ _ (omega arith) (c.in_err-stream_place.ensures.err ∙ ap (map part_of) c.deref_mut.ensures.value))
-    ∙ ap (λ (live : List LiveHandle). record old { shared = record old.shared { live = live } }) c.make_room.ensures.links)) c.self.invariant
+    subst IsSound (sym (unchanged old c.make_room.new.links.entries c.self.inside.pipelines.len _ c.bind_or_none.new.pipelines _ (omega arith) c.make_room.ensures.links (ap (map part_of) c.deref_mut.ensures.value) c.in_err-stream_place.ensures.err)) c.self.invariant
 
 pub returns-in_err-stream_place-clause-step : goal.returns-in_err-stream_place-clause-step
 returns-in_err-stream_place-clause-step c =
     let old : State = state_in c.self.inside in
     rw (← c.self.view_is) (λ own views. memory-result (λ (h : BoundHandle). model.Reply.Handle h.number) views old _ (model.Call.Bind c.args.instrument c.args.attributes.now) c.from_residual-in_err-stream_place.result refl (search rules) (ap (λ is. bind_refusal c.self.inside.next (slice_get is c.args.instrument)) (sym c.deref.ensures.value) ∙ c.in_default.ensures.fits)
-    (ap (λ ps. record { shared = record old.shared { live = c.make_room.new.links.entries }; readers = ps }) (lent-parts c.self.inside.pipelines.len c.bind_or_none.new.pipelines _ _ (omega arith) (c.in_err-stream_place.ensures.err ∙ ap (map part_of) c.deref_mut.ensures.value))
-    ∙ ap (λ (live : List LiveHandle). record old { shared = record old.shared { live = live } }) c.make_room.ensures.links))
-
-pub returns-in_err-stream_place-clause-balances : goal.returns-in_err-stream_place-clause-balances
-returns-in_err-stream_place-clause-balances c =
-    let old : State = state_in c.self.inside in
-    subst Balances (sym (ap (λ ps. record { shared = record old.shared { live = c.make_room.new.links.entries }; readers = ps }) (lent-parts c.self.inside.pipelines.len c.bind_or_none.new.pipelines _ _ (omega arith) (c.in_err-stream_place.ensures.err ∙ ap (map part_of) c.deref_mut.ensures.value))
-    ∙ ap (λ (live : List LiveHandle). record old { shared = record old.shared { live = live } }) c.make_room.ensures.links)) (sound-balances old c.self.invariant)
-
-pub returns-in_err-stream_place-clause-readers : goal.returns-in_err-stream_place-clause-readers
-returns-in_err-stream_place-clause-readers c =
-    let old : State = state_in c.self.inside in
-    rw (← c.self.view_is) (ap answers_in (ap (λ ps. record { shared = record old.shared { live = c.make_room.new.links.entries }; readers = ps }) (lent-parts c.self.inside.pipelines.len c.bind_or_none.new.pipelines _ _ (omega arith) (c.in_err-stream_place.ensures.err ∙ ap (map part_of) c.deref_mut.ensures.value))
-    ∙ ap (λ (live : List LiveHandle). record old { shared = record old.shared { live = live } }) c.make_room.ensures.links))
+    (unchanged old c.make_room.new.links.entries c.self.inside.pipelines.len _ c.bind_or_none.new.pipelines _ (omega arith) c.make_room.ensures.links (ap (map part_of) c.deref_mut.ensures.value) c.in_err-stream_place.ensures.err))
 
 -- the bind fits, the readers made it, and the core keeps which instrument the handle has
 fits : (c : After-add-place) → bind_refusal c.self.inside.next (slice_get c.self.inside.instruments.items c.args.instrument) ≡ None
@@ -122,17 +89,3 @@ returns-clause-step c =
     let w = (goal.at.returns-clause-step c).After-add-place in
     let old : State = state_in c.self.inside in
     rw (← c.self.view_is) (λ own. bind-made old c.args.instrument c.args.attributes.now _ _ _ (fits w) (added w) refl (lent-parts c.self.inside.pipelines.len c.bind_or_none.new.pipelines _ _ (omega arith) (sent w)))
-
-pub returns-clause-balances : goal.returns-clause-balances
-returns-clause-balances c =
-    let w = (goal.at.returns-clause-balances c).After-add-place in
-    let old : State = state_in c.self.inside in
-    balances-step [] old _ (model.Call.Bind c.args.instrument c.args.attributes.now) (model.Reply.Handle c.self.inside.next) c.self.invariant
-    (bind-made old c.args.instrument c.args.attributes.now _ _ _ (fits w) (added w) refl (lent-parts c.self.inside.pipelines.len c.bind_or_none.new.pipelines _ _ (omega arith) (sent w)) [])
-
-pub returns-clause-readers : goal.returns-clause-readers
-returns-clause-readers c =
-    let w = (goal.at.returns-clause-readers c).After-add-place in
-    let old : State = state_in c.self.inside in
-    rw (← c.self.view_is) (kept_at_once [] old (model.Call.Bind c.args.instrument c.args.attributes.now) (model.Reply.Handle c.self.inside.next) _
-    (bind-made old c.args.instrument c.args.attributes.now _ _ _ (fits w) (added w) refl (lent-parts c.self.inside.pipelines.len c.bind_or_none.new.pipelines _ _ (omega arith) (sent w)) []))

@@ -7,23 +7,18 @@ use Rattle.otel_model.specs.Demands.{is_good}
 use Rattle.otel_model.specs.Machine.{part_after_build}
 use Rattle.otel_model.specs.Steps.{Step}
 use Rattle.otel_model.specs.State.{State}
-use Rattle.otel_model.proofs.Kept.{kept_at_once}
-use Rattle.otel_model.specs.Lawful.{Balances}
 use Rattle.opentelemetry_sdk.specs.pipeline.Pipelines.{HashesFrom, Piped, part_of}
 use Rattle.opentelemetry_sdk.specs.pipeline.Views.{views_answering}
 use Rattle.opentelemetry_sdk.specs.Cores.{state_in}
 use Rattle.opentelemetry_sdk.specs.Correspondence.{fault_of, reply_from}
 use Rattle.opentelemetry_sdk.specs.States.{CoreContents, AreAsked, IsGoodIn}
 use Rattle.opentelemetry_sdk.proofs.Outcomes.{OnOk-weaker, OnErr-weaker}
-use Rattle.opentelemetry_sdk.proofs.Sound.{sound-balances, sound-step, balances-step}
+use Rattle.opentelemetry_sdk.proofs.Sound.{sound-step}
 use Rattle.opentelemetry_sdk.proofs.Stepped.{refused-step, memory-result}
 use Rattle.opentelemetry_sdk.proofs.StepLemmas.{no_meter-fault, good-in, lent_back, lent-parts, build-step}
 use Rattle.opentelemetry_sdk.proofs.provider_core.Core.build.Given as given
 use Rattle.opentelemetry_sdk.proofs.provider_core.Core.build.Goals.{After-make}
 use Rattle.opentelemetry_sdk.proofs.provider_core.Core.build.Goals as goal
-
-pub returns-then-identity-self-clause-balances : goal.returns-then-identity-self-clause-balances
-returns-then-identity-self-clause-balances g c = subst (λ (k : CoreContents). Balances k.state) c.self.view_is (sound-balances (state_in c.self.inside) c.self.invariant)
 
 -- there is no such meter
 pub returns-in-Err-clause-step : goal.returns-in-Err-clause-step
@@ -31,17 +26,11 @@ returns-in-Err-clause-step g c =
     let old : State = state_in c.self.inside in
     λ own. subst (λ (k : CoreContents). Step (map g.V.View.answer c.args.views.now) k.state (model.Call.Build c.args.meter c.args.about.now c.args.now) (model.Reply.Refused (fault_of c.in-Err.fault)) k.state) c.self.view_is (refused-step (map g.V.View.answer c.args.views.now) old old (model.Call.Build c.args.meter c.args.about.now c.args.now) c.in-Err.fault (λ _. refl) (no_meter-fault old.shared c.args.meter c.in-Err.fault c.in-Err.ensures) refl)
 
-pub returns-in-Err-clause-balances : goal.returns-in-Err-clause-balances
-returns-in-Err-clause-balances g c = subst (λ (k : CoreContents). Balances k.state) c.self.view_is (sound-balances (state_in c.self.inside) c.self.invariant)
-
 -- there is no memory for what the views answer
 pub returns-in_err-answered-clause-step : goal.returns-in_err-answered-clause-step
 returns-in_err-answered-clause-step g c =
     let old : State = state_in c.self.inside in
     rw (← c.self.view_is) (λ own. memory-result model.Reply.Instrument (map g.V.View.answer c.args.views.now) old old (model.Call.Build c.args.meter c.args.about.now c.args.now) c.from_residual.result refl (search rules) (c.in-Ok.ensures.known old.shared refl) refl)
-
-pub returns-in_err-answered-clause-balances : goal.returns-in_err-answered-clause-balances
-returns-in_err-answered-clause-balances g c = subst (λ (k : CoreContents). Balances k.state) c.self.view_is (sound-balances (state_in c.self.inside) c.self.invariant)
 
 pub make-requires-clause-good : goal.make-requires-clause-good
 make-requires-clause-good g c = subst (λ s. IsGoodIn s c.args.about.now) (sym c.good_scope-scope.ensures) (good-in _ c.args.about.now (is_good c.args.about.now) refl)
@@ -68,20 +57,6 @@ returns-clause-step g c =
     let w = (goal.at.returns-clause-step g c).After-make in
     let old : State = state_in c.self.inside in
     rw (← c.self.view_is) (λ own. build-step old (map g.V.View.answer c.args.views.now) c.deref.result.now _ _ c.args.meter _ _ c.args.about.now c.args.now c.make.result c.in-Ok.ensures c.good_scope-scope.ensures (asked g w) c.make.ensures.number c.make.ensures.instruments (OnOk-weaker c.make.result (λ is. lent-parts c.self.inside.pipelines.len c.make.new.pipelines _ _ (omega arith) is) (built g w)) c.make.ensures.same (OnErr-weaker c.make.result (λ is. lent-parts c.self.inside.pipelines.len c.make.new.pipelines _ _ (omega arith) is) (same g w)) c.make.ensures.only_memory)
-
-pub returns-clause-balances : goal.returns-clause-balances
-returns-clause-balances g c =
-    let w = (goal.at.returns-clause-balances g c).After-make in
-    let old : State = state_in c.self.inside in
-    balances-step (map g.V.View.answer c.args.views.now) old _ (model.Call.Build c.args.meter c.args.about.now c.args.now) (reply_from model.Reply.Instrument c.make.result) c.self.invariant
-    (build-step old (map g.V.View.answer c.args.views.now) c.deref.result.now _ _ c.args.meter _ _ c.args.about.now c.args.now c.make.result c.in-Ok.ensures c.good_scope-scope.ensures (asked g w) c.make.ensures.number c.make.ensures.instruments (OnOk-weaker c.make.result (λ is. lent-parts c.self.inside.pipelines.len c.make.new.pipelines _ _ (omega arith) is) (built g w)) c.make.ensures.same (OnErr-weaker c.make.result (λ is. lent-parts c.self.inside.pipelines.len c.make.new.pipelines _ _ (omega arith) is) (same g w)) c.make.ensures.only_memory)
-
-pub returns-clause-readers : goal.returns-clause-readers
-returns-clause-readers g c =
-    let w = (goal.at.returns-clause-readers g c).After-make in
-    let old : State = state_in c.self.inside in
-    rw (← c.self.view_is) (kept_at_once (map g.V.View.answer c.args.views.now) old (model.Call.Build c.args.meter c.args.about.now c.args.now) (reply_from model.Reply.Instrument c.make.result) _
-    (build-step old (map g.V.View.answer c.args.views.now) c.deref.result.now _ _ c.args.meter _ _ c.args.about.now c.args.now c.make.result c.in-Ok.ensures c.good_scope-scope.ensures (asked g w) c.make.ensures.number c.make.ensures.instruments (OnOk-weaker c.make.result (λ is. lent-parts c.self.inside.pipelines.len c.make.new.pipelines _ _ (omega arith) is) (built g w)) c.make.ensures.same (OnErr-weaker c.make.result (λ is. lent-parts c.self.inside.pipelines.len c.make.new.pipelines _ _ (omega arith) is) (same g w)) c.make.ensures.only_memory))
 
 -- the readers' parts come back as they were lent, and hash from the core's seed
 seeds-alike : (seed : ℕ) (ps : List Piped) → All (HashesFrom seed) ps → map (λ (p : Piped). p.hash_seed) ps ≡ map (λ _. seed) (map part_of ps)

@@ -7,15 +7,13 @@ use Rattle.otel_model.specs.Machine.{changed_at, part_after_call}
 use Rattle.otel_model.specs.Refusals.{observations_refusal}
 use Rattle.otel_model.specs.Steps.{Step}
 use Rattle.otel_model.specs.State.{State}
-use Rattle.otel_model.proofs.Kept.{kept_at_once}
-use Rattle.otel_model.specs.Lawful.{Balances}
 use Rattle.opentelemetry_sdk.specs.pipeline.Pipelines.{part_of}
 use Rattle.opentelemetry_sdk.specs.Cores.{state_in}
 use Rattle.opentelemetry_sdk.specs.Correspondence.{fault_of, observed_of, reply_from}
 use Rattle.opentelemetry_sdk.specs.States.{CoreContents, IsFault, IsTaken}
 use Rattle.opentelemetry_sdk.proofs.Collects.{get-at, no-reader, shut-reader, by-observations, collect-step, set-seen, set-unseen}
 use Rattle.opentelemetry_sdk.proofs.Outcomes.{OnOk-weaker, OnErr-weaker}
-use Rattle.opentelemetry_sdk.proofs.Sound.{sound-balances, sound-step, balances-step}
+use Rattle.opentelemetry_sdk.proofs.Sound.{sound-step}
 use Rattle.opentelemetry_sdk.proofs.Stepped.{named-step, refused-step}
 use Rattle.opentelemetry_sdk.proofs.Typed.{typed-observed, observable-observed}
 use Rattle.opentelemetry_sdk.proofs.provider_core.Core.collect.Goals.{After-collect}
@@ -27,17 +25,11 @@ returns-then-reader-len-clause-step c =
     let none : length old.readers ≤ c.args.reader = rw length-map (omega (arith, c.if-reader-len.true, c.len.ensures, c.self.inside.pipelines.ok.0)) in
     rw (← c.self.view_is) (λ views. named-step views old old (model.Call.Collect c.args.reader c.args.now (map observed_of c.args.observations.now)) model.Fault.UnknownReader (no-reader old c.args.reader c.args.now (map observed_of c.args.observations.now) none) refl)
 
-pub returns-then-reader-len-clause-balances : goal.returns-then-reader-len-clause-balances
-returns-then-reader-len-clause-balances c = subst (λ (k : CoreContents). Balances k.state) c.self.view_is (sound-balances (state_in c.self.inside) c.self.invariant)
-
 pub returns-then-self-clause-step : goal.returns-then-self-clause-step
 returns-then-self-clause-step c =
     let old : State = state_in c.self.inside in
     let inside : c.args.reader < length old.readers = rw length-map (omega (arith, c.if-reader-len.false, c.len.ensures, c.self.inside.pipelines.ok.0)) in
     rw (← c.self.view_is) (λ views. named-step views old old (model.Call.Collect c.args.reader c.args.now (map observed_of c.args.observations.now)) model.Fault.ReaderShutDown (shut-reader old c.args.reader c.args.now (map observed_of c.args.observations.now) inside c.if-self.true) refl)
-
-pub returns-then-self-clause-balances : goal.returns-then-self-clause-balances
-returns-then-self-clause-balances c = subst (λ (k : CoreContents). Balances k.state) c.self.view_is (sound-balances (state_in c.self.inside) c.self.invariant)
 
 pub returns-in-Err-clause-step : goal.returns-in-Err-clause-step
 returns-in-Err-clause-step c =
@@ -46,9 +38,6 @@ returns-in-Err-clause-step c =
     let inside : c.args.reader < length old.readers = rw length-map (omega (arith, c.if-reader-len.false, c.len.ensures, c.self.inside.pipelines.ok.0)) in
     λ views. subst (λ (k : CoreContents). Step views k.state (model.Call.Collect c.args.reader c.args.now (map observed_of c.args.observations.now)) (model.Reply.Refused (fault_of c.in-Err.fault)) k.state) c.self.view_is (refused-step views old old (model.Call.Collect c.args.reader c.args.now (map observed_of c.args.observations.now)) c.in-Err.fault (λ _. refl)
     (subst (λ o. IsFault o c.in-Err.fault) (ap (λ is. observations_refusal is os) c.deref.ensures.value ∙ sym (by-observations old c.args.reader c.args.now os inside c.if-self.false)) c.in-Err.ensures.fault) refl)
-
-pub returns-in-Err-clause-balances : goal.returns-in-Err-clause-balances
-returns-in-Err-clause-balances c = subst (λ (k : CoreContents). Balances k.state) c.self.view_is (sound-balances (state_in c.self.inside) c.self.invariant)
 
 -- the observations are of instruments that take them, so they are of the number type of what these feed
 pub collect-requires-clause-typed : goal.collect-requires-clause-typed
@@ -94,17 +83,3 @@ returns-clause-step c =
     let w = (goal.at.returns-clause-step c).After-collect in
     let old : State = state_in c.self.inside in
     rw (← c.self.view_is) (collect-step old c.args.reader c.args.now (map observed_of c.args.observations.now) (part_of c.index_mut.result.now) _ c.collect.result c.if-self.false (at-part w) (good w) c.collect.ensures.collection (left w) (same w) c.collect.ensures.only_memory)
-
-pub returns-clause-balances : goal.returns-clause-balances
-returns-clause-balances c =
-    let w = (goal.at.returns-clause-balances c).After-collect in
-    let old : State = state_in c.self.inside in
-    balances-step [] old _ (model.Call.Collect c.args.reader c.args.now (map observed_of c.args.observations.now)) (reply_from (λ m. model.Reply.Collected m) c.collect.result) c.self.invariant
-    (collect-step old c.args.reader c.args.now (map observed_of c.args.observations.now) (part_of c.index_mut.result.now) _ c.collect.result c.if-self.false (at-part w) (good w) c.collect.ensures.collection (left w) (same w) c.collect.ensures.only_memory [])
-
-pub returns-clause-readers : goal.returns-clause-readers
-returns-clause-readers c =
-    let w = (goal.at.returns-clause-readers c).After-collect in
-    let old : State = state_in c.self.inside in
-    rw (← c.self.view_is) (kept_at_once [] old (model.Call.Collect c.args.reader c.args.now (map observed_of c.args.observations.now)) (reply_from (λ m. model.Reply.Collected m) c.collect.result) _
-    (collect-step old c.args.reader c.args.now (map observed_of c.args.observations.now) (part_of c.index_mut.result.now) _ c.collect.result c.if-self.false (at-part w) (good w) c.collect.ensures.collection (left w) (same w) c.collect.ensures.only_memory []))

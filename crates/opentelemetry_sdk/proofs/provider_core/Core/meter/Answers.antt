@@ -1,15 +1,12 @@
-use Rattle.std.proofs.Common.{◌≡◌, ◌∙◌, rules, refl, ap, sym, subst, true≢false, cond, List, [], ◌∷◌, ◌++◌, Some}
+use Rattle.std.proofs.Common.{◌≡◌, ◌∙◌, rules, refl, ap, sym, true≢false, cond, List, [], ◌∷◌, ◌++◌, Some}
 use Rattle.std.specs.List.{list_any, position_or_len}
 use Rattle.otel_common.specs.Scopes.{scope_eq}
 use Rattle.otel_common.specs.declared.scopes.InstrumentationScope.{InstrumentationScope}
 use Rattle.otel_model.specs.Calls as model
 use Rattle.otel_model.specs.Machine.{with_meter}
 use Rattle.otel_model.specs.State.{State}
-use Rattle.otel_model.proofs.Kept.{kept_at_once}
-use Rattle.otel_model.specs.Lawful.{Balances}
 use Rattle.opentelemetry_sdk.specs.Cores.{state_in}
-use Rattle.opentelemetry_sdk.specs.States.{CoreContents}
-use Rattle.opentelemetry_sdk.proofs.Sound.{sound-balances, sound-step, balances-step}
+use Rattle.opentelemetry_sdk.proofs.Sound.{sound-step}
 use Rattle.opentelemetry_sdk.proofs.Stepped.{memory-result}
 use Rattle.opentelemetry_sdk.proofs.StepLemmas.{meter-made, meter-known, meter-none, meter-unknown, has_scope-flip}
 use Rattle.opentelemetry_sdk.proofs.provider_core.Core.meter.Goals.{In_ok-number, After-from_residual-in_err-number}
@@ -19,15 +16,9 @@ use Rattle.opentelemetry_sdk.proofs.provider_core.Core.meter.Goals as goal
 pub returns-then-self-clause-step : goal.returns-then-self-clause-step
 returns-then-self-clause-step c = rw (← c.self.view_is) (meter-none (state_in c.self.inside) c.args.scope.now c.if-self.true)
 
-pub returns-then-self-clause-balances : goal.returns-then-self-clause-balances
-returns-then-self-clause-balances c = subst (λ (k : CoreContents). Balances k.state) c.self.view_is (sound-balances (state_in c.self.inside) c.self.invariant)
-
 -- a known one is found
 pub returns-in-Some-clause-step : goal.returns-in-Some-clause-step
 returns-in-Some-clause-step c = rw (← c.self.view_is) (meter-known (state_in c.self.inside) c.args.scope.now c.in-Some.number c.if-self.false (sym c.get_index_of.ensures.index ∙ c.in-Some.is))
-
-pub returns-in-Some-clause-balances : goal.returns-in-Some-clause-balances
-returns-in-Some-clause-balances c = subst (λ (k : CoreContents). Balances k.state) c.self.view_is (sound-balances (state_in c.self.inside) c.self.invariant)
 
 -- one that is known was found
 pub returns-in_err-copy_scope-clause-known : goal.returns-in_err-copy_scope-clause-known
@@ -37,9 +28,6 @@ pub returns-in_err-copy_scope-clause-step : goal.returns-in_err-copy_scope-claus
 returns-in_err-copy_scope-clause-step c =
     let old : State = state_in c.self.inside in
     rw (← c.self.view_is) (λ views. memory-result (λ n. model.Reply.Meter n) views old old (model.Call.Meter c.args.scope.now) c.from_residual.result refl (search rules) refl refl)
-
-pub returns-in_err-copy_scope-clause-balances : goal.returns-in_err-copy_scope-clause-balances
-returns-in_err-copy_scope-clause-balances c = sound-balances (state_in c.self.inside) c.self.invariant
 
 pub returns-in_err-number-clause-known : goal.returns-in_err-number-clause-known
 returns-in_err-number-clause-known c = rw (← c.self.view_is) (λ t. absurd (true≢false (sym t ∙ meter-unknown c.self.inside.meters.keys c.args.scope.now (sym c.get_index_of.ensures.index ∙ c.in_default.is))))
@@ -52,11 +40,6 @@ pub returns-in_err-number-clause-step : goal.returns-in_err-number-clause-step
 returns-in_err-number-clause-step c =
     let old : State = state_in c.self.inside in
     rw (← c.self.view_is) (λ views. memory-result (λ n. model.Reply.Meter n) views old _ (model.Call.Meter c.args.scope.now) c.from_residual-in_err-number.result refl (search rules) refl (ap (λ ms. record old { shared = record old.shared { meters = ms } }) (same c)))
-
-pub returns-in_err-number-clause-balances : goal.returns-in_err-number-clause-balances
-returns-in_err-number-clause-balances c =
-    let old : State = state_in c.self.inside in
-    subst Balances (sym (ap (λ ms. record old { shared = record old.shared { meters = ms } }) (same c))) (sound-balances old c.self.invariant)
 
 -- a new scope is added at the end
 first : (c : In_ok-number) → c.in_ok-number.number ≡ position_or_len (scope_eq c.args.scope.now) c.self.inside.meters.keys
@@ -79,17 +62,3 @@ returns-clause-step c =
     let w = (goal.at.returns-clause-step c).In_ok-number in
     let old : State = state_in c.self.inside in
     rw (← c.self.view_is) (meter-made old _ c.args.scope.now c.in_ok-number.number c.if-self.false (first w) (added w))
-
-pub returns-clause-balances : goal.returns-clause-balances
-returns-clause-balances c =
-    let w = (goal.at.returns-clause-balances c).In_ok-number in
-    let old : State = state_in c.self.inside in
-    balances-step [] old _ (model.Call.Meter c.args.scope.now) (model.Reply.Meter (Some c.in_ok-number.number)) c.self.invariant
-    (meter-made old _ c.args.scope.now c.in_ok-number.number c.if-self.false (first w) (added w) [])
-
-pub returns-clause-readers : goal.returns-clause-readers
-returns-clause-readers c =
-    let w = (goal.at.returns-clause-readers c).In_ok-number in
-    let old : State = state_in c.self.inside in
-    rw (← c.self.view_is) (kept_at_once [] old (model.Call.Meter c.args.scope.now) (model.Reply.Meter (Some c.in_ok-number.number)) _
-    (meter-made old _ c.args.scope.now c.in_ok-number.number c.if-self.false (first w) (added w) []))

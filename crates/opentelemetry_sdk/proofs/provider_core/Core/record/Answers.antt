@@ -1,26 +1,19 @@
-use Rattle.std.proofs.Common.{◌≡◌, ◌<◌, ◌∙◌, rules, refl, true≢false, ap, sym, subst, [], map, length, slice_get, set, None, arith}
+use Rattle.std.proofs.Common.{◌≡◌, ◌∙◌, rules, refl, true≢false, ap, sym, subst, [], map, slice_get, set, None, arith}
 use Rattle.otel_model.specs.Calls as model
-use Rattle.otel_model.specs.Laws.{answers_in}
 use Rattle.otel_model.specs.Machine.{instrument_after_record, changed_at, part_after_call}
 use Rattle.otel_model.specs.Refusals.{record_refusal}
 use Rattle.otel_model.specs.Steps.{Step}
 use Rattle.otel_model.specs.State.{State}
-use Rattle.otel_model.proofs.Kept.{kept_at_once}
-use Rattle.otel_model.specs.Lawful.{Balances}
 use Rattle.opentelemetry_sdk.specs.pipeline.Pipelines.{part_of}
 use Rattle.opentelemetry_sdk.proofs.pipeline.Writes.{set-changed}
 use Rattle.opentelemetry_sdk.specs.Cores.{state_in}
 use Rattle.opentelemetry_sdk.specs.Correspondence.{fault_of, number_of}
-use Rattle.opentelemetry_sdk.specs.States.{CoreContents, IsTakenBy, IsFault, IsNamed, IsSound, AreTyped}
-use Rattle.opentelemetry_sdk.proofs.Sound.{sound-balances, sound-step, balances-step}
+use Rattle.opentelemetry_sdk.specs.States.{CoreContents, IsFault, IsNamed, IsSound}
+use Rattle.opentelemetry_sdk.proofs.Sound.{sound-step}
 use Rattle.opentelemetry_sdk.proofs.Stepped.{refused-step, memory-result, record-takes}
-use Rattle.opentelemetry_sdk.proofs.StepLemmas.{lent-parts, record-made, get-inside}
-use Rattle.opentelemetry_sdk.proofs.Typed.{typed-feeds}
-use Rattle.opentelemetry_sdk.proofs.provider_core.Core.record.Goals.{After-accept, In_err-record_or_none}
+use Rattle.opentelemetry_sdk.proofs.StepLemmas.{unchanged, lent-parts, taken-feeds, taken-inside, record-made}
+use Rattle.opentelemetry_sdk.proofs.provider_core.Core.record.Goals.{After-accept}
 use Rattle.opentelemetry_sdk.proofs.provider_core.Core.record.Goals as goal
-
-pub returns-then-identity-self-clause-balances : goal.returns-then-identity-self-clause-balances
-returns-then-identity-self-clause-balances c = subst (λ (k : CoreContents). Balances k.state) c.self.view_is (sound-balances (state_in c.self.inside) c.self.invariant)
 
 pub returns-in-Err-clause-step : goal.returns-in-Err-clause-step
 returns-in-Err-clause-step c =
@@ -28,63 +21,32 @@ returns-in-Err-clause-step c =
     λ own views. subst (λ (k : CoreContents). Step views k.state (model.Call.Record c.args.instrument (number_of c.args.value) c.args.attributes.now) (model.Reply.Refused (fault_of c.in-Err.fault)) k.state) c.self.view_is (refused-step views old old (model.Call.Record c.args.instrument (number_of c.args.value) c.args.attributes.now) c.in-Err.fault (λ e. absurd (subst IsNamed e c.in-Err.ensures.named))
     (subst (λ is. IsFault (record_refusal (slice_get is c.args.instrument) (number_of c.args.value).signed) c.in-Err.fault) c.deref.ensures.value c.in-Err.ensures.fault) refl)
 
-pub returns-in-Err-clause-balances : goal.returns-in-Err-clause-balances
-returns-in-Err-clause-balances c = subst (λ (k : CoreContents). Balances k.state) c.self.view_is (sound-balances (state_in c.self.inside) c.self.invariant)
-
 -- the instrument feeds streams of its number type, which is the value's
 pub record_or_none-requires : goal.record_or_none-requires
-record_or_none-requires c =
-    let taken : IsTakenBy c.deref.result.now c.args.instrument (number_of c.args.value) = c.in_default.ensures.taken in
-    typed-feeds c.args.instrument (number_of c.args.value) c.self.inside.instruments.items taken.instrument (map part_of c.deref_mut.result.now)
-    (ap (λ is. slice_get is c.args.instrument) (sym c.deref.ensures.value) ∙ taken.there) taken.typed
-    (subst (λ ps. AreTyped c.self.inside.instruments.items (map part_of ps)) (sym c.deref_mut.ensures.value) c.self.invariant.typed)
+record_or_none-requires c = taken-feeds c.args.instrument (number_of c.args.value) c.self.inside.instruments.items _ c.deref.ensures.value c.in_default.ensures.taken c.self.inside.pipelines.items _ c.deref_mut.ensures.value c.self.invariant.typed
 
 -- there is no memory, and no reader made the record
-unsent : (c : In_err-record_or_none) → map part_of c.record_or_none.new.pipelines ≡ map part_of c.self.inside.pipelines.items
-unsent c = c.in_err-record_or_none.ensures.err ∙ ap (map part_of) c.deref_mut.ensures.value
-
 pub invariant_of-self : goal.invariant_of-self
 invariant_of-self c =
-    let w = (goal.at.invariant_of-self c).In_err-record_or_none in
     let old : State = state_in c.self.inside in
-    subst IsSound (sym (ap (λ ps. record old { readers = ps }) (lent-parts c.self.inside.pipelines.len c.record_or_none.new.pipelines _ _ (omega arith) (unsent w)))) c.self.invariant
+    subst IsSound (sym (unchanged old _ c.self.inside.pipelines.len _ c.record_or_none.new.pipelines _ (omega arith) refl (ap (map part_of) c.deref_mut.ensures.value) c.in_err-record_or_none.ensures.err)) c.self.invariant
 
 pub returns-in_err-record_or_none-clause-step : goal.returns-in_err-record_or_none-clause-step
 returns-in_err-record_or_none-clause-step c =
-    let w = (goal.at.returns-in_err-record_or_none-clause-step c).In_err-record_or_none in
     let old : State = state_in c.self.inside in
     rw (← c.self.view_is) (λ own views. memory-result (λ _. model.Reply.Done) views old _ (model.Call.Record c.args.instrument (number_of c.args.value) c.args.attributes.now) c.from_residual.result (record-takes c.args.instrument (number_of c.args.value) c.args.attributes.now (λ e. true≢false (sym (c.in_err-record_or_none.ensures.free e)))) (search rules)
     (ap (λ is. record_refusal (slice_get is c.args.instrument) (number_of c.args.value).signed) (sym c.deref.ensures.value) ∙ c.in_default.ensures.fits)
-    (ap (λ ps. record old { readers = ps }) (lent-parts c.self.inside.pipelines.len c.record_or_none.new.pipelines _ _ (omega arith) (unsent w))))
-
-pub returns-in_err-record_or_none-clause-balances : goal.returns-in_err-record_or_none-clause-balances
-returns-in_err-record_or_none-clause-balances c =
-    let w = (goal.at.returns-in_err-record_or_none-clause-balances c).In_err-record_or_none in
-    let old : State = state_in c.self.inside in
-    subst Balances (sym (ap (λ ps. record old { readers = ps }) (lent-parts c.self.inside.pipelines.len c.record_or_none.new.pipelines _ _ (omega arith) (unsent w)))) (sound-balances old c.self.invariant)
-
-pub returns-in_err-record_or_none-clause-readers : goal.returns-in_err-record_or_none-clause-readers
-returns-in_err-record_or_none-clause-readers c =
-    let w = (goal.at.returns-in_err-record_or_none-clause-readers c).In_err-record_or_none in
-    let old : State = state_in c.self.inside in
-    rw (← c.self.view_is) (ap answers_in (ap (λ ps. record old { readers = ps }) (lent-parts c.self.inside.pipelines.len c.record_or_none.new.pipelines _ _ (omega arith) (unsent w))))
+    (unchanged old _ c.self.inside.pipelines.len _ c.record_or_none.new.pipelines _ (omega arith) refl (ap (map part_of) c.deref_mut.ensures.value) c.in_err-record_or_none.ensures.err))
 
 pub index_mut-requires : goal.index_mut-requires
-index_mut-requires c =
-    let taken : IsTakenBy c.deref.result.now c.args.instrument (number_of c.args.value) = c.in_default.ensures.taken in
-    let there : c.args.instrument < length c.self.inside.instruments.items = get-inside c.self.inside.instruments.items c.args.instrument taken.instrument (ap (λ is. slice_get is c.args.instrument) (sym c.deref.ensures.value) ∙ taken.there) in
-    omega (arith, there)
+index_mut-requires c = omega (arith, taken-inside c.args.instrument (number_of c.args.value) c.self.inside.instruments.items _ c.deref.ensures.value c.in_default.ensures.taken)
 
 -- the value fits, the readers made the record, and the instrument accepted it
 fits : (c : After-accept) → record_refusal (slice_get c.self.inside.instruments.items c.args.instrument) (number_of c.args.value).signed ≡ None
 fits c = ap (λ is. record_refusal (slice_get is c.args.instrument) (number_of c.args.value).signed) (sym c.deref.ensures.value) ∙ c.in_default.ensures.fits
 
 accepted : (c : After-accept) → set c.self.inside.instruments.items c.args.instrument c.accept.new.self ≡ changed_at c.args.instrument (instrument_after_record (number_of c.args.value).amount) c.self.inside.instruments.items
-accepted c =
-    let n = c.args.instrument in
-    let taken : IsTakenBy c.deref.result.now n (number_of c.args.value) = c.in_default.ensures.taken in
-    let there : n < length c.self.inside.instruments.items = get-inside c.self.inside.instruments.items n taken.instrument (ap (λ is. slice_get is n) (sym c.deref.ensures.value) ∙ taken.there) in
-    set-changed (instrument_after_record (number_of c.args.value).amount) c.self.inside.instruments.items n c.index_mut.result.now c.accept.new.self there c.index_mut.ensures.value c.accept.ensures
+accepted c = set-changed (instrument_after_record (number_of c.args.value).amount) c.self.inside.instruments.items c.args.instrument c.index_mut.result.now c.accept.new.self (taken-inside c.args.instrument (number_of c.args.value) c.self.inside.instruments.items _ c.deref.ensures.value c.in_default.ensures.taken) c.index_mut.ensures.value c.accept.ensures
 
 sent : (c : After-accept) → map part_of c.record_or_none.new.pipelines ≡ map (part_after_call 0 (model.Call.Record c.args.instrument (number_of c.args.value) c.args.attributes.now)) (map part_of c.self.inside.pipelines.items)
 sent c = c.in_ok-record_or_none.ensures.ok ∙ ap (λ ps. map (part_after_call 0 (model.Call.Record c.args.instrument (number_of c.args.value) c.args.attributes.now)) (map part_of ps)) c.deref_mut.ensures.value
@@ -101,17 +63,3 @@ returns-clause-step c =
     let w = (goal.at.returns-clause-step c).After-accept in
     let old : State = state_in c.self.inside in
     rw (← c.self.view_is) (λ own. record-made old c.args.instrument (number_of c.args.value) c.args.attributes.now _ _ (fits w) (accepted w) (lent-parts c.self.inside.pipelines.len c.record_or_none.new.pipelines _ _ (omega arith) (sent w)))
-
-pub returns-clause-balances : goal.returns-clause-balances
-returns-clause-balances c =
-    let w = (goal.at.returns-clause-balances c).After-accept in
-    let old : State = state_in c.self.inside in
-    balances-step [] old _ (model.Call.Record c.args.instrument (number_of c.args.value) c.args.attributes.now) model.Reply.Done c.self.invariant
-    (record-made old c.args.instrument (number_of c.args.value) c.args.attributes.now _ _ (fits w) (accepted w) (lent-parts c.self.inside.pipelines.len c.record_or_none.new.pipelines _ _ (omega arith) (sent w)) [])
-
-pub returns-clause-readers : goal.returns-clause-readers
-returns-clause-readers c =
-    let w = (goal.at.returns-clause-readers c).After-accept in
-    let old : State = state_in c.self.inside in
-    rw (← c.self.view_is) (kept_at_once [] old (model.Call.Record c.args.instrument (number_of c.args.value) c.args.attributes.now) model.Reply.Done _
-    (record-made old c.args.instrument (number_of c.args.value) c.args.attributes.now _ _ (fits w) (accepted w) (lent-parts c.self.inside.pipelines.len c.record_or_none.new.pipelines _ _ (omega arith) (sent w)) []))

@@ -1,37 +1,28 @@
-use Rattle.std.proofs.Common.{◌≡◌, ◌<◌, ◌∙◌, refl, ap, sym, subst, [], map, length, slice_get, set, Some, None, arith}
+use Rattle.std.proofs.Common.{◌≡◌, ◌∙◌, refl, ap, sym, subst, [], map, slice_get, set, Some, None, arith}
 use Rattle.std.specs.List.{AllByRecursion as EachOf}
 use Rattle.otel_model.specs.Calls as model
 use Rattle.otel_model.specs.Machine.{instrument_after_record, changed_at, part_after_call}
 use Rattle.otel_model.specs.Refusals.{held_refusal, handle_refusal, instrument_held}
 use Rattle.otel_model.specs.Steps.{Step}
 use Rattle.otel_model.specs.State.{State}
-use Rattle.otel_model.proofs.Kept.{kept_at_once}
-use Rattle.otel_model.specs.Lawful.{Balances}
 use Rattle.opentelemetry_sdk.specs.pipeline.Handles.{FeedsSynchronous, IsHeldByFed}
 use Rattle.opentelemetry_sdk.specs.pipeline.Pipelines.{part_of}
 use Rattle.opentelemetry_sdk.proofs.pipeline.Writes.{set-changed}
 use Rattle.opentelemetry_sdk.specs.Cores.{state_in}
 use Rattle.opentelemetry_sdk.specs.Correspondence.{fault_of, number_of}
-use Rattle.opentelemetry_sdk.specs.States.{CoreContents, IsFault, IsNamed, IsTakenBy, AreTyped}
+use Rattle.opentelemetry_sdk.specs.States.{CoreContents, IsFault, IsNamed}
 use Rattle.opentelemetry_sdk.proofs.Held.{held-as, held-fed, synchronous-held, update-made}
-use Rattle.opentelemetry_sdk.proofs.Sound.{sound-balances, sound-step, balances-step}
+use Rattle.opentelemetry_sdk.proofs.Sound.{sound-step}
 use Rattle.opentelemetry_sdk.proofs.Stepped.{named-step, refused-step}
-use Rattle.opentelemetry_sdk.proofs.StepLemmas.{lent-parts, get-inside}
-use Rattle.opentelemetry_sdk.proofs.Typed.{typed-feeds}
+use Rattle.opentelemetry_sdk.proofs.StepLemmas.{lent-parts, taken-feeds, taken-inside}
 use Rattle.opentelemetry_sdk.proofs.provider_core.Core.record_bound.Goals.{After-accept}
 use Rattle.opentelemetry_sdk.proofs.provider_core.Core.record_bound.Goals as goal
-
-pub returns-then-identity-self-clause-balances : goal.returns-then-identity-self-clause-balances
-returns-then-identity-self-clause-balances c = subst (λ (k : CoreContents). Balances k.state) c.self.view_is (sound-balances (state_in c.self.inside) c.self.invariant)
 
 -- there is no such handle
 pub returns-in-None-clause-step : goal.returns-in-None-clause-step
 returns-in-None-clause-step c =
     let old : State = state_in c.self.inside in
     rw (← c.self.view_is) (λ own views. named-step views old old (model.Call.RecordBound c.args.handle.number (number_of c.args.value)) model.Fault.UnknownHandle (ap (λ o. handle_refusal o old.shared.instruments (number_of c.args.value).signed) (held-as c.args.handle.number old.shared.live None c.in-None.ensures)) refl)
-
-pub returns-in-None-clause-balances : goal.returns-in-None-clause-balances
-returns-in-None-clause-balances c = subst (λ (k : CoreContents). Balances k.state) c.self.view_is (sound-balances (state_in c.self.inside) c.self.invariant)
 
 -- the value is of the other number type
 pub returns-in-Err-clause-step : goal.returns-in-Err-clause-step
@@ -42,16 +33,9 @@ returns-in-Err-clause-step c =
     (ap (λ is. held_refusal (slice_get is c.in-Some.instrument) (number_of c.args.value).signed) c.deref.ensures.value ∙ ap (λ o. handle_refusal o old.shared.instruments (number_of c.args.value).signed) (sym (held-as c.args.handle.number old.shared.live (Some c.in-Some.instrument) c.in-Some.ensures)))
     c.in-Err.ensures.fault) refl)
 
-pub returns-in-Err-clause-balances : goal.returns-in-Err-clause-balances
-returns-in-Err-clause-balances c = subst (λ (k : CoreContents). Balances k.state) c.self.view_is (sound-balances (state_in c.self.inside) c.self.invariant)
-
 -- the instrument feeds streams of its number type, which is the value's
 pub record_held-requires-clause-typed : goal.record_held-requires-clause-typed
-record_held-requires-clause-typed c =
-    let taken : IsTakenBy c.deref.result.now c.in-Some.instrument (number_of c.args.value) = c.in_default.ensures.taken in
-    typed-feeds c.in-Some.instrument (number_of c.args.value) c.self.inside.instruments.items taken.instrument (map part_of c.deref_mut.result.now)
-    (ap (λ is. slice_get is c.in-Some.instrument) (sym c.deref.ensures.value) ∙ taken.there) taken.typed
-    (subst (λ ps. AreTyped c.self.inside.instruments.items (map part_of ps)) (sym c.deref_mut.ensures.value) c.self.invariant.typed)
+record_held-requires-clause-typed c = taken-feeds c.in-Some.instrument (number_of c.args.value) c.self.inside.instruments.items _ c.deref.ensures.value c.in_default.ensures.taken c.self.inside.pipelines.items _ c.deref_mut.ensures.value c.self.invariant.typed
 
 -- the instrument feeds no observable stream, and no other stream has the handle
 pub record_held-requires-clause-synchronous : goal.record_held-requires-clause-synchronous
@@ -67,10 +51,7 @@ record_held-requires-clause-held c =
     (held-fed old.shared c.args.handle.number c.in-Some.instrument old.readers c.self.invariant.lawful.handles (held-as c.args.handle.number old.shared.live (Some c.in-Some.instrument) c.in-Some.ensures) c.self.invariant.lawful.parts)
 
 pub index_mut-requires : goal.index_mut-requires
-index_mut-requires c =
-    let taken : IsTakenBy c.deref.result.now c.in-Some.instrument (number_of c.args.value) = c.in_default.ensures.taken in
-    let there : c.in-Some.instrument < length c.self.inside.instruments.items = get-inside c.self.inside.instruments.items c.in-Some.instrument taken.instrument (ap (λ is. slice_get is c.in-Some.instrument) (sym c.deref.ensures.value) ∙ taken.there) in
-    omega (arith, there)
+index_mut-requires c = omega (arith, taken-inside c.in-Some.instrument (number_of c.args.value) c.self.inside.instruments.items _ c.deref.ensures.value c.in_default.ensures.taken)
 
 -- the value fits, the readers made the record, and the instrument accepted it
 held : (c : After-accept) → instrument_held c.args.handle.number c.self.inside.handles.entries ≡ Some c.in-Some.instrument
@@ -80,11 +61,7 @@ fits : (c : After-accept) → held_refusal (slice_get c.self.inside.instruments.
 fits c = ap (λ is. held_refusal (slice_get is c.in-Some.instrument) (number_of c.args.value).signed) (sym c.deref.ensures.value) ∙ c.in_default.ensures.fits
 
 accepted : (c : After-accept) → set c.self.inside.instruments.items c.in-Some.instrument c.accept.new.self ≡ changed_at c.in-Some.instrument (instrument_after_record (number_of c.args.value).amount) c.self.inside.instruments.items
-accepted c =
-    let n = c.in-Some.instrument in
-    let taken : IsTakenBy c.deref.result.now n (number_of c.args.value) = c.in_default.ensures.taken in
-    let there : n < length c.self.inside.instruments.items = get-inside c.self.inside.instruments.items n taken.instrument (ap (λ is. slice_get is n) (sym c.deref.ensures.value) ∙ taken.there) in
-    set-changed (instrument_after_record (number_of c.args.value).amount) c.self.inside.instruments.items n c.index_mut.result.now c.accept.new.self there c.index_mut.ensures.value c.accept.ensures
+accepted c = set-changed (instrument_after_record (number_of c.args.value).amount) c.self.inside.instruments.items c.in-Some.instrument c.index_mut.result.now c.accept.new.self (taken-inside c.in-Some.instrument (number_of c.args.value) c.self.inside.instruments.items _ c.deref.ensures.value c.in_default.ensures.taken) c.index_mut.ensures.value c.accept.ensures
 
 sent : (c : After-accept) → map part_of c.record_held.new.pipelines ≡ map (part_after_call 0 (model.Call.RecordBound c.args.handle.number (number_of c.args.value))) (map part_of c.self.inside.pipelines.items)
 sent c = c.record_held.ensures ∙ ap (λ ps. map (part_after_call 0 (model.Call.RecordBound c.args.handle.number (number_of c.args.value))) (map part_of ps)) c.deref_mut.ensures.value
@@ -101,17 +78,3 @@ returns-clause-step c =
     let w = (goal.at.returns-clause-step c).After-accept in
     let old : State = state_in c.self.inside in
     rw (← c.self.view_is) (λ own. update-made old c.args.handle.number c.in-Some.instrument (number_of c.args.value) _ _ (held w) (fits w) (accepted w) (lent-parts c.self.inside.pipelines.len c.record_held.new.pipelines _ _ (omega arith) (sent w)))
-
-pub returns-clause-balances : goal.returns-clause-balances
-returns-clause-balances c =
-    let w = (goal.at.returns-clause-balances c).After-accept in
-    let old : State = state_in c.self.inside in
-    balances-step [] old _ (model.Call.RecordBound c.args.handle.number (number_of c.args.value)) model.Reply.Done c.self.invariant
-    (update-made old c.args.handle.number c.in-Some.instrument (number_of c.args.value) _ _ (held w) (fits w) (accepted w) (lent-parts c.self.inside.pipelines.len c.record_held.new.pipelines _ _ (omega arith) (sent w)) [])
-
-pub returns-clause-readers : goal.returns-clause-readers
-returns-clause-readers c =
-    let w = (goal.at.returns-clause-readers c).After-accept in
-    let old : State = state_in c.self.inside in
-    rw (← c.self.view_is) (kept_at_once [] old (model.Call.RecordBound c.args.handle.number (number_of c.args.value)) model.Reply.Done _
-    (update-made old c.args.handle.number c.in-Some.instrument (number_of c.args.value) _ _ (held w) (fits w) (accepted w) (lent-parts c.self.inside.pipelines.len c.record_held.new.pipelines _ _ (omega arith) (sent w)) []))

@@ -4,30 +4,21 @@ use Rattle.otel_model.specs.Calls as model
 use Rattle.otel_model.specs.Machine.{part_after_call, without_handle}
 use Rattle.otel_model.specs.Refusals.{unbind_refusal, instrument_held}
 use Rattle.otel_model.specs.State.{State}
-use Rattle.otel_model.proofs.Kept.{kept_at_once}
-use Rattle.otel_model.specs.Lawful.{Balances}
 use Rattle.opentelemetry_sdk.specs.pipeline.Handles.{FeedsSynchronous, IsHeldByFed}
 use Rattle.opentelemetry_sdk.specs.pipeline.Pipelines.{part_of}
 use Rattle.opentelemetry_sdk.specs.Cores.{state_in}
-use Rattle.opentelemetry_sdk.specs.States.{CoreContents}
 use Rattle.opentelemetry_sdk.proofs.Held.{held-as, held-fed, without-removed, synchronous-held, unbind-made}
-use Rattle.opentelemetry_sdk.proofs.Sound.{sound-balances, sound-step, balances-step}
+use Rattle.opentelemetry_sdk.proofs.Sound.{sound-step}
 use Rattle.opentelemetry_sdk.proofs.Stepped.{named-step}
 use Rattle.opentelemetry_sdk.proofs.StepLemmas.{lent-parts}
 use Rattle.opentelemetry_sdk.proofs.provider_core.Core.unbind.Goals.{After-take_out}
 use Rattle.opentelemetry_sdk.proofs.provider_core.Core.unbind.Goals as goal
-
-pub returns-then-identity-self-clause-balances : goal.returns-then-identity-self-clause-balances
-returns-then-identity-self-clause-balances c = subst (λ (k : CoreContents). Balances k.state) c.self.view_is (sound-balances (state_in c.self.inside) c.self.invariant)
 
 -- there is no such handle
 pub returns-in-None-clause-step : goal.returns-in-None-clause-step
 returns-in-None-clause-step c =
     let old : State = state_in c.self.inside in
     rw (← c.self.view_is) (λ own views. named-step views old old (model.Call.Unbind c.args.handle) model.Fault.UnknownHandle (ap unbind_refusal (held-as c.args.handle old.shared.live None c.in-None.ensures)) refl)
-
-pub returns-in-None-clause-balances : goal.returns-in-None-clause-balances
-returns-in-None-clause-balances c = subst (λ (k : CoreContents). Balances k.state) c.self.view_is (sound-balances (state_in c.self.inside) c.self.invariant)
 
 -- the instrument feeds no observable stream, and no other stream has the handle
 pub unbind_held-requires-clause-synchronous : goal.unbind_held-requires-clause-synchronous
@@ -64,17 +55,3 @@ returns-clause-step c =
     let w = (goal.at.returns-clause-step c).After-take_out in
     let old : State = state_in c.self.inside in
     rw (← c.self.view_is) (λ own. unbind-made old c.args.handle c.in-Some.instrument _ _ (held w) (ended w) (lent-parts c.self.inside.pipelines.len c.unbind_held.new.pipelines _ _ (omega arith) (sent w)))
-
-pub returns-clause-balances : goal.returns-clause-balances
-returns-clause-balances c =
-    let w = (goal.at.returns-clause-balances c).After-take_out in
-    let old : State = state_in c.self.inside in
-    balances-step [] old _ (model.Call.Unbind c.args.handle) model.Reply.Done c.self.invariant
-    (unbind-made old c.args.handle c.in-Some.instrument _ _ (held w) (ended w) (lent-parts c.self.inside.pipelines.len c.unbind_held.new.pipelines _ _ (omega arith) (sent w)) [])
-
-pub returns-clause-readers : goal.returns-clause-readers
-returns-clause-readers c =
-    let w = (goal.at.returns-clause-readers c).After-take_out in
-    let old : State = state_in c.self.inside in
-    rw (← c.self.view_is) (kept_at_once [] old (model.Call.Unbind c.args.handle) model.Reply.Done _
-    (unbind-made old c.args.handle c.in-Some.instrument _ _ (held w) (ended w) (lent-parts c.self.inside.pipelines.len c.unbind_held.new.pipelines _ _ (omega arith) (sent w)) []))
