@@ -28,11 +28,7 @@ pub(crate) fn explain<R: Read + Drop, E: Write>(
 }
 
 /// The same for a script that has been read.
-pub fn explain_script<E: Write>(
-    alloc: Global,
-    script: &[u8],
-    errors: &mut E,
-) -> Result<u8, Failure>
+pub fn explain_script<E: Write>(alloc: Global, script: &[u8], errors: &mut E) -> Result<u8, Failure>
     ensures status { IfOk result (λ status. (status ≡ 0) ⊎ (status ≡ 2)) }
     ensures good { IfOk result (λ status. status ≡ 0 → (readers : List Wants) × (views : List SelectorView) × (calls : List Call) × IsScript (lines_of script.now) readers views calls) }
     ensures bad { IfOk result (λ status. status ≡ 2 → (number : ℕ) × IsFirstBad (lines_of script.now) number) }

@@ -48,10 +48,18 @@ impl Options {
         };
         match name {
             "description" => {
-                set_once(&mut self.description, text_of_word(alloc, value)?.into(), word)
+                set_once(
+                    &mut self.description,
+                    text_of_word(alloc, value)?.into(),
+                    word,
+                )
             }
             "unit" => set_once(&mut self.unit, text_of_word(alloc, value)?.into(), word),
-            "bounds" => set_once(&mut self.boundaries, boundaries_of(alloc, value)?.into(), word),
+            "bounds" => set_once(
+                &mut self.boundaries,
+                boundaries_of(alloc, value)?.into(),
+                word,
+            ),
             _ => Err(Refusal::of_word(word, Reason::UnknownOption)),
         }
     }

@@ -103,10 +103,7 @@ fn with_options_of<'a>(
 }
 
 /// Reads the limit of the only word with this name, or none if no word has it.
-fn limit_named<'a>(
-    words: &[&'a str],
-    name: &str,
-) -> Result<Option<CardinalityLimit>, Refusal<'a>>
+fn limit_named<'a>(words: &[&'a str], name: &str) -> Result<Option<CardinalityLimit>, Refusal<'a>>
     ensures limit { IfOk result (ReadsOption IsLimitWord name.now (map (λ word. word.now) words.now)) }
     ensures meaningless { OnErr result (ReadsNothing IsLimitWord name.now (map (λ word. word.now) words.now)) }
     ensures refused { IfErr result (λ refusal. refusal ≢ Refusal.OutOfMemory) }

@@ -69,10 +69,7 @@ fn limit_of<'a>(words: &[&'a str]) -> Result<Option<usize>, Refusal<'a>>
 }
 
 /// Reads the keys that are kept, if they are given.
-fn allowed_keys_of<'a>(
-    alloc: Global,
-    words: &[&'a str],
-) -> Result<Option<Vec<Key>>, Refusal<'a>>
+fn allowed_keys_of<'a>(alloc: Global, words: &[&'a str]) -> Result<Option<Vec<Key>>, Refusal<'a>>
     ensures keys { IfOk result (λ keys. ReadsOption ReadsKeys (codes "keys") (map (λ word. word.now) words.now) (option_map (λ keys. keys.items) keys)) }
     ensures meaningless { IfErr result (λ refusal. refusal ≢ Refusal.OutOfMemory → ReadsNothing ReadsKeys (codes "keys") (map (λ word. word.now) words.now)) }
 {

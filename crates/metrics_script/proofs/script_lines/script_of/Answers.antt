@@ -1,4 +1,4 @@
-use Rattle.std.proofs.Common.{◌≡◌, ◌<◌, ◌∙◌, ap, sym, subst, inl, inr, refl, false, true, length, length-append, List, [], ◌∷◌, map, ℕ, rules, tests, arith}
+use Rattle.std.proofs.Common.{◌≡◌, ◌<◌, ◌∙◌, ap, sym, subst, refl, length, length-append, List, [], ◌∷◌, map, ℕ, rules, tests, arith}
 use Rattle.std.specs.Slice.Iter.{split_inclusive_callee, split_inclusive_rest}
 use Rattle.std.proofs.lemmas.List.{length-map, map-append}
 use Rattle.opentelemetry_sdk.specs.declared.calls.Call.{Call}
