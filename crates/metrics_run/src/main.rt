@@ -1,6 +1,6 @@
 //! Reads a script of calls of a metrics pipeline from standard input, runs it, and prints the replies. With an argument
 //! it prints each collection instead, as `prometheus`, `openmetrics` or `otlp`; with `last` behind it, the last one of
-//! reader 0 alone.
+//! reader 0 alone. With `explain` it runs nothing, and says of each bad line which word is wrong and why.
 #![tactic(auto)]
 
 use metrics_script::commands::obey;

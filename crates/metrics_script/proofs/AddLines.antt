@@ -1,5 +1,5 @@
 -- Lines that are skipped, and lines whose words count.
-use Rattle.std.proofs.Common.{◌≡◌, ◌<◌, ◌≤◌, ℕ, zero, suc, Bool, true, false, cond, not, List, [], ◌∷◌, length, get_or, Bor, Result, Ok, Err, refl, sym, ap, subst, ◌∙◌, lit<, eqb-true, arith}
+use Rattle.std.proofs.Common.{◌≡◌, ◌≢◌, ◌<◌, ◌≤◌, ℕ, zero, suc, Bool, true, false, cond, not, List, [], ◌∷◌, length, get_or, Bor, Result, Ok, Err, refl, sym, ap, subst, ◌∙◌, lit<, eqb-true, arith}
 use Rattle.std.specs.Prelude.{◌==◌, ◌||◌, filter, IfErr, OnOk}
 use Rattle.std.specs.Bool.{MatchBool}
 use Rattle.std.specs.List.{onto_first, slice_split}
@@ -9,7 +9,7 @@ use borrow.Author.Tests.{ne_eqb}
 use Rattle.metrics_script.specs.Progress.{AddsLine, GoesOn, Progress, SetsUp}
 use Rattle.metrics_script.specs.ScriptLines.{is_comment, is_skipped, is_space, words_of}
 use Rattle.metrics_script.specs.declared.refusals.Refusal.{Refusal}
-use Rattle.metrics_script.specs.declared.refusals.Refusal.TheVariants.{BadCommand}
+use Rattle.metrics_script.specs.declared.refusals.Refusal.TheVariants.{OutOfMemory}
 use Rattle.metrics_script.proofs.Lines.{words}
 use Rattle.metrics_script.proofs.Scripts.{Adds}
 
@@ -77,7 +77,7 @@ pub on_ok : {A : Type 0} (result : Result A Refusal) (P Q : Type 0) → (P → Q
 on_ok (Ok x) P Q f p = f p
 on_ok (Err e) P Q f p = p
 
-pub if_bad_as : {A : Type 0} (result : Result A Refusal) (P Q : Type 0) → (P → Q) → IfErr result (λ refusal. refusal ≡ BadCommand → P) → IfErr result (λ refusal. refusal ≡ BadCommand → Q)
+pub if_bad_as : {A : Type 0} (result : Result A Refusal) (P Q : Type 0) → (P → Q) → IfErr result (λ refusal. refusal ≢ OutOfMemory → P) → IfErr result (λ refusal. refusal ≢ OutOfMemory → Q)
 if_bad_as (Ok x) P Q f p = p
 if_bad_as (Err e) P Q f p = λ bad. f (p bad)
 

@@ -1,14 +1,17 @@
 -- Lines that are calls, and lines that aren't.
-use Rattle.std.proofs.Common.{◌≡◌, ◌<◌, ◌≤◌, ℕ, List, [], ◌∷◌, map, length, drop, get_or, codes, Some, Result, Ok, Err, Bor, subst, sym, arith}
+use Rattle.std.proofs.Common.{◌≡◌, ◌≢◌, ◌<◌, ◌≤◌, ℕ, List, [], ◌∷◌, map, length, drop, get_or, codes, Some, Result, Ok, Err, Bor, subst, sym, arith}
 use Rattle.std.specs.Prelude.{IfOk, IfErr}
 use Rattle.otel_common.specs.declared.attributes.KeyValue.{KeyValue}
 use Rattle.otel_common.specs.declared.scopes.InstrumentationScope.{InstrumentationScope}
+use Rattle.otel_data.specs.declared.numbers.NumberValue.{NumberValue}
 use Rattle.opentelemetry_sdk.specs.declared.calls.Call.{Call}
 use Rattle.opentelemetry_sdk.specs.declared.calls.Call.TheVariants.{Meter, Build, Record, Bind, RecordBound, Unbind, Flush, Shutdown}
 use Rattle.metrics_script.specs.Attributes.{ReadsAttributes}
 use Rattle.metrics_script.specs.CallLines.{IsBuildOf, IsCallLine, IsScopeOf}
+use Rattle.metrics_script.specs.Calls.{IsIndexWord}
+use Rattle.metrics_script.specs.Numbers.{IsNumberWord}
 use Rattle.metrics_script.specs.declared.refusals.Refusal.{Refusal}
-use Rattle.metrics_script.specs.declared.refusals.Refusal.TheVariants.{BadCommand}
+use Rattle.metrics_script.specs.declared.refusals.Refusal.TheVariants.{OutOfMemory}
 
 -- the words of a list of references
 abbrev pub words : List (Bor (List ℕ)) → List (List ℕ)
@@ -35,6 +38,17 @@ no_attributes (a ∷ b ∷ c ∷ e ∷ []) d least below none (Record i v attrib
 no_attributes (a ∷ b ∷ c ∷ e ∷ []) d least below none call is = is
 no_attributes (a ∷ b ∷ c ∷ e ∷ f ∷ rest) d least below none call is = absurd (omega (arith, below))
 
+-- a record through a handle of which a number can't be read
+pub no_bound : (refs : List (Bor (List ℕ))) (d : Bor (List ℕ)) → 3 ≤ length refs → length refs < 4 → (get_or refs 0 d).now ≡ codes "recordbound" → ((handle : ℕ) (value : NumberValue) → IsIndexWord (get_or refs 1 d).now handle → ¬ IsNumberWord (get_or refs 2 d).now value) → (call : Call) → ¬ IsCallLine (words refs) call
+no_bound [] d least below verb none call is = absurd (omega (arith, least))
+no_bound (a ∷ []) d least below verb none call is = absurd (omega (arith, least))
+no_bound (a ∷ b ∷ []) d least below verb none call is = absurd (omega (arith, least))
+no_bound (a ∷ b ∷ c ∷ []) d least below verb none (Meter scope) is = let other = is.0 in cc
+no_bound (a ∷ b ∷ c ∷ []) d least below verb none (Bind i attributes) is = let other = is.0 in cc
+no_bound (a ∷ b ∷ c ∷ []) d least below verb none (RecordBound h v) is = none h v is.1 is.2
+no_bound (a ∷ b ∷ c ∷ []) d least below verb none call is = is
+no_bound (a ∷ b ∷ c ∷ e ∷ rest) d least below verb none call is = absurd (omega (arith, below))
+
 -- a build
 pub build_line : (refs options : List (Bor (List ℕ))) (d : Bor (List ℕ)) (result : Result Call Refusal) → 5 ≤ length refs → options ≡ drop 5 refs → (get_or refs 0 d).now ≡ codes "build" → IfOk result (IsBuildOf (get_or refs 1 d).now (get_or refs 2 d).now (get_or refs 3 d).now (get_or refs 4 d).now (words options)) → IfOk result (IsCallLine (words refs))
 build_line [] options d result least tail verb made = absurd (omega (arith, least))
@@ -56,7 +70,7 @@ no_build (a ∷ b ∷ c ∷ e ∷ []) options d least tail none call is = absurd
 no_build (a ∷ b ∷ c ∷ e ∷ f ∷ rest) options d least tail none (Build m s n description unit bounds t) is = none (Build m s n description unit bounds t) (subst (λ (options : List (Bor (List ℕ))). IsBuildOf b.now c.now e.now f.now (words options) (Build m s n description unit bounds t)) (sym tail) is.1)
 no_build (a ∷ b ∷ c ∷ e ∷ f ∷ rest) options d least tail none call is = is
 
-pub no_build_line : (refs options : List (Bor (List ℕ))) (d : Bor (List ℕ)) (result : Result Call Refusal) → 5 ≤ length refs → options ≡ drop 5 refs → IfErr result (λ refusal. refusal ≡ BadCommand → (call : Call) → ¬ IsBuildOf (get_or refs 1 d).now (get_or refs 2 d).now (get_or refs 3 d).now (get_or refs 4 d).now (words options) call) → IfErr result (λ refusal. refusal ≡ BadCommand → (call : Call) → ¬ IsCallLine (words refs) call)
+pub no_build_line : (refs options : List (Bor (List ℕ))) (d : Bor (List ℕ)) (result : Result Call Refusal) → 5 ≤ length refs → options ≡ drop 5 refs → IfErr result (λ refusal. refusal ≢ OutOfMemory → (call : Call) → ¬ IsBuildOf (get_or refs 1 d).now (get_or refs 2 d).now (get_or refs 3 d).now (get_or refs 4 d).now (words options) call) → IfErr result (λ refusal. refusal ≢ OutOfMemory → (call : Call) → ¬ IsCallLine (words refs) call)
 no_build_line refs options d (Ok call) least tail none = none
 no_build_line refs options d (Err refusal) least tail none = λ bad call. no_build refs options d least tail (none bad) call
 

@@ -1,6 +1,6 @@
 -- Lines that make a script, and lines with which none begins.
-use Rattle.std.proofs.Common.{◌≡◌, ◌<◌, ◌+◌, ℕ, Bool, true, false, cond, List, [], ◌∷◌, ◌++◌, ◌⊎◌, inl, inr, map, length, take, drop, get_or, codes, refl, sym, ap, subst, ◌∙◌, append_assoc, lit<, eqb-true, arith}
-use Rattle.std.specs.Prelude.{◌==◌, ◌||◌, not, if◌then◌else◌}
+use Rattle.std.proofs.Common.{◌≡◌, ◌≢◌, ◌<◌, ◌+◌, ℕ, Bool, true, false, cond, List, [], ◌∷◌, ◌++◌, ◌⊎◌, inl, inr, map, length, take, drop, get_or, codes, refl, sym, ap, subst, ◌∙◌, append_assoc, lit<, arith}
+use Rattle.std.specs.Prelude.{◌==◌, ◌||◌, not, if◌then◌else◌, Option, None, Some, IfNone, IfSome, is_some}
 use Rattle.std.specs.Bool.{MatchBool}
 use Rattle.std.specs.Cmp.Lexicographic.{pointwise}
 use Rattle.std.specs.List.{All}
@@ -17,6 +17,8 @@ use Rattle.metrics_script.specs.CallLines.{IsCallLine}
 use Rattle.metrics_script.specs.Calls.{IsIndexWord}
 use Rattle.metrics_script.specs.Progress.{AddsLine, GoesOn, Progress, SetsUp}
 use Rattle.metrics_script.specs.ScriptLines.{is_skipped, kept, words_of}
+use Rattle.metrics_script.specs.declared.reasons.Reason.{Reason}
+use Rattle.metrics_script.specs.declared.reasons.Reason.TheVariants.{NoGo, NoCollect}
 use Rattle.metrics_script.specs.Scripts.{BeginsScript, IsCollectLine, IsFirstBad, IsNextCall, IsObserveLine, IsReaderLine, IsScript, IsViewLine, ReadsCalls, ReadsScript}
 
 -- what the words of a line add
@@ -126,13 +128,20 @@ pub nil_from_none : (o : List Observed) → are_none o ≡ true → o ≡ []
 nil_from_none [] none = refl
 nil_from_none (x ∷ o) none = cc
 
-pub none_left : (o : List Observed) → (length o == 0) ≡ true → o ≡ []
-none_left [] none = refl
-none_left (x ∷ o) none = absurd (omega (arith, eqb-true (length (x ∷ o)) 0 none))
+-- where nothing is missing
+pub none_missing : (result : Option Reason) (p : Progress) → IfNone result ((p.is_started ≡ true) × (p.observations ≡ [])) → is_some result ≡ false → (p.is_started ≡ true) × (p.observations ≡ [])
+none_missing None p whole is = whole
+none_missing (Some reason) p whole is = cc
 
-pub some_left : (o : List Observed) → (length o == 0) ≡ false → are_none o ≡ false
-some_left [] some = cc
+some_left : (o : List Observed) → o ≢ [] → are_none o ≡ false
+some_left [] some = absurd (some refl)
 some_left (x ∷ o) some = refl
+
+-- where something is
+pub some_missing : (result : Option Reason) (p : Progress) → IfSome result (λ reason. ((reason ≡ NoGo) × (p.is_started ≡ false)) ⊎ ((reason ≡ NoCollect) × (p.observations ≢ []))) → is_some result ≡ true → (p.is_started ≡ false) ⊎ (are_none p.observations ≡ false)
+some_missing None p why is = cc
+some_missing (Some reason) p (inl why) is = inl why.1
+some_missing (Some reason) p (inr why) is = inr (some_left p.observations why.1)
 
 started_next : (started : Bool) (words : List (List ℕ)) (old new : Progress) → MatchBool started (GoesOn words old new) (SetsUp words old new) → old.is_started ≡ started → new.is_started ≡ (started || has_verb (codes "go") words)
 started_next true words old new (inl adds) is = ap (λ (p : Progress). p.is_started) adds.2 ∙ is

@@ -1,13 +1,17 @@
--- Lines before `go`, and lines that are none.
-use Rattle.std.proofs.Common.{◌≡◌, ◌≤◌, ◌-◌, ℕ, List, [], ◌∷◌, ◌⊎◌, inl, inr, length, take, drop, get_or, codes, Bor, subst, sym, length-drop, arith}
+-- Lines before and behind `go`, and lines that are none.
+use Rattle.std.proofs.Common.{◌≡◌, ◌<◌, ◌≤◌, ◌-◌, false, ℕ, List, [], ◌∷◌, ◌⊎◌, inl, inr, length, take, drop, get_or, codes, Bor, subst, sym, length-drop, arith}
+use Rattle.std.specs.Prelude.{◌==◌}
 use Rattle.std.proofs.lemmas.List.{take_all}
 use Rattle.otel_stream.specs.Settings.{IsLawful}
 use Rattle.otel_stream.specs.declared.selector.SelectorView.{SelectorView}
 use Rattle.otel_stream.specs.declared.wants.Wants.{Wants}
-use Rattle.metrics_script.specs.Progress.{Progress, SetsUp}
+use Rattle.opentelemetry_sdk.specs.declared.calls.Call.{Call}
+use Rattle.otel_stream.specs.declared.observation.Observed.{Observed}
+use Rattle.metrics_script.specs.CallLines.{IsCallLine}
+use Rattle.metrics_script.specs.Progress.{GoesOn, Progress, SetsUp}
 use Rattle.metrics_script.specs.Readers.{ReadsReader}
 use Rattle.metrics_script.specs.Refusals.{StandsForNothing}
-use Rattle.metrics_script.specs.Scripts.{IsReaderLine}
+use Rattle.metrics_script.specs.Scripts.{IsNextCall, IsReaderLine}
 use Rattle.metrics_script.specs.Streams.{SaysNoStream}
 use Rattle.metrics_script.specs.Views.{IsSelectorWord, ReadsView}
 use Rattle.metrics_script.proofs.Lines.{words}
@@ -42,3 +46,47 @@ no_view (a ∷ []) options d old new least verb none tail sets = absurd (omega (
 no_view (a ∷ b ∷ rest) options d old new least verb none tail (inl sets) = let other = sets.1.0 in cc
 no_view (a ∷ b ∷ rest) options d old new least verb none tail (inr (inl sets)) = unread_view b.now (words options) sets.0 none (subst (λ (options : List (Bor (List ℕ))). ReadsView b.now (words options) sets.0) (sym tail) sets.1.1) sets.1.2
 no_view (a ∷ b ∷ rest) options d old new least verb none tail (inr (inr sets)) = let other = sets.0 in cc
+
+-- words that are no reader, no view and not `go`
+pub no_set_up : (refs : List (Bor (List ℕ))) (d : Bor (List ℕ)) (old new : Progress) → (2 ≤ length refs → (get_or refs 0 d).now ≡ codes "reader" → ⊥) → (2 ≤ length refs → (get_or refs 0 d).now ≡ codes "view" → ⊥) → (length refs < 2 → (get_or refs 0 d).now ≡ codes "go" → ⊥) → ¬ SetsUp (words refs) old new
+no_set_up [] d old new reader view go (inl sets) = sets.1
+no_set_up [] d old new reader view go (inr (inl sets)) = sets.1
+no_set_up [] d old new reader view go (inr (inr sets)) = let other = sets.0 in cc
+no_set_up (a ∷ []) d old new reader view go (inl sets) = sets.1
+no_set_up (a ∷ []) d old new reader view go (inr (inl sets)) = sets.1
+no_set_up (a ∷ []) d old new reader view go (inr (inr sets)) = let same = sets.0 in go (omega arith) cc
+no_set_up (a ∷ b ∷ rest) d old new reader view go (inl sets) = reader (omega arith) sets.1.0
+no_set_up (a ∷ b ∷ rest) d old new reader view go (inr (inl sets)) = view (omega arith) sets.1.0
+no_set_up (a ∷ b ∷ rest) d old new reader view go (inr (inr sets)) = let other = sets.0 in cc
+
+no_next : (refs : List (Bor (List ℕ))) (d : Bor (List ℕ)) (observations : List Observed) (call : Call) → (3 ≤ length refs → length refs < 4 → (get_or refs 0 d).now ≡ codes "collect" → ⊥) → (observations ≡ [] → (call : Call) → ¬ IsCallLine (words refs) call) → ¬ IsNextCall observations (words refs) call
+no_next [] d observations call collect other (inl is) = is
+no_next [] d observations call collect other (inr is) = other is.0 call is.1
+no_next (a ∷ []) d observations call collect other (inl is) = is
+no_next (a ∷ []) d observations call collect other (inr is) = other is.0 call is.1
+no_next (a ∷ b ∷ []) d observations call collect other (inl is) = is
+no_next (a ∷ b ∷ []) d observations call collect other (inr is) = other is.0 call is.1
+no_next (a ∷ b ∷ c ∷ []) d observations call collect other (inl is) = collect (omega arith) (omega arith) is.0
+no_next (a ∷ b ∷ c ∷ []) d observations call collect other (inr is) = other is.0 call is.1
+no_next (a ∷ b ∷ c ∷ e ∷ rest) d observations call collect other (inl is) = is
+no_next (a ∷ b ∷ c ∷ e ∷ rest) d observations call collect other (inr is) = other is.0 call is.1
+
+-- words that are no observation, no collection and no other call that may come
+pub no_step : (refs : List (Bor (List ℕ))) (d : Bor (List ℕ)) (old new : Progress) → (4 ≤ length refs → length refs < 5 → (get_or refs 0 d).now ≡ codes "observe" → ⊥) → (3 ≤ length refs → length refs < 4 → (get_or refs 0 d).now ≡ codes "collect" → ⊥) → (old.observations ≡ [] → (call : Call) → ¬ IsCallLine (words refs) call) → ¬ GoesOn (words refs) old new
+no_step [] d old new observe collect other (inl goes) = goes.1
+no_step [] d old new observe collect other (inr goes) = no_next [] d old.observations goes.0 collect other goes.1
+no_step (a ∷ []) d old new observe collect other (inl goes) = goes.1
+no_step (a ∷ []) d old new observe collect other (inr goes) = no_next (a ∷ []) d old.observations goes.0 collect other goes.1
+no_step (a ∷ b ∷ []) d old new observe collect other (inl goes) = goes.1
+no_step (a ∷ b ∷ []) d old new observe collect other (inr goes) = no_next (a ∷ b ∷ []) d old.observations goes.0 collect other goes.1
+no_step (a ∷ b ∷ c ∷ []) d old new observe collect other (inl goes) = goes.1
+no_step (a ∷ b ∷ c ∷ []) d old new observe collect other (inr goes) = no_next (a ∷ b ∷ c ∷ []) d old.observations goes.0 collect other goes.1
+no_step (a ∷ b ∷ c ∷ e ∷ []) d old new observe collect other (inl goes) = observe (omega arith) (omega arith) goes.1.0
+no_step (a ∷ b ∷ c ∷ e ∷ []) d old new observe collect other (inr goes) = no_next (a ∷ b ∷ c ∷ e ∷ []) d old.observations goes.0 collect other goes.1
+no_step (a ∷ b ∷ c ∷ e ∷ f ∷ rest) d old new observe collect other (inl goes) = goes.1
+no_step (a ∷ b ∷ c ∷ e ∷ f ∷ rest) d old new observe collect other (inr goes) = no_next (a ∷ b ∷ c ∷ e ∷ f ∷ rest) d old.observations goes.0 collect other goes.1
+
+-- some observations are left
+pub not_none : (o : List Observed) → (length o == 0) ≡ false → o ≡ [] → ⊥
+not_none [] some none = cc
+not_none (x ∷ o) some none = cc

@@ -1,5 +1,5 @@
 -- Words of which no option can be read.
-use Rattle.std.proofs.Common.{◌≡◌, ◌<◌, ◌≤◌, ◌+◌, ℕ, zero, suc, Bool, true, false, cond, List, [], ◌∷◌, map, length, take, get_or, Option, Some, None, Result, Ok, Err, sym, subst, refl, arith}
+use Rattle.std.proofs.Common.{◌≡◌, ◌≢◌, ◌<◌, ◌≤◌, ◌+◌, ℕ, zero, suc, Bool, true, false, cond, List, [], ◌∷◌, map, length, take, get_or, Option, Some, None, Result, Ok, Err, sym, subst, refl, arith}
 use Rattle.std.proofs.lemmas.Bool.Decides.{nat_tests}
 use Rattle.std.specs.Prelude.{◌&&◌, filter, IsTrue, IfErr, OkIff, OnErr}
 use Rattle.std.specs.List.{AllZip, list_all, list_any, after_first, position_or_len}
@@ -8,7 +8,7 @@ use Rattle.metrics_script.specs.Attributes.{is_equals_sign}
 use Rattle.metrics_script.specs.Named.{has_name_of, has_value, ReadsNothing}
 use Rattle.metrics_script.specs.Options.{is_named, values_named}
 use Rattle.metrics_script.specs.declared.refusals.Refusal.{Refusal}
-use Rattle.metrics_script.specs.declared.refusals.Refusal.TheVariants.{BadCommand}
+use Rattle.metrics_script.specs.declared.refusals.Refusal.TheVariants.{OutOfMemory}
 use Rattle.metrics_script.proofs.Names.{list_all_fails}
 
 -- of two values none is read
@@ -59,7 +59,7 @@ pub on_err : {A : Type 0} (result : Result A Refusal) (P : Type 0) → P → OnE
 on_err (Ok x) P p = tt
 on_err (Err e) P p = p
 
-pub if_bad : {A : Type 0} (result : Result A Refusal) (P : Type 0) → P → IfErr result (λ refusal. refusal ≡ BadCommand → P)
+pub if_bad : {A : Type 0} (result : Result A Refusal) (P : Type 0) → P → IfErr result (λ refusal. refusal ≢ OutOfMemory → P)
 if_bad (Ok x) P p = tt
 if_bad (Err e) P p = λ bad. p
 

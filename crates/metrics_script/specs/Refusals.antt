@@ -1,14 +1,13 @@
 -- Why a line of a script can't be read.
-use Rattle.std.specs.Prelude.{ℕ, List}
+use Rattle.std.specs.Prelude.{ℕ, List, Some}
+use Rattle.std.specs.Borrow.{Bor}
+use Rattle.metrics_script.specs.declared.reasons.Reason.{Reason}
 use Rattle.metrics_script.specs.declared.refusals.Refusal.{Refusal}
-use Rattle.metrics_script.specs.declared.refusals.Refusal.TheVariants as refused
-use Rattle.percent_encoding.specs.declared.DecodeError.{DecodeError}
-use Rattle.percent_encoding.specs.declared.DecodeError.TheVariants.{Utf8, OutOfMemory}
+use Rattle.metrics_script.specs.declared.refusals.Refusal.TheVariants.{BadCommand}
 
--- a text that isn't UTF-8 makes its line a bad command
-abbrev pub refusal_of_decoding : DecodeError → Refusal
-refusal_of_decoding (Utf8 _) = refused.BadCommand
-refusal_of_decoding OutOfMemory = refused.OutOfMemory
+-- this word is wrong for this reason
+abbrev pub wrong_word : Bor (List ℕ) → Reason → Refusal
+wrong_word word reason = BadCommand (record { word = Some word; reason = reason })
 
 -- the word cannot be read
 abbrev pub StandsForNothing : {X : Type 0} → (List ℕ → X → Type 0) → List ℕ → Type 0

@@ -10,7 +10,7 @@ use thiserror::Error;
 
 /// How the program is used.
 pub const USAGE: &str =
-    "usage: metrics_run [--help | (prometheus | openmetrics | otlp) [last]], with the script on standard input";
+    "usage: metrics_run [--help | explain | (prometheus | openmetrics | otlp) [last]], with the script on standard input";
 
 /// Why a script ends early. Its text goes to standard error.
 #[derive(Debug, Drop, Error)]

@@ -1,6 +1,6 @@
 //! Words of a line that consist of a name, `=` and a value.
 
-ghost use Rattle.std.specs.Prelude.{◌≡◌, ◌==◌, ◌<◌, IsTrue, map, length, IfOk, IfErr, OnErr, IsOkUnless};
+ghost use Rattle.std.specs.Prelude.{◌≡◌, ◌≢◌, ◌==◌, ◌<◌, IsTrue, map, length, IfOk, IfErr, OnErr, OkIff};
 ghost use Rattle.std.specs.Cmp.Lexicographic.{pointwise};
 ghost use Rattle.std.specs.List.{list_all, list_any};
 ghost use Rattle.std.specs.Option.{option_map, option_to_list};
@@ -11,21 +11,23 @@ ghost use Rattle.metrics_script.specs.Options.{values_named, ReadsOption, ReadsT
 
 use crate::aggregations::aggregation_of;
 use crate::options::set_once;
+use crate::reasons::Reason;
 use crate::refusals::Refusal;
 use crate::texts::text_of_word;
 use opentelemetry_sdk::metrics::Aggregation;
 use std::alloc::Global;
 
-/// Whether each of the words has one of these names.
-pub fn have_names_of(words: &[&str], names: &[&str]) -> bool
-    ensures { result ≡ list_all (has_name_of (map (λ name. name.now) names.now)) (map (λ word. word.now) words.now) }
+/// Refuses words of which one has none of these names.
+pub fn check_names<'a>(words: &[&'a str], names: &[&str]) -> Result<(), Refusal<'a>>
+    ensures named { OkIff result (IsTrue (list_all (has_name_of (map (λ name. name.now) names.now)) (map (λ word. word.now) words.now))) tt }
+    ensures refused { IfErr result (λ refusal. refusal ≢ Refusal.OutOfMemory) }
 {
     for word in words {
         if !has_name_of(word, names) {
-            return false;
+            return Err(Refusal::of_word(word, Reason::UnknownOption));
         }
     }
-    true
+    Ok(())
 }
 
 /// Whether the word has one of these names.
@@ -51,27 +53,31 @@ fn is_one_of(given: &str, names: &[&str]) -> bool
 }
 
 /// Returns the value of the only word with this name, or none if no word has it.
-pub fn value_named<'a>(words: &[&'a str], name: &str) -> Result<Option<&'a str>, Refusal>
+pub fn value_named<'a>(words: &[&'a str], name: &str) -> Result<Option<&'a str>, Refusal<'a>>
     ensures value { IfOk result (λ value. option_to_list (option_map (λ text. text.now) value) ≡ values_named name.now (map (λ word. word.now) words.now)) }
     ensures meaningless { OnErr result (IsTrue (list_all has_value (map (λ word. word.now) words.now)) → 1 < length (values_named name.now (map (λ word. word.now) words.now))) }
-    ensures refused { IsOkUnless result Refusal.BadCommand }
+    ensures refused { IfErr result (λ refusal. refusal ≢ Refusal.OutOfMemory) }
 {
     let mut value = None;
     for word in words {
         let Some((given, rest)) = word.split_once('=') else {
-            return Err(Refusal::BadCommand);
+            return Err(Refusal::of_word(word, Reason::UnknownOption));
         };
         if given == name {
-            set_once(&mut value, rest)?;
+            set_once(&mut value, rest, word)?;
         }
     }
     Ok(value)
 }
 
 /// Reads the text of the only word with this name, or none if no word has it.
-pub fn text_named(alloc: Global, words: &[&str], name: &str) -> Result<Option<String>, Refusal>
+pub fn text_named<'a>(
+    alloc: Global,
+    words: &[&'a str],
+    name: &str,
+) -> Result<Option<String>, Refusal<'a>>
     ensures text { IfOk result (λ text. ReadsOption ReadsText name.now (map (λ word. word.now) words.now) (option_map string_bytes text)) }
-    ensures meaningless { IfErr result (λ refusal. refusal ≡ Refusal.BadCommand → ReadsNothing ReadsText name.now (map (λ word. word.now) words.now)) }
+    ensures meaningless { IfErr result (λ refusal. refusal ≢ Refusal.OutOfMemory → ReadsNothing ReadsText name.now (map (λ word. word.now) words.now)) }
 {
     match value_named(words, name)? {
         Some(value) => Ok(Some(text_of_word(alloc, value)?)),
@@ -80,13 +86,13 @@ pub fn text_named(alloc: Global, words: &[&str], name: &str) -> Result<Option<St
 }
 
 /// Reads the aggregation of the only word with this name, or none if no word has it.
-pub fn aggregation_named(
+pub fn aggregation_named<'a>(
     alloc: Global,
-    words: &[&str],
+    words: &[&'a str],
     name: &str,
-) -> Result<Option<Aggregation>, Refusal>
+) -> Result<Option<Aggregation>, Refusal<'a>>
     ensures aggregation { IfOk result (ReadsOption IsAggregationWord name.now (map (λ word. word.now) words.now)) }
-    ensures meaningless { IfErr result (λ refusal. refusal ≡ Refusal.BadCommand → ReadsNothing IsAggregationWord name.now (map (λ word. word.now) words.now)) }
+    ensures meaningless { IfErr result (λ refusal. refusal ≢ Refusal.OutOfMemory → ReadsNothing IsAggregationWord name.now (map (λ word. word.now) words.now)) }
 {
     match value_named(words, name)? {
         Some(value) => Ok(Some(aggregation_of(alloc, value)?)),

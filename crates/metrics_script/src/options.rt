@@ -1,10 +1,12 @@
 //! What a `build` line may add about its instrument.
 
-ghost use Rattle.std.specs.Prelude.{◌≡◌, None, Some, map, OkIff, IfOk, IfErr, OnOk, IsOkUnless};
+ghost use Rattle.std.specs.Prelude.{◌≡◌, ◌≢◌, None, Some, map, OkIff, IfOk, IfErr, OnOk, IsOkUnless};
+ghost use Rattle.metrics_script.specs.Refusals.{wrong_word};
 ghost use Rattle.metrics_script.specs.Options.{AddsWord, ReadsOptions};
 ghost use Rattle.metrics_script.specs.declared.options.Options as declared;
 
 use crate::boundaries::boundaries_of;
+use crate::reasons::Reason;
 use crate::refusals::Refusal;
 use crate::texts::text_of_word;
 use opentelemetry_sdk::common::{Items, StringValue};
@@ -20,9 +22,9 @@ pub struct Options {
 }
 
 /// Reads the options of a `build` line, each of which may be given at most once.
-pub fn options_of(alloc: Global, words: &[&str]) -> Result<Options, Refusal>
+pub fn options_of<'a>(alloc: Global, words: &[&'a str]) -> Result<Options, Refusal<'a>>
     ensures options { IfOk result (ReadsOptions (map (λ word. word.now) words.now)) }
-    ensures meaningless { IfErr result (λ refusal. refusal ≡ Refusal.BadCommand → (options : declared.Options) → ¬ ReadsOptions (map (λ word. word.now) words.now) options) }
+    ensures meaningless { IfErr result (λ refusal. refusal ≢ Refusal.OutOfMemory → (options : declared.Options) → ¬ ReadsOptions (map (λ word. word.now) words.now) options) }
 {
     let mut options = Options {
         description: None,
@@ -37,30 +39,44 @@ pub fn options_of(alloc: Global, words: &[&str]) -> Result<Options, Refusal>
 
 impl Options {
     /// Takes in another word.
-    fn add_word(&mut self, alloc: Global, word: &str) -> Result<(), Refusal>
+    fn add_word<'a>(&mut self, alloc: Global, word: &'a str) -> Result<(), Refusal<'a>>
         ensures added { OnOk result (AddsWord word.now self.old self.new) }
-        ensures meaningless { IfErr result (λ refusal. refusal ≡ Refusal.BadCommand → (options : declared.Options) → ¬ AddsWord word.now self.old options) }
+        ensures meaningless { IfErr result (λ refusal. refusal ≢ Refusal.OutOfMemory → (options : declared.Options) → ¬ AddsWord word.now self.old options) }
     {
         let Some((name, value)) = word.split_once('=') else {
-            return Err(Refusal::BadCommand);
+            return Err(Refusal::of_word(word, Reason::UnknownOption));
         };
         match name {
-            "description" => set_once(&mut self.description, text_of_word(alloc, value)?.into()),
-            "unit" => set_once(&mut self.unit, text_of_word(alloc, value)?.into()),
-            "bounds" => set_once(&mut self.boundaries, boundaries_of(alloc, value)?.into()),
-            _ => Err(Refusal::BadCommand),
+            "description" => {
+                set_once(
+                    &mut self.description,
+                    text_of_word(alloc, value)?.into(),
+                    word,
+                )
+            }
+            "unit" => set_once(&mut self.unit, text_of_word(alloc, value)?.into(), word),
+            "bounds" => set_once(
+                &mut self.boundaries,
+                boundaries_of(alloc, value)?.into(),
+                word,
+            ),
+            _ => Err(Refusal::of_word(word, Reason::UnknownOption)),
         }
     }
 }
 
-/// Sets an option, unless it was given before.
-pub fn set_once<T: Drop>(option: &mut Option<T>, value: T) -> Result<(), Refusal>
+/// Sets the option that this word gives, unless it was given before.
+pub fn set_once<'a, T: Drop>(
+    option: &mut Option<T>,
+    value: T,
+    word: &'a str,
+) -> Result<(), Refusal<'a>>
     ensures once { OkIff result (option.old ≡ None) tt }
     ensures set { OnOk result (option.new ≡ Some value) }
-    ensures refused { IsOkUnless result Refusal.BadCommand }
+    ensures refused { IsOkUnless result (wrong_word word.entry Reason.OptionTwice) }
 {
     if option.is_some() {
-        return Err(Refusal::BadCommand);
+        return Err(Refusal::of_word(word, Reason::OptionTwice));
     }
     *option = Some(value);
     Ok(())

@@ -1,6 +1,7 @@
 //! Reads a script, runs it and prints its replies, with any reader and writers.
 
 ghost use Rattle.std.specs.Prelude.{◌≡◌, ◌≢◌, ◌⊎◌, IfErr, IsOkUnless};
+ghost use Rattle.metrics_script.specs.Failures.{status_of};
 
 use crate::failures::Failure;
 use crate::printing::write_reply;
@@ -20,20 +21,19 @@ pub fn script<R: Read + Drop, W: Write + Drop, E: Write + Drop>(
     output: W,
     mut errors: E,
 ) -> u8 {
-    let ended = run_script(alloc, input, output);
-    status_of_run(&ended, &mut errors)
+    match run_script(alloc, input, output) {
+        Ok(()) => 0,
+        Err(failure) => say_failure(&failure, &mut errors),
+    }
 }
 
-/// The status of a run that has ended so. A failure is written, too.
-pub(crate) fn status_of_run<E: Write>(ended: &Result<(), Failure>, errors: &mut E) -> u8 {
-    match ended {
-        Ok(()) => 0,
-        Err(failure) => {
-            // If this fails, the status stays the same.
-            let _ = writeln!(errors, "{failure}");
-            failure.status()
-        }
-    }
+/// Writes why a script ends early, and returns the status that it ends with.
+pub(crate) fn say_failure<E: Write>(failure: &Failure, errors: &mut E) -> u8
+    ensures { result ≡ status_of failure.now }
+{
+    // If this fails, the status stays the same.
+    let _ = writeln!(errors, "{failure}");
+    failure.status()
 }
 
 /// Does the same without the message on standard error.
@@ -96,7 +96,7 @@ fn answers_of(alloc: Global, script: Script) -> Result<Answers, Failure>
 }
 
 /// Reads all that the reader has.
-fn read_all<R: Read + Drop>(alloc: Global, mut input: R) -> Result<Vec<u8>, Failure>
+pub(crate) fn read_all<R: Read + Drop>(alloc: Global, mut input: R) -> Result<Vec<u8>, Failure>
     ensures refused { IfErr result (λ failure. (failure ≡ Failure.OutOfMemory) ⊎ (failure ≡ Failure.InputOrOutput)) }
 {
     let mut bytes = Vec::new(alloc);

@@ -1,6 +1,6 @@
 //! A whole script: what comes before `go`, and the calls after it.
 
-ghost use Rattle.std.specs.Prelude.{◌≡◌, ◌≢◌, [], ◌∷◌, ◌++◌, ℕ, map, IfOk, IfErr, OnOk, IsOkUnless};
+ghost use Rattle.std.specs.Prelude.{◌≡◌, ◌≢◌, ◌⊎◌, [], ◌∷◌, ◌++◌, ℕ, false, true, map, IfOk, IfErr, OnOk, IsOkUnless, IfSome, IfNone};
 ghost use Rattle.metrics_script.specs.Progress.{AddsLine, GoesOn, Progress, SetsUp, progress_of};
 ghost use Rattle.metrics_script.specs.ScriptLines.{lines_of, without_end, words_of};
 ghost use Rattle.metrics_script.specs.Scripts.{IsFirstBad, IsScript};
@@ -8,7 +8,9 @@ ghost use Rattle.metrics_script.specs.Scripts.{IsFirstBad, IsScript};
 use crate::calls::{call_of, collect_of, observed_of};
 use crate::failures::Failure;
 use crate::readers::reader_of;
+use crate::reasons::Reason;
 use crate::refusals::Refusal;
+use crate::verbs::misfit;
 use crate::views::view_of;
 use opentelemetry_sdk::metrics::ManualReader;
 use opentelemetry_sdk::metrics::instrument::SelectorView;
@@ -26,7 +28,7 @@ pub struct Script {
 
 /// A script that is being read, line by line.
 #[derive(Drop)]
-struct Reading {
+pub(crate) struct Reading {
     script: Script,
     /// Whether the line `go` has been read.
     is_started: bool,
@@ -42,24 +44,16 @@ pub fn script_of(alloc: Global, input: &[u8]) -> Result<Script, Failure>
     ensures first_bad { IfErr result (λ failure. (number : ℕ) → failure ≡ Failure.BadLine number → IsFirstBad (lines_of input.now) number) }
     ensures refused { IfErr result (λ failure. (failure ≢ Failure.InputOrOutput) × (failure ≢ Failure.BadArguments)) }
 {
-    let mut reading = Reading {
-        script: Script {
-            readers: Vec::new(alloc),
-            views: Vec::new(alloc),
-            calls: Vec::new(alloc),
-        },
-        is_started: false,
-        observations: Vec::new(alloc),
-    };
+    let mut reading = Reading::new(alloc);
     let mut number = 1u64;
     for line in input.split_inclusive(|byte| *byte == b'\n') {
         match reading.add_line(alloc, without_end(line)) {
             Ok(()) => number = number.saturating_add(1),
-            Err(Refusal::BadCommand) => return Err(Failure::BadLine(number)),
+            Err(Refusal::BadCommand(_)) => return Err(Failure::BadLine(number)),
             Err(Refusal::OutOfMemory) => return Err(Failure::OutOfMemory),
         }
     }
-    if !reading.is_started || !reading.observations.is_empty() {
+    if reading.missing().is_some() {
         return Err(Failure::BadLine(number));
     }
     let mut script = reading.script;
@@ -68,7 +62,7 @@ pub fn script_of(alloc: Global, input: &[u8]) -> Result<Script, Failure>
 }
 
 /// The line without the byte that ends it.
-fn without_end(line: &[u8]) -> &[u8]
+pub(crate) fn without_end(line: &[u8]) -> &[u8]
     ensures { result.now ≡ without_end line.now }
 {
     line.strip_suffix(b"\n").unwrap_or(line)
@@ -84,16 +78,45 @@ fn words_of(alloc: Global, line: &str) -> Result<Vec<&str>, AllocError>
 }
 
 impl Reading {
+    /// Nothing has been read.
+    pub(crate) fn new(alloc: Global) -> Reading
+        ensures { progress_of result ≡ record { readers = []; views = []; calls = []; is_started = false; observations = [] } }
+    {
+        Reading {
+            script: Script {
+                readers: Vec::new(alloc),
+                views: Vec::new(alloc),
+                calls: Vec::new(alloc),
+            },
+            is_started: false,
+            observations: Vec::new(alloc),
+        }
+    }
+
+    /// What is missing if the script ends here.
+    pub(crate) fn missing(&self) -> Option<Reason>
+        ensures whole { IfNone result ((self.now.is_started ≡ true) × (self.now.observations.items ≡ [])) }
+        ensures missing { IfSome result (λ reason. ((reason ≡ Reason.NoGo) × (self.now.is_started ≡ false)) ⊎ ((reason ≡ Reason.NoCollect) × (self.now.observations.items ≢ []))) }
+    {
+        if !self.is_started {
+            return Some(Reason::NoGo);
+        }
+        if !self.observations.is_empty() {
+            return Some(Reason::NoCollect);
+        }
+        None
+    }
+
     /// Takes in the next line. One that begins with `#` or has no words says nothing.
-    fn add_line(&mut self, alloc: Global, line: &[u8]) -> Result<(), Refusal>
+    pub(crate) fn add_line<'a>(&mut self, alloc: Global, line: &'a [u8]) -> Result<(), Refusal<'a>>
         ensures added { OnOk result (AddsLine line.now (progress_of self.old) (progress_of self.new)) }
-        ensures meaningless { IfErr result (λ refusal. refusal ≡ Refusal.BadCommand → (new : Progress) → ¬ AddsLine line.now (progress_of self.old) new) }
+        ensures meaningless { IfErr result (λ refusal. refusal ≢ Refusal.OutOfMemory → (new : Progress) → ¬ AddsLine line.now (progress_of self.old) new) }
     {
         if let [b'#', ..] = line {
             return Ok(());
         }
         let Ok(line) = str::from_utf8(line) else {
-            return Err(Refusal::BadCommand);
+            return Err(Refusal::of_line(Reason::LineNotUtf8));
         };
         let words = words_of(alloc, line)?;
         match words.as_slice() {
@@ -105,9 +128,9 @@ impl Reading {
 
     /// Takes in the words of a line after `go`. Observations wait for the next collection; no other call may come
     /// before it.
-    fn go_on(&mut self, alloc: Global, words: &[&str]) -> Result<(), Refusal>
+    fn go_on<'a>(&mut self, alloc: Global, words: &[&'a str]) -> Result<(), Refusal<'a>>
         ensures added { OnOk result (GoesOn (map (λ word. word.now) words.now) (progress_of self.old) (progress_of self.new)) }
-        ensures meaningless { IfErr result (λ refusal. refusal ≡ Refusal.BadCommand → (new : Progress) → ¬ GoesOn (map (λ word. word.now) words.now) (progress_of self.old) new) }
+        ensures meaningless { IfErr result (λ refusal. refusal ≢ Refusal.OutOfMemory → (new : Progress) → ¬ GoesOn (map (λ word. word.now) words.now) (progress_of self.old) new) }
     {
         match words {
             ["observe", instrument, number, attributes] => {
@@ -125,14 +148,14 @@ impl Reading {
                 let call = call_of(alloc, words)?;
                 add_call(&mut self.script.calls, call)
             }
-            _ => Err(Refusal::BadCommand),
+            _ => Err(misfit(words, true)),
         }
     }
 
     /// Takes in the words of a line before `go`, or of `go` itself.
-    fn set_up(&mut self, alloc: Global, words: &[&str]) -> Result<(), Refusal>
+    fn set_up<'a>(&mut self, alloc: Global, words: &[&'a str]) -> Result<(), Refusal<'a>>
         ensures added { OnOk result (SetsUp (map (λ word. word.now) words.now) (progress_of self.old) (progress_of self.new)) }
-        ensures meaningless { IfErr result (λ refusal. refusal ≡ Refusal.BadCommand → (new : Progress) → ¬ SetsUp (map (λ word. word.now) words.now) (progress_of self.old) new) }
+        ensures meaningless { IfErr result (λ refusal. refusal ≢ Refusal.OutOfMemory → (new : Progress) → ¬ SetsUp (map (λ word. word.now) words.now) (progress_of self.old) new) }
     {
         match words {
             ["reader", temporality, options @ ..] => {
@@ -149,14 +172,14 @@ impl Reading {
                 self.is_started = true;
                 Ok(())
             }
-            _ => Err(Refusal::BadCommand),
+            _ => Err(misfit(words, false)),
         }
     }
 }
 
 /// Adds a call to the list. Most of what a script takes is this list, so it grows by a quarter, and not to twice its
 /// length.
-fn add_call(calls: &mut Vec<Call>, call: Call) -> Result<(), Refusal>
+fn add_call<'a>(calls: &mut Vec<Call>, call: Call) -> Result<(), Refusal<'a>>
     ensures added { OnOk result (calls.new.items ≡ calls.old.items ++ call ∷ []) }
     ensures refused { IsOkUnless result Refusal.OutOfMemory }
 {

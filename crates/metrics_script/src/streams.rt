@@ -1,6 +1,6 @@
 //! Streams of a script.
 
-ghost use Rattle.std.specs.Prelude.{◌≡◌, None, map, codes, IfOk, IfErr, OnErr, IsOkUnless};
+ghost use Rattle.std.specs.Prelude.{◌≡◌, ◌≢◌, None, map, codes, IfOk, IfErr, OnErr};
 ghost use Rattle.std.specs.Option.{option_map};
 ghost use Rattle.std.specs.String.{string_bytes};
 ghost use Rattle.metrics_script.specs.Calls.{IsIndexWord};
@@ -10,24 +10,24 @@ ghost use Rattle.metrics_script.specs.Options.{ReadsOption};
 ghost use Rattle.metrics_script.specs.Streams.{ReadsStream, SaysNoStream};
 
 use crate::keys::keys_of;
-use crate::named::{aggregation_named, have_names_of, text_named, value_named};
+use crate::named::{aggregation_named, check_names, text_named, value_named};
 use crate::numbers::index;
+use crate::reasons::Reason;
 use crate::refusals::Refusal;
 use opentelemetry_sdk::common::Key;
+use opentelemetry_sdk::metrics::instrument::StreamFault;
 use opentelemetry_sdk::metrics::{Aggregation, Stream, StreamBuilder};
 use std::alloc::Global;
 
 /// Reads the stream that these words ask for, each with another name. Its settings must be good.
-pub fn stream_of(alloc: Global, words: &[&str]) -> Result<Stream, Refusal>
+pub fn stream_of<'a>(alloc: Global, words: &[&'a str]) -> Result<Stream, Refusal<'a>>
     ensures stream { IfOk result (ReadsStream (map (λ word. word.now) words.now)) }
-    ensures meaningless { IfErr result (λ refusal. refusal ≡ Refusal.BadCommand → SaysNoStream (map (λ word. word.now) words.now)) }
+    ensures meaningless { IfErr result (λ refusal. refusal ≢ Refusal.OutOfMemory → SaysNoStream (map (λ word. word.now) words.now)) }
 {
-    if !have_names_of(
+    check_names(
         words,
         &["name", "description", "unit", "limit", "keys", "agg"],
-    ) {
-        return Err(Refusal::BadCommand);
-    }
+    )?;
     let builder = Stream::builder();
     let builder = with_name(builder, text_named(alloc, words, "name")?);
     let builder = with_description(builder, text_named(alloc, words, "description")?);
@@ -37,15 +37,30 @@ pub fn stream_of(alloc: Global, words: &[&str]) -> Result<Stream, Refusal>
     let builder = with_aggregation(builder, aggregation_named(alloc, words, "agg")?);
     match builder.build() {
         Ok(stream) => Ok(stream),
-        Err(_) => Err(Refusal::BadCommand),
+        Err(fault) => Err(refusal_of(words, fault)),
+    }
+}
+
+/// The refusal of words that ask for a stream with this fault.
+fn refusal_of<'a>(words: &[&'a str], fault: StreamFault) -> Refusal<'a>
+    ensures bad { result ≢ Refusal.OutOfMemory }
+{
+    let (name, reason) = match fault {
+        StreamFault::UnitLength | StreamFault::UnitInvalidChar => ("unit", Reason::NotUnit),
+        StreamFault::LimitZero | StreamFault::LimitMax => ("limit", Reason::NotLimit),
+        StreamFault::Boundaries => ("agg", Reason::FallingBounds),
+    };
+    match value_named(words, name) {
+        Ok(Some(value)) => Refusal::of_word(value, reason),
+        _ => Refusal::of_line(reason),
     }
 }
 
 /// Reads the limit, if there is one.
-fn limit_of(words: &[&str]) -> Result<Option<usize>, Refusal>
+fn limit_of<'a>(words: &[&'a str]) -> Result<Option<usize>, Refusal<'a>>
     ensures limit { IfOk result (ReadsOption IsIndexWord (codes "limit") (map (λ word. word.now) words.now)) }
     ensures meaningless { OnErr result (ReadsNothing IsIndexWord (codes "limit") (map (λ word. word.now) words.now)) }
-    ensures refused { IsOkUnless result Refusal.BadCommand }
+    ensures refused { IfErr result (λ refusal. refusal ≢ Refusal.OutOfMemory) }
 {
     match value_named(words, "limit")? {
         Some(value) => Ok(Some(index(value)?)),
@@ -54,9 +69,9 @@ fn limit_of(words: &[&str]) -> Result<Option<usize>, Refusal>
 }
 
 /// Reads the keys that are kept, if they are given.
-fn allowed_keys_of(alloc: Global, words: &[&str]) -> Result<Option<Vec<Key>>, Refusal>
+fn allowed_keys_of<'a>(alloc: Global, words: &[&'a str]) -> Result<Option<Vec<Key>>, Refusal<'a>>
     ensures keys { IfOk result (λ keys. ReadsOption ReadsKeys (codes "keys") (map (λ word. word.now) words.now) (option_map (λ keys. keys.items) keys)) }
-    ensures meaningless { IfErr result (λ refusal. refusal ≡ Refusal.BadCommand → ReadsNothing ReadsKeys (codes "keys") (map (λ word. word.now) words.now)) }
+    ensures meaningless { IfErr result (λ refusal. refusal ≢ Refusal.OutOfMemory → ReadsNothing ReadsKeys (codes "keys") (map (λ word. word.now) words.now)) }
 {
     match value_named(words, "keys")? {
         Some(value) => Ok(Some(keys_of(alloc, value)?)),

@@ -1,6 +1,6 @@
 //! Views of a script.
 
-ghost use Rattle.std.specs.Prelude.{◌≡◌, ◌⊎◌, map, IfOk, IfErr};
+ghost use Rattle.std.specs.Prelude.{◌≡◌, ◌≢◌, ◌⊎◌, map, IfOk, IfErr};
 ghost use Rattle.metrics_script.specs.Refusals.{StandsForNothing};
 ghost use Rattle.metrics_script.specs.Streams.{SaysNoStream};
 ghost use Rattle.metrics_script.specs.Views.{IsSelectorWord, ReadsView, selector_of};
@@ -13,9 +13,13 @@ use opentelemetry_sdk::metrics::instrument::{InstrumentSelector, NameCriterion, 
 use std::alloc::Global;
 
 /// Reads the view of a line: which instruments it is for, and what it says about their streams.
-pub fn view_of(alloc: Global, selector: &str, options: &[&str]) -> Result<SelectorView, Refusal>
+pub fn view_of<'a>(
+    alloc: Global,
+    selector: &'a str,
+    options: &[&'a str],
+) -> Result<SelectorView, Refusal<'a>>
     ensures view { IfOk result (ReadsView selector.now (map (λ word. word.now) options.now)) }
-    ensures meaningless { IfErr result (λ refusal. refusal ≡ Refusal.BadCommand → StandsForNothing IsSelectorWord selector.now ⊎ SaysNoStream (map (λ word. word.now) options.now)) }
+    ensures meaningless { IfErr result (λ refusal. refusal ≢ Refusal.OutOfMemory → StandsForNothing IsSelectorWord selector.now ⊎ SaysNoStream (map (λ word. word.now) options.now)) }
 {
     Ok(SelectorView {
         selector: selector_for(name_of(alloc, selector)?),
@@ -38,9 +42,9 @@ fn selector_for(name: Option<StringValue>) -> InstrumentSelector
 }
 
 /// Reads the name of a view's instruments, or none if the word is `*`.
-fn name_of(alloc: Global, word: &str) -> Result<Option<StringValue>, Refusal>
+fn name_of(alloc: Global, word: &str) -> Result<Option<StringValue>, Refusal<'_>>
     ensures name { IfOk result (IsSelectorWord word.now) }
-    ensures meaningless { IfErr result (λ refusal. refusal ≡ Refusal.BadCommand → StandsForNothing IsSelectorWord word.now) }
+    ensures meaningless { IfErr result (λ refusal. refusal ≢ Refusal.OutOfMemory → StandsForNothing IsSelectorWord word.now) }
 {
     if word == "*" {
         return Ok(None);

@@ -6,6 +6,7 @@ use std::process::Abort;
 
 mod collected;
 mod commands;
+mod explained;
 mod exports;
 mod failing;
 mod guide;

@@ -1,9 +1,9 @@
-use Rattle.std.proofs.Common.{◌≡◌, ℕ, ℤ, Bool, List, codes, Ok, Err, Result, IfErr}
+use Rattle.std.proofs.Common.{◌≡◌, ◌≢◌, ℕ, ℤ, Bool, List, codes, Ok, Err, Result, IfErr}
 use Rattle.otel_common.specs.declared.metrics.Aggregation.TheVariants.{Drop, Default, Sum, LastValue, ExplicitBucketHistogram}
 use Rattle.metrics_script.specs.Aggregations.{IsAggregationWord}
 use Rattle.metrics_script.specs.Refusals.{StandsForNothing}
 use Rattle.metrics_script.specs.declared.refusals.Refusal.{Refusal}
-use Rattle.metrics_script.specs.declared.refusals.Refusal.TheVariants.{BadCommand}
+use Rattle.metrics_script.specs.declared.refusals.Refusal.TheVariants.{OutOfMemory}
 use Rattle.metrics_script.proofs.aggregations.aggregation_of.Goals as goal
 
 -- a word that is no name and no histogram is nothing
@@ -14,7 +14,7 @@ nothing_else word no_drop no_default no_sum no_last none Sum is = no_sum is
 nothing_else word no_drop no_default no_sum no_last none LastValue is = no_last is
 nothing_else word no_drop no_default no_sum no_last none (ExplicitBucketHistogram bounds record_min_max) is = none bounds record_min_max is
 
-refused_as : {A P Q : Type 0} (result : Result A Refusal) → (P → Q) → IfErr result (λ refusal. refusal ≡ BadCommand → P) → IfErr result (λ refusal. refusal ≡ BadCommand → Q)
+refused_as : {A P Q : Type 0} (result : Result A Refusal) → (P → Q) → IfErr result (λ refusal. refusal ≢ OutOfMemory → P) → IfErr result (λ refusal. refusal ≢ OutOfMemory → Q)
 refused_as (Ok x) f given = given
 refused_as (Err refusal) f given = λ bad. f (given bad)
 

@@ -18,7 +18,7 @@ returns-in-Err-clause-meaningless c = λ bad.
 
 pub returns-in_err-text_named-clause-meaningless : goal.returns-in_err-text_named-clause-meaningless
 returns-in_err-text_named-clause-meaningless c =
-    let answer = err_from_is_err_and c.from_residual.result c.from_residual.ensures.1 in
+    let answer = err_from_is_err_and c.from_residual-in_err-text_named.result c.from_residual-in_err-text_named.ensures.1 in
     rw (answer.1, answer.2) (λ bad. inl (λ stream read. c.in_err-text_named.ensures.meaningless bad (named_have_values stream_names (map (λ word. word.now) c.args.words.now) read.0) stream.name read.1))
 
 pub returns-in_err-text_named-2-clause-meaningless : goal.returns-in_err-text_named-2-clause-meaningless

@@ -21,9 +21,17 @@ pub(super) fn arguments(rt: &impl Abort, alloc: Global, words: &[&str]) -> Args 
 
 /// What the program does with these arguments and this script.
 pub(super) fn outcome_of(alloc: Global, arguments: io::Result<Args>, script: &str) -> Outcome {
+    outcome_of_bytes(alloc, arguments, script.as_bytes())
+}
+
+/// The same for a script that may not be UTF-8.
+pub(super) fn outcome_of_bytes(
+    alloc: Global,
+    arguments: io::Result<Args>,
+    input: &[u8],
+) -> Outcome {
     let mut output = Vec::new(alloc);
     let mut errors = Vec::new(alloc);
-    let input = script.as_bytes();
     let status = obey(alloc, arguments, input, &mut output, &mut errors);
     Outcome {
         status,
@@ -49,7 +57,7 @@ const SCRIPT: &str = "reader cumulative\n\
 
 /// What is said of arguments that ask for nothing.
 const USAGE: &str =
-    "usage: metrics_run [--help | (prometheus | openmetrics | otlp) [last]], with the script on standard input\n";
+    "usage: metrics_run [--help | explain | (prometheus | openmetrics | otlp) [last]], with the script on standard input\n";
 
 /// Arguments, and what the program then writes to standard output.
 const COMMANDS: &[(&[&str], &str)] = &[
@@ -121,6 +129,9 @@ fn bad_arguments(rt: HostRuntime) {
         &["otlp", "first"],
         &["last", "otlp"],
         &["--help", "last"],
+        &["explain", "last"],
+        &["explain", "explain"],
+        &["Explain"],
         &["otlp", "last", "last"],
     ];
     for words in all {

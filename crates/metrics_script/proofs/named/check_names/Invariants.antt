@@ -1,7 +1,7 @@
 use Rattle.std.proofs.Common.{◌≡◌, true, map, take}
 use Rattle.std.specs.List.{list_all}
 use Rattle.metrics_script.specs.Named.{has_name_of}
-use Rattle.metrics_script.proofs.named.have_names_of.Given as goal
+use Rattle.metrics_script.proofs.named.check_names.Given as goal
 
 -- the words so far have such names
 abbrev pub invariant-loop-word : goal.invariant-loop-word
