@@ -53,22 +53,22 @@ fn kept_handles(rt: HostRuntime) -> Result<(), Fault> {
     let mut provider = cumulative(&rt, alloc, 7);
     let mut other = cumulative(&rt, alloc, 8);
     let hits = counter(&rt, alloc, &mut provider, "hits");
-    let mut kept: Vec<Kept<u64>> = Vec::new(alloc);
-    for path in &["/", "/cart"] {
-        let attributes = attributes![in alloc; "path" => *path];
-        kept.push(hits.bind(&mut provider, &attributes)?.keep())?;
-    }
+    let root = attributes![in alloc; "path" => "/"];
+    let root = hits.bind(&mut provider, &root)?.keep();
+    let cart = attributes![in alloc; "path" => "/cart"];
+    let cart = hits.bind(&mut provider, &cart)?.keep();
+    let kept: Vec<Kept<u64>> = [root, cart].to_vec(alloc)?;
     for handle in &kept {
         handle.add(&mut provider, 2)?;
     }
-    let copy = kept[1];
+    let copy = cart;
     copy.record(&mut provider, 5)?;
     assert_eq!(rt; (copy.number(), copy.identity()), (1, 7));
-    assert_eq!(rt; kept[0].end(&mut other), Err(Fault::UnknownHandle));
-    kept[0].end(&mut provider)?;
-    assert_eq!(rt; kept[0].add(&mut provider, 1), Err(Fault::UnknownHandle));
-    assert_eq!(rt; kept[0].end(&mut provider), Err(Fault::UnknownHandle));
-    kept[1].add(&mut provider, 3)?;
+    assert_eq!(rt; root.end(&mut other), Err(Fault::UnknownHandle));
+    root.end(&mut provider)?;
+    assert_eq!(rt; root.add(&mut provider, 1), Err(Fault::UnknownHandle));
+    assert_eq!(rt; root.end(&mut provider), Err(Fault::UnknownHandle));
+    cart.add(&mut provider, 3)?;
     let collected = provider.collected(0, 200)?;
     let shown = format!(in alloc; "{collected:?}")?;
     assert!(rt; shown.as_str().contains("value: 2"), "{shown}");
