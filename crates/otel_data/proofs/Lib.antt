@@ -1,3 +1,1 @@
 pub mod EqualExemplars
-pub mod CanonicalSets
-pub mod ReadOff

@@ -16,4 +16,3 @@ pub mod numbers;
 mod places;
 pub mod points;
 pub mod sums;
-mod values;

@@ -1,4 +1,3 @@
 pub mod Asked
 pub mod Boxes
-pub mod Following
 pub mod Runs

@@ -15,7 +15,6 @@ pub mod limit;
 pub mod manual_reader;
 pub mod no_callback;
 pub mod observation;
-mod patterns;
 pub mod reader;
 pub mod registered;
 pub mod selector;

@@ -11,7 +11,6 @@ use std::process::Abort;
 mod attributes;
 mod callbacks;
 mod data;
-mod found;
 mod instruments;
 mod readers;
 mod ready;
