@@ -3,7 +3,6 @@
 ghost use Rattle.std.specs.Bool.{beq};
 ghost use Rattle.std.specs.Prelude.{◌≡◌, [], true, false, cond, None, Some, IsTrue, OnOk, OnErr, IfOk, IsOk, IsOkUnless};
 ghost use Rattle.otel_common.specs.Temporalities.{resets};
-ghost use Rattle.otel_common.specs.declared.metrics.Temporality.TheVariants as shown;
 ghost use Rattle.otel_model_stream.specs.Sets.{set_of};
 ghost use Rattle.otel_model_stream.specs.Folds.{Last, wrap};
 ghost use Rattle.otel_model_stream.specs.Maps.{new_map};

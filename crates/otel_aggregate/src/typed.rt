@@ -1,6 +1,6 @@
 //! Streams of one aggregate and one number type, for use by themselves.
 
-ghost use Rattle.std.specs.Prelude.{◌≡◌, ℕ, Bool, [], false, is_some, None, IsTrue, IfOk, IsOk, OnOk, OnErr, IsOkUnless};
+ghost use Rattle.std.specs.Prelude.{◌≡◌, ℕ, Bool, [], false, cond, is_some, None, IsTrue, IfOk, IsOk, OnOk, OnErr, IsOkUnless};
 ghost use Rattle.otel_common.specs.Temporalities.{resets};
 ghost use Rattle.otel_model_stream.specs.Events.{held_by};
 ghost use Rattle.otel_model_stream.specs.Folds.{Aggregate};
@@ -179,6 +179,8 @@ impl<T: Number + Drop, A: TypedAggregate<T>> TypedStream<T, A> {
         ensures err { OnErr result (self.new.state ≡ self.old.state) }
         ensures live { self.new.live ≡ self.old.live }
         ensures room { self.new.room ≡ self.old.room }
+        ensures pending { OnOk result (self.new.pending ≡ cond self.old.state.resets None self.old.pending) }
+        ensures refused { OnErr result (self.new.pending ≡ self.old.pending) }
         ensures only_memory { IsOkUnless result Fault.OutOfMemory }
     {
         let given = A::collected(&self.stream, alloc, now)?;

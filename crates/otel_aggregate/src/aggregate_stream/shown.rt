@@ -242,8 +242,7 @@ impl AggregateStream {
         Ok(Gauge::new(points, self.start, now))
     }
 
-    /// What a collection at the moment `now`, in nanoseconds since 1970, gives of a histogram with these settings, which
-    /// are the stream's.
+    /// What a collection at the moment `now`, in nanoseconds since 1970, gives of a histogram.
     pub(crate) fn histogram_data<T: Number + Drop>(
         &self,
         alloc: Global,
@@ -268,8 +267,7 @@ impl AggregateStream {
         Ok(HistogramData::new(points, self.start, now, temporality, has_sum))
     }
 
-    /// What a collection at the moment `now`, in nanoseconds since 1970, gives of observed sums, which reported these
-    /// values before.
+    /// What a collection at the moment `now`, in nanoseconds since 1970, gives of observed sums.
     pub(crate) fn observed_data<T: Number + Drop>(
         &self,
         alloc: Global,
