@@ -3,15 +3,16 @@ use Rattle.std.specs.Prelude.{◌≡◌, ◌==◌, ℕ, List, [], codes, Option,
 use Rattle.std.specs.Bool.{MatchBool}
 use Rattle.std.specs.Cmp.Lexicographic.{pointwise}
 use Rattle.otel_stream.specs.declared.selector.InstrumentSelector.{InstrumentSelector}
-use Rattle.otel_stream.specs.declared.selector.InstrumentSelector.TheVariants.{Name, Prefix}
+use Rattle.otel_stream.specs.declared.selector.NameCriterion.TheVariants.{Exact}
 use Rattle.otel_stream.specs.declared.selector.SelectorView.{SelectorView}
+use Rattle.otel_stream.specs.Selectors.{any_instrument}
 use Rattle.metrics_script.specs.Options.{ReadsText}
 use Rattle.metrics_script.specs.Streams.{ReadsStream}
 
 -- selects the instruments of a name, or all if there is none
 abbrev pub selector_of : Option (List ℕ) → InstrumentSelector
-selector_of None = Prefix []
-selector_of (Some name) = Name name
+selector_of None = any_instrument
+selector_of (Some name) = record any_instrument { name = Some (Exact name) }
 
 -- the word `*` for all instruments, or else a name
 abbrev pub IsSelectorWord : List ℕ → Option (List ℕ) → Type 0

@@ -9,7 +9,7 @@ use crate::refusals::Refusal;
 use crate::streams::stream_of;
 use crate::texts::text_of_word;
 use opentelemetry_sdk::common::StringValue;
-use opentelemetry_sdk::metrics::instrument::{InstrumentSelector, SelectorView};
+use opentelemetry_sdk::metrics::instrument::{InstrumentSelector, NameCriterion, SelectorView};
 use std::alloc::Global;
 
 /// Reads the view of a line: which instruments it is for, and what it says about their streams.
@@ -22,18 +22,22 @@ pub fn view_of<'a>(
     ensures meaningless { IfErr result (λ refusal. refusal ≢ Refusal.OutOfMemory → StandsForNothing IsSelectorWord selector.now ⊎ SaysNoStream (map (λ word. word.now) options.now)) }
 {
     Ok(SelectorView {
-        selector: selector_for(alloc, name_of(alloc, selector)?),
+        selector: selector_for(name_of(alloc, selector)?),
         stream: stream_of(alloc, options)?,
     })
 }
 
 /// Selects the instruments of a name, or all if there is none.
-fn selector_for(alloc: Global, name: Option<StringValue>) -> InstrumentSelector
+fn selector_for(name: Option<StringValue>) -> InstrumentSelector
     ensures { result ≡ selector_of name }
 {
     match name {
-        Some(name) => InstrumentSelector::Name(name),
-        None => InstrumentSelector::Prefix(StringValue::from(String::new(alloc))),
+        Some(name) => {
+            let mut selector = InstrumentSelector::any();
+            selector.name = Some(NameCriterion::Exact(name));
+            selector
+        }
+        None => InstrumentSelector::any(),
     }
 }
 

@@ -1,1 +1,3 @@
 pub mod EqualExemplars
+pub mod CanonicalSets
+pub mod ReadOff

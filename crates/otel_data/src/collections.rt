@@ -80,6 +80,19 @@ impl Metric {
     {
         &self.content
     }
+
+    /// Consumes the metric and returns its name, description, unit and points. Takes no memory.
+    pub fn into_parts(self) -> (StringValue, StringValue, StringValue, AggregatedMetrics)
+        ensures { result ≡ (self.name, self.description, self.unit, self.content) }
+    {
+        let Metric {
+            name,
+            description,
+            unit,
+            content,
+        } = self;
+        (name, description, unit, content)
+    }
 }
 
 /// The metrics of one scope (Metrics data model).
@@ -115,6 +128,14 @@ impl ScopeMetrics {
             scope: InstrumentationScope::default(alloc),
             metrics: Items::from(Vec::new(alloc)),
         }
+    }
+
+    /// Consumes the metrics and returns their scope and the metrics themselves. Takes no memory.
+    pub fn into_parts(self) -> (InstrumentationScope, Items<Metric>)
+        ensures { result ≡ (self.scope, self.metrics) }
+    {
+        let ScopeMetrics { scope, metrics } = self;
+        (scope, metrics)
     }
 
     /// The scope that the metrics belong to.
@@ -180,6 +201,17 @@ impl ResourceMetrics {
             resource: Resource::builder_empty(alloc).build(),
             scope_metrics: Items::from(Vec::new(alloc)),
         }
+    }
+
+    /// Consumes the collection and returns its resource and its scopes with their metrics. Takes no memory.
+    pub fn into_parts(self) -> (Resource, Items<ScopeMetrics>)
+        ensures { result ≡ (self.resource, self.scope_metrics) }
+    {
+        let ResourceMetrics {
+            resource,
+            scope_metrics: scopes,
+        } = self;
+        (resource, scopes)
     }
 
     /// The resource that the metrics come from.

@@ -1,10 +1,14 @@
-//! Laws: a copy equals its source, and points are equal exactly if their parts are.
+//! Laws: a copy equals its source, points are equal exactly if their parts are, and which attributes are a set.
 //!
 //! These functions do nothing. A function whose contract needs the law of copying or comparing a type calls that type's
 //! function first.
 
-ghost use Rattle.std.specs.Prelude.{◌≡◌, ℕ, ℤ};
+ghost use Rattle.std.specs.Prelude.{◌≡◌, ℕ, ℤ, List};
 ghost use Rattle.std.specs.Bool.{Decides};
+ghost use Rattle.otel_common.specs.Canonical.{canon};
+ghost use Rattle.otel_common.specs.Equality.{set_eq};
+ghost use Rattle.otel_common.specs.declared.attributes.KeyValue.{KeyValue};
+ghost use Rattle.otel_data.specs.Values.{is_set};
 ghost use Rattle.otel_data.specs.declared.aggregated.AggregatedMetrics.{AggregatedMetrics};
 ghost use Rattle.otel_data.specs.declared.aggregated.MetricData.{MetricData};
 ghost use Rattle.otel_data.specs.declared.collections.Metric.{Metric};
@@ -26,6 +30,12 @@ use crate::histograms::Histogram;
 use crate::points::{GaugeDataPoint, HistogramDataPoint, SumDataPoint};
 use crate::sums::Sum;
 use otel_common::laws::resource_laws;
+
+/// Canonical attributes, as each point of a collection has, are the set of a list exactly if they are its canonical form.
+/// So `value` and `count` find the point of the records with these attributes.
+pub fn canonical_sets()
+    ensures { (recorded attributes : List KeyValue) → is_set attributes (canon recorded) ≡ set_eq (canon recorded) (canon attributes) }
+{}
 
 /// Two points, or two exemplars, of unsigned numbers are equal exactly if their parts are.
 pub fn equal_points()

@@ -3,8 +3,9 @@
 pub use crate::aggregated::{AggregatedMetrics, MetricData};
 pub use crate::collections::{Metric, ResourceMetrics, ScopeMetrics};
 pub use crate::copies::{
-    copied_aggregated, copied_collection, copied_data, copied_lists, copied_metric, copied_points,
-    copied_scope, copied_signed_lists, copied_signed_points, equal_points, equal_signed_points,
+    canonical_sets, copied_aggregated, copied_collection, copied_data, copied_lists, copied_metric,
+    copied_points, copied_scope, copied_signed_lists, copied_signed_points, equal_points,
+    equal_signed_points,
 };
 pub use crate::exemplars::Exemplar;
 pub use crate::gauges::Gauge;

@@ -16,3 +16,4 @@ pub mod numbers;
 mod places;
 pub mod points;
 pub mod sums;
+mod values;

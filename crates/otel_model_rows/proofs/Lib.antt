@@ -1,6 +1,7 @@
 pub mod RowsStream
 pub mod RowsPlaces
 pub mod RowsSums
+pub mod RowsValues
 pub mod RowsViews
 pub mod RowsEdges
 pub mod RowsChecks

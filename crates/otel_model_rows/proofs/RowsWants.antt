@@ -6,11 +6,12 @@ use Rattle.otel_common.specs.declared.metrics.Aggregation.{Aggregation}
 use Rattle.otel_common.specs.declared.metrics.Aggregation.TheVariants.{Drop, Default, Sum, LastValue, ExplicitBucketHistogram}
 use Rattle.otel_common.specs.declared.metrics.Temporality.{Temporality}
 use Rattle.otel_common.specs.declared.metrics.Temporality.TheVariants.{Cumulative, Delta, LowMemory}
+use Rattle.otel_common.specs.declared.scopes.InstrumentationScope.{InstrumentationScope}
 use Rattle.otel_stream.specs.Answers.{kind_eq, kinds, ReaderAnswers, answer_wanting, answers_wanting, answers_by, answers_preferring, answer_for}
 use Rattle.otel_stream.specs.Boxes.{Becomes}
 use Rattle.otel_stream.specs.ByKind.{at_kind, for_no_kind}
 use Rattle.otel_stream.specs.Requests.{wanted_by}
-use Rattle.otel_stream.specs.Selectors.{selects, stream_for}
+use Rattle.otel_stream.specs.Selectors.{some_end, byte_and, one_sign, matches, is_named, is_text, is_met, selects_scope, selects, any_instrument, stream_for}
 use Rattle.otel_stream.specs.Settings.{nothing_said, fault_by_unit, limit_fault, optional_limit_fault, optional_bounds_fault, bounds_of, settings_fault, IsLawful}
 use Rattle.otel_stream.specs.Units.{Long, NotAscii}
 use Rattle.otel_stream.specs.Wants.{temporality_alone, limit_of, aggregation_of}
@@ -20,7 +21,7 @@ use Rattle.otel_stream.specs.declared.instrument.Instrument.{Instrument}
 use Rattle.otel_stream.specs.declared.instrument.InstrumentKind.{InstrumentKind}
 use Rattle.otel_stream.specs.declared.instrument.InstrumentKind.TheVariants.{Counter, UpDownCounter, Histogram, ObservableCounter, ObservableUpDownCounter, Gauge, ObservableGauge}
 use Rattle.otel_stream.specs.declared.selector.InstrumentSelector.{InstrumentSelector}
-use Rattle.otel_stream.specs.declared.selector.InstrumentSelector.TheVariants.{Name, Prefix, Kind}
+use Rattle.otel_stream.specs.declared.selector.NameCriterion.TheVariants.{Exact, Prefix, Pattern}
 use Rattle.otel_stream.specs.declared.stream_fault.StreamFault.TheVariants.{UnitLength, UnitInvalidChar, LimitZero, LimitMax, Boundaries}
 use Rattle.otel_stream.specs.declared.stream_spec.StreamSpec.{StreamSpec}
 use Rattle.otel_stream.specs.declared.wants.Wants.{Wants}
@@ -112,26 +113,99 @@ pub object_stays : {Z : Type 0} (box : DynBox ℕ Z (λ _. ℕ)) → Becomes box
 object_stays box = (box.value, refl, refl)
 
 -- ======== selectors ========
-abbrev instrument : Instrument
-instrument = record { name = codes "requests"; description = []; kind = Counter; unit = []; scope = record { name = []; version = None; schema_url = None; attributes = [] } }
+pub star_alone : map (matches (codes "*")) (codes "" ∷ codes "a" ∷ codes "a.b" ∷ []) ≡ true ∷ true ∷ true ∷ []
+star_alone = refl
 
+pub empty_pattern : map (matches []) (codes "" ∷ codes "a" ∷ []) ≡ true ∷ false ∷ []
+empty_pattern = refl
+
+pub star_inside : map (matches (codes "http.*.size")) (codes "http.a.b.size" ∷ codes "http..size" ∷ codes "http.size" ∷ codes "http.a.sizes" ∷ codes "xhttp.a.size" ∷ []) ≡ true ∷ true ∷ false ∷ false ∷ false ∷ []
+star_inside = refl
+
+-- a later place than the first that fits
+pub stars : map (matches (codes "*ab*ab")) (codes "abcab" ∷ codes "xxabab" ∷ codes "ab" ∷ codes "aba" ∷ codes "abab" ∷ []) ≡ true ∷ true ∷ false ∷ false ∷ true ∷ []
+stars = refl
+
+pub one_byte : map (matches (codes "a?c")) (codes "abc" ∷ codes "ac" ∷ codes "abbc" ∷ codes "abd" ∷ codes "a?c" ∷ []) ≡ true ∷ false ∷ false ∷ false ∷ true ∷ []
+one_byte = refl
+
+pub star_and_byte : map (matches (codes "*?")) (codes "" ∷ codes "a" ∷ codes "ab" ∷ []) ≡ false ∷ true ∷ true ∷ []
+star_and_byte = refl
+
+pub no_signs : map (matches (codes "ab")) (codes "ab" ∷ codes "a" ∷ codes "abc" ∷ codes "AB" ∷ []) ≡ true ∷ false ∷ false ∷ false ∷ []
+no_signs = refl
+
+pub ends : map (λ text. some_end (matches text) (codes "abc")) (codes "abc" ∷ codes "bc" ∷ codes "" ∷ codes "ab" ∷ codes "c" ∷ []) ≡ true ∷ true ∷ true ∷ false ∷ true ∷ []
+ends = refl
+
+pub bytes_behind : map (λ any. map (byte_and any 97 (matches (codes "b"))) (codes "ab" ∷ codes "xb" ∷ codes "b" ∷ codes "" ∷ [])) (true ∷ false ∷ []) ≡ (true ∷ true ∷ false ∷ false ∷ []) ∷ (true ∷ false ∷ false ∷ false ∷ []) ∷ []
+bytes_behind = refl
+
+pub signs : map (λ star. map (one_sign star 63 (matches (codes "b"))) (codes "aab" ∷ codes "ab" ∷ codes "b" ∷ [])) (true ∷ false ∷ []) ≡ (true ∷ true ∷ true ∷ []) ∷ (false ∷ true ∷ false ∷ []) ∷ []
+signs = refl
+
+abbrev scope : InstrumentationScope
+scope = record { name = codes "shop"; version = Some (codes "1.0"); schema_url = None; attributes = [] }
+
+abbrev instrument : Instrument
+instrument = record { name = codes "requests"; description = []; kind = Counter; unit = codes "ms"; scope = scope }
+
+-- a name is the whole name, with its capitals
+pub names : map (is_named instrument.name) (Exact (codes "requests") ∷ Exact (codes "request") ∷ Exact (codes "requests2") ∷ Exact (codes "Requests") ∷ Exact (codes "*") ∷ []) ≡ true ∷ false ∷ false ∷ false ∷ false ∷ []
+names = refl
+
+pub prefixes : map (is_named instrument.name) (Prefix (codes "req") ∷ Prefix [] ∷ Prefix (codes "requests") ∷ Prefix (codes "requests2") ∷ Prefix (codes "quests") ∷ Prefix (codes "*") ∷ []) ≡ true ∷ true ∷ true ∷ false ∷ false ∷ false ∷ []
+prefixes = refl
+
+pub patterns : map (is_named instrument.name) (Pattern (codes "re*s") ∷ Pattern (codes "re*") ∷ Pattern (codes "re") ∷ []) ≡ true ∷ true ∷ false ∷ []
+patterns = refl
+
+pub texts : map (λ text. map (is_text text) (codes "1.0" ∷ codes "1" ∷ [] ∷ [])) (Some (codes "1.0") ∷ None ∷ []) ≡ (true ∷ false ∷ false ∷ []) ∷ (false ∷ false ∷ false ∷ []) ∷ []
+texts = refl
+
+pub met : map (is_met (is_text (Some (codes "a")))) (None ∷ Some (codes "a") ∷ Some (codes "b") ∷ []) ≡ true ∷ true ∷ false ∷ []
+met = refl
+
+-- each criterion alone, met and not
 abbrev selecting : List InstrumentSelector → List Bool
 selecting selectors = map (λ selector. selects selector instrument) selectors
 
--- a name is the whole name, with its capitals
-pub names : selecting (Name (codes "requests") ∷ Name (codes "request") ∷ Name (codes "requests2") ∷ Name (codes "Requests") ∷ []) ≡ true ∷ false ∷ false ∷ false ∷ []
-names = refl
+pub nothing_asked : selects any_instrument instrument ≡ true
+nothing_asked = refl
 
-pub prefixes : selecting (Prefix (codes "req") ∷ Prefix [] ∷ Prefix (codes "requests") ∷ Prefix (codes "requests2") ∷ Prefix (codes "quests") ∷ []) ≡ true ∷ true ∷ true ∷ false ∷ false ∷ []
-prefixes = refl
+pub names_selected : selecting (record any_instrument { name = Some (Pattern (codes "re*")) } ∷ record any_instrument { name = Some (Prefix (codes "s")) } ∷ []) ≡ true ∷ false ∷ []
+names_selected = refl
 
-pub kinds_selected : selecting (map Kind seven) ≡ true ∷ false ∷ false ∷ false ∷ false ∷ false ∷ false ∷ []
+pub kinds_selected : selecting (map (λ kind. record any_instrument { kind = Some kind }) seven) ≡ true ∷ false ∷ false ∷ false ∷ false ∷ false ∷ false ∷ []
 kinds_selected = refl
+
+pub units_selected : selecting (map (λ unit. record any_instrument { unit = Some unit }) (codes "ms" ∷ codes "s" ∷ [] ∷ [])) ≡ true ∷ false ∷ false ∷ []
+units_selected = refl
+
+pub scope_names_selected : selecting (map (λ name. record any_instrument { scope_name = Some name }) (codes "shop" ∷ codes "sho*" ∷ codes "requests" ∷ [])) ≡ true ∷ false ∷ false ∷ []
+scope_names_selected = refl
+
+pub versions_selected : selecting (map (λ version. record any_instrument { scope_version = Some version }) (codes "1.0" ∷ codes "1" ∷ [] ∷ [])) ≡ true ∷ false ∷ false ∷ []
+versions_selected = refl
+
+-- the scope has no schema URL
+pub urls_selected : selecting (map (λ url. record any_instrument { scope_schema_url = Some url }) (codes "1.0" ∷ [] ∷ [])) ≡ false ∷ false ∷ []
+urls_selected = refl
+
+pub scopes_selected : map (λ selector. selects_scope selector (record scope { schema_url = Some (codes "u") })) (any_instrument ∷ record any_instrument { scope_schema_url = Some (codes "u") } ∷ record any_instrument { scope_schema_url = Some (codes "u"); scope_name = Some (codes "u") } ∷ []) ≡ true ∷ true ∷ false ∷ []
+scopes_selected = refl
+
+-- all criteria at once, and then one that is not met
+abbrev all_asked : InstrumentSelector
+all_asked = record { name = Some (Pattern (codes "*")); kind = Some Counter; unit = Some (codes "ms"); scope_name = Some (codes "shop"); scope_version = Some (codes "1.0"); scope_schema_url = None }
+
+pub all_selected : selecting (all_asked ∷ record all_asked { name = Some (Pattern (codes "?")) } ∷ record all_asked { kind = Some Gauge } ∷ record all_asked { unit = Some [] } ∷ record all_asked { scope_name = Some [] } ∷ record all_asked { scope_version = Some [] } ∷ record all_asked { scope_schema_url = Some [] } ∷ []) ≡ true ∷ false ∷ false ∷ false ∷ false ∷ false ∷ false ∷ []
+all_selected = refl
 
 abbrev limited : StreamSpec
 limited = record nothing_said { limit = Some 5 }
 
-pub streams : map (λ selector. stream_for (record { selector = selector; stream = limited }) instrument) (Kind Counter ∷ Kind Gauge ∷ []) ≡ Some limited ∷ None ∷ []
+pub streams : map (λ kind. stream_for (record { selector = record any_instrument { kind = Some kind }; stream = limited }) instrument) (Counter ∷ Gauge ∷ []) ≡ Some limited ∷ None ∷ []
 streams = refl
 
 -- ======== settings ========

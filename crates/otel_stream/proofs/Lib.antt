@@ -1,3 +1,4 @@
 pub mod Asked
 pub mod Boxes
+pub mod Following
 pub mod Runs

@@ -15,6 +15,7 @@ pub mod limit;
 pub mod manual_reader;
 pub mod no_callback;
 pub mod observation;
+mod patterns;
 pub mod reader;
 pub mod registered;
 pub mod selector;

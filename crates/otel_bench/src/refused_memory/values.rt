@@ -10,7 +10,7 @@ use opentelemetry_sdk::common::{
 use opentelemetry_sdk::exporter::otlp::request_line;
 use opentelemetry_sdk::exporter::prometheus::{Format, Settings, exposition_of};
 use opentelemetry_sdk::metrics::data::ResourceMetrics;
-use opentelemetry_sdk::metrics::instrument::{InstrumentSelector, SelectorView};
+use opentelemetry_sdk::metrics::instrument::{NameCriterion, SelectorView};
 use opentelemetry_sdk::metrics::reader::CardinalityLimit;
 use opentelemetry_sdk::metrics::{Aggregation, InstrumentKind, ManualReader, Stream, Temporality};
 use opentelemetry_sdk::{Resource, attributes};
@@ -108,8 +108,8 @@ fn selected(alloc: Global) -> Result<bool, Fault> {
         return Err(Fault::WrongNumber);
     };
     let view = SelectorView::of_name(alloc, "more", stream)?;
-    match &view.selector {
-        InstrumentSelector::Name(name) => Ok(name.as_str() == "more"),
+    match &view.selector.name {
+        Some(NameCriterion::Exact(name)) => Ok(name.as_str() == "more"),
         _ => Ok(false),
     }
 }

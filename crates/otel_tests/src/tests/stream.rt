@@ -11,6 +11,7 @@ use std::process::Abort;
 mod attributes;
 mod callbacks;
 mod data;
+mod found;
 mod instruments;
 mod readers;
 mod ready;

@@ -255,8 +255,8 @@ mod internal {
 mod instrument {
     use super::{Compared, Copied, Defaulted, Equal, Failure, Plain, Sent, Shown};
     use opentelemetry_sdk::metrics::instrument::{
-        Instrument, InstrumentKind, InstrumentSelector, SelectorView, Stream, StreamBuilder,
-        StreamFault, StreamSpec, is_aggregator_compatible,
+        Instrument, InstrumentKind, InstrumentSelector, NameCriterion, SelectorView, Stream,
+        StreamBuilder, StreamFault, StreamSpec, is_aggregator_compatible,
     };
 
     struct Types {
@@ -269,6 +269,7 @@ mod instrument {
         spec: Copied<StreamSpec>,
         spec_without_settings: Defaulted<StreamSpec>,
         selector: Shown<InstrumentSelector>,
+        name: Shown<NameCriterion>,
         view: Sent<SelectorView>,
     }
 }
