@@ -28,7 +28,7 @@ pub enum Fault {
     UnknownHandle,
     /// No reader of the provider has this number.
     UnknownReader,
-    /// A `u64` for an `i64` instrument, or the other way round.
+    /// A `u64` for an `i64` instrument, or the other way round; or a `u64` past 2^63 - 1 for an attribute.
     WrongNumber,
     /// The instrument is of the wrong kind: a record or a bind on an observable one, or an observation of one that
     /// isn't observable.
