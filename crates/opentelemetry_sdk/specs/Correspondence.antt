@@ -90,10 +90,9 @@ abbrev pub reply_from : {X : Type 0} → (X → model.Reply) → Result X Fault 
 reply_from f (Ok x) = f x
 reply_from f (Err e) = model.Reply.Refused (fault_of e)
 
--- the reply to a flush or a shutdown with this outcome
+-- the reply to a call that answers nothing but this outcome, as a flush or a shutdown
 abbrev pub reply_to : Outcome → model.Reply
-reply_to (Ok _) = model.Reply.Done
-reply_to (Err f) = model.Reply.Refused (fault_of f)
+reply_to outcome = reply_from (λ _. model.Reply.Done) outcome
 
 -- ======== checks ========
 -- the answer of a check: done if there is no text, and otherwise an invalid instrument configuration with this text

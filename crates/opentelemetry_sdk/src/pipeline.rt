@@ -7,13 +7,13 @@ ghost use Rattle.opentelemetry_sdk.specs.pipeline.Collections.{IsCollectedFrom};
 ghost use Rattle.opentelemetry_sdk.specs.pipeline.Handles.{AreObservableFor, FeedsSynchronous, IsHeldByFed, IsReadyToBindAt, part_after_bind};
 ghost use Rattle.opentelemetry_sdk.specs.pipeline.Known.{is_known_at};
 ghost use Rattle.opentelemetry_sdk.specs.pipeline.Observations.{AreTypedFor, observed_of};
-ghost use Rattle.opentelemetry_sdk.specs.pipeline.Pipelines.{part_of, has_stream_at, number_of, part_after_record, FeedsType, IsPreparedFor};
+ghost use Rattle.opentelemetry_sdk.specs.pipeline.Pipelines.{part_of, has_stream_at, number_of, part_after_record, part_changed_by, FeedsType, IsLawful, IsPreparedFor, KeepsAnswer, Makes};
+ghost use Rattle.opentelemetry_sdk.specs.pipeline.Streams.{StreamContents};
 ghost use Rattle.otel_aggregate.specs.Any.{is_signed_value};
 
 use crate::pipeline::about::About;
 use crate::pipeline::each_stream::{
-    commit_bind_each, commit_each, prepare_bind_each, prepare_each, record_held_each,
-    record_none_each, streams_fed, unbind_each,
+    change_each, commit_bind_each, prepare_bind_each, prepare_each, streams_fed,
 };
 use crate::pipeline::metric_stream::MetricStream;
 use crate::pipeline::observing::collect_observed;
@@ -111,6 +111,30 @@ impl Pipeline {
         self.hasher
     }
 
+    /// Does nothing. Its clause says that each stream is told by its identity.
+    #[inline(always)]
+    fn law_of_identities(&self)
+        ensures { IsLawful self.now }
+    {
+        kind_laws();
+        let _ = self.identities.len();
+    }
+
+    /// Changes each stream that the instrument feeds.
+    #[inline(always)]
+    fn change_fed<F: Fn(&mut MetricStream)>(&mut self, instrument: usize, change: F)
+        requires callable { F.IsAlwaysCallable change }
+        requires kept { (f : StreamContents → StreamContents) × KeepsAnswer f × Makes F.Fn change f }
+        ensures { (f : StreamContents → StreamContents) → Makes F.Fn change f → part_of self.new ≡ part_changed_by f instrument self.old }
+    {
+        let feeds = streams_fed(&self.feeds, instrument);
+        if feeds.len() == 1 {
+            change(&mut self.streams[feeds[0]]);
+            return;
+        }
+        change_each(&mut self.streams, feeds, &change);
+    }
+
     /// Whether an instrument feeds a stream of this reader.
     pub fn has_stream(&self, instrument: usize) -> bool
         ensures { result ≡ has_stream_at instrument (part_of self.now) }
@@ -133,9 +157,7 @@ impl Pipeline {
         ensures free { attributes.now ≡ [] → IsOk result }
         ensures known { is_known_at instrument attributes.now (part_of self.old) ≡ true → IsOk result }
     {
-        // These two tell the prover that no identity occurs twice.
-        kind_laws();
-        let _ = self.identities.len();
+        self.law_of_identities();
         prepare_each(
             &mut self.streams,
             streams_fed(&self.feeds, instrument),
@@ -149,11 +171,7 @@ impl Pipeline {
     pub fn commit(&mut self, instrument: usize, value: NumberValue)
         ensures { part_of self.new ≡ part_after_record instrument value self.old }
     {
-        commit_each(
-            &mut self.streams,
-            streams_fed(&self.feeds, instrument),
-            value,
-        );
+        self.change_fed(instrument, |stream: &mut MetricStream| stream.commit(value));
     }
 
     /// Makes a record with these attributes in all streams that the instrument feeds or in none, in one pass if it feeds
@@ -170,9 +188,7 @@ impl Pipeline {
         ensures err { OnErr result (part_of self.new ≡ part_of self.old) }
         ensures known { is_known_at instrument attributes.now (part_of self.old) ≡ true → IsOk result }
     {
-        // These two tell the prover that no identity occurs twice.
-        kind_laws();
-        let _ = self.identities.len();
+        self.law_of_identities();
         let feeds = streams_fed(&self.feeds, instrument);
         if feeds.len() == 1 {
             return self.streams[feeds[0]].record(value, attributes);
@@ -217,15 +233,11 @@ impl Pipeline {
         requires { FeedsType instrument (is_signed_value value) (part_of self.old) }
         ensures { part_of self.new ≡ part_after_call 0 (model.Call.Record instrument (number_of value) []) (part_of self.old) }
     {
-        // These two tell the prover that no identity occurs twice.
-        kind_laws();
-        let _ = self.identities.len();
-        let feeds = streams_fed(&self.feeds, instrument);
-        if feeds.len() == 1 {
-            self.streams[feeds[0]].record_none(value);
-            return;
-        }
-        record_none_each(&mut self.streams, feeds, value);
+        self.law_of_identities();
+        self.change_fed(
+            instrument,
+            |stream: &mut MetricStream| stream.record_none(value),
+        );
     }
 
     /// Prepares a bind to these attributes in the streams that the instrument feeds, and makes room for its handle
@@ -241,9 +253,7 @@ impl Pipeline {
         ensures ready { OnOk result (IsReadyToBindAt instrument attributes.now self.new) }
         ensures only_memory { IsOkUnless result Fault.OutOfMemory }
     {
-        // These two tell the prover that no identity occurs twice.
-        kind_laws();
-        let _ = self.identities.len();
+        self.law_of_identities();
         prepare_bind_each(
             &mut self.streams,
             streams_fed(&self.feeds, instrument),
@@ -272,15 +282,11 @@ impl Pipeline {
         requires held { IsHeldByFed instrument handle (part_of self.old) }
         ensures { part_of self.new ≡ part_after_call 0 (model.Call.RecordBound handle (number_of value)) (part_of self.old) }
     {
-        // These two tell the prover that no identity occurs twice.
-        kind_laws();
-        let _ = self.identities.len();
-        let feeds = streams_fed(&self.feeds, instrument);
-        if feeds.len() == 1 {
-            self.streams[feeds[0]].record_held(handle, place, value);
-            return;
-        }
-        record_held_each(&mut self.streams, feeds, handle, place, value);
+        self.law_of_identities();
+        self.change_fed(
+            instrument,
+            |stream: &mut MetricStream| stream.record_held(handle, place, value),
+        );
     }
 
     /// Ends a handle in the streams that its instrument feeds. Takes no memory.
@@ -289,13 +295,10 @@ impl Pipeline {
         requires held { IsHeldByFed instrument handle (part_of self.old) }
         ensures { part_of self.new ≡ part_after_call 0 (model.Call.Unbind handle) (part_of self.old) }
     {
-        // These two tell the prover that no identity occurs twice.
-        kind_laws();
-        let _ = self.identities.len();
-        unbind_each(
-            &mut self.streams,
-            streams_fed(&self.feeds, instrument),
-            handle,
+        self.law_of_identities();
+        self.change_fed(
+            instrument,
+            |stream: &mut MetricStream| stream.unbind(handle),
         );
     }
 
@@ -319,9 +322,7 @@ impl Pipeline {
         ensures err { OnErr result (part_of self.new ≡ part_of self.old) }
         ensures only_memory { IsOkUnless result Fault.OutOfMemory }
     {
-        // These two tell the prover that no identity occurs twice.
-        kind_laws();
-        let _ = self.identities.len();
+        self.law_of_identities();
         collect_observed(
             self.alloc,
             &mut self.streams,

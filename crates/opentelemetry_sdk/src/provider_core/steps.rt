@@ -1,156 +1,35 @@
 //! Calls as data: each is made, and its reply returned.
 
-ghost use Rattle.std.specs.Prelude.{◌≡◌, true, map, IfOk, OnErr, IsOkUnless};
-ghost use Rattle.otel_model.specs.Calls as model;
-ghost use Rattle.otel_model.specs.Demands.{Views};
+ghost use Rattle.std.specs.Prelude.{◌≡◌, false, map, IfOk, IfErr, OnErr, IsOkUnless};
 ghost use Rattle.otel_model.specs.Steps.{Step, Run};
-ghost use Rattle.opentelemetry_sdk.specs.Correspondence.{kind_of, is_signed, number_of, observed_of, call_of, reply_of, reply_to};
-ghost use Rattle.opentelemetry_sdk.specs.Known.{is_known, IsKnown, HasMemory, EachKnownHasMemory};
-ghost use Rattle.opentelemetry_sdk.specs.Readers.{AreReachedBy, ShutsDown, StepReaches, RunReaches};
+ghost use Rattle.opentelemetry_sdk.specs.Correspondence.{call_of, reply_of, reply_to};
+ghost use Rattle.opentelemetry_sdk.specs.Known.{IsKnown, HasMemory, EachKnownHasMemory};
+ghost use Rattle.opentelemetry_sdk.specs.Pending.{is_record};
+ghost use Rattle.opentelemetry_sdk.specs.Readers.{StepReaches, RunReaches};
+ghost use Rattle.opentelemetry_sdk.specs.States.{IsNamed};
 ghost use Rattle.otel_stream.specs.Requests.{wanted_by};
 
 use crate::calls::{Call, Reply};
 use crate::pipeline::about::About;
 use crate::provider_core::Core;
 use crate::provider_core::handles::BoundHandle;
-use crate::values::sorts::InstrumentSort;
-use otel_common::attributes::KeyValue;
-use otel_common::faults::{Fault, OTelSdkResult};
-use otel_common::scopes::InstrumentationScope;
-use otel_data::numbers::NumberValue;
-use otel_stream::observation::Observed;
+use otel_common::faults::Fault;
 use otel_stream::reader::MetricReader;
 use otel_stream::view::View;
 use std::alloc::Global;
 
-/// Turns the answer to a flush or a shutdown into a reply.
-fn replied(answer: OTelSdkResult) -> Reply
-    ensures { reply_of result ≡ reply_to answer }
+/// The reply that a call was done, or why it was refused.
+fn done(made: Result<(), Fault>) -> Reply
+    ensures reply { reply_of result ≡ reply_to made }
+    ensures named { IfErr made IsNamed → HasMemory result }
 {
-    match answer {
+    match made {
         Ok(()) => Reply::Done,
         Err(fault) => Reply::Refused(fault),
     }
 }
 
 impl Core {
-    #[inline(never)]
-    fn step_meter(&mut self, scope: &InstrumentationScope) -> Reply
-        ensures step { (views : Views) → Step views self.old.state (model.Call.Meter scope.now) (reply_of result) self.new.state }
-        ensures seeded { self.new.hash_seed ≡ self.old.hash_seed }
-    {
-        match self.meter(scope) {
-            Ok(number) => Reply::Meter(number),
-            Err(fault) => Reply::Refused(fault),
-        }
-    }
-
-    #[inline(never)]
-    fn step_build<V: View>(
-        &mut self,
-        views: &[V],
-        meter: Option<usize>,
-        sort: InstrumentSort,
-        about: &About<'_>,
-        now: u64,
-    ) -> Reply
-        requires kind { about.now.kind ≡ kind_of sort }
-        requires signed { about.now.signed ≡ is_signed sort }
-        ensures step { Step (map V.answer views.now) self.old.state (model.Call.Build meter about.now now) (reply_of result) self.new.state }
-        ensures seeded { self.new.hash_seed ≡ self.old.hash_seed }
-    {
-        let identity = self.identity();
-        match self.build(views, identity, meter, sort, about, now) {
-            Ok(number) => Reply::Instrument(number),
-            Err(fault) => Reply::Refused(fault),
-        }
-    }
-
-    #[inline(always)]
-    fn step_record(
-        &mut self,
-        instrument: usize,
-        value: NumberValue,
-        attributes: &[KeyValue],
-    ) -> Reply
-        ensures step { (views : Views) → Step views self.old.state (model.Call.Record instrument (number_of value) attributes.now) (reply_of result) self.new.state }
-        ensures seeded { self.new.hash_seed ≡ self.old.hash_seed }
-        ensures known { is_known instrument attributes.now self.old.state ≡ true → HasMemory result }
-    {
-        let identity = self.identity();
-        match self.record(identity, instrument, value, attributes) {
-            Ok(()) => Reply::Done,
-            Err(fault) => Reply::Refused(fault),
-        }
-    }
-
-    #[inline(never)]
-    fn step_bind(&mut self, instrument: usize, attributes: &[KeyValue]) -> Reply
-        ensures step { (views : Views) → Step views self.old.state (model.Call.Bind instrument attributes.now) (reply_of result) self.new.state }
-        ensures seeded { self.new.hash_seed ≡ self.old.hash_seed }
-    {
-        let identity = self.identity();
-        match self.bind(identity, instrument, attributes) {
-            Ok(handle) => Reply::Handle(handle.number),
-            Err(fault) => Reply::Refused(fault),
-        }
-    }
-
-    #[inline(always)]
-    fn step_record_bound(&mut self, handle: u64, value: NumberValue) -> Reply
-        ensures step { (views : Views) → Step views self.old.state (model.Call.RecordBound handle (number_of value)) (reply_of result) self.new.state }
-        ensures seeded { self.new.hash_seed ≡ self.old.hash_seed }
-    {
-        let identity = self.identity();
-        match self.record_bound(identity, BoundHandle::numbered(handle), value) {
-            Ok(()) => Reply::Done,
-            Err(fault) => Reply::Refused(fault),
-        }
-    }
-
-    #[inline(never)]
-    fn step_unbind(&mut self, handle: u64) -> Reply
-        ensures step { (views : Views) → Step views self.old.state (model.Call.Unbind handle) (reply_of result) self.new.state }
-        ensures seeded { self.new.hash_seed ≡ self.old.hash_seed }
-    {
-        let identity = self.identity();
-        match self.unbind(identity, handle) {
-            Ok(()) => Reply::Done,
-            Err(fault) => Reply::Refused(fault),
-        }
-    }
-
-    #[inline(never)]
-    fn step_collect(&mut self, reader: usize, now: u64, observations: &[Observed]) -> Reply
-        ensures step { (views : Views) → Step views self.old.state (model.Call.Collect reader now (map observed_of observations.now)) (reply_of result) self.new.state }
-        ensures seeded { self.new.hash_seed ≡ self.old.hash_seed }
-    {
-        match self.collect(reader, now, observations) {
-            Ok(metrics) => Reply::Collected(metrics),
-            Err(fault) => Reply::Refused(fault),
-        }
-    }
-
-    #[inline(never)]
-    fn step_flush<R: MetricReader>(&mut self, readers: &mut [R]) -> Reply
-        ensures step { (views : Views) → Step views self.old.state model.Call.Flush (reply_of result) self.new.state }
-        ensures seeded { self.new.hash_seed ≡ self.old.hash_seed }
-        ensures reached { AreReachedBy R.flushes self.old.state.shared.shut readers.old (reply_of result) readers.new }
-        ensures wants { map (wanted_by R.preference R.limit R.aggregation) readers.new ≡ map (wanted_by R.preference R.limit R.aggregation) readers.old }
-    {
-        replied(self.force_flush(readers))
-    }
-
-    #[inline(never)]
-    fn step_shutdown<R: MetricReader>(&mut self, readers: &mut [R]) -> Reply
-        ensures step { (views : Views) → Step views self.old.state model.Call.Shutdown (reply_of result) self.new.state }
-        ensures seeded { self.new.hash_seed ≡ self.old.hash_seed }
-        ensures reached { AreReachedBy (ShutsDown R.shuts) self.old.state.shared.shut readers.old (reply_of result) readers.new }
-        ensures wants { map (wanted_by R.preference R.limit R.aggregation) readers.new ≡ map (wanted_by R.preference R.limit R.aggregation) readers.old }
-    {
-        replied(self.shutdown(readers))
-    }
-
     /// Makes one call and returns its reply.
     pub fn step<V: View, R: MetricReader>(
         &mut self,
@@ -164,38 +43,44 @@ impl Core {
         ensures reached { StepReaches R.flushes R.shuts self.old.state.shared.shut (call_of call.now) readers.old (reply_of result) readers.new }
         ensures wants { map (wanted_by R.preference R.limit R.aggregation) readers.new ≡ map (wanted_by R.preference R.limit R.aggregation) readers.old }
     {
-        if let Call::Record {
-            instrument,
-            value,
-            attributes,
-        } = call
-        {
-            return self.step_record(*instrument, *value, attributes.as_slice());
+        match call {
+            Call::Record {
+                instrument,
+                value,
+                attributes,
+            } => done(self.record(self.identity, *instrument, *value, attributes.as_slice())),
+            Call::RecordBound { handle, value } => {
+                let handle = BoundHandle::numbered(*handle);
+                done(self.record_bound(self.identity, handle, *value))
+            }
+            _ => {
+                // With a name, the reply is made where the caller wants it, and not copied there.
+                let reply = self.step_other(views, readers, call);
+                reply
+            }
         }
-        if let Call::RecordBound { handle, value } = call {
-            return self.step_record_bound(*handle, *value);
-        }
-        // With a name, the reply is made where the caller wants it, and not copied there.
-        let reply = self.step_any(views, readers, call);
-        reply
     }
 
-    /// Does what `step` does, out of line, as most calls are records.
+    /// Makes one call other than a record, out of line, as most calls are records.
     #[inline(never)]
-    fn step_any<V: View, R: MetricReader>(
+    fn step_other<V: View, R: MetricReader>(
         &mut self,
         views: &[V],
         readers: &mut [R],
         call: &Call,
     ) -> Reply
+        requires { is_record (call_of call.now) ≡ false }
         ensures step { Step (map V.answer views.now) self.old.state (call_of call.now) (reply_of result) self.new.state }
         ensures seeded { self.new.hash_seed ≡ self.old.hash_seed }
-        ensures known { IsKnown self.old.state (call_of call.now) → HasMemory result }
         ensures reached { StepReaches R.flushes R.shuts self.old.state.shared.shut (call_of call.now) readers.old (reply_of result) readers.new }
         ensures wants { map (wanted_by R.preference R.limit R.aggregation) readers.new ≡ map (wanted_by R.preference R.limit R.aggregation) readers.old }
     {
+        let identity = self.identity;
         match call {
-            Call::Meter { scope } => self.step_meter(scope),
+            Call::Meter { scope } => match self.meter(scope) {
+                Ok(number) => Reply::Meter(number),
+                Err(fault) => Reply::Refused(fault),
+            },
             Call::Build {
                 meter,
                 sort,
@@ -213,26 +98,30 @@ impl Core {
                     unit,
                     bounds: boundaries,
                 };
-                self.step_build(views, *meter, *sort, &about, *now)
+                match self.build(views, identity, *meter, *sort, &about, *now) {
+                    Ok(number) => Reply::Instrument(number),
+                    Err(fault) => Reply::Refused(fault),
+                }
             }
-            Call::Record {
-                instrument,
-                value,
-                attributes,
-            } => { self.step_record(*instrument, *value, attributes.as_slice()) }
             Call::Bind {
                 instrument,
                 attributes,
-            } => self.step_bind(*instrument, attributes.as_slice()),
-            Call::RecordBound { handle, value } => self.step_record_bound(*handle, *value),
-            Call::Unbind { handle } => self.step_unbind(*handle),
+            } => match self.bind(identity, *instrument, attributes.as_slice()) {
+                Ok(handle) => Reply::Handle(handle.number),
+                Err(fault) => Reply::Refused(fault),
+            },
+            Call::Unbind { handle } => done(self.unbind(identity, *handle)),
             Call::Collect {
                 reader,
                 now,
                 observations,
-            } => self.step_collect(*reader, *now, observations.as_slice()),
-            Call::Flush => self.step_flush(readers),
-            Call::Shutdown => self.step_shutdown(readers),
+            } => match self.collect(*reader, *now, observations.as_slice()) {
+                Ok(metrics) => Reply::Collected(metrics),
+                Err(fault) => Reply::Refused(fault),
+            },
+            Call::Flush => done(self.force_flush(readers)),
+            Call::Shutdown => done(self.shutdown(readers)),
+            Call::Record { .. } | Call::RecordBound { .. } => unreachable!(),
         }
     }
 

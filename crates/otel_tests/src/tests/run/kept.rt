@@ -2,7 +2,7 @@
 
 use super::support::{manual, string, with_manual};
 use opentelemetry_sdk::attributes;
-use opentelemetry_sdk::common::{Fault, StringValue, Value};
+use opentelemetry_sdk::common::{Fault, KeyValue, StringValue, Value};
 use opentelemetry_sdk::metrics::meter::{Counter, Kept, Meter};
 use opentelemetry_sdk::metrics::{
     Aggregation, InstrumentKind, ManualReader, ManualReaderBuilder, SdkMeterProvider, Temporality,
@@ -114,6 +114,7 @@ fn attributes_of_each_type(rt: HostRuntime) -> Result<(), Fault> {
         "d" => -7i32,
         "e" => 4_000_000_000u32,
         "f" => 5_000_000_000i64,
+        "g" => 9_223_372_036_854_775_807u64,
     ];
     let mut text = String::new(alloc);
     for attribute in &attributes {
@@ -121,7 +122,19 @@ fn attributes_of_each_type(rt: HostRuntime) -> Result<(), Fault> {
     }
     assert_eq!(rt;
         text.as_str(),
-        "a=x b=y c=false d=-7 e=4000000000 f=5000000000 "
+        "a=x b=y c=false d=-7 e=4000000000 f=5000000000 g=9223372036854775807 "
     );
     Ok(())
+}
+
+/// A value that is too great for an attribute.
+#[test]
+fn attribute_of_a_great_number(rt: HostRuntime) {
+    let refused = many_items(rt.alloc(), 9_223_372_036_854_775_808);
+    assert!(rt; matches!(refused, Err(Fault::WrongNumber)), "too great");
+}
+
+/// An attribute with a number of items.
+fn many_items(alloc: Global, items: u64) -> Result<[KeyValue; 1], Fault> {
+    Ok(attributes![in alloc; "items" => items])
 }
