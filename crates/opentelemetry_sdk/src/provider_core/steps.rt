@@ -19,6 +19,7 @@ use otel_stream::view::View;
 use std::alloc::Global;
 
 /// The reply that a call was done, or why it was refused.
+#[inline(always)]
 fn done(made: Result<(), Fault>) -> Reply
     ensures reply { reply_of result ≡ reply_to made }
     ensures named { IfErr made IsNamed → HasMemory result }
@@ -43,15 +44,16 @@ impl Core {
         ensures reached { StepReaches R.flushes R.shuts self.old.state.shared.shut (call_of call.now) readers.old (reply_of result) readers.new }
         ensures wants { map (wanted_by R.preference R.limit R.aggregation) readers.new ≡ map (wanted_by R.preference R.limit R.aggregation) readers.old }
     {
+        let identity = self.identity();
         match call {
             Call::Record {
                 instrument,
                 value,
                 attributes,
-            } => done(self.record(self.identity, *instrument, *value, attributes.as_slice())),
+            } => done(self.record(identity, *instrument, *value, attributes.as_slice())),
             Call::RecordBound { handle, value } => {
                 let handle = BoundHandle::numbered(*handle);
-                done(self.record_bound(self.identity, handle, *value))
+                done(self.record_bound(identity, handle, *value))
             }
             _ => {
                 // With a name, the reply is made where the caller wants it, and not copied there.
@@ -75,7 +77,7 @@ impl Core {
         ensures reached { StepReaches R.flushes R.shuts self.old.state.shared.shut (call_of call.now) readers.old (reply_of result) readers.new }
         ensures wants { map (wanted_by R.preference R.limit R.aggregation) readers.new ≡ map (wanted_by R.preference R.limit R.aggregation) readers.old }
     {
-        let identity = self.identity;
+        let identity = self.identity();
         match call {
             Call::Meter { scope } => match self.meter(scope) {
                 Ok(number) => Reply::Meter(number),

@@ -8,7 +8,7 @@ use Rattle.opentelemetry_sdk.specs.pipeline.Pipelines.{answer_of}
 use Rattle.opentelemetry_sdk.proofs.pipeline.Handles.{observable-in}
 use Rattle.opentelemetry_sdk.proofs.pipeline.Observes.{observed-finished, observed-is}
 use Rattle.opentelemetry_sdk.proofs.pipeline.Outcomes.{either, IfOk-both, OnErr-weaker, OnOk-weaker}
-use Rattle.opentelemetry_sdk.proofs.pipeline.PipelineLemmas.{lawful-keys, reader_of, settled-part, sound-same}
+use Rattle.opentelemetry_sdk.proofs.pipeline.PipelineLemmas.{lawful-inside, reader_of, settled-part, sound-same}
 use Rattle.opentelemetry_sdk.proofs.pipeline.Pipeline.collect.Goals as goal
 
 -- a collection keeps the demands of the streams, and one that is refused does
@@ -29,13 +29,13 @@ invariant_of-self c =
 pub collect_observed-requires-clause-observable : goal.collect_observed-requires-clause-observable
 collect_observed-requires-clause-observable c =
     let p : Piped = reader_of c.self.inside.answers c.self.inside.streams.items c.self.inside.feeds.items in
-    let lawful = lawful-keys _ c.kind_laws.ensures.equal c.self.inside.identities.keys p c.len.ensures.unique c.self.invariant in
+    let lawful = lawful-inside (rw (← c.self.view_is) at c.law_of_identities.ensures) in
     subst (λ (ns : List (List ℕ)). AreObservableIn ns c.args.observations.now p.streams) (sym c.deref.ensures.value) (observable-in c.args.observations.now p lawful (rw (← c.self.view_is) at c.requires.observable))
 
 pub returns-clause-collection : goal.returns-clause-collection
 returns-clause-collection c =
     let p : Piped = reader_of c.self.inside.answers c.self.inside.streams.items c.self.inside.feeds.items in
-    let lawful = lawful-keys _ c.kind_laws.ensures.equal c.self.inside.identities.keys p c.len.ensures.unique c.self.invariant in
+    let lawful = lawful-inside (rw (← c.self.view_is) at c.law_of_identities.ensures) in
     rw (← c.self.view_is) (IfOk-both c.collect_observed.result
     (λ x r e. observed-is c.args.resource.now c.args.meters.now.keys c.args.now c.args.observations.now p x lawful (rw (← c.self.view_is) at c.requires.typed) c.self.invariant.2 r (rw c.deref.ensures.value at e))
     c.collect_observed.ensures.resource c.collect_observed.ensures.scopes)
@@ -43,7 +43,7 @@ returns-clause-collection c =
 pub returns-clause-ok : goal.returns-clause-ok
 returns-clause-ok c =
     let p : Piped = reader_of c.self.inside.answers c.self.inside.streams.items c.self.inside.feeds.items in
-    let lawful = lawful-keys _ c.kind_laws.ensures.equal c.self.inside.identities.keys p c.len.ensures.unique c.self.invariant in
+    let lawful = lawful-inside (rw (← c.self.view_is) at c.law_of_identities.ensures) in
     rw (← c.self.view_is) (OnOk-weaker c.collect_observed.result
     (λ e r. observed-finished r c.args.now c.args.observations.now p c.collect_observed.new.streams.items lawful (rw (← c.self.view_is) at c.requires.typed) c.self.invariant.2 (rw c.deref.ensures.value at e))
     c.collect_observed.ensures.streams)

@@ -5,7 +5,7 @@ use Rattle.opentelemetry_sdk.specs.pipeline.Known.{IsKnownIfThere}
 use Rattle.opentelemetry_sdk.specs.pipeline.Pipelines.{Piped, all_without_pending, ArePrepared}
 use Rattle.opentelemetry_sdk.proofs.pipeline.Known.{known-at}
 use Rattle.opentelemetry_sdk.proofs.pipeline.Outcomes.{OnOk-weaker}
-use Rattle.opentelemetry_sdk.proofs.pipeline.PipelineLemmas.{lawful-keys, reader_of, settled-part, sound-settled}
+use Rattle.opentelemetry_sdk.proofs.pipeline.PipelineLemmas.{lawful-inside, lawful-settled, reader_of, settled-part, sound-settled}
 use Rattle.opentelemetry_sdk.proofs.pipeline.Pipeline.prepare.Goals as goal
 
 pub invariant_of-self : goal.invariant_of-self
@@ -15,7 +15,7 @@ invariant_of-self c = sound-settled c.self.inside.answers c.self.inside.identiti
 pub returns-clause-prepared : goal.returns-clause-prepared
 returns-clause-prepared c =
     OnOk-weaker c.prepare_each.result (λ prepared. record {
-      lawful = lawful-keys _ c.kind_laws.ensures.equal c.self.inside.identities.keys _ c.len.ensures.unique (invariant_of-self c);
+      lawful = lawful-settled _ c.prepare_each.new.streams.items _ c.prepare_each.ensures.same (rw (← c.self.view_is) at c.law_of_identities.ensures);
       prepared = subst (ArePrepared c.args.attributes.now c.prepare_each.new.streams.items) (c.streams_fed.ensures ∙ ap (λ f. or_else (slice_get f c.args.instrument) []) c.deref.ensures.value) prepared;
     }) c.prepare_each.ensures.prepared
 
@@ -27,7 +27,7 @@ returns-clause-same c = rw (← c.self.view_is) (settled-part c.self.inside.answ
 pub returns-clause-known : goal.returns-clause-known
 returns-clause-known c =
     let p : Piped = reader_of c.self.inside.answers c.self.inside.streams.items c.self.inside.feeds.items in
-    let lawful = lawful-keys _ c.kind_laws.ensures.equal c.self.inside.identities.keys p c.len.ensures.unique c.self.invariant in
+    let lawful = lawful-inside (rw (← c.self.view_is) at c.law_of_identities.ensures) in
     rw (← c.self.view_is) (λ known. c.prepare_each.ensures.known
     (subst (λ (ns : List ℕ). All (λ k. IsKnownIfThere c.args.attributes.now (slice_get (all_without_pending p.streams) k)) ns) (sym (c.streams_fed.ensures ∙ ap (λ f. or_else (slice_get f c.args.instrument) []) c.deref.ensures.value))
     (known-at c.args.attributes.now p lawful c.args.instrument known)))

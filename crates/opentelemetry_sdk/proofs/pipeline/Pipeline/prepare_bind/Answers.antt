@@ -2,7 +2,7 @@ use Rattle.std.proofs.Common.{◌∙◌, ap, subst, [], slice_get}
 use Rattle.otel_model.specs.Calls.{or_else}
 use Rattle.opentelemetry_sdk.specs.pipeline.Handles.{AreReadyToBind}
 use Rattle.opentelemetry_sdk.proofs.pipeline.Outcomes.{OnOk-weaker}
-use Rattle.opentelemetry_sdk.proofs.pipeline.PipelineLemmas.{lawful-keys, settled-part, sound-settled}
+use Rattle.opentelemetry_sdk.proofs.pipeline.PipelineLemmas.{lawful-settled, settled-part, sound-settled}
 use Rattle.opentelemetry_sdk.proofs.pipeline.Pipeline.prepare_bind.Goals as goal
 
 pub invariant_of-self : goal.invariant_of-self
@@ -12,7 +12,7 @@ invariant_of-self c = sound-settled c.self.inside.answers c.self.inside.identiti
 pub returns-clause-ready : goal.returns-clause-ready
 returns-clause-ready c =
     OnOk-weaker c.prepare_bind_each.result (λ ready. record {
-      lawful = lawful-keys _ c.kind_laws.ensures.equal c.self.inside.identities.keys _ c.len.ensures.unique (invariant_of-self c);
+      lawful = lawful-settled _ c.prepare_bind_each.new.streams.items _ c.prepare_bind_each.ensures.same (rw (← c.self.view_is) at c.law_of_identities.ensures);
       ready = subst (AreReadyToBind c.args.attributes.now c.prepare_bind_each.new.streams.items) (c.streams_fed.ensures ∙ ap (λ f. or_else (slice_get f c.args.instrument) []) c.deref.ensures.value) ready;
     }) c.prepare_bind_each.ensures.ready
 

@@ -7,7 +7,7 @@ use Rattle.opentelemetry_sdk.specs.pipeline.Streams.{StreamContents, contents_af
 use Rattle.opentelemetry_sdk.proofs.pipeline.Answered.{records-either}
 use Rattle.opentelemetry_sdk.proofs.pipeline.Known.{known-alone, known-at}
 use Rattle.opentelemetry_sdk.proofs.pipeline.Outcomes.{OnErr-weaker, OnOk-weaker}
-use Rattle.opentelemetry_sdk.proofs.pipeline.PipelineLemmas.{changed-part, lawful-keys, reader_of, settled-part, sound-same}
+use Rattle.opentelemetry_sdk.proofs.pipeline.PipelineLemmas.{changed-part, lawful-inside, reader_of, settled-part, sound-same}
 use Rattle.opentelemetry_sdk.proofs.pipeline.Records.{fed-numbers, taken-sent}
 use Rattle.opentelemetry_sdk.proofs.pipeline.Writes.{changed-alone, seen_same}
 use Rattle.opentelemetry_sdk.proofs.pipeline.Pipeline.record.Goals as goal
@@ -24,7 +24,7 @@ invariant_of-self c =
 pub returns-then-feeds-eq1-clause-ok : goal.returns-then-feeds-eq1-clause-ok
 returns-then-feeds-eq1-clause-ok c =
     let p : Piped = reader_of c.self.inside.answers c.self.inside.streams.items c.self.inside.feeds.items in
-    let lawful = lawful-keys _ c.kind_laws.ensures.equal c.self.inside.identities.keys p c.len.ensures.unique c.self.invariant in
+    let lawful = lawful-inside (rw (← c.self.view_is) at c.law_of_identities.ensures) in
     let ns : List ℕ = c.streams_fed-feeds.result.now in
     let x : StreamContents = c.index_mut.result.now in
     let f : StreamContents → StreamContents = contents_after_record c.args.value c.args.attributes.now in
@@ -44,7 +44,7 @@ returns-then-feeds-eq1-clause-err c =
 pub returns-then-feeds-eq1-clause-known : goal.returns-then-feeds-eq1-clause-known
 returns-then-feeds-eq1-clause-known c =
     let p : Piped = reader_of c.self.inside.answers c.self.inside.streams.items c.self.inside.feeds.items in
-    let lawful = lawful-keys _ c.kind_laws.ensures.equal c.self.inside.identities.keys p c.len.ensures.unique c.self.invariant in
+    let lawful = lawful-inside (rw (← c.self.view_is) at c.law_of_identities.ensures) in
     let ns : List ℕ = c.streams_fed-feeds.result.now in
     let fed = c.streams_fed-feeds.ensures ∙ ap (λ g. or_else (slice_get g c.args.instrument) []) c.deref.ensures.value in
     let all : AreNumbers p.streams ns = subst (AreNumbers p.streams) (sym fed) (fed-numbers p.streams p.feeds c.args.instrument lawful.numbers) in
