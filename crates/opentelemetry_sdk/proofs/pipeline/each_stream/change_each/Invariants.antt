@@ -7,4 +7,4 @@ use Rattle.opentelemetry_sdk.proofs.pipeline.each_stream.change_each.Given as go
 abbrev pub invariant-loop-k : goal.invariant-loop-k
 invariant-loop-k g l =
     (length l.streams.items ≡ length l.initial.streams.items)
-    × ((f : StreamContents → StreamContents) → Makes g.F.Fn l.change.now f → IsChangedUpto f l.feeds l.initial.streams.items l.streams.items l.k-index)
+    × ((f : StreamContents → StreamContents) → Makes g.F.Fn l.change f → IsChangedUpto f l.feeds l.initial.streams.items l.streams.items l.k-index)
