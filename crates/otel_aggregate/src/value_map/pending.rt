@@ -6,15 +6,15 @@ ghost use Rattle.otel_common.specs.Canonical.{canon};
 ghost use Rattle.otel_common.specs.Equality.{set_eq};
 ghost use Rattle.otel_model_stream.specs.Entries.{has};
 ghost use Rattle.otel_model_stream.specs.Sets.{allowed_part, over_set};
+ghost use Rattle.otel_aggregate.specs.value_map.Numbers.{is_placed};
 ghost use Rattle.otel_aggregate.specs.value_map.Slots.{kept_of, new_kept};
 ghost use Rattle.otel_aggregate.specs.value_map.Contents.{IsOverflow, IsPlanAt, IsPlanFor, target_of, is_new, is_pending, leads};
 ghost use Rattle.otel_aggregate.specs.declared.value_map.pending.Pending.TheVariants.{Nothing, At};
 
 use crate::aggregators::aggregator::Aggregator;
 use crate::sets::allowed_keys::AllowedKeys;
-use crate::sets::references::{References, few_references, many_references};
-use crate::sets::set_attributes::SetAttributes;
-use crate::sets::set_key::SetKey;
+use crate::sets::forms::is_form_of;
+use crate::sets::references::{few_references, many_references};
 use crate::value_map::hashed_key::{HashedSet, OwnedSet};
 use crate::value_map::hashing::SetHashBuilder;
 use crate::value_map::sets::overflow_set;
@@ -185,6 +185,23 @@ pub fn led_to<A: Aggregator>(table: &Table<A>, list: &HashedSet) -> Option<usize
     table.find(list)
 }
 
+/// The number of the entry to which the canonical form of what is kept of the attributes leads, which isn't made: it
+/// goes over all sets of the table, and takes no memory.
+pub fn form_led_to<A: Aggregator>(
+    table: &Table<A>,
+    allow: Option<&AllowedKeys>,
+    attributes: &[KeyValue],
+) -> Option<usize>
+    ensures plan { IfSome result (IsPlanAt table.now (allowed_part (option_copied allow.entry) attributes.now)) }
+    ensures unled { IfNone result (leads (allowed_part (option_copied allow.entry) attributes.now) table.now ≡ false) }
+    ensures unplaced { IfNone result (is_placed (canon (allowed_part (option_copied allow.entry) attributes.now)) table.now.table.entries ≡ false) }
+{
+    if is_form_of(&[], allow, attributes) {
+        return Some(table.none());
+    }
+    table.find_form(allow, attributes)
+}
+
 /// What a record is to do with a list that, as given, leads to no entry and isn't canonical. `few` says whether the
 /// number of counted entries is below the limit, and `overflow` is the number of the overflow entry, if that is to be used
 /// for a set without an entry. Looks the canonical form up, which is handed in too.
@@ -219,7 +236,7 @@ fn plan_sorted<A: Aggregator>(
 }
 
 /// Does what `plan` does where there are too many keys for sorting without memory. If memory for sorting is refused, the
-/// canonical form is looked up without being made, in quadratic time.
+/// canonical form is looked for without being made.
 fn plan_many<A: Aggregator>(
     alloc: Global,
     table: &Table<A>,
@@ -239,22 +256,16 @@ fn plan_many<A: Aggregator>(
 {
     match many_references(alloc, allow, attributes) {
         Ok(references) => {
-            let sorted = References {
-                slice: references.as_slice(),
-            };
-            let sorted = HashedSet::new(table.hasher(), SetKey::referenced(&sorted));
+            let sorted = HashedSet::referenced(table.hasher(), references.as_slice());
             plan_sorted(alloc, table, few, overflow, list, &sorted)
         }
-        Err(fault) => {
-            let sorted = SetAttributes::canonical(allow, attributes);
-            match table.find_set(&HashedSet::new(table.hasher(), SetKey::iterated(&sorted))) {
+        Err(fault) => match table.find_form(allow, attributes) {
+            Some(number) => Ok(Pending::At(number)),
+            None => match overflow {
                 Some(number) => Ok(Pending::At(number)),
-                None => match overflow {
-                    Some(number) => Ok(Pending::At(number)),
-                    None => Err(fault),
-                },
-            }
-        }
+                None => Err(fault),
+            },
+        },
     }
 }
 
@@ -281,7 +292,7 @@ pub fn plan<A: Aggregator>(
     ensures placed { IsTrue (has (canon list.now) table.now.table.entries) → IsOk result }
     ensures only_memory { IsOkUnless result Fault.OutOfMemory }
 {
-    if list.set().is_canonical() {
+    if list.is_canonical() {
         if let Some(number) = overflow {
             return Ok(Pending::At(number));
         }
@@ -292,10 +303,7 @@ pub fn plan<A: Aggregator>(
     }
     match few_references(allow, attributes) {
         Some(references) => {
-            let sorted = References {
-                slice: references.as_slice(),
-            };
-            let sorted = HashedSet::new(table.hasher(), SetKey::referenced(&sorted));
+            let sorted = HashedSet::referenced(table.hasher(), references.as_slice());
             plan_sorted(alloc, table, few, overflow, list, &sorted)
         }
         None => plan_many(alloc, table, few, overflow, list, allow, attributes),
