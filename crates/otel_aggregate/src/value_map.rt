@@ -146,15 +146,15 @@ impl<A: Aggregator> ValueMap<A> {
         allow: Option<&AllowedKeys>,
         attributes: &[KeyValue],
     ) -> Result<(), AllocError>
-        requires { list.now ≡ allowed_part (option_copied allow) attributes.now }
+        requires { list.now.key ≡ allowed_part (option_copied allow) attributes.now }
         ensures same { self.new.state ≡ self.old.state }
         ensures numbers { self.new.numbers ≡ self.old.numbers }
         ensures given { self.new.given ≡ self.old.given }
-        ensures ready { OnOk result (self.new.pending ≡ Some (canon list.now)) }
-        ensures spelling { OnOk result (self.new.spelling ≡ spelling_of list.now self.old.state) }
+        ensures ready { OnOk result (self.new.pending ≡ Some (canon list.now.key)) }
+        ensures spelling { OnOk result (self.new.spelling ≡ spelling_of list.now.key self.old.state) }
         ensures refused { OnErr result (self.new.pending ≡ None) }
-        ensures known { SucceedsIfKnown list.now (known_of self.old) result }
-        ensures placed { IsTrue (is_placed (canon list.now) self.old.state.table.entries) → IsOk result }
+        ensures known { SucceedsIfKnown list.now.key (known_of self.old) result }
+        ensures placed { IsTrue (is_placed (canon list.now.key) self.old.state.table.entries) → IsOk result }
     {
         if let Some(number) = led_to(&self.table, list) {
             self.pending.put_at(number);
@@ -177,16 +177,16 @@ impl<A: Aggregator> ValueMap<A> {
         attributes: &[KeyValue],
         overflow: Option<usize>,
     ) -> Result<(), Fault>
-        requires list { list.now ≡ allowed_part (option_copied allow) attributes.now }
-        requires unknown { knows list.now (known_of self.old) ≡ false }
+        requires list { list.now.key ≡ allowed_part (option_copied allow) attributes.now }
+        requires unknown { knows list.now.key (known_of self.old) ≡ false }
         requires overflow { IfSome overflow (IsOverflowAt self.old) }
         ensures same { self.new.state ≡ self.old.state }
         ensures numbers { self.new.numbers ≡ self.old.numbers }
         ensures given { self.new.given ≡ self.old.given }
-        ensures ready { OnOk result (self.new.pending ≡ Some (target_of overflow list.now self.old.state.table.entries)) }
-        ensures spelling { OnOk result (self.new.spelling ≡ spelling_of list.now self.old.state) }
+        ensures ready { OnOk result (self.new.pending ≡ Some (target_of overflow list.now.key self.old.state.table.entries)) }
+        ensures spelling { OnOk result (self.new.spelling ≡ spelling_of list.now.key self.old.state) }
         ensures refused { OnErr result (self.new.pending ≡ None) }
-        ensures placed { IsTrue (is_placed (canon list.now) self.old.state.table.entries) → IsOk result }
+        ensures placed { IsTrue (is_placed (canon list.now.key) self.old.state.table.entries) → IsOk result }
         ensures only_memory { IsOkUnless result Fault.OutOfMemory }
     {
         self.pending.give_up();
@@ -314,7 +314,8 @@ impl<A: Aggregator> ValueMap<A> {
         self.prepare_many_allowed(allow, attributes)
     }
 
-    /// Does what `prepare_allowed` does where too many attributes are kept for references without memory.
+    /// Does what `prepare_allowed` does where too many attributes are kept for references without memory. If memory for
+    /// these is refused, it looks for the canonical form of what is kept without making it.
     #[inline(never)]
     fn prepare_many_allowed(
         &mut self,
@@ -331,36 +332,17 @@ impl<A: Aggregator> ValueMap<A> {
         ensures placed { IsTrue (is_placed (set_of (Some allow.now) attributes.now) self.old.state.table.entries) → IsOk result }
         ensures only_memory { IsOkUnless result Fault.OutOfMemory }
     {
-        let references = match references_to(self.alloc, Some(allow), attributes) {
-            Ok(references) => references,
-            Err(_) => return self.prepare_form(allow, attributes),
+        let Ok(references) = references_to(self.alloc, Some(allow), attributes) else {
+            self.pending.give_up();
+            let Some(number) = form_led_to(&self.table, Some(allow), attributes) else {
+                return Err(Fault::OutOfMemory);
+            };
+            self.pending.put_at(number);
+            return Ok(());
         };
         let list = HashedSet::referenced(self.table.hasher(), references.as_slice());
         self.prepare_list(&list, Some(allow), attributes)?;
         Ok(())
-    }
-
-    /// Does what `prepare_allowed` does where memory for references was refused: it looks for the canonical form of what
-    /// is kept without making it, and refuses if that has no entry.
-    fn prepare_form(&mut self, allow: &AllowedKeys, attributes: &[KeyValue]) -> Result<(), Fault>
-        ensures same { self.new.state ≡ self.old.state }
-        ensures numbers { self.new.numbers ≡ self.old.numbers }
-        ensures given { self.new.given ≡ self.old.given }
-        ensures ready { OnOk result (self.new.pending ≡ Some (set_of (Some allow.now) attributes.now)) }
-        ensures spelling { OnOk result (self.new.spelling ≡ spelling_of (allowed_part (Some allow.now) attributes.now) self.old.state) }
-        ensures refused { OnErr result (self.new.pending ≡ None) }
-        ensures known { SucceedsIfKnown (allowed_part (Some allow.now) attributes.now) (known_of self.old) result }
-        ensures placed { IsTrue (is_placed (set_of (Some allow.now) attributes.now) self.old.state.table.entries) → IsOk result }
-        ensures only_memory { IsOkUnless result Fault.OutOfMemory }
-    {
-        self.pending.give_up();
-        match form_led_to(&self.table, Some(allow), attributes) {
-            Some(number) => {
-                self.pending.put_at(number);
-                Ok(())
-            }
-            None => Err(Fault::OutOfMemory),
-        }
     }
 
     /// Gives up the prepared record or bind, if there is one.
@@ -444,7 +426,7 @@ impl<A: Aggregator> ValueMap<A> {
         list: &HashedSet,
         attributes: &[KeyValue],
     ) -> Result<(), AllocError>
-        requires list { list.now ≡ attributes.now }
+        requires list { list.now.key ≡ attributes.now }
         requires unknown { knows attributes.now (known_of self.old) ≡ false }
         ensures ok { OnOk result (known_of self.new ≡ measured_list attributes.now (A.sample value) (known_of self.old)) }
         ensures numbers { KeepNumbers self.old.numbers self.new.numbers }

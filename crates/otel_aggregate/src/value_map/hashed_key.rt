@@ -22,6 +22,9 @@ use std::marker::Model;
 
 /// A set of attributes, or a list of them as given, that is looked up, with its hash and what it was hashed with. It is
 /// hashed once for all tables in which it is looked up or to which it is added.
+///
+/// In a table it stands for the key that has its hash and its attributes. Among themselves such sets are told apart by
+/// their hashes alone.
 #[derive(Drop)]
 pub struct HashedSet<'a> {
     hasher: SetHashBuilder,
@@ -31,13 +34,13 @@ pub struct HashedSet<'a> {
 
 impl<'a> Model for HashedSet<'a> {
     ghost use Rattle.std.specs.Prelude.{◌≡◌};
-    ghost use Rattle.otel_model_stream.specs.Sets.{AttributeSet};
+    ghost use Rattle.otel_aggregate.specs.declared.value_map.hashed_key.HashedKey.{HashedKey};
     ghost use Rattle.otel_aggregate.specs.sets.Keys.{attributes_of};
     ghost use Rattle.otel_aggregate.specs.value_map.Hashed.{fed_set};
 
-    ghost Value = { AttributeSet };
+    ghost Value = { HashedKey };
 
-    ghost view = { λ h. attributes_of h.set };
+    ghost view = { λ h. record { hash = h.hash; key = attributes_of h.set } };
 
     ghost invariant = { λ h. h.hash ≡ (fed_set h.hasher (attributes_of h.set)).state };
 }
@@ -46,7 +49,8 @@ impl<'a> HashedSet<'a> {
     /// Hashes a list, as it is given.
     #[inline(always)]
     pub fn new(hasher: SetHashBuilder, list: &'a [KeyValue]) -> HashedSet<'a>
-        ensures { result ≡ list.now }
+        ensures hashed { IsHashedBy hasher result }
+        ensures key { result.key ≡ list.now }
     {
         let set = Listed::list(list);
         let hash = set.hash(hasher);
@@ -55,7 +59,8 @@ impl<'a> HashedSet<'a> {
 
     /// Hashes the attributes that references lead to.
     pub fn referenced(hasher: SetHashBuilder, references: &'a [&'a KeyValue]) -> HashedSet<'a>
-        ensures { result ≡ shown references.now }
+        ensures hashed { IsHashedBy hasher result }
+        ensures key { result.key ≡ shown references.now }
     {
         let set = Listed::references(references);
         let hash = set.hash(hasher);
@@ -65,14 +70,14 @@ impl<'a> HashedSet<'a> {
     /// Whether the set is empty.
     #[inline(always)]
     pub fn is_empty(&self) -> bool
-        ensures { result ≡ (length self.now == 0) }
+        ensures { result ≡ (length self.now.key == 0) }
     {
         self.set.is_empty()
     }
 
     /// A copy of the set with the same hash.
     pub fn copied(&self, alloc: Global) -> Result<OwnedSet, Fault>
-        ensures copy { IfOk result (λ made. made ≡ self.now) }
+        ensures copy { IfOk result (λ made. made ≡ self.now.key) }
         ensures only_memory { IsOkUnless result Fault.OutOfMemory }
     {
         let set = self.set.copied(alloc)?;
@@ -85,23 +90,24 @@ impl<'a> HashedSet<'a> {
 
     /// Whether the set is its own canonical form.
     pub fn is_canonical(&self) -> bool
-        ensures { result ≡ set_eq (canon self.now) self.now }
+        ensures { result ≡ set_eq (canon self.now.key) self.now.key }
     {
         self.set.is_canonical()
     }
 
-    /// What the set is looked up by in a table that hashes with this hasher.
+    /// The same set with the hash of this hasher.
     #[inline(always)]
-    pub(crate) fn query(&self, hasher: SetHashBuilder) -> SetQuery<'_>
+    pub(crate) fn hashed_by(&self, hasher: SetHashBuilder) -> HashedSet<'a>
         ensures hashed { IsHashedBy hasher result }
-        ensures key { result.key ≡ self.now }
+        ensures key { result.key ≡ self.now.key }
     {
         let hash = if hasher.is_same(&self.hasher) {
             self.hash
         } else {
             self.set.hash(hasher)
         };
-        SetQuery {
+        HashedSet {
+            hasher,
             hash,
             set: self.set,
         }
@@ -150,7 +156,7 @@ impl OwnedSet {
 
     /// The same set, to be looked up.
     pub fn lent(&self) -> HashedSet<'_>
-        ensures { result ≡ self.now }
+        ensures { result.key ≡ self.now }
     {
         HashedSet {
             hasher: self.hasher,
@@ -247,7 +253,7 @@ impl<'a> GivenAttributes<'a> {
     /// The attributes with a hash: the one that they have, or else that of this hasher.
     #[inline(always)]
     pub fn list(&self, hasher: SetHashBuilder) -> HashedSet<'a>
-        ensures { result ≡ self.now }
+        ensures { result.key ≡ self.now }
     {
         match self.hashed {
             Some((hasher, hash)) => HashedSet {
@@ -309,38 +315,21 @@ impl Hash for HashedKey {
     }
 }
 
-/// What a set is looked up by in a table, where it stands for the key that has its hash and its attributes. Among
-/// themselves such queries are told apart by their hashes alone.
-#[derive(Drop)]
-pub(crate) struct SetQuery<'a> {
-    hash: u64,
-    set: Listed<'a>,
-}
-
-impl<'a> Model for SetQuery<'a> {
-    ghost use Rattle.otel_aggregate.specs.declared.value_map.hashed_key.HashedKey.{HashedKey};
-    ghost use Rattle.otel_aggregate.specs.sets.Keys.{attributes_of};
-
-    ghost Value = { HashedKey };
-
-    ghost view = { λ q. record { hash = q.hash; key = attributes_of q.set } };
-}
-
-impl<'a> PartialEq for SetQuery<'a> {
+impl<'a> PartialEq for HashedSet<'a> {
     ghost eq = { on (λ k. k.hash) ◌==◌ };
 
     ghost laws = { partial_equiv_from_equiv (on_equiv (λ k. k.hash) (decided ◌==◌ unsigned_Decides)) };
 
-    fn eq(&self, other: &SetQuery<'a>) -> bool {
+    fn eq(&self, other: &HashedSet<'a>) -> bool {
         self.hash == other.hash
     }
 }
 
-impl<'a> Eq for SetQuery<'a> {
+impl<'a> Eq for HashedSet<'a> {
     ghost laws = { on_equiv (λ k. k.hash) (decided ◌==◌ unsigned_Decides) };
 }
 
-impl<'a> Hash for SetQuery<'a> {
+impl<'a> Hash for HashedSet<'a> {
     ghost hash_input = { λ k. fed.u64 k.hash };
 
     ghost respects_eq = { (on_Alike (λ k. k.hash) (same_Alike fed.u64 unsigned_Decides)).fed };
@@ -351,7 +340,7 @@ impl<'a> Hash for SetQuery<'a> {
     }
 }
 
-impl<'q, 'a> Equivalent<HashedKey> for &'q SetQuery<'a> {
+impl<'q, 'a> Equivalent<HashedKey> for &'q HashedSet<'a> {
     ghost equivalent = { λ q. hashed_eq q.now };
 
     ghost respects_hash = { λ q. (same_Alike (λ k. fed.u64 k.hash) hashed_eq-Decides).fed q.now };

@@ -176,8 +176,8 @@ fn give_up_added(added: &mut Option<(OwnedSet, Option<OwnedSet>)>)
 /// The number of the entry to which a list, as given, leads. Takes no memory.
 #[inline(always)]
 pub fn led_to<A: Aggregator>(table: &Table<A>, list: &HashedSet) -> Option<usize>
-    ensures plan { IfSome result (IsPlanAt table.now list.now) }
-    ensures unled { IfNone result (leads list.now table.now ≡ false) }
+    ensures plan { IfSome result (IsPlanAt table.now list.now.key) }
+    ensures unled { IfNone result (leads list.now.key table.now ≡ false) }
 {
     if list.is_empty() {
         return Some(table.none());
@@ -214,11 +214,11 @@ fn plan_sorted<A: Aggregator>(
     sorted: &HashedSet,
 ) -> Result<Pending, Fault>
     requires overflow { IfSome overflow (IsOverflow few table.now.table.entries table.now.numbers) }
-    requires unled { leads list.now table.now ≡ false }
-    requires other { set_eq (canon list.now) list.now ≡ false }
-    requires sorted { sorted.now ≡ canon list.now }
-    ensures plan { IfOk result (λ plan. IsPlanFor table.now few list.now (target_of overflow list.now table.now.table.entries) plan) }
-    ensures placed { IsTrue (has (canon list.now) table.now.table.entries) → IsOk result }
+    requires unled { leads list.now.key table.now ≡ false }
+    requires other { set_eq (canon list.now.key) list.now.key ≡ false }
+    requires sorted { sorted.now.key ≡ canon list.now.key }
+    ensures plan { IfOk result (λ plan. IsPlanFor table.now few list.now.key (target_of overflow list.now.key table.now.table.entries) plan) }
+    ensures placed { IsTrue (has (canon list.now.key) table.now.table.entries) → IsOk result }
     ensures only_memory { IsOkUnless result Fault.OutOfMemory }
 {
     if let Some(number) = table.find_set(sorted) {
@@ -247,11 +247,11 @@ fn plan_many<A: Aggregator>(
     attributes: &[KeyValue],
 ) -> Result<Pending, Fault>
     requires overflow { IfSome overflow (IsOverflow few table.now.table.entries table.now.numbers) }
-    requires list { list.now ≡ allowed_part (option_copied allow) attributes.now }
-    requires unled { leads list.now table.now ≡ false }
-    requires other { set_eq (canon list.now) list.now ≡ false }
-    ensures plan { IfOk result (λ plan. IsPlanFor table.now few list.now (target_of overflow list.now table.now.table.entries) plan) }
-    ensures placed { IsTrue (has (canon list.now) table.now.table.entries) → IsOk result }
+    requires list { list.now.key ≡ allowed_part (option_copied allow) attributes.now }
+    requires unled { leads list.now.key table.now ≡ false }
+    requires other { set_eq (canon list.now.key) list.now.key ≡ false }
+    ensures plan { IfOk result (λ plan. IsPlanFor table.now few list.now.key (target_of overflow list.now.key table.now.table.entries) plan) }
+    ensures placed { IsTrue (has (canon list.now.key) table.now.table.entries) → IsOk result }
     ensures only_memory { IsOkUnless result Fault.OutOfMemory }
 {
     match many_references(alloc, allow, attributes) {
@@ -286,10 +286,10 @@ pub fn plan<A: Aggregator>(
     attributes: &[KeyValue],
 ) -> Result<Pending, Fault>
     requires overflow { IfSome overflow (IsOverflow few table.now.table.entries table.now.numbers) }
-    requires list { list.now ≡ allowed_part (option_copied allow) attributes.now }
-    requires unled { leads list.now table.now ≡ false }
-    ensures plan { IfOk result (λ plan. IsPlanFor table.now few list.now (target_of overflow list.now table.now.table.entries) plan) }
-    ensures placed { IsTrue (has (canon list.now) table.now.table.entries) → IsOk result }
+    requires list { list.now.key ≡ allowed_part (option_copied allow) attributes.now }
+    requires unled { leads list.now.key table.now ≡ false }
+    ensures plan { IfOk result (λ plan. IsPlanFor table.now few list.now.key (target_of overflow list.now.key table.now.table.entries) plan) }
+    ensures placed { IsTrue (has (canon list.now.key) table.now.table.entries) → IsOk result }
     ensures only_memory { IsOkUnless result Fault.OutOfMemory }
 {
     if list.is_canonical() {

@@ -335,9 +335,9 @@ impl<A: Aggregator> Table<A> {
 
     /// The number that a set leads to.
     pub fn find_set(&self, set: &HashedSet) -> Option<usize>
-        ensures number { result ≡ lookup (set_eq set.now) self.now.numbers.sets }
-        ensures placed { is_some result ≡ has set.now self.now.table.entries }
-        ensures named { IfSome result (λ n. IsNumberOf set.now n self.now.numbers) }
+        ensures number { result ≡ lookup (set_eq set.now.key) self.now.numbers.sets }
+        ensures placed { is_some result ≡ has set.now.key self.now.table.entries }
+        ensures named { IfSome result (λ n. IsNumberOf set.now.key n self.now.numbers) }
     {
         self.keys.find_set(set)
     }
@@ -354,10 +354,10 @@ impl<A: Aggregator> Table<A> {
     /// The number that a list leads to as given: as a set, or as the list that admitted one.
     #[inline(always)]
     pub fn find(&self, list: &HashedSet) -> Option<usize>
-        ensures number { result ≡ found list.now self.now.numbers.sets self.now.aliases }
-        ensures known { is_some result ≡ (is_member set_eq (keys_of self.now.aliases) list.now || has list.now self.now.table.entries) }
-        ensures placed { IfSome result (λ _. has (canon list.now) self.now.table.entries ≡ true) }
-        ensures named { IfSome result (λ n. IsNumberOf (canon list.now) n self.now.numbers) }
+        ensures number { result ≡ found list.now.key self.now.numbers.sets self.now.aliases }
+        ensures known { is_some result ≡ (is_member set_eq (keys_of self.now.aliases) list.now.key || has list.now.key self.now.table.entries) }
+        ensures placed { IfSome result (λ _. has (canon list.now.key) self.now.table.entries ≡ true) }
+        ensures named { IfSome result (λ n. IsNumberOf (canon list.now.key) n self.now.numbers) }
     {
         self.keys.find(list)
     }
@@ -505,7 +505,7 @@ impl<A: Aggregator> Table<A> {
 
     /// The aggregator of a set as a draining collection would show it, or `None` if it would show no point of the set.
     pub fn get(&self, set: &HashedSet) -> Option<&A>
-        ensures { option_map (λ found. A.meaning found.now) result ≡ fold_in (points true self.now.table) set.now }
+        ensures { option_map (λ found. A.meaning found.now) result ≡ fold_in (points true self.now.table) set.now.key }
     {
         if set.is_empty() {
             return shown_in(&self.slots, self.none);

@@ -14,5 +14,5 @@ returns-clause-learned g c = λ admitted.
 pub returns-in-Some-clause-ok : goal.returns-in-Some-clause-ok
 returns-in-Some-clause-ok g c =
     let t = c.self.inside.table in
-    let plan = subst (λ l. IsPlanAt t l c.in-Some.number) c.new-list.ensures c.in-Some.ensures.plan in
+    let plan = subst (λ l. IsPlanAt t l c.in-Some.number) c.new-list.ensures.key c.in-Some.ensures.plan in
     rw (← c.self.view_is) (measured-at t c.touch.new.self c.self.inside.limit (g.A.Aggregator.empty c.self.inside.config) c.args.attributes.now c.in-Some.number (g.A.Aggregator.sample c.args.value) plan c.touch.ensures.table c.touch.ensures.aliases)

@@ -12,7 +12,7 @@ use Rattle.otel_aggregate.proofs.value_map.pending.plan.Goals as goal
 pub returns-in-Some-clause-plan : goal.returns-in-Some-clause-plan
 returns-in-Some-clause-plan g c =
     let t = c.args.table.now in
-    let l = c.args.list.now in
+    let l = c.args.list.now.key in
     let own : set_eq (canon l) l ≡ true = sym c.is_canonical.ensures ∙ c.if-is_canonical.true in
     let away : has (canon l) t.table.entries ≡ false = ap (λ (s : AttributeSet). has s t.table.entries) (same_set (canon l) l own) ∙ unlisted t l c.requires.unled in
     plan-past_over t c.args.few l c.args.overflow c.in-Some.number c.in-Some.is c.requires.overflow away
@@ -20,7 +20,7 @@ returns-in-Some-clause-plan g c =
 pub returns-then-is_canonical-clause-plan : goal.returns-then-is_canonical-clause-plan
 returns-then-is_canonical-clause-plan g c =
     let t = c.args.table.now in
-    let l = c.args.list.now in
+    let l = c.args.list.now.key in
     let own : set_eq (canon l) l ≡ true = sym c.is_canonical.ensures ∙ c.if-is_canonical.true in
     let same : canon l ≡ l = same_set (canon l) l own in
     let set : c.in_ok-own.own ≡ canon l = c.in_ok-own.ensures.copy ∙ sym same in
@@ -32,7 +32,7 @@ returns-then-is_canonical-clause-plan g c =
 pub returns-in_err-own-clause-placed : goal.returns-in_err-own-clause-placed
 returns-in_err-own-clause-placed g c placed =
     let t = c.args.table.now in
-    let l = c.args.list.now in
+    let l = c.args.list.now.key in
     let same : canon l ≡ l = same_set (canon l) l (sym c.is_canonical.ensures ∙ c.if-is_canonical.true) in
     let away : has (canon l) t.table.entries ≡ false = ap (λ (s : AttributeSet). has s t.table.entries) same ∙ unlisted t l c.requires.unled in
     absurd (true≢false (sym placed ∙ away))
