@@ -2,6 +2,6 @@ pub mod KeptLemmas
 pub mod LastPlaces
 pub mod RisingKeys
 pub mod Referenced
-pub mod Cursors
+pub mod FormLemmas
 pub mod Placing
 pub mod Searching

@@ -1,6 +1,6 @@
-//! Sets of attributes as keys of a table: owned, or borrowed from a list in any order.
+//! Attributes that are looked up: those of a list in any order, and what an allow-list keeps of them.
 
 pub mod allowed_keys;
+pub mod forms;
+pub mod listed;
 pub mod references;
-pub mod set_attributes;
-pub mod set_key;

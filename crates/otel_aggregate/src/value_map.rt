@@ -18,13 +18,13 @@ ghost use Rattle.otel_aggregate.specs.value_map.Slots.{HasForm, copies};
 
 use crate::aggregators::aggregator::Aggregator;
 use crate::sets::allowed_keys::AllowedKeys;
-use crate::sets::references::{References, kept_references};
-use crate::sets::set_attributes::SetAttributes;
-use crate::sets::set_key::SetKey;
+use crate::sets::references::{kept_references, references_to};
 use crate::value_map::hashed_key::{GivenAttributes, HashedSet, OwnedSet};
 use crate::value_map::hashing::SetHashBuilder;
 use crate::value_map::maker::{Copies, PointMaker};
-use crate::value_map::pending::{Pending, Prepared, led_to, make_ready, plan, take_slot};
+use crate::value_map::pending::{
+    Pending, Prepared, form_led_to, led_to, make_ready, plan, take_slot,
+};
 use crate::value_map::saved::Saved;
 use crate::value_map::slots::Slot;
 use crate::value_map::table::Table;
@@ -146,15 +146,15 @@ impl<A: Aggregator> ValueMap<A> {
         allow: Option<&AllowedKeys>,
         attributes: &[KeyValue],
     ) -> Result<(), AllocError>
-        requires { list.now ≡ allowed_part (option_copied allow) attributes.now }
+        requires { list.now.key ≡ allowed_part (option_copied allow) attributes.now }
         ensures same { self.new.state ≡ self.old.state }
         ensures numbers { self.new.numbers ≡ self.old.numbers }
         ensures given { self.new.given ≡ self.old.given }
-        ensures ready { OnOk result (self.new.pending ≡ Some (canon list.now)) }
-        ensures spelling { OnOk result (self.new.spelling ≡ spelling_of list.now self.old.state) }
+        ensures ready { OnOk result (self.new.pending ≡ Some (canon list.now.key)) }
+        ensures spelling { OnOk result (self.new.spelling ≡ spelling_of list.now.key self.old.state) }
         ensures refused { OnErr result (self.new.pending ≡ None) }
-        ensures known { SucceedsIfKnown list.now (known_of self.old) result }
-        ensures placed { IsTrue (is_placed (canon list.now) self.old.state.table.entries) → IsOk result }
+        ensures known { SucceedsIfKnown list.now.key (known_of self.old) result }
+        ensures placed { IsTrue (is_placed (canon list.now.key) self.old.state.table.entries) → IsOk result }
     {
         if let Some(number) = led_to(&self.table, list) {
             self.pending.put_at(number);
@@ -177,16 +177,16 @@ impl<A: Aggregator> ValueMap<A> {
         attributes: &[KeyValue],
         overflow: Option<usize>,
     ) -> Result<(), Fault>
-        requires list { list.now ≡ allowed_part (option_copied allow) attributes.now }
-        requires unknown { knows list.now (known_of self.old) ≡ false }
+        requires list { list.now.key ≡ allowed_part (option_copied allow) attributes.now }
+        requires unknown { knows list.now.key (known_of self.old) ≡ false }
         requires overflow { IfSome overflow (IsOverflowAt self.old) }
         ensures same { self.new.state ≡ self.old.state }
         ensures numbers { self.new.numbers ≡ self.old.numbers }
         ensures given { self.new.given ≡ self.old.given }
-        ensures ready { OnOk result (self.new.pending ≡ Some (target_of overflow list.now self.old.state.table.entries)) }
-        ensures spelling { OnOk result (self.new.spelling ≡ spelling_of list.now self.old.state) }
+        ensures ready { OnOk result (self.new.pending ≡ Some (target_of overflow list.now.key self.old.state.table.entries)) }
+        ensures spelling { OnOk result (self.new.spelling ≡ spelling_of list.now.key self.old.state) }
         ensures refused { OnErr result (self.new.pending ≡ None) }
-        ensures placed { IsTrue (is_placed (canon list.now) self.old.state.table.entries) → IsOk result }
+        ensures placed { IsTrue (is_placed (canon list.now.key) self.old.state.table.entries) → IsOk result }
         ensures only_memory { IsOkUnless result Fault.OutOfMemory }
     {
         self.pending.give_up();
@@ -269,7 +269,7 @@ impl<A: Aggregator> ValueMap<A> {
     /// is all, and it takes no memory; the same holds if there are no attributes. Otherwise it sorts references to them
     /// and looks these up, unless the keys rise as given; attributes are copied only for a set without an entry. Up to 16
     /// keys are sorted without memory. More are sorted with memory; if it is refused, a set that has an entry is still
-    /// found, in quadratic time. Attributes that have their hash already are not hashed again.
+    /// found, by going over all sets. Attributes that have their hash already are not hashed again.
     #[inline(always)]
     pub(crate) fn prepare(&mut self, given: &GivenAttributes) -> Result<(), AllocError>
         ensures same { self.new.state ≡ self.old.state }
@@ -307,18 +307,15 @@ impl<A: Aggregator> ValueMap<A> {
         ensures only_memory { IsOkUnless result Fault.OutOfMemory }
     {
         if let Some(few) = kept_references(Some(allow), attributes) {
-            let kept = References {
-                slice: few.as_slice(),
-            };
-            let list = HashedSet::new(self.table.hasher(), SetKey::referenced(&kept));
+            let list = HashedSet::referenced(self.table.hasher(), few.as_slice());
             self.prepare_list(&list, Some(allow), attributes)?;
             return Ok(());
         }
         self.prepare_many_allowed(allow, attributes)
     }
 
-    /// Does what `prepare_allowed` does where too many attributes are kept for references without memory. Asks the
-    /// allow-list anew whenever it goes over them.
+    /// Does what `prepare_allowed` does where too many attributes are kept for references without memory. If memory for
+    /// these is refused, it looks for the canonical form of what is kept without making it.
     #[inline(never)]
     fn prepare_many_allowed(
         &mut self,
@@ -335,8 +332,15 @@ impl<A: Aggregator> ValueMap<A> {
         ensures placed { IsTrue (is_placed (set_of (Some allow.now) attributes.now) self.old.state.table.entries) → IsOk result }
         ensures only_memory { IsOkUnless result Fault.OutOfMemory }
     {
-        let kept = SetAttributes::kept(Some(allow), attributes);
-        let list = HashedSet::new(self.table.hasher(), SetKey::iterated(&kept));
+        let Ok(references) = references_to(self.alloc, Some(allow), attributes) else {
+            self.pending.give_up();
+            let Some(number) = form_led_to(&self.table, Some(allow), attributes) else {
+                return Err(Fault::OutOfMemory);
+            };
+            self.pending.put_at(number);
+            return Ok(());
+        };
+        let list = HashedSet::referenced(self.table.hasher(), references.as_slice());
         self.prepare_list(&list, Some(allow), attributes)?;
         Ok(())
     }
@@ -404,7 +408,7 @@ impl<A: Aggregator> ValueMap<A> {
         ensures placed { IsTrue (is_placed (canon attributes.now) self.old.state.table.entries) → IsOk result }
         ensures only_memory { IsOkUnless result Fault.OutOfMemory }
     {
-        let list = HashedSet::new(self.table.hasher(), SetKey::borrowed(attributes));
+        let list = HashedSet::new(self.table.hasher(), attributes);
         if let Some(number) = led_to(&self.table, &list) {
             self.pending.give_up();
             self.table.touch(number, value);
@@ -422,7 +426,7 @@ impl<A: Aggregator> ValueMap<A> {
         list: &HashedSet,
         attributes: &[KeyValue],
     ) -> Result<(), AllocError>
-        requires list { list.now ≡ attributes.now }
+        requires list { list.now.key ≡ attributes.now }
         requires unknown { knows attributes.now (known_of self.old) ≡ false }
         ensures ok { OnOk result (known_of self.new ≡ measured_list attributes.now (A.sample value) (known_of self.old)) }
         ensures numbers { KeepNumbers self.old.numbers self.new.numbers }
@@ -547,7 +551,7 @@ impl<A: Aggregator> ValueMap<A> {
     pub fn knows(&self, attributes: &[KeyValue]) -> bool
         ensures { result ≡ knows attributes.now (known_of self.now) }
     {
-        let list = HashedSet::new(self.table.hasher(), SetKey::borrowed(attributes));
+        let list = HashedSet::new(self.table.hasher(), attributes);
         if list.is_empty() {
             return true;
         }
@@ -669,7 +673,7 @@ impl<A: Aggregator> ValueMap<A> {
     pub fn get(&self, attributes: &[KeyValue]) -> Option<&A>
         ensures { option_map (λ found. A.meaning found.now) result ≡ fold_in (draining_points self.now.state) attributes.now }
     {
-        let set = HashedSet::new(self.table.hasher(), SetKey::borrowed(attributes));
+        let set = HashedSet::new(self.table.hasher(), attributes);
         self.table.get(&set)
     }
 

@@ -1,15 +1,13 @@
 -- What an allow-list keeps, one attribute after another.
-use Rattle.std.proofs.Common.{arith, ℕ, suc, ◌+◌, ◌<◌, ◌≤◌, ◌≡◌, ◌==◌, ◌∙◌, List, [], ◌∷◌, Bool, true, false, cond, not, is_some, Option, None, Some, Bor, drop, length, slice_index_or, refl, ap, sym, subst, ◌&&◌}
-use Rattle.std.specs.Option.{option_map}
-use Rattle.std.proofs.lemmas.Bool.Decides.{nat_tests}
+use Rattle.std.proofs.Common.{arith, ℕ, ◌+◌, ◌-◌, ◌<◌, ◌≤◌, ◌≡◌, ◌∙◌, List, [], ◌∷◌, Bool, true, cond, None, Some, drop, length, slice_index_or, refl, ap, sym, subst, ◌&&◌}
 use Rattle.std.proofs.lemmas.List.{drop_more}
 use Rattle.std.proofs.Math.ListN.{drop_of_length-le}
 use Rattle.otel_common.specs.Equality.{set_eq, key_value_eq}
 use Rattle.otel_common.specs.declared.attributes.KeyValue.{KeyValue}
 use Rattle.otel_model_stream.specs.Sets.{AllowList, allowed_part}
-use Rattle.otel_aggregate.specs.sets.Keys.{is_kept, kept_from}
+use Rattle.otel_aggregate.specs.sets.Keys.{is_kept}
 
-kept-cons : (allow : AllowList) (x : KeyValue) (xs : List KeyValue) → allowed_part allow (x ∷ xs) ≡ cond (is_kept allow x.key) (x ∷ allowed_part allow xs) (allowed_part allow xs)
+pub kept-cons : (allow : AllowList) (x : KeyValue) (xs : List KeyValue) → allowed_part allow (x ∷ xs) ≡ cond (is_kept allow x.key) (x ∷ allowed_part allow xs) (allowed_part allow xs)
 kept-cons None x xs = refl
 kept-cons (Some allow) x xs = refl
 
@@ -28,24 +26,17 @@ kept-end allow l i h = ap (allowed_part allow) (drop_of_length-le l h) ∙ nothi
     nothing None = refl
     nothing (Some allow) = refl
 
-abbrev pub Found : Type 0
-Found = Option (Bor KeyValue × Bor (List KeyValue))
-
--- where no attribute is kept, nothing is, and only then
-pub none-kept : (allow : AllowList) (left : List KeyValue) (found : Found) (b : Bool) → left ≡ kept_from allow (option_map (λ p. (p.0.now, p.1.now)) found) → is_some found ≡ not b → b ≡ set_eq [] left
-none-kept allow left None true e h = sym (ap (set_eq []) e)
-none-kept allow left None false e h = absurd (cc)
-none-kept allow left (Some p) true e h = absurd (cc)
-none-kept allow left (Some p) false e h = sym (ap (set_eq []) e)
-
-pub none-long : (allow : AllowList) (left : List KeyValue) (found : Found) (b : Bool) → left ≡ kept_from allow (option_map (λ p. (p.0.now, p.1.now)) found) → is_some found ≡ not b → b ≡ (length left == 0)
-none-long allow left None true e h = sym (ap (λ (l : List KeyValue). length l == 0) e)
-none-long allow left None false e h = absurd (cc)
-none-long allow left (Some p) true e h = absurd (cc)
-none-long allow left (Some p) false e h = sym (ap (λ (l : List KeyValue). length l == 0) e ∙ some (length (allowed_part allow p.1.now)))
+-- what is kept of a list from one attribute earlier on
+pub kept-before : (allow : AllowList) (l : List KeyValue) (left : ℕ) (x : KeyValue) (b : Bool) → 0 < left → left ≤ length l → x ≡ slice_index_or l (left - 1) x → is_kept allow x.key ≡ b
+    → allowed_part allow (drop (left - 1) l) ≡ cond b (x ∷ allowed_part allow (drop left l)) (allowed_part allow (drop left l))
+kept-before allow l left x b some within at e =
+    kept-step allow l (left - 1) x b inside at e ∙ ap (λ (n : ℕ). cond b (x ∷ allowed_part allow (drop n l)) (allowed_part allow (drop n l))) again
   where
-    some : (n : ℕ) → (suc n == 0) ≡ false
-    some n = grind (arith, nat_tests)
+    again : (left - 1) + 1 ≡ left
+    again = omega (arith, some)
+
+    inside : left - 1 < length l
+    inside = omega (arith, some, within)
 
 -- ======== lists compared attribute by attribute ========
 -- two lists from the i-th attribute on

@@ -3,7 +3,7 @@ use Rattle.std.proofs.Common.{ℕ, ◌≡◌, Bool, true, false, cond, ◌||◌,
 use Rattle.std.specs.List.{AllByRecursion, IsDistinct}
 use Rattle.std.specs.Map.{lookup, keys_of, values_of}
 use Rattle.std.specs.Set.{is_member}
-use Rattle.std.specs.Option.{IfSome}
+use Rattle.std.specs.Option.{IfNone, IfSome}
 use Rattle.std.proofs.lemmas.Map.Keys.{IsDistinct-head, IsDistinct-tail}
 use Rattle.std.proofs.lemmas.List.{length-map}
 use Rattle.std.proofs.lemmas.Map.Made.{is_some-lookup, length-le_from_is_member}
@@ -100,10 +100,6 @@ found-canon look none es gs l n laws e = by (lookup (set_eq l) es) refl e
         let k : lookup (set_eq l) es ≡ Some n = cc in
         subst (λ t. lookup (set_eq t) es ≡ Some n) (sym (lookup-fits look l es n k laws.fits).canonical) k
 
-pub first_of-None : (o r : Option ℕ) → first_of o r ≡ None → (o ≡ None) × (r ≡ None)
-first_of-None None r e = (refl, e)
-first_of-None (Some n) r e = absurd (cc)
-
 pub some_first : (a b : Option ℕ) → is_some (first_of a b) ≡ (is_some a || is_some b)
 some_first None b = refl
 some_first (Some n) b = refl
@@ -193,6 +189,16 @@ found-placed look none es gs l None laws e = (tt, tt)
 found-placed look none es gs l (Some n) laws e =
     let there : lookup (set_eq (canon l)) es ≡ Some n = found-canon look none es gs l n laws (sym e) in
     (has-lookup (canon l) look es ∙ ap is_some there, number-found look none es gs (canon l) n laws there)
+
+-- a list whose set isn't found leads to no entry
+pub unfound : (look : Look) (none : ℕ) (es gs : List Keyed) (l : List KeyValue) (o : Option ℕ) → IsConsistent look none es gs → o ≡ lookup (set_eq (canon l)) es
+    → IfNone o ((is_member set_eq (keys_of gs) l || has l (map (entry_at look) es)) ≡ false)
+unfound look none es gs l (Some n) laws e = tt
+unfound look none es gs l None laws e = sym (found-known look es gs l) ∙ ap is_some (lost (found l es gs) refl)
+  where
+    lost : (o : Option ℕ) → found l es gs ≡ o → o ≡ None
+    lost None q = refl
+    lost (Some n) q = let there : lookup (set_eq (canon l)) es ≡ Some n = found-canon look none es gs l n laws q in absurd (cc)
 
 -- what the empty set's slot has
 pub form-kept : {A : Type 0} (meaning : A → Fold) (slots : Slab (Slot A)) (none : ℕ) (es gs : List Keyed) → IsConsistent (look_in meaning slots) none es gs → HasForm meaning (table_at (look_in meaning slots) none es)

@@ -1,21 +1,19 @@
 -- Where a record's entry is, once its set has a place.
-use Rattle.std.proofs.Common.{ℕ, ◌+◌, ◌-◌, ◌^◌, ◌<◌, ◌≡◌, List, [], ◌∷◌, ◌++◌, nat_lt, Bool, true, false, cond, not, ◌||◌, Option, Some, None, refl, ap, arith, subst, sym, ◌∙◌}
+use Rattle.std.proofs.Common.{ℕ, ◌+◌, ◌-◌, ◌^◌, ◌<◌, ◌≡◌, List, [], ◌∷◌, ◌++◌, nat_lt, Bool, true, false, cond, not, ◌||◌, Option, Some, None, append-nil, refl, ap, arith, subst, sym, ◌∙◌}
 use Rattle.std.specs.Map.{lookup, keys_of}
 use Rattle.std.specs.Option.{IfSome}
 use Rattle.std.proofs.lemmas.Bool.{or_parts}
 use Rattle.std.proofs.lemmas.List.Folds.{list_any-append}
-use Rattle.std.proofs.lemmas.List.{map-append}
 use Rattle.otel_common.specs.Canonical.{canon}
 use Rattle.otel_common.specs.Equality.{set_eq}
 use Rattle.otel_common.specs.declared.attributes.KeyValue.{KeyValue}
 use Rattle.otel_model_stream.specs.Folds.{Fold, Sample}
 use Rattle.otel_model_stream.specs.Sets.{AttributeSet, none_set, over_set}
 use Rattle.otel_model_stream.specs.Entries.{Entry, Table, new_entry, is_of, has, number_counted, entries_with_place, entry_for, place, at_entry, write}
-use Rattle.otel_model_stream.specs.Maps.{MapState, with_place, measured_map, bound_to}
-use Rattle.otel_aggregate.specs.value_map.Slots.{Keyed}
-use Rattle.otel_aggregate.specs.value_map.Keyed.{Slotted, IsNew, with_spelling}
+use Rattle.otel_model_stream.specs.Maps.{MapState, with_place, measured_map, measured_list, bound_to}
+use Rattle.otel_aggregate.specs.value_map.Keyed.{Slotted, IsNew}
 use Rattle.otel_aggregate.specs.value_map.Numbers.{Numbers, number_of, KeepNumbers, is_placed, set_named, handles_in, handles_at}
-use Rattle.otel_aggregate.specs.value_map.Contents.{MapContents, IsOverflowAt, IsSound, IsReady, list_of, pending_in, is_new, is_pending, target_of}
+use Rattle.otel_aggregate.specs.value_map.Contents.{MapContents, IsOverflowAt, IsPlan, IsPlanAt, IsSound, IsReady, pending_in, is_new, is_pending, target_of}
 use Rattle.otel_aggregate.specs.declared.value_map.pending.Pending.{Pending}
 use Rattle.otel_aggregate.specs.declared.value_map.pending.Pending.TheVariants.{Nothing, At, New}
 use Rattle.otel_aggregate.proofs.value_map.CanonicalSets.{some-canon}
@@ -76,6 +74,24 @@ measured-by m s v used p =
     ap (λ (es : List Entry). record m { table = at_entry (entry_for s es) (write v) (record { none = m.table.none; entries = es }) }) (sym p.state)
     ∙ ap (λ (u : AttributeSet). record m { table = at_entry u (write v) m.table }) p.goal
 
+-- one of a list that leads to an entry writes there, and no list more is known
+pub measured-at : (t after : Slotted) (limit : ℕ) (empty : Fold) (l : List KeyValue) (n : ℕ) (v : Sample) → IsPlanAt t l n
+    → ((s : AttributeSet) → number_of s t.numbers ≡ Some n → after.table ≡ at_entry s (write v) t.table) → after.aliases ≡ t.aliases
+    → record { map_state = record { limit = limit; empty = empty; table = after.table }; given = keys_of after.aliases }
+    ≡ measured_list l v (record { map_state = record { limit = limit; empty = empty; table = t.table }; given = keys_of t.aliases })
+measured-at t after limit empty l n v plan written aliases =
+    let m : MapState = record { limit = limit; empty = empty; table = t.table } in
+    let p : IsPlan t (nat_lt (number_counted t.table.entries) limit) l (At n) = plan (nat_lt (number_counted t.table.entries) limit) in
+    let named : Some (set_named n t.numbers) ≡ Some (canon l) = p.pending in
+    let same : set_named n t.numbers ≡ canon l = cc in
+    let there = p.sound true refl in
+    let number : number_of (canon l) t.numbers ≡ Some n = subst (λ s. number_of s t.numbers ≡ Some n) same there.0 in
+    let placed : is_placed (canon l) t.table.entries ≡ true = subst (λ s. is_placed s t.table.entries ≡ true) same there.1 in
+    let state : measured_map (canon l) v m ≡ record m { table = after.table } =
+    measured-by m (canon l) v (canon l) (place-there limit empty (canon l) t.table.entries placed) ∙ ap (λ (x : Table). record m { table = x }) (sym (written (canon l) number)) in
+    let given = ap keys_of aliases ∙ sym (append-nil (keys_of t.aliases)) ∙ ap (λ (ls : List (List KeyValue)). keys_of t.aliases ++ ls) p.spelling in
+    λ i. record { map_state = sym state i; given = given i }
+
 -- a record of the overflow set is one of the list, where the list uses the overflow entry
 pub target-measured : (over : Option ℕ) (l : List KeyValue) (v : Sample) (h : MapContents) → set_eq l none_set ≡ false → IfSome over (IsOverflowAt h) → measured_map (target_of over l h.state.table.entries) v h.state ≡ measured_map (canon l) v h.state
 target-measured None l v h some over = refl
@@ -125,15 +141,6 @@ new-there t few room (New set list) s sound is e =
 -- the key that was made in advance
 pub made_key : (o : Option AttributeSet) (key : AttributeSet) → IfSome o (λ k. k ≡ over_set) → o ≡ Some key → key ≡ over_set
 made_key o key h e = let P : Option AttributeSet → Type 0 = λ p. IfSome p (λ k. k ≡ over_set) in subst P e h
-
--- a list more
-pub keys-spelled : (list : Option (List KeyValue)) (n : ℕ) (gs : List Keyed) → keys_of (with_spelling list n gs) ≡ keys_of gs ++ list_of list
-keys-spelled None n gs = sym (plain (keys_of gs))
-  where
-    plain : (l : List (List KeyValue)) → l ++ [] ≡ l
-    plain [] = refl
-    plain (x ∷ l) = ap (λ (r : List (List KeyValue)). x ∷ r) (plain l)
-keys-spelled (Some l) n gs = map-append (λ (e : Keyed). e.0) gs ((l, n) ∷ [])
 
 -- the numbers with one more
 pub numbers-added : (old new : Numbers) (s : AttributeSet) (n : ℕ) → new.none ≡ old.none → new.sets ≡ old.sets ++ (s, n) ∷ [] → IsNew old.sets s → KeepNumbers old new × (number_of s new ≡ Some n)

@@ -2,7 +2,9 @@
 
 ghost use Rattle.std.specs.Prelude.{◌≡◌, List, ℕ, IfOk, IsOkUnless};
 ghost use Rattle.std.specs.List.{list_any};
+ghost use Rattle.std.specs.Option.{option_copied};
 ghost use Rattle.otel_common.specs.Equality.{bytes_eq};
+ghost use Rattle.otel_aggregate.specs.sets.Keys.{is_kept};
 ghost use Rattle.otel_aggregate.specs.sets.Sorted.{HasKeysOf};
 
 use otel_common::faults::Fault;
@@ -77,5 +79,15 @@ impl AllowedKeys {
             None => self.keys.as_slice().iter().any(|allowed| key == allowed),
             Some(sorted) => sorted.binary_search(key).is_ok(),
         }
+    }
+}
+
+/// Tells whether attributes with this key are kept. Without an allow-list, all attributes are.
+pub fn is_kept(allow: Option<&AllowedKeys>, key: &Key) -> bool
+    ensures { result ≡ is_kept (option_copied allow.entry) key.now }
+{
+    match allow {
+        None => true,
+        Some(allow) => allow.contains(key),
     }
 }

@@ -1,64 +1,83 @@
 //! Sets and keys that carry their hash, to be looked up in tables and to stand in them.
 
 ghost use Rattle.std.specs.Prelude.{◌≡◌, ◌==◌, IfOk, IsOkUnless, length};
-ghost use Rattle.std.specs.Cmp.{decided, partial_equiv_from_equiv};
+ghost use Rattle.std.specs.Cmp.{decided, on_equiv, partial_equiv_from_equiv, unsigned_Decides};
+ghost use Rattle.std.specs.Ordering.{on};
 ghost use Rattle.std.specs.Hash as fed;
-ghost use Rattle.std.specs.Hash.{same_Alike};
+ghost use Rattle.std.specs.Hash.{on_Alike, same_Alike};
+ghost use Rattle.otel_common.specs.Canonical.{canon};
 ghost use Rattle.otel_common.specs.Equality.{set_eq};
+ghost use Rattle.otel_aggregate.specs.sets.Keys.{shown};
 ghost use Rattle.otel_aggregate.specs.value_map.Hashed.{IsHashedBy, hashed_eq, hashed_eq-Decides};
 
-use crate::sets::set_key::{SetKey, same_lists};
+use crate::sets::listed::{Listed, same_lists};
 use crate::value_map::hashing::SetHashBuilder;
 use indexmap::Equivalent;
 use otel_common::attributes::KeyValue;
 use otel_common::faults::Fault;
 use otel_common::lists::SharedItems;
 use std::alloc::Global;
-use std::hash::{BuildHasher, Hash, Hasher};
+use std::hash::{Hash, Hasher};
 use std::marker::Model;
 
 /// A set of attributes, or a list of them as given, that is looked up, with its hash and what it was hashed with. It is
 /// hashed once for all tables in which it is looked up or to which it is added.
+///
+/// In a table it stands for the key that has its hash and its attributes. Among themselves such sets are told apart by
+/// their hashes alone.
 #[derive(Drop)]
 pub struct HashedSet<'a> {
     hasher: SetHashBuilder,
     hash: u64,
-    set: SetKey<'a>,
+    set: Listed<'a>,
 }
 
 impl<'a> Model for HashedSet<'a> {
     ghost use Rattle.std.specs.Prelude.{◌≡◌};
-    ghost use Rattle.otel_model_stream.specs.Sets.{AttributeSet};
+    ghost use Rattle.otel_aggregate.specs.declared.value_map.hashed_key.HashedKey.{HashedKey};
+    ghost use Rattle.otel_aggregate.specs.sets.Keys.{attributes_of};
     ghost use Rattle.otel_aggregate.specs.value_map.Hashed.{fed_set};
 
-    ghost Value = { AttributeSet };
+    ghost Value = { HashedKey };
 
-    ghost view = { λ h. h.set };
+    ghost view = { λ h. record { hash = h.hash; key = attributes_of h.set } };
 
-    ghost invariant = { λ h. h.hash ≡ (fed_set h.hasher h.set).state };
+    ghost invariant = { λ h. h.hash ≡ (fed_set h.hasher (attributes_of h.set)).state };
 }
 
 impl<'a> HashedSet<'a> {
-    /// Hashes a set.
+    /// Hashes a list, as it is given.
     #[inline(always)]
-    pub fn new(hasher: SetHashBuilder, set: SetKey<'a>) -> HashedSet<'a>
-        ensures { result ≡ set.entry }
+    pub fn new(hasher: SetHashBuilder, list: &'a [KeyValue]) -> HashedSet<'a>
+        ensures hashed { IsHashedBy hasher result }
+        ensures key { result.key ≡ list.now }
     {
-        let hash = hasher.hash_one(&set);
+        let set = Listed::list(list);
+        let hash = set.hash(hasher);
+        HashedSet { hasher, hash, set }
+    }
+
+    /// Hashes the attributes that references lead to.
+    pub fn referenced(hasher: SetHashBuilder, references: &'a [&'a KeyValue]) -> HashedSet<'a>
+        ensures hashed { IsHashedBy hasher result }
+        ensures key { result.key ≡ shown references.now }
+    {
+        let set = Listed::references(references);
+        let hash = set.hash(hasher);
         HashedSet { hasher, hash, set }
     }
 
     /// Whether the set is empty.
     #[inline(always)]
     pub fn is_empty(&self) -> bool
-        ensures { result ≡ (length self.now == 0) }
+        ensures { result ≡ (length self.now.key == 0) }
     {
         self.set.is_empty()
     }
 
     /// A copy of the set with the same hash.
     pub fn copied(&self, alloc: Global) -> Result<OwnedSet, Fault>
-        ensures copy { IfOk result (λ made. made ≡ self.now) }
+        ensures copy { IfOk result (λ made. made ≡ self.now.key) }
         ensures only_memory { IsOkUnless result Fault.OutOfMemory }
     {
         let set = self.set.copied(alloc)?;
@@ -69,28 +88,28 @@ impl<'a> HashedSet<'a> {
         })
     }
 
-    /// The set.
-    #[inline(always)]
-    pub fn set(&self) -> &SetKey<'a>
-        ensures { result.now ≡ self.now }
+    /// Whether the set is its own canonical form.
+    pub fn is_canonical(&self) -> bool
+        ensures { result ≡ set_eq (canon self.now.key) self.now.key }
     {
-        &self.set
+        self.set.is_canonical()
     }
 
-    /// What the set is looked up by in a table that hashes with this hasher.
+    /// The same set with the hash of this hasher.
     #[inline(always)]
-    pub(crate) fn query(&self, hasher: SetHashBuilder) -> SetQuery<'_>
+    pub(crate) fn hashed_by(&self, hasher: SetHashBuilder) -> HashedSet<'a>
         ensures hashed { IsHashedBy hasher result }
-        ensures key { result.key ≡ self.now }
+        ensures key { result.key ≡ self.now.key }
     {
         let hash = if hasher.is_same(&self.hasher) {
             self.hash
         } else {
-            hasher.hash_one(&self.set)
+            self.set.hash(hasher)
         };
-        SetQuery {
+        HashedSet {
+            hasher,
             hash,
-            set: &self.set,
+            set: self.set,
         }
     }
 }
@@ -131,18 +150,18 @@ impl OwnedSet {
     pub fn new(hasher: SetHashBuilder, set: SharedItems<KeyValue>) -> OwnedSet
         ensures { result ≡ set }
     {
-        let hash = hasher.hash_one(&SetKey::borrowed(set.as_slice()));
+        let hash = Listed::list(set.as_slice()).hash(hasher);
         OwnedSet { hasher, hash, set }
     }
 
     /// The same set, to be looked up.
     pub fn lent(&self) -> HashedSet<'_>
-        ensures { result ≡ self.now }
+        ensures { result.key ≡ self.now }
     {
         HashedSet {
             hasher: self.hasher,
             hash: self.hash,
-            set: SetKey::borrowed(self.set.as_slice()),
+            set: Listed::list(self.set.as_slice()),
         }
     }
 
@@ -166,7 +185,7 @@ impl OwnedSet {
         if hasher.is_same(&own) {
             return HashedKey { hash, key: set };
         }
-        let hash = hasher.hash_one(&SetKey::borrowed(set.as_slice()));
+        let hash = Listed::list(set.as_slice()).hash(hasher);
         HashedKey { hash, key: set }
     }
 }
@@ -216,7 +235,7 @@ impl<'a> GivenAttributes<'a> {
     pub fn hashed(hasher: SetHashBuilder, attributes: &'a [KeyValue]) -> GivenAttributes<'a>
         ensures { result ≡ attributes.now }
     {
-        let hash = hasher.hash_one(&SetKey::borrowed(attributes));
+        let hash = Listed::list(attributes).hash(hasher);
         GivenAttributes {
             attributes,
             hashed: Some((hasher, hash)),
@@ -234,12 +253,15 @@ impl<'a> GivenAttributes<'a> {
     /// The attributes with a hash: the one that they have, or else that of this hasher.
     #[inline(always)]
     pub fn list(&self, hasher: SetHashBuilder) -> HashedSet<'a>
-        ensures { result ≡ self.now }
+        ensures { result.key ≡ self.now }
     {
-        let set = SetKey::borrowed(self.attributes);
         match self.hashed {
-            Some((hasher, hash)) => HashedSet { hasher, hash, set },
-            None => HashedSet::new(hasher, set),
+            Some((hasher, hash)) => HashedSet {
+                hasher,
+                hash,
+                set: Listed::list(self.attributes),
+            },
+            None => HashedSet::new(hasher, self.attributes),
         }
     }
 }
@@ -293,39 +315,24 @@ impl Hash for HashedKey {
     }
 }
 
-/// What a set is looked up by in a table, where it stands for the key that has its hash and its attributes.
-#[derive(Drop)]
-pub(crate) struct SetQuery<'a> {
-    hash: u64,
-    set: &'a SetKey<'a>,
-}
+impl<'a> PartialEq for HashedSet<'a> {
+    ghost eq = { on (λ k. k.hash) ◌==◌ };
 
-impl<'a> Model for SetQuery<'a> {
-    ghost use Rattle.otel_aggregate.specs.declared.value_map.hashed_key.HashedKey.{HashedKey};
+    ghost laws = { partial_equiv_from_equiv (on_equiv (λ k. k.hash) (decided ◌==◌ unsigned_Decides)) };
 
-    ghost Value = { HashedKey };
-
-    ghost view = { λ q. record { hash = q.hash; key = q.set.now } };
-}
-
-impl<'a> PartialEq for SetQuery<'a> {
-    ghost eq = { hashed_eq };
-
-    ghost laws = { partial_equiv_from_equiv (decided hashed_eq hashed_eq-Decides) };
-
-    fn eq(&self, other: &SetQuery<'a>) -> bool {
-        self.hash == other.hash && self.set == other.set
+    fn eq(&self, other: &HashedSet<'a>) -> bool {
+        self.hash == other.hash
     }
 }
 
-impl<'a> Eq for SetQuery<'a> {
-    ghost laws = { decided hashed_eq hashed_eq-Decides };
+impl<'a> Eq for HashedSet<'a> {
+    ghost laws = { on_equiv (λ k. k.hash) (decided ◌==◌ unsigned_Decides) };
 }
 
-impl<'a> Hash for SetQuery<'a> {
+impl<'a> Hash for HashedSet<'a> {
     ghost hash_input = { λ k. fed.u64 k.hash };
 
-    ghost respects_eq = { (same_Alike (λ k. fed.u64 k.hash) hashed_eq-Decides).fed };
+    ghost respects_eq = { (on_Alike (λ k. k.hash) (same_Alike fed.u64 unsigned_Decides)).fed };
 
     #[inline]
     fn hash<H: Hasher>(&self, state: &mut H) {
@@ -333,7 +340,7 @@ impl<'a> Hash for SetQuery<'a> {
     }
 }
 
-impl<'q, 'a> Equivalent<HashedKey> for &'q SetQuery<'a> {
+impl<'q, 'a> Equivalent<HashedKey> for &'q HashedSet<'a> {
     ghost equivalent = { λ q. hashed_eq q.now };
 
     ghost respects_hash = { λ q. (same_Alike (λ k. fed.u64 k.hash) hashed_eq-Decides).fed q.now };

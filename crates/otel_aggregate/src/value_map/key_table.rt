@@ -11,7 +11,7 @@ ghost use Rattle.otel_aggregate.specs.value_map.Slots.{look_in};
 ghost use Rattle.otel_aggregate.specs.declared.value_map.hashing.SetHashBuilder.{SetHashBuilder};
 
 use crate::aggregators::aggregator::Aggregator;
-use crate::value_map::hashed_key::{HashedKey, HashedSet, OwnedSet, SetQuery};
+use crate::value_map::hashed_key::{HashedKey, HashedSet, OwnedSet};
 use crate::value_map::hashing::SetHashBuilder;
 use crate::value_map::key_hasher::KeyHashBuilder;
 use crate::value_map::slots::Slot;
@@ -64,7 +64,7 @@ impl Drop for KeyTable {
 
 /// The number that a key leads to, where all keys are hashed alike.
 #[inline(always)]
-fn number_in(numbers: &Numbered, key: &SetQuery) -> Option<usize>
+fn number_in(numbers: &Numbered, key: &HashedSet) -> Option<usize>
     requires { (b : SetHashBuilder) × IsHashedBy b key.now × AllByRecursion (λ e. IsHashedBy b e.0) numbers.now.entries }
     ensures { result ≡ lookup (set_eq key.now.key) (map plain numbers.now.entries) }
 {
@@ -123,17 +123,17 @@ impl KeyTable {
 
     /// The number that a set leads to.
     pub fn find_set(&self, set: &HashedSet) -> Option<usize>
-        ensures { result ≡ lookup (set_eq set.now) self.now.sets }
+        ensures { result ≡ lookup (set_eq set.now.key) self.now.sets }
     {
-        number_in(&self.sets, &set.query(self.hasher))
+        number_in(&self.sets, &set.hashed_by(self.hasher))
     }
 
     /// The number that a list leads to, as a set or else as given.
     #[inline(always)]
     pub fn find(&self, list: &HashedSet) -> Option<usize>
-        ensures { result ≡ found list.now self.now.sets self.now.aliases }
+        ensures { result ≡ found list.now.key self.now.sets self.now.aliases }
     {
-        let key = list.query(self.hasher);
+        let key = list.hashed_by(self.hasher);
         match number_in(&self.sets, &key) {
             Some(number) => Some(number),
             None if self.aliases.is_empty() => None,

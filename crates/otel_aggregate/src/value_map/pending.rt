@@ -6,15 +6,15 @@ ghost use Rattle.otel_common.specs.Canonical.{canon};
 ghost use Rattle.otel_common.specs.Equality.{set_eq};
 ghost use Rattle.otel_model_stream.specs.Entries.{has};
 ghost use Rattle.otel_model_stream.specs.Sets.{allowed_part, over_set};
+ghost use Rattle.otel_aggregate.specs.value_map.Numbers.{is_placed};
 ghost use Rattle.otel_aggregate.specs.value_map.Slots.{kept_of, new_kept};
 ghost use Rattle.otel_aggregate.specs.value_map.Contents.{IsOverflow, IsPlanAt, IsPlanFor, target_of, is_new, is_pending, leads};
 ghost use Rattle.otel_aggregate.specs.declared.value_map.pending.Pending.TheVariants.{Nothing, At};
 
 use crate::aggregators::aggregator::Aggregator;
 use crate::sets::allowed_keys::AllowedKeys;
-use crate::sets::references::{References, few_references, many_references};
-use crate::sets::set_attributes::SetAttributes;
-use crate::sets::set_key::SetKey;
+use crate::sets::forms::is_form_of;
+use crate::sets::references::{few_references, many_references};
 use crate::value_map::hashed_key::{HashedSet, OwnedSet};
 use crate::value_map::hashing::SetHashBuilder;
 use crate::value_map::sets::overflow_set;
@@ -176,13 +176,30 @@ fn give_up_added(added: &mut Option<(OwnedSet, Option<OwnedSet>)>)
 /// The number of the entry to which a list, as given, leads. Takes no memory.
 #[inline(always)]
 pub fn led_to<A: Aggregator>(table: &Table<A>, list: &HashedSet) -> Option<usize>
-    ensures plan { IfSome result (IsPlanAt table.now list.now) }
-    ensures unled { IfNone result (leads list.now table.now ≡ false) }
+    ensures plan { IfSome result (IsPlanAt table.now list.now.key) }
+    ensures unled { IfNone result (leads list.now.key table.now ≡ false) }
 {
     if list.is_empty() {
         return Some(table.none());
     }
     table.find(list)
+}
+
+/// The number of the entry to which the canonical form of what is kept of the attributes leads, which isn't made: it
+/// goes over all sets of the table, and takes no memory.
+pub fn form_led_to<A: Aggregator>(
+    table: &Table<A>,
+    allow: Option<&AllowedKeys>,
+    attributes: &[KeyValue],
+) -> Option<usize>
+    ensures plan { IfSome result (IsPlanAt table.now (allowed_part (option_copied allow.entry) attributes.now)) }
+    ensures unled { IfNone result (leads (allowed_part (option_copied allow.entry) attributes.now) table.now ≡ false) }
+    ensures unplaced { IfNone result (is_placed (canon (allowed_part (option_copied allow.entry) attributes.now)) table.now.table.entries ≡ false) }
+{
+    if is_form_of(&[], allow, attributes) {
+        return Some(table.none());
+    }
+    table.find_form(allow, attributes)
 }
 
 /// What a record is to do with a list that, as given, leads to no entry and isn't canonical. `few` says whether the
@@ -197,11 +214,11 @@ fn plan_sorted<A: Aggregator>(
     sorted: &HashedSet,
 ) -> Result<Pending, Fault>
     requires overflow { IfSome overflow (IsOverflow few table.now.table.entries table.now.numbers) }
-    requires unled { leads list.now table.now ≡ false }
-    requires other { set_eq (canon list.now) list.now ≡ false }
-    requires sorted { sorted.now ≡ canon list.now }
-    ensures plan { IfOk result (λ plan. IsPlanFor table.now few list.now (target_of overflow list.now table.now.table.entries) plan) }
-    ensures placed { IsTrue (has (canon list.now) table.now.table.entries) → IsOk result }
+    requires unled { leads list.now.key table.now ≡ false }
+    requires other { set_eq (canon list.now.key) list.now.key ≡ false }
+    requires sorted { sorted.now.key ≡ canon list.now.key }
+    ensures plan { IfOk result (λ plan. IsPlanFor table.now few list.now.key (target_of overflow list.now.key table.now.table.entries) plan) }
+    ensures placed { IsTrue (has (canon list.now.key) table.now.table.entries) → IsOk result }
     ensures only_memory { IsOkUnless result Fault.OutOfMemory }
 {
     if let Some(number) = table.find_set(sorted) {
@@ -219,7 +236,7 @@ fn plan_sorted<A: Aggregator>(
 }
 
 /// Does what `plan` does where there are too many keys for sorting without memory. If memory for sorting is refused, the
-/// canonical form is looked up without being made, in quadratic time.
+/// canonical form is looked for without being made.
 fn plan_many<A: Aggregator>(
     alloc: Global,
     table: &Table<A>,
@@ -230,31 +247,25 @@ fn plan_many<A: Aggregator>(
     attributes: &[KeyValue],
 ) -> Result<Pending, Fault>
     requires overflow { IfSome overflow (IsOverflow few table.now.table.entries table.now.numbers) }
-    requires list { list.now ≡ allowed_part (option_copied allow) attributes.now }
-    requires unled { leads list.now table.now ≡ false }
-    requires other { set_eq (canon list.now) list.now ≡ false }
-    ensures plan { IfOk result (λ plan. IsPlanFor table.now few list.now (target_of overflow list.now table.now.table.entries) plan) }
-    ensures placed { IsTrue (has (canon list.now) table.now.table.entries) → IsOk result }
+    requires list { list.now.key ≡ allowed_part (option_copied allow) attributes.now }
+    requires unled { leads list.now.key table.now ≡ false }
+    requires other { set_eq (canon list.now.key) list.now.key ≡ false }
+    ensures plan { IfOk result (λ plan. IsPlanFor table.now few list.now.key (target_of overflow list.now.key table.now.table.entries) plan) }
+    ensures placed { IsTrue (has (canon list.now.key) table.now.table.entries) → IsOk result }
     ensures only_memory { IsOkUnless result Fault.OutOfMemory }
 {
     match many_references(alloc, allow, attributes) {
         Ok(references) => {
-            let sorted = References {
-                slice: references.as_slice(),
-            };
-            let sorted = HashedSet::new(table.hasher(), SetKey::referenced(&sorted));
+            let sorted = HashedSet::referenced(table.hasher(), references.as_slice());
             plan_sorted(alloc, table, few, overflow, list, &sorted)
         }
-        Err(fault) => {
-            let sorted = SetAttributes::canonical(allow, attributes);
-            match table.find_set(&HashedSet::new(table.hasher(), SetKey::iterated(&sorted))) {
+        Err(fault) => match table.find_form(allow, attributes) {
+            Some(number) => Ok(Pending::At(number)),
+            None => match overflow {
                 Some(number) => Ok(Pending::At(number)),
-                None => match overflow {
-                    Some(number) => Ok(Pending::At(number)),
-                    None => Err(fault),
-                },
-            }
-        }
+                None => Err(fault),
+            },
+        },
     }
 }
 
@@ -275,13 +286,13 @@ pub fn plan<A: Aggregator>(
     attributes: &[KeyValue],
 ) -> Result<Pending, Fault>
     requires overflow { IfSome overflow (IsOverflow few table.now.table.entries table.now.numbers) }
-    requires list { list.now ≡ allowed_part (option_copied allow) attributes.now }
-    requires unled { leads list.now table.now ≡ false }
-    ensures plan { IfOk result (λ plan. IsPlanFor table.now few list.now (target_of overflow list.now table.now.table.entries) plan) }
-    ensures placed { IsTrue (has (canon list.now) table.now.table.entries) → IsOk result }
+    requires list { list.now.key ≡ allowed_part (option_copied allow) attributes.now }
+    requires unled { leads list.now.key table.now ≡ false }
+    ensures plan { IfOk result (λ plan. IsPlanFor table.now few list.now.key (target_of overflow list.now.key table.now.table.entries) plan) }
+    ensures placed { IsTrue (has (canon list.now.key) table.now.table.entries) → IsOk result }
     ensures only_memory { IsOkUnless result Fault.OutOfMemory }
 {
-    if list.set().is_canonical() {
+    if list.is_canonical() {
         if let Some(number) = overflow {
             return Ok(Pending::At(number));
         }
@@ -292,10 +303,7 @@ pub fn plan<A: Aggregator>(
     }
     match few_references(allow, attributes) {
         Some(references) => {
-            let sorted = References {
-                slice: references.as_slice(),
-            };
-            let sorted = HashedSet::new(table.hasher(), SetKey::referenced(&sorted));
+            let sorted = HashedSet::referenced(table.hasher(), references.as_slice());
             plan_sorted(alloc, table, few, overflow, list, &sorted)
         }
         None => plan_many(alloc, table, few, overflow, list, allow, attributes),

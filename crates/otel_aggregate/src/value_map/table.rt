@@ -1,28 +1,31 @@
 //! Entries in slots, found by their sets or by the lists that admitted them.
 
 ghost use Rattle.std.specs.Prelude.{◌≡◌, ◌<◌, ◌≤◌, ◌+◌, ◌-◌, ◌*◌, ◌^◌, ◌∷◌, [], ◌++◌, ◌||◌, ◌&&◌, None, Some, IfOk, IsOk, OnOk, IsOkUnless, IfSome, map, filter, is_some, length, cond, nat_eq, nat_le, false, true, ℕ};
-ghost use Rattle.std.specs.Option.{option_map};
+ghost use Rattle.std.specs.Option.{IfNone, option_copied, option_map};
 ghost use Rattle.std.specs.Map.{lookup, keys_of, values_of};
 ghost use Rattle.std.specs.Set.{is_member};
 ghost use Rattle.slab.specs.Slab.{slab_len};
 ghost use Rattle.otel_common.specs.Canonical.{canon};
 ghost use Rattle.otel_common.specs.Equality.{set_eq};
 ghost use Rattle.otel_model_stream.specs.Folds.{wrap};
-ghost use Rattle.otel_model_stream.specs.Sets.{AttributeSet, none_set, over_set};
+ghost use Rattle.otel_model_stream.specs.Sets.{AttributeSet, allowed_part, none_set, over_set};
 ghost use Rattle.otel_model_stream.specs.Observed.{fold_in};
 ghost use Rattle.otel_model_stream.specs.Totals.{points_total};
 ghost use Rattle.otel_model_stream.specs.Entries.{point_of_entry, new_entry, has, write, take_handle, drop_handle, at_entry, new_table, evicted_table, drained_table, points, number_counted};
 ghost use Rattle.std.specs.List.{AllByRecursion, IsDistinct};
 ghost use Rattle.otel_aggregate.specs.value_map.Keyed.{Fits, found, IsNew, IsSpelling, with_spelling};
 ghost use Rattle.otel_aggregate.specs.value_map.Numbers.{number_of, handles_at, entry_without_handles, without_handles, AreNamed, AreNumbered, KeepLeft, IsNumberOf, is_number};
-ghost use Rattle.otel_aggregate.specs.value_map.Slots.{HasForm, SameLook, look_in, kept_of, changed_each, left_of, entry_of, entry_at, number_updated};
+ghost use Rattle.otel_aggregate.specs.value_map.Slots.{HasForm, Look, SameLook, look_in, kept_of, changed_each, left_of, entry_of, entry_at, number_updated};
 
 use crate::aggregators::aggregator::Aggregator;
+use crate::sets::allowed_keys::AllowedKeys;
+use crate::sets::forms::is_form_of;
 use crate::value_map::hashed_key::{HashedSet, OwnedSet};
 use crate::value_map::hashing::SetHashBuilder;
 use crate::value_map::key_table::KeyTable;
 use crate::value_map::maker::PointMaker;
 use crate::value_map::slots::{Slot, fill, forget, free, hold, release, settle, touch};
+use otel_common::attributes::KeyValue;
 use otel_common::faults::Fault;
 use otel_common::lists::SharedItems;
 use slab::Slab;
@@ -257,6 +260,19 @@ fn copy_slot<A: Aggregator>(alloc: Global, slot: &Slot<A>) -> Result<Slot<A>, Fa
     })
 }
 
+/// The number of the first set that is the canonical form of what the allow-list keeps of a list.
+fn form_in(keys: &KeyTable, allow: Option<&AllowedKeys>, list: &[KeyValue]) -> Option<usize>
+    requires { (look : Look) × AllByRecursion (Fits look) keys.now.sets }
+    ensures { result ≡ lookup (set_eq (canon (allowed_part (option_copied allow.entry) list.now))) keys.now.sets }
+{
+    for (set, number) in keys.sets() {
+        if is_form_of(set.key().as_slice(), allow, list) {
+            return Some(*number);
+        }
+    }
+    None
+}
+
 impl<A: Aggregator> Table<A> {
     /// Makes a table with no entry but that of the empty set, whose aggregator has no records. Takes memory for that
     /// one slot.
@@ -319,20 +335,29 @@ impl<A: Aggregator> Table<A> {
 
     /// The number that a set leads to.
     pub fn find_set(&self, set: &HashedSet) -> Option<usize>
-        ensures number { result ≡ lookup (set_eq set.now) self.now.numbers.sets }
-        ensures placed { is_some result ≡ has set.now self.now.table.entries }
-        ensures named { IfSome result (λ n. IsNumberOf set.now n self.now.numbers) }
+        ensures number { result ≡ lookup (set_eq set.now.key) self.now.numbers.sets }
+        ensures placed { is_some result ≡ has set.now.key self.now.table.entries }
+        ensures named { IfSome result (λ n. IsNumberOf set.now.key n self.now.numbers) }
     {
         self.keys.find_set(set)
+    }
+
+    /// The number of the set that is the canonical form of what the allow-list keeps of a list. It goes over all sets.
+    pub fn find_form(&self, allow: Option<&AllowedKeys>, list: &[KeyValue]) -> Option<usize>
+        ensures placed { is_some result ≡ has (canon (allowed_part (option_copied allow.entry) list.now)) self.now.table.entries }
+        ensures named { IfSome result (λ n. IsNumberOf (canon (allowed_part (option_copied allow.entry) list.now)) n self.now.numbers) }
+        ensures unknown { IfNone result ((is_member set_eq (keys_of self.now.aliases) (allowed_part (option_copied allow.entry) list.now) || has (allowed_part (option_copied allow.entry) list.now) self.now.table.entries) ≡ false) }
+    {
+        form_in(&self.keys, allow, list)
     }
 
     /// The number that a list leads to as given: as a set, or as the list that admitted one.
     #[inline(always)]
     pub fn find(&self, list: &HashedSet) -> Option<usize>
-        ensures number { result ≡ found list.now self.now.numbers.sets self.now.aliases }
-        ensures known { is_some result ≡ (is_member set_eq (keys_of self.now.aliases) list.now || has list.now self.now.table.entries) }
-        ensures placed { IfSome result (λ _. has (canon list.now) self.now.table.entries ≡ true) }
-        ensures named { IfSome result (λ n. IsNumberOf (canon list.now) n self.now.numbers) }
+        ensures number { result ≡ found list.now.key self.now.numbers.sets self.now.aliases }
+        ensures known { is_some result ≡ (is_member set_eq (keys_of self.now.aliases) list.now.key || has list.now.key self.now.table.entries) }
+        ensures placed { IfSome result (λ _. has (canon list.now.key) self.now.table.entries ≡ true) }
+        ensures named { IfSome result (λ n. IsNumberOf (canon list.now.key) n self.now.numbers) }
     {
         self.keys.find(list)
     }
@@ -480,7 +505,7 @@ impl<A: Aggregator> Table<A> {
 
     /// The aggregator of a set as a draining collection would show it, or `None` if it would show no point of the set.
     pub fn get(&self, set: &HashedSet) -> Option<&A>
-        ensures { option_map (λ found. A.meaning found.now) result ≡ fold_in (points true self.now.table) set.now }
+        ensures { option_map (λ found. A.meaning found.now) result ≡ fold_in (points true self.now.table) set.now.key }
     {
         if set.is_empty() {
             return shown_in(&self.slots, self.none);

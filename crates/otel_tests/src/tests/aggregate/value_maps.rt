@@ -7,7 +7,9 @@ use otel_aggregate::aggregators::assign::Assign;
 use otel_aggregate::aggregators::buckets::{Buckets, counted_once};
 use otel_aggregate::aggregators::number::Number;
 use otel_aggregate::sets::allowed_keys::AllowedKeys;
-use otel_aggregate::sets::set_attributes::{SetAttributes, copies_of, same_attributes};
+use otel_aggregate::sets::forms::is_form_of;
+use otel_aggregate::sets::listed::Listed;
+use otel_aggregate::sets::references::references_to;
 use otel_common::faults::Fault;
 use std::fmt::{Debug, Display};
 
@@ -76,8 +78,8 @@ fn an_allow_list_drops_other_keys(rt: HostRuntime) {
         let allow = allow.expect(&rt, listed);
         let given = attributes(alloc, set).expect(&rt, set);
         let left = attributes(alloc, left).expect(&rt, left);
-        let kept = copies_of(alloc, SetAttributes::kept(Some(&allow), &given)).expect(&rt, set);
-        assert!(rt; kept == left, "{set}");
+        let kept = references_to(alloc, Some(&allow), &given).expect(&rt, set);
+        assert!(rt; Listed::references(&kept).is_list(&left), "{set}");
     }
 }
 
@@ -94,10 +96,6 @@ fn a_canonical_form_is_seen_without_being_made(rt: HostRuntime) {
     for (listed, form, is_form) in FORMS {
         let list = attributes(alloc, listed).expect(&rt, listed);
         let form = attributes(alloc, form).expect(&rt, form);
-        let is_seen = same_attributes(
-            SetAttributes::canonical(None, &list),
-            SetAttributes::kept(None, &form),
-        );
-        assert!(rt; is_seen == *is_form, "{listed}");
+        assert!(rt; is_form_of(&form, None, &list) == *is_form, "{listed}");
     }
 }

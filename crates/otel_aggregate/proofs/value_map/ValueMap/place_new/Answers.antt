@@ -66,9 +66,9 @@ returns-then-self-clause-numbers g c =
 pub add-requires-2-clause-new : goal.add-requires-2-clause-new
 add-requires-2-clause-new g c =
     let sets = c.self.inside.table.numbers.sets in
-    let over : c.lent.result ≡ over_set = c.lent.ensures ∙ made_key c.self.inside.spare_key c.unwrap-overflow.result.now c.self.invariant.2 (sym c.as_ref.ensures.value ∙ ap option_copied c.unwrap-overflow.ensures) in
+    let over : c.lent.result.key ≡ over_set = c.lent.ensures ∙ made_key c.self.inside.spare_key c.unwrap-overflow.result.now c.self.invariant.2 (sym c.as_ref.ensures.value ∙ ap option_copied c.unwrap-overflow.ensures) in
     let key : c.unwrap-key.result ≡ over_set = made_key c.self.inside.spare_key c.unwrap-key.result c.self.invariant.2 (sym c.take-2.ensures.value ∙ c.unwrap-key.ensures) in
-    subst (IsNew sets) (sym key) (over_new sets c.lent.result over c.in_default.ensures.number)
+    subst (IsNew sets) (sym key) (over_new sets c.lent.result.key over c.in_default.ensures.number)
 
 pub returns-clause-state : goal.returns-clause-state
 returns-clause-state g c = λ s e.
@@ -80,7 +80,7 @@ returns-clause-state g c = λ s e.
     let ready : IsReady t _ _ set c.in-New.list = new-prepared t _ _ c.self.inside.pending set c.in-New.list c.self.invariant.3 c.in-New.ensures.taken in
     let same : set ≡ s = new-set t.numbers c.self.inside.pending set s c.in-New.list c.in-New.ensures.taken (ap (λ (h : MapContents). h.pending) c.self.view_is ∙ e) in
     let full : nat_lt (number_counted entries) c.self.inside.limit ≡ false = rw (← c.self.invariant.0) (not_below _ _ (omega (arith, c.if-self.false))) in
-    let over : c.lent.result ≡ over_set = c.lent.ensures ∙ made_key c.self.inside.spare_key c.unwrap-overflow.result.now c.self.invariant.2 (sym c.as_ref.ensures.value ∙ ap option_copied c.unwrap-overflow.ensures) in
+    let over : c.lent.result.key ≡ over_set = c.lent.ensures ∙ made_key c.self.inside.spare_key c.unwrap-overflow.result.now c.self.invariant.2 (sym c.as_ref.ensures.value ∙ ap option_copied c.unwrap-overflow.ensures) in
     let key : c.unwrap-key.result ≡ over_set = made_key c.self.inside.spare_key c.unwrap-key.result c.self.invariant.2 (sym c.take-2.ensures.value ∙ c.unwrap-key.ensures) in
     let gone : has over_set entries ≡ false = ap (λ (x : AttributeSet). has x entries) (sym over) ∙ sym c.in_default.ensures.placed in
     let place : Placing c.self.inside.limit empty set entries _ over_set = place-over_made c.self.inside.limit empty set entries ready.new.some ready.absent full gone in
@@ -99,14 +99,14 @@ returns-clause-number g c = λ s e.
     let ready : IsReady t _ _ set c.in-New.list = new-prepared t _ _ c.self.inside.pending set c.in-New.list c.self.invariant.3 c.in-New.ensures.taken in
     let same : set ≡ s = new-set t.numbers c.self.inside.pending set s c.in-New.list c.in-New.ensures.taken (ap (λ (h : MapContents). h.pending) c.self.view_is ∙ e) in
     let full : nat_lt (number_counted entries) c.self.inside.limit ≡ false = rw (← c.self.invariant.0) (not_below _ _ (omega (arith, c.if-self.false))) in
-    let over : c.lent.result ≡ over_set = c.lent.ensures ∙ made_key c.self.inside.spare_key c.unwrap-overflow.result.now c.self.invariant.2 (sym c.as_ref.ensures.value ∙ ap option_copied c.unwrap-overflow.ensures) in
+    let over : c.lent.result.key ≡ over_set = c.lent.ensures ∙ made_key c.self.inside.spare_key c.unwrap-overflow.result.now c.self.invariant.2 (sym c.as_ref.ensures.value ∙ ap option_copied c.unwrap-overflow.ensures) in
     let key : c.unwrap-key.result ≡ over_set = made_key c.self.inside.spare_key c.unwrap-key.result c.self.invariant.2 (sym c.take-2.ensures.value ∙ c.unwrap-key.ensures) in
     let gone : has over_set entries ≡ false = ap (λ (x : AttributeSet). has x entries) (sym over) ∙ sym c.in_default.ensures.placed in
     let place : Placing c.self.inside.limit empty set entries _ over_set = place-over_made c.self.inside.limit empty set entries ready.new.some ready.absent full gone in
     let after : c.add-2.new.self.table.entries ≡ entries ++ new_entry empty over_set false ∷ [] =
     ap (λ (x : Table). x.entries) c.add-2.ensures.table ∙ ap (λ (k : Kept). entries ++ entry_of c.unwrap-key.result (Some k) ∷ []) c.take_slot-slot-2.ensures.slot ∙ ap (λ (x : AttributeSet). entries ++ new_entry empty x false ∷ []) key in
     let goal : entry_for set c.add-2.new.self.table.entries ≡ over_set = ap (entry_for set) after ∙ place.goal in
-    let new : IsNew t.numbers.sets c.unwrap-key.result = subst (IsNew t.numbers.sets) (sym key) (over_new t.numbers.sets c.lent.result over c.in_default.ensures.number) in
+    let new : IsNew t.numbers.sets c.unwrap-key.result = subst (IsNew t.numbers.sets) (sym key) (over_new t.numbers.sets c.lent.result.key over c.in_default.ensures.number) in
     let number = (numbers-added t.numbers c.add-2.new.self.numbers c.unwrap-key.result c.add-2.result c.add-2.ensures.none c.add-2.ensures.sets new).1 in
     subst (λ (x : AttributeSet). number_of (entry_for x c.add-2.new.self.table.entries) c.add-2.new.self.numbers ≡ Some c.add-2.result) same
     (ap (λ (x : AttributeSet). number_of x c.add-2.new.self.numbers) (goal ∙ sym key) ∙ number)
@@ -114,7 +114,7 @@ returns-clause-number g c = λ s e.
 pub returns-clause-numbers : goal.returns-clause-numbers
 returns-clause-numbers g c =
     let t = c.self.inside.table in
-    let over : c.lent.result ≡ over_set = c.lent.ensures ∙ made_key c.self.inside.spare_key c.unwrap-overflow.result.now c.self.invariant.2 (sym c.as_ref.ensures.value ∙ ap option_copied c.unwrap-overflow.ensures) in
+    let over : c.lent.result.key ≡ over_set = c.lent.ensures ∙ made_key c.self.inside.spare_key c.unwrap-overflow.result.now c.self.invariant.2 (sym c.as_ref.ensures.value ∙ ap option_copied c.unwrap-overflow.ensures) in
     let key : c.unwrap-key.result ≡ over_set = made_key c.self.inside.spare_key c.unwrap-key.result c.self.invariant.2 (sym c.take-2.ensures.value ∙ c.unwrap-key.ensures) in
-    let new : IsNew t.numbers.sets c.unwrap-key.result = subst (IsNew t.numbers.sets) (sym key) (over_new t.numbers.sets c.lent.result over c.in_default.ensures.number) in
+    let new : IsNew t.numbers.sets c.unwrap-key.result = subst (IsNew t.numbers.sets) (sym key) (over_new t.numbers.sets c.lent.result.key over c.in_default.ensures.number) in
     rw (← c.self.view_is) (numbers-added t.numbers c.add-2.new.self.numbers c.unwrap-key.result c.add-2.result c.add-2.ensures.none c.add-2.ensures.sets new).0

@@ -47,11 +47,11 @@ returns-clause-ready g c =
     ap (pending_in c.make_ready.new.table.numbers) c.put-2.ensures
     ∙ ap (λ (ns : Numbers). pending_in ns c.in_ok-plan.plan) c.make_ready.ensures.numbers
     ∙ c.in_ok-plan.ensures.plan.pending
-    ∙ ap (λ (h : MapContents). Some (target_of c.args.overflow c.args.list.now h.state.table.entries)) c.self.view_is
+    ∙ ap (λ (h : MapContents). Some (target_of c.args.overflow c.args.list.now.key h.state.table.entries)) c.self.view_is
 
 pub returns-clause-spelling : goal.returns-clause-spelling
 returns-clause-spelling g c =
-    let l : List KeyValue = c.args.list.now in
+    let l : List KeyValue = c.args.list.now.key in
     let entries : List Entry = c.self.inside.table.table.entries in
     ap spelling_in c.put-2.ensures
     ∙ c.in_ok-plan.ensures.plan.spelling
@@ -60,7 +60,7 @@ returns-clause-spelling g c =
 
 pub returns-then-not-is_new-clause-spelling : goal.returns-then-not-is_new-clause-spelling
 returns-then-not-is_new-clause-spelling g c =
-    let l : List KeyValue = c.args.list.now in
+    let l : List KeyValue = c.args.list.now.key in
     let entries : List Entry = c.self.inside.table.table.entries in
     ap spelling_in c.put.ensures
     ∙ c.in_ok-plan.ensures.plan.spelling
@@ -71,11 +71,11 @@ pub returns-in_err-make_ready-clause-placed : goal.returns-in_err-make_ready-cla
 returns-in_err-make_ready-clause-placed g c =
     let few : Bool = nat_lt c.self.inside.count c.self.inside.limit in
     let new : is_new c.in_ok-plan.plan ≡ true = grind arith in
-    let some : set_eq c.args.list.now none_set ≡ false = unknown-some c.args.list.now (known_of c.args.self.now) c.requires.unknown in
-    let away = new-unplaced c.self.inside.table few c.args.list.now c.args.overflow c.in_ok-plan.plan some c.in_ok-plan.ensures.plan new in
+    let some : set_eq c.args.list.now.key none_set ≡ false = unknown-some c.args.list.now.key (known_of c.args.self.now) c.requires.unknown in
+    let away = new-unplaced c.self.inside.table few c.args.list.now.key c.args.overflow c.in_ok-plan.plan some c.in_ok-plan.ensures.plan new in
     rw (← c.self.view_is) (λ placed. absurd (true≢false (sym placed ∙ away)))
 
 pub returns-in_err-plan-clause-placed : goal.returns-in_err-plan-clause-placed
 returns-in_err-plan-clause-placed g c =
-    let some : set_eq c.args.list.now none_set ≡ false = unknown-some c.args.list.now (known_of c.args.self.now) c.requires.unknown in
-    rw (← c.self.view_is) (λ placed. absurd (true≢false (sym (c.in_err-plan.ensures.placed (placed-has c.args.list.now c.self.inside.table.table.entries some placed)))))
+    let some : set_eq c.args.list.now.key none_set ≡ false = unknown-some c.args.list.now.key (known_of c.args.self.now) c.requires.unknown in
+    rw (← c.self.view_is) (λ placed. absurd (true≢false (sym (c.in_err-plan.ensures.placed (placed-has c.args.list.now.key c.self.inside.table.table.entries some placed)))))

@@ -12,16 +12,16 @@ use Rattle.otel_aggregate.proofs.value_map.pending.plan.Goals as goal
 pub returns-in-Some-clause-plan : goal.returns-in-Some-clause-plan
 returns-in-Some-clause-plan g c =
     let t = c.args.table.now in
-    let l = c.args.list.now in
-    let own : set_eq (canon l) l ≡ true = ap (λ (s : AttributeSet). set_eq (canon s) s) (sym c.set.ensures) ∙ sym c.is_canonical.ensures ∙ c.if-is_canonical.true in
+    let l = c.args.list.now.key in
+    let own : set_eq (canon l) l ≡ true = sym c.is_canonical.ensures ∙ c.if-is_canonical.true in
     let away : has (canon l) t.table.entries ≡ false = ap (λ (s : AttributeSet). has s t.table.entries) (same_set (canon l) l own) ∙ unlisted t l c.requires.unled in
     plan-past_over t c.args.few l c.args.overflow c.in-Some.number c.in-Some.is c.requires.overflow away
 
 pub returns-then-is_canonical-clause-plan : goal.returns-then-is_canonical-clause-plan
 returns-then-is_canonical-clause-plan g c =
     let t = c.args.table.now in
-    let l = c.args.list.now in
-    let own : set_eq (canon l) l ≡ true = ap (λ (s : AttributeSet). set_eq (canon s) s) (sym c.set.ensures) ∙ sym c.is_canonical.ensures ∙ c.if-is_canonical.true in
+    let l = c.args.list.now.key in
+    let own : set_eq (canon l) l ≡ true = sym c.is_canonical.ensures ∙ c.if-is_canonical.true in
     let same : canon l ≡ l = same_set (canon l) l own in
     let set : c.in_ok-own.own ≡ canon l = c.in_ok-own.ensures.copy ∙ sym same in
     let absent : lookup (set_eq (canon l)) t.numbers.sets ≡ None = ap (λ (s : AttributeSet). lookup (set_eq s) t.numbers.sets) same ∙ unnumbered t l c.requires.unled c.law_of_numbers.ensures.placed in
@@ -32,7 +32,7 @@ returns-then-is_canonical-clause-plan g c =
 pub returns-in_err-own-clause-placed : goal.returns-in_err-own-clause-placed
 returns-in_err-own-clause-placed g c placed =
     let t = c.args.table.now in
-    let l = c.args.list.now in
-    let same : canon l ≡ l = same_set (canon l) l (ap (λ (s : AttributeSet). set_eq (canon s) s) (sym c.set.ensures) ∙ sym c.is_canonical.ensures ∙ c.if-is_canonical.true) in
+    let l = c.args.list.now.key in
+    let same : canon l ≡ l = same_set (canon l) l (sym c.is_canonical.ensures ∙ c.if-is_canonical.true) in
     let away : has (canon l) t.table.entries ≡ false = ap (λ (s : AttributeSet). has s t.table.entries) same ∙ unlisted t l c.requires.unled in
     absurd (true≢false (sym placed ∙ away))

@@ -12,8 +12,8 @@ use Rattle.otel_aggregate.proofs.value_map.pending.plan_sorted.Goals as goal
 pub returns-then-not-few-clause-plan : goal.returns-then-not-few-clause-plan
 returns-then-not-few-clause-plan g c =
     let t = c.args.table.now in
-    let l = c.args.list.now in
-    let sorted : c.args.sorted.now ≡ canon l = c.requires.sorted in
+    let l = c.args.list.now.key in
+    let sorted : c.args.sorted.now.key ≡ canon l = c.requires.sorted in
     let set : c.in_ok-set.set ≡ canon l = c.in_ok-set.ensures.copy ∙ sorted in
     let absent : lookup (set_eq (canon l)) t.numbers.sets ≡ None = ap (λ (s : AttributeSet). lookup (set_eq s) t.numbers.sets) (sym sorted) ∙ sym c.in_default.ensures.number in
     let away : has (canon l) t.table.entries ≡ false = ap (λ (s : AttributeSet). has s t.table.entries) (sym sorted) ∙ sym c.in_default.ensures.placed in
@@ -24,8 +24,8 @@ returns-then-not-few-clause-plan g c =
 pub returns-clause-plan : goal.returns-clause-plan
 returns-clause-plan g c =
     let t = c.args.table.now in
-    let l = c.args.list.now in
-    let sorted : c.args.sorted.now ≡ canon l = c.requires.sorted in
+    let l = c.args.list.now.key in
+    let sorted : c.args.sorted.now.key ≡ canon l = c.requires.sorted in
     let set : c.in_ok-set.set ≡ canon l = c.in_ok-set.ensures.copy ∙ sorted in
     let absent : lookup (set_eq (canon l)) t.numbers.sets ≡ None = ap (λ (s : AttributeSet). lookup (set_eq s) t.numbers.sets) (sym sorted) ∙ sym c.in_default.ensures.number in
     let away : has (canon l) t.table.entries ≡ false = ap (λ (s : AttributeSet). has s t.table.entries) (sym sorted) ∙ sym c.in_default.ensures.placed in

@@ -1,0 +1,36 @@
+use Rattle.std.proofs.Common.{ℕ, ◌≡◌, ◌∙◌, ◌||◌, Bool, List, [], ◌∷◌, Option, None, Some, true, false, sym, subst, refl, ap, true≢false}
+use Rattle.std.specs.Option.{IfNone, option_copied}
+use Rattle.otel_common.specs.Canonical.{canon}
+use Rattle.otel_common.specs.Equality.{set_eq}
+use Rattle.otel_common.specs.declared.attributes.KeyValue.{KeyValue}
+use Rattle.otel_model_stream.specs.Sets.{allowed_part, none_set}
+use Rattle.otel_aggregate.specs.value_map.Contents.{IsPlan}
+use Rattle.otel_aggregate.specs.declared.value_map.pending.Pending.TheVariants.{At}
+use Rattle.otel_aggregate.proofs.value_map.CanonicalSets.{canon-nil, some-canon}
+use Rattle.otel_aggregate.proofs.value_map.PlanLemmas.{plan-empty}
+use Rattle.otel_aggregate.proofs.value_map.pending.form_led_to.Goals as goal
+
+none-there : (l : List KeyValue) → set_eq (canon l) [] ≡ true → set_eq l none_set ≡ true
+none-there [] e = refl
+none-there (p ∷ l) e = absurd (true≢false (sym e ∙ some-canon (p ∷ l) refl))
+
+some-there : (l : List KeyValue) → set_eq (canon l) [] ≡ false → set_eq l none_set ≡ false
+some-there [] e = absurd (true≢false (sym (ap (λ s. set_eq s []) canon-nil) ∙ e))
+some-there (p ∷ l) e = refl
+
+both-not : (o : Option ℕ) (a b : Bool) → a ≡ false → IfNone o (b ≡ false) → IfNone o ((a || b) ≡ false)
+both-not None a b e h = ap (λ x. x || b) e ∙ h
+both-not (Some n) a b e h = tt
+
+pub is_form_of-requires : goal.is_form_of-requires
+is_form_of-requires g c = canon-nil
+
+pub returns-then-is_form_of-clause-plan : goal.returns-then-is_form_of-clause-plan
+returns-then-is_form_of-clause-plan g c few =
+    let l : List KeyValue = allowed_part (option_copied c.args.allow) c.args.attributes.now in
+    subst (λ n. IsPlan c.args.table.now few l (At n)) (sym c.none.ensures.number) (plan-empty c.args.table.now few l (none-there l (sym c.is_form_of.ensures ∙ c.if-is_form_of.true)))
+
+pub returns-clause-unled : goal.returns-clause-unled
+returns-clause-unled g c =
+    let l : List KeyValue = allowed_part (option_copied c.args.allow) c.args.attributes.now in
+    both-not c.find_form.result _ _ (some-there l (sym c.is_form_of.ensures ∙ c.if-is_form_of.false)) c.find_form.ensures.unknown
