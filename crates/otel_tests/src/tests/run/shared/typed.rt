@@ -55,8 +55,8 @@ fn record_once<P: Parts, C: Account, S: Account>(
     instruments: &Instruments,
     text: &mut String,
 ) -> Result<(), Fault> {
-    let counter = fault_of(worker.add_to(&instruments.counter, 1, Vec::new(alloc)));
-    let gauge = fault_of(worker.record_at(&instruments.gauge, -1, Vec::new(alloc)));
+    let counter = fault_of(worker.add_to(&instruments.counter, 1, &[]));
+    let gauge = fault_of(worker.record_at(&instruments.gauge, -1, &[]));
     let handle = fault_of(worker.add_through(&instruments.handle, 2));
     let pending = worker.pending();
     let accepted = locked.submit(worker)?.accepted;
