@@ -148,17 +148,19 @@ case_named() {
         typed_bound*) made_by="typed bound" ;;
         typed_*) made_by="typed add" ;;
         worker_bound*) made_by="worker bound" ;;
+        worker_series*) made_by="worker series" ;;
+        worker_lists) made_by="worker lists" ;;
         worker*) made_by="worker add" ;;
         *) made_by= ;;
     esac
     case $1 in
         *_submit) counted=counted_submit ;;
-        *) counted="counted_calls counted_adds counted_bound_adds counted_worker_adds counted_worker_bound_adds counted_submit counted_expositions counted_lines" ;;
+        *) counted="counted_calls counted_adds counted_bound_adds counted_worker_adds counted_worker_series_adds counted_worker_bound_adds counted_submit counted_expositions counted_lines" ;;
     esac
     case ${1#typed_} in
         known0) known $counter - - "$one" ;;
         known1) known $counter "$(attributes 0)" "$(attributes 0)" "$one" ;;
-        known4 | worker4 | worker4_submit | worker_bound4 | worker_bound4_submit | threads)
+        known4 | worker4 | worker4_submit | worker_lists | worker_series4 | worker_series4_submit | worker_bound4 | worker_bound4_submit | threads)
             known $counter "$rising" "$rising" "$one"
             ;;
         known10) known $counter "$ten" "$ten" "$one" ;;
@@ -254,6 +256,12 @@ threads() {
         { seconds[$1, $2] = $4; records[$1, $2] = $3 }
         END {
             printf "%-24s %12s %12s %12s\n", "threads", "lock", "worker", "ratio"
+            for (n = 1; n <= 4; n *= 2) {
+                lock = seconds["lock", n]
+                worker = seconds["worker_series", n]
+                printf "%-24s %12.3f %12.3f %12.2f\n", "series by name, " n, lock, worker, lock / worker
+                if (records["worker_series", n] != 1000000 * n) print "records are missing"
+            }
             for (way = 0; way < 2; way++) for (n = 1; n <= 4; n *= 2) {
                 end = way ? "_bound" : ""
                 lock = seconds["lock" end, n]
@@ -264,6 +272,15 @@ threads() {
                     print "records are missing"
             }
         }'
+}
+
+# How many of a million records, each with a list of attributes that is new, a worker of a program hands in that may have
+# 100 MB: all, since a worker forgets the lists that it knows.
+lists() {
+    is_wanted worker_lists || return 0
+    case_named worker_lists >"$scripts"
+    made=$(ulimit -v 100000 && out/otel_bench 10000 <"$scripts")
+    printf '%-24s %12s\n' worker_lists "$made"
 }
 
 for name in known0 known1 known4 known10 known4_first_order known4_other_order known4_two_readers known4_two_streams \
@@ -280,7 +297,7 @@ done
 for name in past_limit4 typed_past_limit4; do
     row $name 1000 6000 1
 done
-for name in worker4 worker4_submit worker_bound4 worker_bound4_submit; do
+for name in worker4 worker4_submit worker_series4 worker_series4_submit worker_bound4 worker_bound4_submit; do
     row $name 10 60 100
 done
 for name in end2000 end4000 end8000; do
@@ -301,6 +318,7 @@ done
 for name in export_prometheus export_openmetrics export_otlp; do
     row $name 1 3 2000
 done
+lists
 row build 500 1500 1
 row collect_meters 0 1 10000
 threads

@@ -14,10 +14,12 @@ pub mod Outcomes
 pub mod Reached
 pub mod Runs
 pub mod Scopes
+pub mod SeriesLemmas
 pub mod Sound
 pub mod StepLemmas
 pub mod Stepped
 pub mod Submitting
 pub mod Typed
+pub mod WaitingLemmas
 -- Lemmas of the crates below, for the proofs of programs.
 pub use Rattle.otel_model.proofs.Single

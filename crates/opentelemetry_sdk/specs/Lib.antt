@@ -8,13 +8,16 @@ pub mod Correspondence
 pub mod Headline
 pub mod Instruments
 pub mod Known
+pub mod Lent
 pub mod Pending
 pub mod pipeline
 pub mod Providers
 pub mod Readers
+pub mod Series
 pub mod Shared
 pub mod States
 pub mod Typed
+pub mod Waiting
 pub mod Workers
 pub use Rattle.otel_stream.specs.Runs
 pub use Rattle.otel_common.specs.declared.attributes.KeyValue

@@ -1,12 +1,27 @@
 -- What a worker has. `C` is the ledger of the numbers of records, `S` that of the sums of their values.
-use Rattle.std.specs.Prelude.{ℕ, List, drop}
+use Rattle.std.specs.Prelude.{ℕ, ◌==◌, ◌&&◌, List, Option, None, cond}
 use Rattle.opentelemetry_sdk.specs.declared.metrics.shared.account.Account as account
 use Rattle.opentelemetry_sdk.specs.declared.metrics.shared.pending.PendingRecord.{PendingRecord}
+use Rattle.opentelemetry_sdk.specs.declared.metrics.shared.series.Series.{Series}
 use Rattle.opentelemetry_sdk.specs.declared.metrics.shared.worker.Worker.{Worker}
+use Rattle.opentelemetry_sdk.specs.declared.metrics.shared.worker.WorkerSeries.{WorkerSeries}
+use Rattle.opentelemetry_sdk.specs.Waiting.{Waits, series_placed}
 
--- the records that wait to be made, in order: those of the list but the ones at its front that are made
+-- its list, and the series that it knows
+abbrev pub waits_of : {C S : Type 0} {c : account.Ghosts C} {s : account.Ghosts S} → Worker C S c s → Waits
+waits_of w = w.waiting
+
+-- the records that wait to be made, in order
 abbrev pub pending_of : {C S : Type 0} {c : account.Ghosts C} {s : account.Ghosts S} → Worker C S c s → List PendingRecord
-pending_of w = drop w.made w.pending.items
+pending_of w = w.waiting.records
+
+-- how many more records its list takes without memory
+abbrev pub room_of : {C S : Type 0} {c : account.Ghosts C} {s : account.Ghosts S} → Worker C S c s → ℕ
+room_of w = w.waiting.room
+
+-- the series that it knows: its instruments with their lists of attributes as given
+abbrev pub series_of : {C S : Type 0} {c : account.Ghosts C} {s : account.Ghosts S} → Worker C S c s → List Series
+series_of w = w.waiting.series
 
 -- its share of the book: how many of its records were accepted
 abbrev pub records_of : {C S : Type 0} {c : account.Ghosts C} {s : account.Ghosts S} → Worker C S c s → ℕ
@@ -19,3 +34,7 @@ values_of w = w.values.amount
 -- the identity of the provider that opened it
 abbrev pub worker_identity : {C S : Type 0} {c : account.Ghosts C} {s : account.Ghosts S} → Worker C S c s → ℕ
 worker_identity w = w.identity
+
+-- the series that it knows by such a name
+abbrev pub series_named : {C S T : Type 0} {c : account.Ghosts C} {s : account.Ghosts S} → WorkerSeries T → Worker C S c s → Option Series
+series_named n w = cond (n.identity == w.identity && n.worker == w.number) (series_placed n.emptied n.place w.waiting) None

@@ -1,5 +1,8 @@
 //! Calls of a provider and its replies, as values.
 
+pub(crate) mod record_attributes;
+
+use crate::calls::record_attributes::RecordAttributes;
 use crate::values::sorts::InstrumentSort;
 use otel_common::attributes::KeyValue;
 use otel_common::faults::Fault;
@@ -42,7 +45,7 @@ pub enum Call {
     Record {
         instrument: usize,
         value: NumberValue,
-        attributes: Items<KeyValue>,
+        attributes: RecordAttributes,
     },
     /// Binds a handle at an instrument, with attributes in any order (Metrics API, "Synchronous Instrument API"), in
     /// all streams that the instrument feeds or in none. Its records always go where a record with these attributes

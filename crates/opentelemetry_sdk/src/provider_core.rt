@@ -114,6 +114,11 @@ impl Core {
         self.alloc
     }
 
+    /// Returns what hashes sets of attributes.
+    pub fn hasher(&self) -> SetHashBuilder {
+        self.hasher
+    }
+
     /// Returns the identity.
     pub fn identity(&self) -> u64
         ensures { result ≡ self.now.state.shared.identity }

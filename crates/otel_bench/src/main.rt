@@ -7,8 +7,9 @@
 //!
 //! - `typed add`: a counter as a value adds 1 with the attributes of each record in turn;
 //! - `typed bound`: a handle as a value, with the attributes of the first record, adds 1;
-//! - `worker add`, `worker bound`: a worker of the shared provider hands in batches of 100 such records, with the
-//!   attributes of the first one. The argument says how many batches;
+//! - `worker add`, `worker series`, `worker bound`, `worker lists`: a worker of the shared provider hands in batches of 100
+//!   such records, with the attributes of the first one, which `series` names once a batch; for `lists` each has one that
+//!   is new. The argument says how many batches;
 //! - `export prometheus`, `export openmetrics`, `export otlp`: what the first reader collects is printed so, in memory.
 //!
 //! How many of the counted calls were carried out is printed. After a further `---` come three scripts more, for another

@@ -8,7 +8,7 @@ use opentelemetry_sdk::metrics::data::ResourceMetrics;
 use opentelemetry_sdk::metrics::meter::{Bound, Counter};
 use opentelemetry_sdk::metrics::provider;
 use opentelemetry_sdk::metrics::provider::{Call, Provider};
-use opentelemetry_sdk::metrics::shared::{Account, Locked, Worker};
+use opentelemetry_sdk::metrics::shared::{Account, Locked, Worker, WorkerSeries};
 use std::alloc::Global;
 
 /// Parts without boxes and callbacks.
@@ -75,8 +75,18 @@ impl Subject for Provider<Plain> {
 
 /// A worker, which keeps records until it hands them in.
 pub trait Recorder: Drop {
+    /// Names the series of a counter and these attributes.
+    fn name(
+        &mut self,
+        counter: &Counter<u64>,
+        attributes: &[KeyValue],
+    ) -> Result<WorkerSeries<u64>, Fault>;
+
     /// Adds a record of 1 with these attributes to the list.
-    fn add_one(&mut self, counter: &Counter<u64>, attributes: Vec<KeyValue>);
+    fn add_one(&mut self, counter: &Counter<u64>, attributes: &[KeyValue]);
+
+    /// Adds a record of 1 of a series to the list.
+    fn add_one_at(&mut self, series: WorkerSeries<u64>);
 
     /// Adds a record of 1 through a handle to the list.
     fn add_one_through(&mut self, handle: &Bound<u64>);
@@ -86,9 +96,22 @@ pub trait Recorder: Drop {
 }
 
 impl<C: Account, S: Account> Recorder for Worker<C, S> {
+    fn name(
+        &mut self,
+        counter: &Counter<u64>,
+        attributes: &[KeyValue],
+    ) -> Result<WorkerSeries<u64>, Fault> {
+        self.series(counter, attributes)
+    }
+
     #[inline(always)]
-    fn add_one(&mut self, counter: &Counter<u64>, attributes: Vec<KeyValue>) {
+    fn add_one(&mut self, counter: &Counter<u64>, attributes: &[KeyValue]) {
         let _ = self.add_to(counter, 1, attributes);
+    }
+
+    #[inline(always)]
+    fn add_one_at(&mut self, series: WorkerSeries<u64>) {
+        let _ = self.add_at(series, 1);
     }
 
     #[inline(always)]

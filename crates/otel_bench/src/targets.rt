@@ -7,14 +7,17 @@ use opentelemetry_sdk::metrics::meter::{Bound, Counter};
 use opentelemetry_sdk::metrics::provider::Call;
 use std::alloc::{AllocError, Global};
 
-/// A counter with attributes, or a handle of it.
+/// A counter with attributes, which workers may look up or name once for a batch, or with lists that are all new; or a
+/// handle of it.
 pub enum Target<'a> {
     Set(Counter<u64>, &'a [KeyValue]),
+    Series(Counter<u64>, &'a [KeyValue]),
+    Lists(Counter<u64>),
     Handle(Bound<u64>),
 }
 
 impl<'a> Target<'a> {
-    /// Makes the target of calls that have this name: `add` or `bound`.
+    /// Makes the target of calls that have this name: `add`, `series`, `lists` or `bound`.
     pub fn named<S: Subject>(
         alloc: Global,
         subject: &mut S,
@@ -24,6 +27,8 @@ impl<'a> Target<'a> {
         let counter = subject.counter(alloc)?;
         match name {
             "add" => Ok(Target::Set(counter, attributes)),
+            "series" => Ok(Target::Series(counter, attributes)),
+            "lists" => Ok(Target::Lists(counter)),
             "bound" => Ok(Target::Handle(subject.handle(&counter, attributes)?)),
             _ => bail!("{name} is no call"),
         }
@@ -32,7 +37,8 @@ impl<'a> Target<'a> {
     /// Gives the target up. A handle stays live.
     pub fn close(self) {
         match self {
-            Target::Set(_counter, _attributes) => {}
+            Target::Set(_counter, _attributes) | Target::Series(_counter, _attributes) => {}
+            Target::Lists(_counter) => {}
             Target::Handle(handle) => {
                 let _ = handle.into_number();
             }

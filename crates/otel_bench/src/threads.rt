@@ -40,8 +40,8 @@ fn hand_in_batches<W: Recorder, S: Shared<W>, R: Wait>(
     worker: W,
 ) -> u64 {
     let mut worker = worker;
-    for _ in 0..batches {
-        let _ = add_batch(alloc, &mut worker, target);
+    for batch in 0..batches {
+        let _ = add_batch(alloc, &mut worker, target, batch);
         let _ = shared.lock(rt).hand_in(&mut worker);
     }
     worker.accepted()
@@ -143,7 +143,10 @@ fn record_each<S: Subject, R: Wait>(
     for _ in 0..records {
         let mut subject = shared.lock(rt);
         let is_made = match target {
-            Target::Set(counter, attributes) => subject.add_one(counter, attributes),
+            Target::Set(counter, attributes) | Target::Series(counter, attributes) => {
+                subject.add_one(counter, attributes)
+            }
+            Target::Lists(counter) => subject.add_one(counter, &[]),
             Target::Handle(handle) => subject.add_one_through(handle),
         };
         made = made.saturating_add(u64::from(is_made));
@@ -175,7 +178,8 @@ fn by_lock<S: Subject + Send, R: Threads + Wait + Sync>(
 fn way_of(target: &Target<'_>, has_workers: bool) -> &'static str {
     match target {
         Target::Set(..) if has_workers => "worker",
-        Target::Set(..) => "lock",
+        Target::Series(..) if has_workers => "worker_series",
+        Target::Set(..) | Target::Series(..) | Target::Lists(_) => "lock",
         Target::Handle(_) if has_workers => "worker_bound",
         Target::Handle(_) => "lock_bound",
     }
@@ -239,6 +243,7 @@ pub fn time_threads<R: Print + Clock + Threads + Wait + Sync>(
                 time_way(rt, alloc, script, attributes, load, name, has_workers)?;
             }
         }
+        time_way(rt, alloc, script, attributes, load, "series", true)?;
     }
     Ok(())
 }

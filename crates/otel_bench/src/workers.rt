@@ -11,44 +11,32 @@ use anyhow::Error;
 use opentelemetry_sdk::common::{Fault, KeyValue};
 use opentelemetry_sdk::metrics::meter::{Bound, Counter};
 use opentelemetry_sdk::metrics::provider::Provider;
-use opentelemetry_sdk::metrics::shared::{Account, Locked, MOST_WORKERS};
-use std::alloc::{AllocError, Global};
+use opentelemetry_sdk::metrics::shared::{Account, Locked, MOST_WORKERS, WorkerSeries};
+use std::alloc::Global;
 use std::marker::Brand;
 use std::sync::ledger::Blank;
 
 /// How many records a worker hands in at once.
 pub const BATCH: u64 = 100;
 
-/// Adds a copy of these attributes for each record of a batch.
-fn push_copies(
-    alloc: Global,
-    copies: &mut Vec<Vec<KeyValue>>,
-    attributes: &[KeyValue],
-) -> Result<(), AllocError> {
-    for _ in 0..BATCH {
-        let copy = Vec::from_clones(alloc, attributes)?;
-        copies.push(copy)?;
-    }
-    Ok(())
-}
-
-/// A copy of these attributes for each record of a batch.
-fn copies_of(alloc: Global, attributes: &[KeyValue]) -> Result<Vec<Vec<KeyValue>>, AllocError> {
-    let mut copies = Vec::with_capacity(alloc, 100)?;
-    push_copies(alloc, &mut copies, attributes)?;
-    Ok(copies)
-}
-
-/// Adds a record with each of these lists of attributes to a worker's list. `measure.sh` counts the instructions of this
-/// function and of all that it calls.
+/// Adds a batch of records with these attributes to a worker's list. `measure.sh` counts the instructions of this function
+/// and of all that it calls.
 #[inline(never)]
 fn counted_worker_adds<W: Recorder>(
     worker: &mut W,
     counter: &Counter<u64>,
-    copies: Vec<Vec<KeyValue>>,
+    attributes: &[KeyValue],
 ) {
-    for attributes in copies {
+    for _ in 0..BATCH {
         worker.add_one(counter, attributes);
+    }
+}
+
+/// Adds a batch of records of a series to a worker's list. It is counted as `counted_worker_adds` is.
+#[inline(never)]
+fn counted_worker_series_adds<W: Recorder>(worker: &mut W, series: WorkerSeries<u64>) {
+    for _ in 0..BATCH {
+        worker.add_one_at(series);
     }
 }
 
@@ -66,15 +54,34 @@ fn counted_submit<W: Recorder, S: Shared<W>>(shared: &mut S, worker: &mut W) -> 
     shared.hand_in(worker)
 }
 
-/// Adds a batch of records to a worker's list.
+/// Adds a batch of records to a worker's list, each with a list of attributes that no record had before.
+fn add_new_lists<W: Recorder>(
+    alloc: Global,
+    worker: &mut W,
+    counter: &Counter<u64>,
+    batch: u64,
+) -> Result<(), Fault> {
+    for place in 0..BATCH {
+        let number = batch.saturating_mul(BATCH).saturating_add(place);
+        let number = i64::try_from(number).unwrap_or(i64::MAX);
+        worker.add_one(counter, &[KeyValue::int(alloc, "number", number)?]);
+    }
+    Ok(())
+}
+
+/// Adds the batch of this number to a worker's list.
 pub fn add_batch<W: Recorder>(
     alloc: Global,
     worker: &mut W,
     target: &Target<'_>,
-) -> Result<(), AllocError> {
+    batch: u64,
+) -> Result<(), Fault> {
     match target {
-        Target::Set(counter, attributes) => {
-            counted_worker_adds(worker, counter, copies_of(alloc, attributes)?);
+        Target::Lists(counter) => add_new_lists(alloc, worker, counter, batch)?,
+        Target::Set(counter, attributes) => counted_worker_adds(worker, counter, attributes),
+        Target::Series(counter, attributes) => {
+            let series = worker.name(counter, attributes)?;
+            counted_worker_series_adds(worker, series);
         }
         Target::Handle(handle) => counted_worker_bound_adds(worker, handle),
     }
@@ -89,8 +96,8 @@ fn batches_by_one<W: Recorder, S: Shared<W>>(
     times: u64,
 ) -> Result<u64, Fault> {
     let mut worker = shared.open()?;
-    for _ in 0..times {
-        add_batch(alloc, &mut worker, target)?;
+    for batch in 0..times {
+        add_batch(alloc, &mut worker, target, batch)?;
         let _ = counted_submit(shared, &mut worker);
     }
     Ok(worker.accepted())

@@ -9,7 +9,7 @@ ghost use Rattle.opentelemetry_sdk.specs.Steps.{Run};
 use crate::calls::{counter, print_collection};
 use crate::parts::provider_with;
 use anyhow::Error;
-use opentelemetry_sdk::common::{Fault, Items};
+use opentelemetry_sdk::common::Fault;
 use opentelemetry_sdk::metrics::provider::{Call, NumberValue, Parts, Provider, Reply};
 use std::alloc::Global;
 
@@ -35,7 +35,7 @@ fn record_at(alloc: Global, instrument: usize, number: u64) -> Call
     Call::Record {
         instrument,
         value: NumberValue::U64(number),
-        attributes: Items::from(Vec::new(alloc)),
+        attributes: Vec::new(alloc).into(),
     }
 }
 

@@ -26,7 +26,7 @@ fn add_request<C: Account, S: Account>(
     path: &str,
 ) -> Result<(), Fault> {
     let attributes = vec![in alloc; KeyValue::text(alloc, "path", path)?]?;
-    worker.add_to(&requests, 1, attributes)
+    worker.add_to(&requests, 1, &attributes)
 }
 
 /// What one thread does: it counts three requests and hands them in, all at once, under the lock. What is refused stays

@@ -1,5 +1,6 @@
 //! The provider, its calls and their replies.
 
+pub use crate::calls::record_attributes::RecordAttributes;
 pub use crate::calls::{Call, Reply};
 pub use crate::laws::{copied_call, copied_numbers, copied_reply};
 pub use crate::metrics::plain::Plain;

@@ -7,10 +7,14 @@ mod adding;
 mod booked;
 mod locked;
 mod pending;
+mod series;
+mod series_table;
+mod waiting;
 mod worker;
 
 pub use account::{Account, MOST_WORKERS};
 pub use booked::Receipt;
 pub use locked::{Locked, SharedMeterProvider, SharedProvider};
 pub use pending::PendingRecord;
-pub use worker::Worker;
+pub use waiting::MOST_SERIES;
+pub use worker::{Worker, WorkerSeries};

@@ -167,6 +167,10 @@ maybe shared collect | collect 1 200
 maybe shared collect | collect 2 200
 maybe shared add number | record 0 u:8 z=i:9
 maybe shared add number | record 0 u:8 z=i:9 | record 0 u:8 -;record 0 u:8 a=i:1;record 2 u:8 a=i:1;recordbound 0 u:8
+maybe shared add number | record 0 u:8 a=i:1 | record 0 u:8 -;record 0 u:8 a=i:1;record 2 u:8 a=i:1;recordbound 0 u:8
+maybe shared add series | record 0 u:8 z=i:9
+maybe shared add series | record 0 u:8 a=i:1 | record 0 u:8 -;record 0 u:8 a=i:1;record 2 u:8 a=i:1;recordbound 0 u:8
+maybe shared add reserve | record 0 u:8 z=i:9
 maybe shared add handle_number | record 0 u:8 z=i:9
 maybe shared add counter | record 0 u:8 z=i:9
 maybe shared add up_down_counter | record 0 u:8 z=i:9 | record 0 u:8 -;record 0 u:8 a=i:1;record 2 u:8 a=i:1;recordbound 0 u:8

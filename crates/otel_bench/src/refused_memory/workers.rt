@@ -11,17 +11,26 @@ use opentelemetry_sdk::metrics::provider::{Call, NumberValue};
 use opentelemetry_sdk::metrics::shared::{Account, Worker};
 use std::alloc::Global;
 
-/// Adds a record in this way: by the number of its instrument or of its handle, at an instrument as a value, or else
-/// through a handle.
+/// Adds a record in this way: by the number of its instrument or of its handle, by the name of its series, at an
+/// instrument as a value, or else through a handle; or makes room for records.
 fn add<C: Account, S: Account>(
+    alloc: Global,
     worker: &mut Worker<C, S>,
     instruments: &Instruments,
     handle: &Bound<u64>,
     way: &str,
-    attributes: Vec<KeyValue>,
+    attributes: &[KeyValue],
 ) -> Result<(), Fault> {
     match way {
-        "number" => worker.add(0, NumberValue::U64(8), attributes),
+        "number" => {
+            let copied = Vec::from_clones(alloc, attributes)?;
+            worker.add(0, NumberValue::U64(8), copied)
+        }
+        "series" => {
+            let series = worker.series(&instruments.limited, attributes)?;
+            worker.add_at(series, 8)
+        }
+        "reserve" => worker.reserve(1000),
         "handle_number" => worker.add_bound(0, NumberValue::U64(8)),
         "counter" => worker.add_to(&instruments.limited, 8, attributes),
         "up_down_counter" => worker.add_to(&instruments.allowed, -8, attributes),
@@ -48,7 +57,14 @@ pub fn make_at_worker<R: Print, C: Account, S: Account>(
     let way = trial.scenario.word;
     match calls.pop() {
         Some(Call::Record { attributes, .. }) => {
-            let added = add(worker, instruments, handle, way, attributes.into_vec());
+            let added = add(
+                trial.alloc,
+                worker,
+                instruments,
+                handle,
+                way,
+                attributes.as_slice(),
+            );
             trial.take(added)
         }
         _ => unknown(trial.scenario.call),
@@ -56,15 +72,19 @@ pub fn make_at_worker<R: Print, C: Account, S: Account>(
 }
 
 /// Adds the record of a line.
-fn give<C: Account, S: Account>(worker: &mut Worker<C, S>, call: &Call) -> Result<(), Error> {
+fn give<C: Account, S: Account>(
+    alloc: Global,
+    worker: &mut Worker<C, S>,
+    call: &Call,
+) -> Result<(), Error> {
     match call {
         Call::Record {
             instrument,
             value,
             attributes,
         } => {
-            let attributes = attributes.clone()?;
-            worker.add(*instrument, *value, attributes.into_vec())?;
+            let copied = Vec::from_clones(alloc, attributes.as_slice())?;
+            worker.add(*instrument, *value, copied)?;
         }
         Call::RecordBound { handle, value } => worker.add_bound(*handle, *value)?,
         _ => bail!("a line is no record"),
@@ -82,7 +102,7 @@ pub fn give_some<C: Account, S: Account>(
 ) -> Result<(), Error> {
     let calls = calls_of(alloc, lines)?;
     for call in calls.iter().skip(without).take(most) {
-        give(worker, call)?;
+        give(alloc, worker, call)?;
     }
     Ok(())
 }

@@ -380,13 +380,14 @@ mod meter {
 }
 
 mod provider {
-    use super::{Copied, Equal, Plain, Sent};
+    use super::{Copied, Equal, Made, Plain, Sent};
+    use opentelemetry_sdk::common::KeyValue;
     use opentelemetry_sdk::metrics::callback::NoCallback;
     use opentelemetry_sdk::metrics::provider::{
         Boxed, Call, InstrumentSort, MeterProviderBuilder, NumberValue, ObserveI64Part,
         ObserveU64Part, Observed, Parts, Plain as PlainParts, Provider, ProviderBuilder,
-        ReaderPart, Reply, SdkMeterProvider, ViewPart, copied_call, copied_numbers,
-        copied_observed, copied_reply,
+        ReaderPart, RecordAttributes, Reply, SdkMeterProvider, ViewPart, copied_call,
+        copied_numbers, copied_observed, copied_reply,
     };
     use std::marker::PhantomData;
 
@@ -396,6 +397,8 @@ mod provider {
 
     struct Types {
         call: Copied<Call>,
+        attributes: Copied<RecordAttributes>,
+        list: Made<RecordAttributes, Vec<KeyValue>>,
         reply: Copied<Reply>,
         observed: Copied<Observed>,
         sort: Plain<InstrumentSort>,
@@ -411,12 +414,12 @@ mod provider {
 }
 
 mod shared {
-    use super::{Equal, Sent, Shown, Threaded};
+    use super::{Equal, Sent, Shown, Small, Threaded};
     use opentelemetry_sdk::metrics::provider::{Parts, Provider};
     use opentelemetry_sdk::metrics::shared::account::{check_book, check_workers};
     use opentelemetry_sdk::metrics::shared::{
-        Account, Locked, MOST_WORKERS, PendingRecord, Receipt, SharedMeterProvider, SharedProvider,
-        Worker,
+        Account, Locked, MOST_SERIES, MOST_WORKERS, PendingRecord, Receipt, SharedMeterProvider,
+        SharedProvider, Worker, WorkerSeries,
     };
     use std::marker::Brand;
 
@@ -432,6 +435,7 @@ mod shared {
         boxed: Threaded<SharedMeterProvider<Brand, Brand>>,
         receipt: Equal<Receipt>,
         record: Shown<PendingRecord>,
+        series: Small<WorkerSeries<u64>>,
     }
 }
 

@@ -1,30 +1,35 @@
 //! What a thread does with its worker: it adds records to the list, and looks at them.
 
-ghost use Rattle.std.specs.Prelude.{◌≡◌, ◌++◌, ◌∷◌, [], drop, length, map, Err, OnOk, OnErr, IfSome, IfNone, IsOkUnless};
+ghost use Rattle.std.specs.Prelude.{◌≡◌, ◌≤◌, ◌<◌, ◌+◌, ◌++◌, ◌∷◌, [], Contains, drop, length, map, Err, None, Some, IsSome, IfOk, OnOk, OnErr, IfSome, IfNone, IsOk, IsOkUnless};
 ghost use Rattle.opentelemetry_sdk.specs.Correspondence.{call_of};
 ghost use Rattle.opentelemetry_sdk.specs.Typed.{instrument_number, instrument_identity, handle_number, handle_identity};
 ghost use Rattle.opentelemetry_sdk.specs.Pending.{call_in};
-ghost use Rattle.opentelemetry_sdk.specs.Workers.{pending_of, records_of, values_of, worker_identity};
+ghost use Rattle.opentelemetry_sdk.specs.Series.{series};
+ghost use Rattle.opentelemetry_sdk.specs.Waiting.{KeepsSeries};
+ghost use Rattle.opentelemetry_sdk.specs.Workers.{pending_of, records_of, values_of, worker_identity, room_of, series_named, series_of, waits_of};
+ghost use Rattle.opentelemetry_sdk.specs.declared.metrics.shared.worker.WorkerSeries.{WorkerSeries};
 
 use crate::calls::Call;
 use crate::metrics::shared::account::Account;
 use crate::metrics::shared::pending::PendingRecord;
-use crate::metrics::shared::worker::Worker;
+use crate::metrics::shared::worker::{Worker, WorkerSeries};
 use crate::values::bound::Bound;
 use crate::values::synchronous::{Adds, Records, Synchronous};
 use otel_common::attributes::KeyValue;
 use otel_common::faults::Fault;
 use otel_data::numbers::{NumberType, NumberValue};
+use std::marker::PhantomData;
 
 /// Records by number. Nothing is checked here: `Locked::submit` is refused if a record can't be made.
 ///
-/// Each takes memory once in a while, for the list. Before that it frees the attributes of the records that were made:
-/// `Locked::submit` leaves that to it, so that nobody waits for it at the lock.
+/// A list of attributes that is known at its instrument is looked up, and then a record takes memory only once in a
+/// while, for the list of records: not as long as `reserve` made room.
 impl<C: Account, S: Account> Worker<C, S> {
     /// Adds a record to the end of the list: a value, in the instrument's unit, with attributes in any order, for the
     /// instrument of this number.
     ///
-    /// Refused only for want of memory; then nothing changes.
+    /// If the list is new at its instrument, it moves in. Refused only for want of memory, and not if it is known and
+    /// there is room; then no record is added.
     pub fn add(
         &mut self,
         instrument: usize,
@@ -35,12 +40,12 @@ impl<C: Account, S: Account> Worker<C, S> {
         ensures unadded { OnErr result (pending_of self.new ≡ pending_of self.old) }
         ensures only_memory { IsOkUnless result Fault.OutOfMemory }
         ensures kept { (records_of self.new ≡ records_of self.old) × (values_of self.new ≡ values_of self.old) × (worker_identity self.new ≡ worker_identity self.old) }
+        ensures known { Contains (series_of self.old) (series instrument attributes.items) → 0 < room_of self.old → IsOk result }
+        ensures learnt { OnOk result (Contains (series_of self.new) (series instrument attributes.items)) }
+        ensures room { room_of self.old ≤ room_of self.new + 1 }
+        ensures series { KeepsSeries (waits_of self.old) (waits_of self.new) }
     {
-        self.push(PendingRecord::Plain {
-            instrument,
-            value,
-            attributes: attributes.into(),
-        })
+        self.waiting.add(instrument, value, attributes)
     }
 
     /// Adds a record through the handle of this number to the end of the list. Otherwise the same as `add`.
@@ -49,34 +54,23 @@ impl<C: Account, S: Account> Worker<C, S> {
         ensures unadded { OnErr result (pending_of self.new ≡ pending_of self.old) }
         ensures only_memory { IsOkUnless result Fault.OutOfMemory }
         ensures kept { (records_of self.new ≡ records_of self.old) × (values_of self.new ≡ values_of self.old) × (worker_identity self.new ≡ worker_identity self.old) }
+        ensures known { 0 < room_of self.old → IsOk result }
+        ensures room { room_of self.old ≤ room_of self.new + 1 }
+        ensures series { KeepsSeries (waits_of self.old) (waits_of self.new) }
     {
-        self.push(PendingRecord::Bound { handle, value })
+        self.waiting.add_bound(handle, value)
     }
 
-    /// Frees the records that are made.
-    fn free_made(&mut self)
-        ensures none { self.new.made ≡ 0 }
+    /// Makes room for this many more records. Refused only for want of memory; it changes nothing else.
+    pub fn reserve(&mut self, additional: usize) -> Result<(), Fault>
+        ensures room { OnOk result (additional ≤ room_of self.new) }
+        ensures least { room_of self.old ≤ room_of self.new }
         ensures pending { pending_of self.new ≡ pending_of self.old }
-        ensures kept { (records_of self.new ≡ records_of self.old) × (values_of self.new ≡ values_of self.old) × (worker_identity self.new ≡ worker_identity self.old) }
-    {
-        while self.made > 0 {
-            let _ = self.pending.pop_front();
-            self.made -= 1;
-        }
-    }
-
-    /// Puts a record at the end of the list.
-    fn push(&mut self, added: PendingRecord) -> Result<(), Fault>
-        ensures added { OnOk result (pending_of self.new ≡ pending_of self.old ++ added ∷ []) }
-        ensures unadded { OnErr result (pending_of self.new ≡ pending_of self.old) }
+        ensures series { series_of self.new ≡ series_of self.old }
         ensures only_memory { IsOkUnless result Fault.OutOfMemory }
         ensures kept { (records_of self.new ≡ records_of self.old) × (values_of self.new ≡ values_of self.old) × (worker_identity self.new ≡ worker_identity self.old) }
     {
-        self.free_made();
-        if self.pending.push_back(added).is_err() {
-            return Err(Fault::OutOfMemory);
-        }
-        Ok(())
+        self.waiting.reserve(additional)
     }
 }
 
@@ -87,24 +81,30 @@ impl<C: Account, S: Account> Worker<C, S> {
 impl<C: Account, S: Account> Worker<C, S> {
     /// Adds a value to a counter: puts the record, with attributes in any order, at the end of the list.
     ///
-    /// Refused with `UnknownInstrument` if the counter belongs to a provider of another identity, otherwise only for
-    /// want of memory. A refused call changes nothing.
+    /// Copies the attributes only if they are new at the counter. Refused with `UnknownInstrument` if the counter belongs
+    /// to a provider of another identity, otherwise only for want of memory, and not if the attributes are known and there
+    /// is room. A refused call adds no record.
     pub fn add_to<K: Adds, T: NumberType>(
         &mut self,
         counter: &Synchronous<K, T>,
         value: T,
-        attributes: Vec<KeyValue>,
+        attributes: &[KeyValue],
     ) -> Result<(), Fault>
-        ensures added { OnOk result (pending_of self.new ≡ pending_of self.old ++ PendingRecord.Plain (instrument_number counter.now) (T.value value) attributes.items ∷ []) }
+        ensures added { OnOk result (pending_of self.new ≡ pending_of self.old ++ PendingRecord.Plain (instrument_number counter.now) (T.value value) attributes.now ∷ []) }
         ensures unadded { OnErr result (pending_of self.new ≡ pending_of self.old) }
         ensures foreign { ¬ (instrument_identity counter.now ≡ worker_identity self.old) → result ≡ Err Fault.UnknownInstrument }
         ensures own { instrument_identity counter.now ≡ worker_identity self.old → IsOkUnless result Fault.OutOfMemory }
         ensures kept { (records_of self.new ≡ records_of self.old) × (values_of self.new ≡ values_of self.old) × (worker_identity self.new ≡ worker_identity self.old) }
+        ensures known { instrument_identity counter.now ≡ worker_identity self.old → Contains (series_of self.old) (series (instrument_number counter.now) attributes.now) → 0 < room_of self.old → IsOk result }
+        ensures learnt { OnOk result (Contains (series_of self.new) (series (instrument_number counter.now) attributes.now)) }
+        ensures room { room_of self.old ≤ room_of self.new + 1 }
+        ensures series { KeepsSeries (waits_of self.old) (waits_of self.new) }
     {
         if counter.identity() != self.identity {
             return Err(Fault::UnknownInstrument);
         }
-        self.add(counter.number(), value.into_value(), attributes)
+        self.waiting
+            .add_listed(counter.number(), value.into_value(), attributes)
     }
 
     /// Records a value at a histogram or a gauge. Otherwise the same as `add_to`.
@@ -112,18 +112,23 @@ impl<C: Account, S: Account> Worker<C, S> {
         &mut self,
         instrument: &Synchronous<K, T>,
         value: T,
-        attributes: Vec<KeyValue>,
+        attributes: &[KeyValue],
     ) -> Result<(), Fault>
-        ensures added { OnOk result (pending_of self.new ≡ pending_of self.old ++ PendingRecord.Plain (instrument_number instrument.now) (T.value value) attributes.items ∷ []) }
+        ensures added { OnOk result (pending_of self.new ≡ pending_of self.old ++ PendingRecord.Plain (instrument_number instrument.now) (T.value value) attributes.now ∷ []) }
         ensures unadded { OnErr result (pending_of self.new ≡ pending_of self.old) }
         ensures foreign { ¬ (instrument_identity instrument.now ≡ worker_identity self.old) → result ≡ Err Fault.UnknownInstrument }
         ensures own { instrument_identity instrument.now ≡ worker_identity self.old → IsOkUnless result Fault.OutOfMemory }
         ensures kept { (records_of self.new ≡ records_of self.old) × (values_of self.new ≡ values_of self.old) × (worker_identity self.new ≡ worker_identity self.old) }
+        ensures known { instrument_identity instrument.now ≡ worker_identity self.old → Contains (series_of self.old) (series (instrument_number instrument.now) attributes.now) → 0 < room_of self.old → IsOk result }
+        ensures learnt { OnOk result (Contains (series_of self.new) (series (instrument_number instrument.now) attributes.now)) }
+        ensures room { room_of self.old ≤ room_of self.new + 1 }
+        ensures series { KeepsSeries (waits_of self.old) (waits_of self.new) }
     {
         if instrument.identity() != self.identity {
             return Err(Fault::UnknownInstrument);
         }
-        self.add(instrument.number(), value.into_value(), attributes)
+        self.waiting
+            .add_listed(instrument.number(), value.into_value(), attributes)
     }
 
     /// Adds a value through a handle of a counter, or records it through a handle of a histogram or a gauge: puts the
@@ -137,11 +142,73 @@ impl<C: Account, S: Account> Worker<C, S> {
         ensures foreign { ¬ (handle_identity handle.now ≡ worker_identity self.old) → result ≡ Err Fault.UnknownHandle }
         ensures own { handle_identity handle.now ≡ worker_identity self.old → IsOkUnless result Fault.OutOfMemory }
         ensures kept { (records_of self.new ≡ records_of self.old) × (values_of self.new ≡ values_of self.old) × (worker_identity self.new ≡ worker_identity self.old) }
+        ensures known { handle_identity handle.now ≡ worker_identity self.old → 0 < room_of self.old → IsOk result }
+        ensures room { room_of self.old ≤ room_of self.new + 1 }
+        ensures series { KeepsSeries (waits_of self.old) (waits_of self.new) }
     {
         if handle.identity() != self.identity {
             return Err(Fault::UnknownHandle);
         }
         self.add_bound(handle.number(), value.into_value())
+    }
+}
+
+/// Records of series by name.
+impl<C: Account, S: Account> Worker<C, S> {
+    /// Names the series of an instrument and a list of attributes, in any order, which is copied if it is new.
+    ///
+    /// Refused with `UnknownInstrument` if the instrument belongs to a provider of another identity, otherwise only for
+    /// want of memory, and not if the list is known.
+    pub fn series<K, T: NumberType>(
+        &mut self,
+        instrument: &Synchronous<K, T>,
+        attributes: &[KeyValue],
+    ) -> Result<WorkerSeries<T>, Fault>
+        ensures named { IfOk result (λ n. series_named n self.new ≡ Some (series (instrument_number instrument.now) attributes.now)) }
+        ensures foreign { ¬ (instrument_identity instrument.now ≡ worker_identity self.old) → result ≡ Err Fault.UnknownInstrument }
+        ensures own { instrument_identity instrument.now ≡ worker_identity self.old → IsOkUnless result Fault.OutOfMemory }
+        ensures known { instrument_identity instrument.now ≡ worker_identity self.old → Contains (series_of self.old) (series (instrument_number instrument.now) attributes.now) → IsOk result }
+        ensures pending { pending_of self.new ≡ pending_of self.old }
+        ensures kept { (records_of self.new ≡ records_of self.old) × (values_of self.new ≡ values_of self.old) × (worker_identity self.new ≡ worker_identity self.old) }
+        ensures room { room_of self.old ≤ room_of self.new }
+        ensures series { KeepsSeries (waits_of self.old) (waits_of self.new) }
+    {
+        if instrument.identity() != self.identity {
+            return Err(Fault::UnknownInstrument);
+        }
+        let place = self.waiting.placed(instrument.number(), attributes)?;
+        Ok(WorkerSeries {
+            identity: self.identity,
+            worker: self.number,
+            emptied: self.waiting.emptied(),
+            place,
+            of: PhantomData,
+        })
+    }
+
+    /// Adds a value to a series of a counter, or records it at one of a histogram or a gauge: puts the record at the end
+    /// of the list, as `add_to` does, without a look-up.
+    ///
+    /// Refused with `UnknownHandle` if the worker doesn't know the series: it belongs to another worker, or the worker
+    /// forgot its series since. Otherwise refused only for want of memory, and not if there is room. A refused call
+    /// changes nothing.
+    #[inline(always)]
+    pub fn add_at<T: NumberType>(&mut self, at: WorkerSeries<T>, value: T) -> Result<(), Fault>
+        ensures added { OnOk result (IfSome (series_named at self.old) (λ s. pending_of self.new ≡ pending_of self.old ++ PendingRecord.Plain s.instrument (T.value value) s.attributes ∷ [])) }
+        ensures unadded { OnErr result (pending_of self.new ≡ pending_of self.old) }
+        ensures stale { series_named at self.old ≡ None → result ≡ Err Fault.UnknownHandle }
+        ensures own { IsSome (series_named at self.old) → IsOkUnless result Fault.OutOfMemory }
+        ensures known { IsSome (series_named at self.old) → 0 < room_of self.old → IsOk result }
+        ensures kept { (records_of self.new ≡ records_of self.old) × (values_of self.new ≡ values_of self.old) × (worker_identity self.new ≡ worker_identity self.old) }
+        ensures room { room_of self.old ≤ room_of self.new + 1 }
+        ensures series { series_of self.new ≡ series_of self.old }
+        ensures names { (n : WorkerSeries T) → series_named n self.new ≡ series_named n self.old }
+    {
+        if at.identity != self.identity || at.worker != self.number {
+            return Err(Fault::UnknownHandle);
+        }
+        self.waiting
+            .add_at(at.emptied, at.place, value.into_value())
     }
 }
 
@@ -158,7 +225,7 @@ impl<C: Account, S: Account> Worker<C, S> {
     pub fn pending(&self) -> usize
         ensures { result ≡ length (pending_of self.now) }
     {
-        self.pending.len() - self.made
+        self.waiting.len()
     }
 
     /// How many records of this worker were accepted.
@@ -169,16 +236,16 @@ impl<C: Account, S: Account> Worker<C, S> {
     }
 
     /// Takes the first record out of the list, as the call that would make it, for instance if `Locked::submit` is
-    /// refused because of it. `None` only if there is none. It frees the attributes of records that were made, as `add`
-    /// does.
+    /// refused because of it. `None` only if there is none. Takes no memory: the call shares the attributes.
     pub fn take_first(&mut self) -> Option<Call>
         ensures first { IfSome result (λ call. map call_in (pending_of self.old) ≡ call_of call ∷ map call_in (pending_of self.new)) }
         ensures rest { pending_of self.new ≡ drop 1 (pending_of self.old) }
         ensures none { IfNone result (pending_of self.old ≡ []) }
         ensures kept { (records_of self.new ≡ records_of self.old) × (values_of self.new ≡ values_of self.old) × (worker_identity self.new ≡ worker_identity self.old) }
+        ensures series { series_of self.new ≡ series_of self.old }
+        ensures room { room_of self.old ≤ room_of self.new }
     {
-        self.free_made();
-        match self.pending.pop_front() {
+        match self.waiting.take_first() {
             Some(first) => Some(first.into_call()),
             None => None,
         }

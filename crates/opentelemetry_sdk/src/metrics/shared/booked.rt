@@ -13,12 +13,14 @@ ghost use Rattle.otel_model.specs.Steps.{Step};
 ghost use Rattle.otel_model.specs.Books.{count_in, sum_in};
 ghost use Rattle.otel_model.specs.Lawful.{Balances};
 ghost use Rattle.opentelemetry_sdk.specs.Pending.{call_in, bits_in, is_record, IsDone, IsRefused, IsKnownFirst, Makes, StopsBy, Submits};
-ghost use Rattle.opentelemetry_sdk.specs.Workers.{pending_of, records_of, values_of, worker_identity};
+ghost use Rattle.opentelemetry_sdk.specs.Waiting.{lent_record, StaysListed};
+ghost use Rattle.opentelemetry_sdk.specs.Workers.{waits_of, pending_of, records_of, values_of, worker_identity};
 ghost use Rattle.otel_stream.specs.Requests.{wanted_by};
 
 use crate::calls::{Call, Reply};
 use crate::metrics::shared::account::{Account, check_book, check_workers};
-use crate::metrics::shared::pending::PendingRecord;
+use crate::metrics::shared::pending::LentRecord;
+use crate::metrics::shared::waiting::Waiting;
 use crate::metrics::shared::worker::Worker;
 use crate::provider_core::Core;
 use crate::provider_core::handles::BoundHandle;
@@ -28,7 +30,6 @@ use otel_stream::observation::Observed;
 use otel_stream::reader::MetricReader;
 use otel_stream::view::View;
 use std::alloc::Global;
-use std::collections::VecDeque;
 use std::sync::ledger::{Blank, Book, Share};
 
 /// What a worker is told once all its records have been accepted.
@@ -77,32 +78,32 @@ impl<C: Account, S: Account> Drop for Booked<C, S> {
 }
 
 /// Makes a record, and answers what the core does.
-fn answer_to(core: &mut Core, pending: &PendingRecord) -> Result<(), Fault>
-    ensures step { (views : Views) → Step views core.old.state (call_in pending.now) (reply_from (λ _. model.Reply.Done) result) core.new.state }
+fn answer_to(core: &mut Core, pending: LentRecord<'_>) -> Result<(), Fault>
+    ensures step { (views : Views) → Step views core.old.state (call_in (lent_record pending.entry)) (reply_from (λ _. model.Reply.Done) result) core.new.state }
     ensures seeded { core.new.hash_seed ≡ core.old.hash_seed }
-    ensures known { IsKnown core.old.state (call_in pending.now) → IfErr result IsNamed }
+    ensures known { IsKnown core.old.state (call_in (lent_record pending.entry)) → IfErr result IsNamed }
 {
     let identity = core.identity();
     match pending {
-        PendingRecord::Plain {
+        LentRecord::Plain {
             instrument,
             value,
             attributes,
-        } => core.record(identity, *instrument, *value, attributes.as_slice()),
-        PendingRecord::Bound { handle, value } => {
-            core.record_bound(identity, BoundHandle::numbered(*handle), *value)
+        } => core.record(identity, instrument, value, attributes),
+        LentRecord::Bound { handle, value } => {
+            core.record_bound(identity, BoundHandle::numbered(handle), value)
         }
     }
 }
 
 /// Makes a record. What all instruments accepted grows by it, unless it is refused.
-fn make(core: &mut Core, pending: &PendingRecord) -> Result<(), Fault>
-    ensures done { OnOk result (IsDone core.old.state (call_in pending.now) core.new.state) }
+fn make(core: &mut Core, pending: LentRecord<'_>) -> Result<(), Fault>
+    ensures done { OnOk result (IsDone core.old.state (call_in (lent_record pending.entry)) core.new.state) }
     ensures seeded { core.new.hash_seed ≡ core.old.hash_seed }
     ensures count { OnOk result (count_in core.new.state % 2 ^ 64 ≡ (count_in core.old.state + 1) % 2 ^ 64) }
-    ensures sum { OnOk result (sum_in core.new.state % 2 ^ 64 ≡ (sum_in core.old.state + bits_in pending.now) % 2 ^ 64) }
-    ensures refused { IfErr result (λ f. IsRefused core.old.state (call_in pending.now) f × (core.new.state ≡ core.old.state)) }
-    ensures known { IsKnown core.old.state (call_in pending.now) → IfErr result IsNamed }
+    ensures sum { OnOk result (sum_in core.new.state % 2 ^ 64 ≡ (sum_in core.old.state + bits_in (lent_record pending.entry)) % 2 ^ 64) }
+    ensures refused { IfErr result (λ f. IsRefused core.old.state (call_in (lent_record pending.entry)) f × (core.new.state ≡ core.old.state)) }
+    ensures known { IsKnown core.old.state (call_in (lent_record pending.entry)) → IfErr result IsNamed }
 {
     answer_to(core, pending)
 }
@@ -168,13 +169,14 @@ impl<C: Account, S: Account> Booked<C, S> {
         ensures kept { (self.new.core ≡ self.old.core) × (self.new.records.total ≡ self.old.records.total) × (self.new.values.total ≡ self.old.values.total) }
     {
         check_workers(self.opened)?;
+        let number = self.opened;
         let records = self.spare_records.split_off(1, 0);
         let values = self.spare_values.split_off(1, 0);
         self.opened += 1;
         Ok(Worker {
             identity: self.core.identity(),
-            pending: VecDeque::new(self.core.allocator()),
-            made: 0,
+            number,
+            waiting: Waiting::new(self.core.allocator(), self.core.hasher()),
             submitted: 0,
             records,
             values,
@@ -235,6 +237,7 @@ impl<C: Account, S: Account> Booked<C, S> {
         ensures seeded { self.new.core.hash_seed ≡ self.old.core.hash_seed }
         ensures known { IfErr result (λ f. IsKnownFirst self.new.core.state (pending_of worker.new) → IsNamed f) }
         ensures kept { (self.new.opened ≡ self.old.opened) × (worker_identity worker.new ≡ worker_identity worker.old) }
+        ensures series { StaysListed (waits_of worker.old) (waits_of worker.new) }
     {
         while self.make_first(worker)? {}
         self.records.audit(&mut worker.records);
@@ -244,7 +247,7 @@ impl<C: Account, S: Account> Booked<C, S> {
     }
 
     /// Makes the first record of a worker, if there is one, and answers whether there was.
-    #[tactic(auto, using(crate::proofs::Lists::first_left, crate::proofs::Lists::stops_refused, crate::proofs::Lists::stops_full))]
+    #[tactic(auto, using(crate::proofs::Lists::stops_refused, crate::proofs::Lists::stops_full))]
     fn make_first(&mut self, worker: &mut Worker<C, S>) -> Result<bool, Fault>
         ensures none { IfOk result (λ more. more ≡ false → (pending_of worker.old ≡ []) × (pending_of worker.new ≡ []) × (self.new.core.state ≡ self.old.core.state) × (records_of worker.new ≡ records_of worker.old) × (values_of worker.new ≡ values_of worker.old)) }
         ensures made { IfOk result (λ more. more ≡ true → Makes self.old.core.state (pending_of worker.old) self.new.core.state (pending_of worker.new) (values_of worker.old) (values_of worker.new) × (records_of worker.new ≡ records_of worker.old + 1)) }
@@ -254,8 +257,9 @@ impl<C: Account, S: Account> Booked<C, S> {
         ensures known { IfErr result (λ f. IsKnownFirst self.new.core.state (pending_of worker.new) → IsNamed f) }
         ensures book { (self.new.records.total + records_of worker.old ≡ self.old.records.total + records_of worker.new) × (self.new.values.total + values_of worker.old ≡ self.old.values.total + values_of worker.new) }
         ensures kept { (self.new.opened ≡ self.old.opened) × (worker_identity worker.new ≡ worker_identity worker.old) }
+        ensures series { StaysListed (waits_of worker.old) (waits_of worker.new) }
     {
-        let Some(first) = worker.pending.get(worker.made) else {
+        let Some(first) = worker.waiting.first() else {
             return Ok(false);
         };
         check_book(self.accepted)?;
@@ -263,13 +267,13 @@ impl<C: Account, S: Account> Booked<C, S> {
             return Err(fault);
         }
         let value = first.bits();
+        worker.waiting.pass_first();
         // (the share is at most the book, so it has room for one more)
         self.records.audit(&mut worker.records);
         self.records.add(&mut worker.records, 1);
         self.values.add(&mut worker.values, value);
         self.accepted += 1;
         worker.submitted += 1;
-        worker.made += 1;
         Ok(true)
     }
 

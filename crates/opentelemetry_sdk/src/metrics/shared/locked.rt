@@ -18,7 +18,8 @@ ghost use Rattle.opentelemetry_sdk.specs.Providers.{state_of, hash_seed_of, prov
 ghost use Rattle.opentelemetry_sdk.specs.Typed.{collect_reply};
 ghost use Rattle.opentelemetry_sdk.specs.Pending.{is_record, IsKnownFirst, StopsBy, Submits};
 ghost use Rattle.opentelemetry_sdk.specs.Shared.{state_in, hash_seed_in, views_in, readers_in, callbacks_in, records_in, values_in, workers_in};
-ghost use Rattle.opentelemetry_sdk.specs.Workers.{pending_of, records_of, values_of, worker_identity};
+ghost use Rattle.opentelemetry_sdk.specs.Waiting.{StaysListed};
+ghost use Rattle.opentelemetry_sdk.specs.Workers.{waits_of, pending_of, records_of, values_of, worker_identity};
 ghost use Rattle.otel_stream.specs.Requests.{wanted_by};
 
 use crate::calls::{Call, Reply};
@@ -183,8 +184,7 @@ impl<P: Parts, C: Account, S: Account> Locked<P, C, S> {
     }
 
     /// Makes the records of a worker, in order, up to the first that is refused. Those that are made leave the list;
-    /// the others stay, in order. The attributes of those that are made are freed outside the lock: by the next call of
-    /// the worker that adds or takes out a record, or when it is dropped.
+    /// the others stay, in order. It frees nothing, and the worker goes on to know its series.
     ///
     /// Each costs what it costs as a step of a provider. With nothing in the list it is never refused. Before each
     /// record, it is refused with `LedgerFull` if the book has 2^64 - 1 records, otherwise with the fault of the
@@ -201,6 +201,7 @@ impl<P: Parts, C: Account, S: Account> Locked<P, C, S> {
         ensures balances { Balances (state_in self.new) }
         ensures seeded { hash_seed_in self.new ≡ hash_seed_in self.old }
         ensures worker { worker_identity worker.new ≡ worker_identity worker.old }
+        ensures series { StaysListed (waits_of worker.old) (waits_of worker.new) }
         ensures workers { workers_in self.new ≡ workers_in self.old }
         ensures kept { readers_in self.new ≡ readers_in self.old }
         ensures views { views_in self.new ≡ views_in self.old }

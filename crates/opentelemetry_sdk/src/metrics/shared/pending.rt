@@ -3,11 +3,12 @@
 ghost use Rattle.std.specs.Prelude.{◌≡◌};
 ghost use Rattle.opentelemetry_sdk.specs.Correspondence.{call_of};
 ghost use Rattle.opentelemetry_sdk.specs.Pending.{call_in, bits_in};
+ghost use Rattle.opentelemetry_sdk.specs.Waiting.{lent_record};
 
 use crate::calls::Call;
+use crate::calls::record_attributes::RecordAttributes;
 use otel_aggregate::values::bits_of;
 use otel_common::attributes::KeyValue;
-use otel_common::lists::Items;
 use otel_data::numbers::NumberValue;
 
 /// A record that a worker keeps until it is made.
@@ -17,7 +18,7 @@ pub enum PendingRecord {
     Plain {
         instrument: usize,
         value: NumberValue,
-        attributes: Items<KeyValue>,
+        attributes: RecordAttributes,
     },
     /// A value for the handle of this number.
     Bound {
@@ -27,17 +28,6 @@ pub enum PendingRecord {
 }
 
 impl PendingRecord {
-    /// The 64 bits of the value.
-    pub(crate) fn bits(&self) -> u64
-        ensures { result ≡ bits_in self.now }
-    {
-        match self {
-            PendingRecord::Plain { value, .. } | PendingRecord::Bound { value, .. } => {
-                bits_of(*value)
-            }
-        }
-    }
-
     /// The call that makes the record.
     pub(crate) fn into_call(self) -> Call
         ensures { call_of result ≡ call_in self }
@@ -55,4 +45,40 @@ impl PendingRecord {
             PendingRecord::Bound { handle, value } => Call::RecordBound { handle, value },
         }
     }
+}
+
+/// A record that waits, with attributes that its worker lends.
+#[derive(Clone, Copy)]
+pub(crate) enum LentRecord<'a> {
+    /// A value, with attributes, for the instrument of this number.
+    Plain {
+        instrument: usize,
+        value: NumberValue,
+        attributes: &'a [KeyValue],
+    },
+    /// A value for the handle of this number.
+    Bound {
+        handle: u64,
+        value: NumberValue,
+    },
+}
+
+impl<'a> LentRecord<'a> {
+    /// The 64 bits of the value.
+    pub(crate) fn bits(self) -> u64
+        ensures { result ≡ bits_in (lent_record self.entry) }
+    {
+        match self {
+            LentRecord::Plain { value, .. } | LentRecord::Bound { value, .. } => bits_of(value),
+        }
+    }
+}
+
+/// A record that waits, as a worker keeps it.
+#[derive(Clone, Copy)]
+pub(crate) enum WaitingRecord {
+    /// A value of the series at this place.
+    Plain { place: usize, value: NumberValue },
+    /// A value for the handle of this number.
+    Bound { handle: u64, value: NumberValue },
 }

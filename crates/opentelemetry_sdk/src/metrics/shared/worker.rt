@@ -1,35 +1,49 @@
 //! Workers.
 
-ghost use Rattle.std.specs.Prelude.{◌≡◌, ◌≤◌, length};
+ghost use Rattle.std.specs.Prelude.{◌≡◌};
 
 use crate::metrics::shared::account::Account;
-use crate::metrics::shared::pending::PendingRecord;
-use std::collections::VecDeque;
+use crate::metrics::shared::waiting::Waiting;
+use std::marker::PhantomData;
 use std::sync::ledger::Share;
 
 /// What one thread records with: a list of records that wait to be made at a shared provider, and a share of its book,
 /// which is how many records of this worker the provider has accepted, and the sum of their values.
 ///
-/// Records are added to the list without the lock, and `Locked::submit` makes them under it. The attributes of those
-/// that are made are freed outside the lock: by the worker's next call that adds or takes out a record, or when it is
-/// dropped. A worker can be handed to a thread.
+/// Records are added to the list without the lock, and `Locked::submit` makes them under it. A worker copies a list of
+/// attributes once, when it is new at its instrument, and knows it from then on. Once it knows `MOST_SERIES` lists and
+/// no record waits, the next new one makes it forget them all. A worker can be handed to a thread.
 ///
 /// A worker that is dropped takes its share along. From then on `Locked::settle` is refused.
 pub struct Worker<C: Account, S: Account> {
     /// Of the provider that opened it.
     pub(crate) identity: u64,
-    /// The records that are made and not yet freed, and after them those that wait to be made.
-    pub(crate) pending: VecDeque<PendingRecord>,
-    /// How many records at the front of the list are made.
-    pub(crate) made: usize,
+    /// How many workers the provider opened before it.
+    pub(crate) number: u32,
+    pub(crate) waiting: Waiting,
     /// How many records of this worker were accepted.
     pub(crate) submitted: u64,
     pub(crate) records: Share<C>,
     pub(crate) values: Share<S>,
-    ghost within: { made ≤ length pending.items },
     ghost counted: { records.amount ≡ submitted },
     ghost one_record_part: { records.parts ≡ 1 },
     ghost one_value_part: { values.parts ≡ 1 },
+}
+
+/// A series that a worker knows, for records with values of type `T`: small plain data, of which a copy is the same
+/// series. It holds no place at the provider.
+///
+/// Once the worker forgot its series, and at any other worker, its records are refused with `UnknownHandle`.
+#[derive_where(Clone, Copy, Debug)]
+pub struct WorkerSeries<T> {
+    /// Of the provider.
+    pub(crate) identity: u64,
+    /// How many workers the provider opened before its worker.
+    pub(crate) worker: u32,
+    /// How often the worker had forgotten all series.
+    pub(crate) emptied: u64,
+    pub(crate) place: usize,
+    pub(crate) of: PhantomData<T>,
 }
 
 impl<C: Account, S: Account> Drop for Worker<C, S> {
@@ -37,8 +51,8 @@ impl<C: Account, S: Account> Drop for Worker<C, S> {
     fn drop(self) {
         let Worker {
             identity: _,
-            pending: _pending,
-            made: _,
+            number: _,
+            waiting: _waiting,
             submitted: _,
             records: _records,
             values: _values,
@@ -54,8 +68,8 @@ impl<C: Account, S: Account> Worker<C, S> {
     {
         let Worker {
             identity: _,
-            pending: _pending,
-            made: _,
+            number: _,
+            waiting: _waiting,
             submitted: _,
             records,
             values,

@@ -37,7 +37,7 @@ pub fn call(rt: &impl Abort, alloc: Global, line: &str) -> Call {
         "record" => Call::Record {
             instrument: 0,
             value,
-            attributes: Items::from(attributes(rt, alloc, last)),
+            attributes: attributes(rt, alloc, last).into(),
         },
         "bind" => Call::Bind {
             instrument: 0,

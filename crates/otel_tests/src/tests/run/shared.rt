@@ -117,7 +117,8 @@ fn workers_without_threads(rt: HostRuntime) -> Result<(), Fail> {
     )
 }
 
-/// Shares a provider, and has a worker record with instruments of another one, and with those of its own.
+/// Shares a provider, and has a worker record with instruments of another one, and with those of its own; and the same
+/// by the names of series.
 fn record_with<R: Abort + Threads + Wait + Sync>(
     rt: &R,
     alloc: Global,
@@ -126,7 +127,11 @@ fn record_with<R: Abort + Threads + Wait + Sync>(
 ) -> Result<(), Fault> {
     let mut provider = provider_of(rt, alloc, 5)?;
     let own = Instruments::build(alloc, &mut provider)?;
-    share_boxes(rt, alloc, provider, Case::Typed(foreign, &own), text)
+    share_boxes(rt, alloc, provider, Case::Typed(foreign, &own), text)?;
+    text.push_str("; ")?;
+    let mut provider = provider_of(rt, alloc, 5)?;
+    let own = Instruments::build(alloc, &mut provider)?;
+    share_boxes(rt, alloc, provider, Case::Named(foreign, &own), text)
 }
 
 /// The same, with the instruments of a provider that it makes.
@@ -146,7 +151,9 @@ fn instruments_as_values(rt: HostRuntime) -> Result<(), Fail> {
     let mut text = String::new(rt.alloc());
     record_with_foreign(&rt, rt.alloc(), &mut text)?;
     let wanted =
-        "faults 3 3 4, 0 wait, accepted 0, value 0, faults 0 0 0, 3 wait, accepted 3, value 3, refused 14, 3 and 0";
+        "faults 3 3 4, 0 wait, accepted 0, value 0, faults 0 0 0, 3 wait, accepted 3, value 3, refused 14, 3 and 0; \
+         fault 0, 1 wait, fault 0, 2 wait, accepted 2, fault 4, 0 wait, fault 4, 0 wait, fault 0, 1 wait, accepted 3, \
+         fault 4, 0 wait, foreign 3, foreign 3, refused 14, 9 and 0";
     assert_eq!(rt; text.as_str(), wanted);
     Ok(())
 }

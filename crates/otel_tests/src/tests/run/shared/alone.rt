@@ -5,7 +5,6 @@ use opentelemetry_sdk::metrics::provider::{Call, Parts};
 use opentelemetry_sdk::metrics::shared::{Account, Locked, Worker};
 use otel_common::attributes::KeyValue;
 use otel_common::faults::Fault;
-use otel_common::lists::Items;
 use otel_data::numbers::NumberValue;
 use std::alloc::Global;
 
@@ -61,7 +60,7 @@ fn record_by_call<P: Parts, C: Account, S: Account>(
     let plain = Call::Record {
         instrument: 0,
         value,
-        attributes: Items::from(Vec::new(alloc)),
+        attributes: Vec::new(alloc).into(),
     };
     let plain = fault_of_call(locked, &plain);
     let bound = fault_of_call(locked, &Call::RecordBound { handle: 0, value });

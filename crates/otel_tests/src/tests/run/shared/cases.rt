@@ -9,7 +9,7 @@ use super::counted::build_counters;
 use super::handed::settle_twice;
 use super::parts::use_parts;
 use super::threads::{Recording, record};
-use super::typed::{Instruments, record_typed};
+use super::typed::{Instruments, record_named, record_typed};
 use opentelemetry_sdk::metrics::provider::{Boxed, Parts, Provider, SdkMeterProvider};
 use opentelemetry_sdk::metrics::shared::{Account, Locked, MOST_WORKERS, SharedProvider, Worker};
 use otel_common::faults::Fault;
@@ -29,6 +29,8 @@ pub enum Case<'a> {
     Alone(&'a str),
     /// A worker records with instruments of another provider, and with those of its own.
     Typed(&'a Instruments, &'a Instruments),
+    /// Workers record by the names of series, with the same instruments.
+    Named(&'a Instruments, &'a Instruments),
     /// Views, readers and callbacks are asked.
     Parts,
 }
@@ -52,6 +54,9 @@ fn run<
         Case::Alone(words) => follow(alloc, &mut shared.lock(rt), words, text),
         Case::Typed(foreign, own) => {
             record_typed(alloc, &mut shared.lock(rt), foreign, own, text)
+        }
+        Case::Named(foreign, own) => {
+            record_named(alloc, &mut shared.lock(rt), foreign, own, text)
         }
         Case::Parts => use_parts(alloc, &mut shared.lock(rt), text),
     }

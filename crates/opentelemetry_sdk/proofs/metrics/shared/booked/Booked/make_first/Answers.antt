@@ -9,7 +9,7 @@ use Rattle.opentelemetry_sdk.proofs.metrics.shared.booked.Booked.make_first.Goal
 pub returns-in-Err-clause-fault : goal.returns-in-Err-clause-fault
 returns-in-Err-clause-fault g c =
     let refused = c.in-Err.ensures.refused in
-    let stops = stops_refused _ _ _ _ _ _ c.in-Some.ensures.item.3.0 c.in-Some.ensures.lookup c.in_ok-check_book.ensures.room refused.0 in (
+    let stops = stops_refused _ _ _ _ _ _ c.in-Some.ensures.first c.in_ok-check_book.ensures.room refused.0 in (
       subst (λ st. StopsBy st (pending_of c.args.worker.now) c.args.self.now.records.total c.in-Err.fault) (sym refused.1)
           (subst (λ n. StopsBy c.args.self.now.core.state (pending_of c.args.worker.now) n c.in-Err.fault) (sym c.args.self.now.counted) stops),
       refl,
@@ -20,4 +20,4 @@ returns-in-Err-clause-fault g c =
 
 -- not because the book is full
 pub returns-in-Err-clause-full : goal.returns-in-Err-clause-full
-returns-in-Err-clause-full g c = λ is. c.args.self.now.counted ∙ full-only _ _ _ _ (stops_refused _ _ _ _ _ _ c.in-Some.ensures.item.3.0 c.in-Some.ensures.lookup c.in_ok-check_book.ensures.room c.in-Err.ensures.refused.0) is
+returns-in-Err-clause-full g c = λ is. c.args.self.now.counted ∙ full-only _ _ _ _ (stops_refused _ _ _ _ _ _ c.in-Some.ensures.first c.in_ok-check_book.ensures.room c.in-Err.ensures.refused.0) is

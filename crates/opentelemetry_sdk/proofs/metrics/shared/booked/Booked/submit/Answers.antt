@@ -1,4 +1,4 @@
-use Rattle.std.proofs.Common.{arith}
+use Rattle.std.proofs.Common.{◌∙◌, arith}
 use Rattle.opentelemetry_sdk.proofs.Submitting.{submits-on}
 use Rattle.opentelemetry_sdk.proofs.metrics.shared.booked.Booked.submit.Goals as goal
 
@@ -18,4 +18,5 @@ loop-preserved g c =
       seeded = cc;
       opened = cc;
       identity = cc;
+      series = (c.make_first.ensures.series.0 ∙ so_far.series.0, c.make_first.ensures.series.1 ∙ so_far.series.1, c.make_first.ensures.series.2 ∙ so_far.series.2);
     }

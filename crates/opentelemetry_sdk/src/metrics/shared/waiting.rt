@@ -1,0 +1,396 @@
+//! The list of a worker.
+
+ghost use Rattle.std.specs.Prelude.{◌≡◌, ◌≤◌, ◌<◌, ◌+◌, ◌++◌, ◌∷◌, ◌⊎◌, [], ℕ, Contains, Err, slice_get, None, Some, IsSome, IsOk, IfOk, OnOk, OnErr, IfSome, OnSome, IfNone, get_or, IsOkUnless, drop, length, position};
+ghost use Rattle.opentelemetry_sdk.specs.Series.{series, series_eq};
+ghost use Rattle.opentelemetry_sdk.specs.Waiting.{HasSeries, KeepsSeries, lent_record, record_in, record_at, series_placed};
+
+use crate::metrics::shared::pending::{LentRecord, PendingRecord, WaitingRecord};
+use crate::metrics::shared::series_table::SeriesTable;
+use otel_aggregate::value_map::hashing::SetHashBuilder;
+use otel_common::attributes::KeyValue;
+use otel_common::faults::Fault;
+use otel_data::numbers::NumberValue;
+use std::alloc::Global;
+use std::marker::Model;
+
+/// How many series a worker knows at most before it forgets them all: it does so once no record waits, before it adds
+/// another one.
+pub const MOST_SERIES: usize = 1000;
+
+/// The series that a worker knows, and the records that wait.
+pub(crate) struct Waiting {
+    table: SeriesTable,
+    /// The records that are made and not yet let go, and after them those that wait to be made.
+    records: Vec<WaitingRecord>,
+    /// How many records at the front are made.
+    made: usize,
+}
+
+impl Model for Waiting {
+    ghost use Rattle.std.specs.Prelude.{◌-◌, ◌≤◌, length, map, drop};
+    ghost use Rattle.std.specs.List.{AllByRecursion};
+    ghost use Rattle.std.specs.Vec.{vec_capacity};
+    ghost use Rattle.opentelemetry_sdk.specs.Waiting.{Waits, HasSeries, record_in};
+
+    ghost Value = { Waits };
+
+    ghost view = { λ w. record {
+      emptied = w.table.emptied;
+      series = w.table.series;
+      records = map (record_in w.table.series) (drop w.made w.records.items);
+      room = vec_capacity w.records - length w.records.items;
+    } };
+
+    ghost invariant = { λ w. (w.made ≤ length w.records.items) × AllByRecursion (HasSeries (length w.table.series)) w.records.items };
+}
+
+impl Drop for Waiting {
+    /// A function of its own, so that no proof about who lets one go looks into it.
+    fn drop(self) {
+        let Waiting {
+            table: _table,
+            records: _records,
+            made: _,
+        } = self;
+    }
+}
+
+/// A record whose attributes are lent.
+fn lent(table: &SeriesTable, given: WaitingRecord) -> Option<LentRecord<'_>>
+    ensures lent { IfSome result (λ r. lent_record r ≡ record_in table.now.series given) }
+    ensures none { IfNone result (¬ HasSeries (length table.now.series) given) }
+{
+    match given {
+        WaitingRecord::Plain { place, value } => match table.at(place) {
+            Some(series) => Some(LentRecord::Plain {
+                instrument: series.instrument,
+                value,
+                attributes: series.attributes.as_slice(),
+            }),
+            None => None,
+        },
+        WaitingRecord::Bound { handle, value } => Some(LentRecord::Bound { handle, value }),
+    }
+}
+
+/// A record that shares its attributes.
+fn shared(table: &mut SeriesTable, given: WaitingRecord) -> Option<PendingRecord>
+    ensures shared { IfSome result (λ p. p ≡ record_in table.old.series given) }
+    ensures none { IfNone result (¬ HasSeries (length table.old.series) given) }
+    ensures kept { table.new ≡ table.old }
+{
+    match given {
+        WaitingRecord::Plain { place, value } => {
+            let Some(series) = table.at(place) else {
+                return None;
+            };
+            let instrument = series.instrument;
+            let Some(attributes) = table.share(place) else {
+                return None;
+            };
+            Some(PendingRecord::Plain {
+                instrument,
+                value,
+                attributes,
+            })
+        }
+        WaitingRecord::Bound { handle, value } => Some(PendingRecord::Bound { handle, value }),
+    }
+}
+
+impl Waiting {
+    /// A list without records, which knows no series and hashes them with this hasher. Takes no memory.
+    pub(crate) fn new(alloc: Global, hasher: SetHashBuilder) -> Waiting
+        ensures { (result.emptied ≡ 0) × (result.series ≡ []) × (result.records ≡ []) }
+    {
+        Waiting {
+            table: SeriesTable::new(alloc, hasher),
+            records: Vec::new(alloc),
+            made: 0,
+        }
+    }
+
+    /// How many records wait.
+    pub(crate) fn len(&self) -> usize
+        ensures { result ≡ length self.now.records }
+    {
+        self.records.len() - self.made
+    }
+
+    /// The first record that waits.
+    pub(crate) fn first(&self) -> Option<LentRecord<'_>>
+        ensures first { IfSome result (λ r. self.now.records ≡ lent_record r ∷ drop 1 self.now.records) }
+        ensures none { IfNone result (self.now.records ≡ []) }
+    {
+        let Some(first) = self.records.get(self.made) else {
+            return None;
+        };
+        lent(&self.table, *first)
+    }
+
+    /// Lets the first record that waits go.
+    pub(crate) fn pass_first(&mut self)
+        requires { 0 < length self.old.records }
+        ensures records { self.new.records ≡ drop 1 self.old.records }
+        ensures kept { (self.new.emptied ≡ self.old.emptied) × (self.new.series ≡ self.old.series) × (self.new.room ≡ self.old.room) }
+    {
+        self.made += 1;
+    }
+
+    /// Takes the first record that waits. Takes no memory.
+    pub(crate) fn take_first(&mut self) -> Option<PendingRecord>
+        ensures first { IfSome result (λ p. self.old.records ≡ p ∷ self.new.records) }
+        ensures rest { self.new.records ≡ drop 1 self.old.records }
+        ensures none { IfNone result (self.old.records ≡ []) }
+        ensures kept { (self.new.emptied ≡ self.old.emptied) × (self.new.series ≡ self.old.series) × (self.new.room ≡ self.old.room) }
+    {
+        let Some(first) = self.records.get(self.made) else {
+            return None;
+        };
+        let Some(taken) = shared(&mut self.table, *first) else {
+            return None;
+        };
+        self.made += 1;
+        Some(taken)
+    }
+
+    /// Lets the records that are made go, if no others wait, or else if they are more than those.
+    #[inline(never)]
+    fn free_made(&mut self)
+        ensures records { self.new.records ≡ self.old.records }
+        ensures kept { (self.new.emptied ≡ self.old.emptied) × (self.new.series ≡ self.old.series) × (self.old.room ≤ self.new.room) }
+    {
+        let waiting = self.records.len() - self.made;
+        if waiting < self.made {
+            self.records.rotate_left(self.made);
+            self.records.truncate(waiting);
+            self.made = 0;
+        }
+    }
+
+    /// Makes room for this many more records.
+    pub(crate) fn reserve(&mut self, additional: usize) -> Result<(), Fault>
+        ensures room { OnOk result (additional ≤ self.new.room) }
+        ensures least { self.old.room ≤ self.new.room }
+        ensures kept { (self.new.emptied ≡ self.old.emptied) × (self.new.series ≡ self.old.series) × (self.new.records ≡ self.old.records) }
+        ensures only_memory { IsOkUnless result Fault.OutOfMemory }
+    {
+        self.free_made();
+        self.records.reserve(additional)?;
+        Ok(())
+    }
+
+    /// Puts a record at the end.
+    #[inline(always)]
+    fn push(&mut self, given: WaitingRecord) -> Result<(), Fault>
+        requires { HasSeries (length self.old.series) given }
+        ensures added { OnOk result (self.new.records ≡ self.old.records ++ record_in self.old.series given ∷ []) }
+        ensures unadded { OnErr result (self.new.records ≡ self.old.records) }
+        ensures only_memory { IsOkUnless result Fault.OutOfMemory }
+        ensures succeeds { 0 < self.old.room → IsOk result }
+        ensures room { self.old.room ≤ self.new.room + 1 }
+        ensures kept { (self.new.emptied ≡ self.old.emptied) × (self.new.series ≡ self.old.series) }
+    {
+        if self.made > 0 {
+            self.free_made();
+        }
+        if self.records.push(given).is_err() {
+            return Err(Fault::OutOfMemory);
+        }
+        Ok(())
+    }
+}
+
+impl Waiting {
+    /// Forgets all series if there are as many as a worker knows and no record waits, and lets their memory go.
+    fn forget_many(&mut self)
+        ensures records { self.new.records ≡ self.old.records }
+        ensures room { self.old.room ≤ self.new.room }
+        ensures series { ((self.new.emptied ≡ self.old.emptied) × (self.new.series ≡ self.old.series)) ⊎ ((1000 ≤ length self.old.series) × (self.old.records ≡ []) × (self.new.emptied ≡ self.old.emptied + 1) × (self.new.series ≡ [])) }
+    {
+        if self.table.len() >= MOST_SERIES && self.made == self.records.len() {
+            self.records.clear();
+            self.made = 0;
+            self.table.clear();
+        }
+    }
+
+    /// Adds a series that is new, and answers its place.
+    fn learn(&mut self, instrument: usize, attributes: Vec<KeyValue>) -> Result<usize, Fault>
+        requires { position (series_eq (series instrument attributes.items)) self.old.series ≡ None }
+        ensures added { OnOk result (self.new.series ≡ self.old.series ++ series instrument attributes.items ∷ []) }
+        ensures place { IfOk result (λ n. n ≡ length self.old.series) }
+        ensures unadded { OnErr result (self.new.series ≡ self.old.series) }
+        ensures only_memory { IsOkUnless result Fault.OutOfMemory }
+        ensures kept { (self.new.emptied ≡ self.old.emptied) × (self.new.records ≡ self.old.records) × (self.new.room ≡ self.old.room) }
+    {
+        self.table.add(instrument, attributes)
+    }
+
+    /// Adds a series that is new, and a record of it.
+    #[inline(never)]
+    fn add_new(
+        &mut self,
+        instrument: usize,
+        value: NumberValue,
+        attributes: Vec<KeyValue>,
+    ) -> Result<(), Fault>
+        requires { position (series_eq (series instrument attributes.items)) self.old.series ≡ None }
+        ensures added { OnOk result (self.new.records ≡ self.old.records ++ PendingRecord.Plain instrument value attributes.items ∷ []) }
+        ensures unadded { OnErr result (self.new.records ≡ self.old.records) }
+        ensures only_memory { IsOkUnless result Fault.OutOfMemory }
+        ensures room { self.old.room ≤ self.new.room + 1 }
+        ensures learnt { OnOk result (Contains self.new.series (series instrument attributes.items)) }
+        ensures series { KeepsSeries self.old self.new }
+    {
+        self.forget_many();
+        let place = self.learn(instrument, attributes)?;
+        self.add_placed(place, value)
+    }
+
+    /// Where the series of an instrument and a list stands.
+    #[inline(always)]
+    fn place_of(&self, instrument: usize, attributes: &[KeyValue]) -> Option<usize>
+        ensures there { IfSome result (λ n. (n < length self.now.series) × (get_or self.now.series n (series 0 []) ≡ series instrument attributes.now)) }
+        ensures known { OnSome result (Contains self.now.series (series instrument attributes.now)) }
+        ensures none { IfNone result (position (series_eq (series instrument attributes.now)) self.now.series ≡ None) }
+        ensures unknown { IfNone result (¬ Contains self.now.series (series instrument attributes.now)) }
+    {
+        self.table.find(instrument, attributes)
+    }
+
+    /// Adds a record of a series at a place.
+    #[inline(always)]
+    fn add_placed(&mut self, place: usize, value: NumberValue) -> Result<(), Fault>
+        requires { place < length self.old.series }
+        ensures added { OnOk result (self.new.records ≡ self.old.records ++ record_at self.old.series place value ∷ []) }
+        ensures unadded { OnErr result (self.new.records ≡ self.old.records) }
+        ensures only_memory { IsOkUnless result Fault.OutOfMemory }
+        ensures succeeds { 0 < self.old.room → IsOk result }
+        ensures room { self.old.room ≤ self.new.room + 1 }
+        ensures kept { (self.new.emptied ≡ self.old.emptied) × (self.new.series ≡ self.old.series) }
+    {
+        self.push(WaitingRecord::Plain { place, value })
+    }
+
+    /// Adds a record with a list of its own.
+    pub(crate) fn add(
+        &mut self,
+        instrument: usize,
+        value: NumberValue,
+        attributes: Vec<KeyValue>,
+    ) -> Result<(), Fault>
+        ensures added { OnOk result (self.new.records ≡ self.old.records ++ PendingRecord.Plain instrument value attributes.items ∷ []) }
+        ensures unadded { OnErr result (self.new.records ≡ self.old.records) }
+        ensures only_memory { IsOkUnless result Fault.OutOfMemory }
+        ensures known { Contains self.old.series (series instrument attributes.items) → 0 < self.old.room → IsOk result }
+        ensures room { self.old.room ≤ self.new.room + 1 }
+        ensures learnt { OnOk result (Contains self.new.series (series instrument attributes.items)) }
+        ensures series { KeepsSeries self.old self.new }
+    {
+        match self.place_of(instrument, &attributes) {
+            Some(place) => self.add_placed(place, value),
+            None => self.add_new(instrument, value, attributes),
+        }
+    }
+
+    /// Adds a record with a list that is copied if its series is new.
+    #[inline]
+    pub(crate) fn add_listed(
+        &mut self,
+        instrument: usize,
+        value: NumberValue,
+        attributes: &[KeyValue],
+    ) -> Result<(), Fault>
+        ensures added { OnOk result (self.new.records ≡ self.old.records ++ PendingRecord.Plain instrument value attributes.now ∷ []) }
+        ensures unadded { OnErr result (self.new.records ≡ self.old.records) }
+        ensures only_memory { IsOkUnless result Fault.OutOfMemory }
+        ensures known { Contains self.old.series (series instrument attributes.now) → 0 < self.old.room → IsOk result }
+        ensures room { self.old.room ≤ self.new.room + 1 }
+        ensures learnt { OnOk result (Contains self.new.series (series instrument attributes.now)) }
+        ensures series { KeepsSeries self.old self.new }
+    {
+        match self.place_of(instrument, attributes) {
+            Some(place) => self.add_placed(place, value),
+            None => {
+                let copied = Vec::from_clones(self.table.allocator(), attributes)?;
+                self.add_new(instrument, value, copied)
+            }
+        }
+    }
+
+    /// Adds a record through a handle.
+    #[inline]
+    pub(crate) fn add_bound(&mut self, handle: u64, value: NumberValue) -> Result<(), Fault>
+        ensures added { OnOk result (self.new.records ≡ self.old.records ++ PendingRecord.Bound handle value ∷ []) }
+        ensures unadded { OnErr result (self.new.records ≡ self.old.records) }
+        ensures only_memory { IsOkUnless result Fault.OutOfMemory }
+        ensures known { 0 < self.old.room → IsOk result }
+        ensures room { self.old.room ≤ self.new.room + 1 }
+        ensures series { KeepsSeries self.old self.new }
+    {
+        self.push(WaitingRecord::Bound { handle, value })
+    }
+
+    /// The place of the series of an instrument and a list, which is copied if the series is new.
+    pub(crate) fn placed(
+        &mut self,
+        instrument: usize,
+        attributes: &[KeyValue],
+    ) -> Result<usize, Fault>
+        ensures placed { IfOk result (λ n. slice_get self.new.series n ≡ Some (series instrument attributes.now)) }
+        ensures only_memory { IsOkUnless result Fault.OutOfMemory }
+        ensures known { Contains self.old.series (series instrument attributes.now) → IsOk result }
+        ensures kept { (self.new.records ≡ self.old.records) × (self.old.room ≤ self.new.room) }
+        ensures series { KeepsSeries self.old self.new }
+    {
+        match self.place_of(instrument, attributes) {
+            Some(place) => Ok(place),
+            None => self.learn_copy(instrument, attributes),
+        }
+    }
+
+    /// Adds a series that is new, with a copy of its list, and answers its place.
+    #[inline(never)]
+    fn learn_copy(&mut self, instrument: usize, attributes: &[KeyValue]) -> Result<usize, Fault>
+        requires { position (series_eq (series instrument attributes.now)) self.old.series ≡ None }
+        ensures placed { IfOk result (λ n. slice_get self.new.series n ≡ Some (series instrument attributes.now)) }
+        ensures only_memory { IsOkUnless result Fault.OutOfMemory }
+        ensures kept { (self.new.records ≡ self.old.records) × (self.old.room ≤ self.new.room) }
+        ensures series { KeepsSeries self.old self.new }
+    {
+        let copied = Vec::from_clones(self.table.allocator(), attributes)?;
+        self.forget_many();
+        self.learn(instrument, copied)
+    }
+
+    /// How often the worker forgot all series.
+    #[inline(always)]
+    pub(crate) fn emptied(&self) -> u64
+        ensures { result ≡ self.now.emptied }
+    {
+        self.table.emptied()
+    }
+
+    /// Adds a record of the series at a place, if the worker forgot its series this many times.
+    #[inline(always)]
+    pub(crate) fn add_at(
+        &mut self,
+        emptied: u64,
+        place: usize,
+        value: NumberValue,
+    ) -> Result<(), Fault>
+        ensures added { OnOk result (IfSome (series_placed emptied place self.old) (λ s. self.new.records ≡ self.old.records ++ PendingRecord.Plain s.instrument value s.attributes ∷ [])) }
+        ensures unadded { OnErr result (self.new.records ≡ self.old.records) }
+        ensures stale { series_placed emptied place self.old ≡ None → result ≡ Err Fault.UnknownHandle }
+        ensures only_memory { IsSome (series_placed emptied place self.old) → IsOkUnless result Fault.OutOfMemory }
+        ensures known { IsSome (series_placed emptied place self.old) → 0 < self.old.room → IsOk result }
+        ensures room { self.old.room ≤ self.new.room + 1 }
+        ensures series { (self.new.emptied ≡ self.old.emptied) × (self.new.series ≡ self.old.series) }
+    {
+        if emptied != self.table.emptied() || place >= self.table.len() {
+            return Err(Fault::UnknownHandle);
+        }
+        self.add_placed(place, value)
+    }
+}
