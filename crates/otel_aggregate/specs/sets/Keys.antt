@@ -7,7 +7,6 @@ use Rattle.otel_common.specs.Canonical.{key_cmp}
 use Rattle.otel_common.specs.Equality.{bytes_eq}
 use Rattle.otel_common.specs.declared.attributes.KeyValue.{KeyValue}
 use Rattle.otel_model_stream.specs.Sets.{AttributeSet, AllowList}
-use Rattle.otel_aggregate.specs.declared.sets.listed.Listed.{Listed}
 
 -- the attributes that references lead to
 abbrev pub shown : List (Bor KeyValue) → List KeyValue
@@ -23,8 +22,8 @@ abbrev pub is_below : KeyValue → KeyValue → Bool
 is_below p next = is_lt (key_cmp p.key next.key)
 
 -- the attributes that are looked up: those that references lead to, or those of the list if there are none
-abbrev pub attributes_of : Listed → AttributeSet
-attributes_of l = cond (length l.references.now == 0) l.list.now (shown l.references.now)
+abbrev pub attributes_of : List KeyValue → List (Bor KeyValue) → AttributeSet
+attributes_of list references = cond (length references == 0) list (shown references)
 
 -- a place in a list of this length, or one before which something can be put
 abbrev pub IsPlaceIn : ℕ → Result ℕ ℕ → Type 0

@@ -7,10 +7,10 @@ ghost use Rattle.std.specs.Hash as fed;
 ghost use Rattle.std.specs.Hash.{on_Alike, same_Alike};
 ghost use Rattle.otel_common.specs.Canonical.{canon};
 ghost use Rattle.otel_common.specs.Equality.{set_eq};
-ghost use Rattle.otel_aggregate.specs.sets.Keys.{shown};
+ghost use Rattle.otel_aggregate.specs.sets.Keys.{is_below, shown};
 ghost use Rattle.otel_aggregate.specs.value_map.Hashed.{IsHashedBy, hashed_eq, hashed_eq-Decides};
 
-use crate::sets::listed::{Listed, same_lists};
+use crate::sets::listed::{copies_of, hash_list, hash_references, same_lists, same_referenced};
 use crate::value_map::hashing::SetHashBuilder;
 use indexmap::Equivalent;
 use otel_common::attributes::KeyValue;
@@ -29,7 +29,9 @@ use std::marker::Model;
 pub struct HashedSet<'a> {
     hasher: SetHashBuilder,
     hash: u64,
-    set: Listed<'a>,
+    list: &'a [KeyValue],
+    /// References, which stand for the list if there are any.
+    references: &'a [&'a KeyValue],
 }
 
 impl<'a> Model for HashedSet<'a> {
@@ -40,9 +42,9 @@ impl<'a> Model for HashedSet<'a> {
 
     ghost Value = { HashedKey };
 
-    ghost view = { λ h. record { hash = h.hash; key = attributes_of h.set } };
+    ghost view = { λ h. record { hash = h.hash; key = attributes_of h.list.now h.references.now } };
 
-    ghost invariant = { λ h. h.hash ≡ (fed_set h.hasher (attributes_of h.set)).state };
+    ghost invariant = { λ h. h.hash ≡ (fed_set h.hasher (attributes_of h.list.now h.references.now)).state };
 }
 
 impl<'a> HashedSet<'a> {
@@ -52,9 +54,12 @@ impl<'a> HashedSet<'a> {
         ensures hashed { IsHashedBy hasher result }
         ensures key { result.key ≡ list.now }
     {
-        let set = Listed::list(list);
-        let hash = set.hash(hasher);
-        HashedSet { hasher, hash, set }
+        HashedSet {
+            hasher,
+            hash: hash_list(hasher, list),
+            list,
+            references: &[],
+        }
     }
 
     /// Hashes the attributes that references lead to.
@@ -62,9 +67,12 @@ impl<'a> HashedSet<'a> {
         ensures hashed { IsHashedBy hasher result }
         ensures key { result.key ≡ shown references.now }
     {
-        let set = Listed::references(references);
-        let hash = set.hash(hasher);
-        HashedSet { hasher, hash, set }
+        HashedSet {
+            hasher,
+            hash: hash_references(hasher, references),
+            list: &[],
+            references,
+        }
     }
 
     /// Whether the set is empty.
@@ -72,7 +80,7 @@ impl<'a> HashedSet<'a> {
     pub fn is_empty(&self) -> bool
         ensures { result ≡ (length self.now.key == 0) }
     {
-        self.set.is_empty()
+        self.references.is_empty() && self.list.is_empty()
     }
 
     /// A copy of the set with the same hash.
@@ -80,19 +88,46 @@ impl<'a> HashedSet<'a> {
         ensures copy { IfOk result (λ made. made ≡ self.now.key) }
         ensures only_memory { IsOkUnless result Fault.OutOfMemory }
     {
-        let set = self.set.copied(alloc)?;
+        let copies = if self.references.is_empty() {
+            Vec::from_clones(alloc, self.list)?
+        } else {
+            copies_of(alloc, self.references)?
+        };
         Ok(OwnedSet {
             hasher: self.hasher,
             hash: self.hash,
-            set,
+            set: SharedItems::new(copies)?,
         })
     }
 
-    /// Whether the set is its own canonical form.
+    /// Whether the set has the attributes of a list, in the order of the list.
+    #[inline]
+    pub fn is_list(&self, list: &[KeyValue]) -> bool
+        ensures { result ≡ set_eq self.now.key list.now }
+    {
+        if self.references.is_empty() {
+            same_lists(self.list, list)
+        } else {
+            same_referenced(self.references, list)
+        }
+    }
+
+    /// Whether the set is its own canonical form, which it is exactly if each key is greater than the one before it.
     pub fn is_canonical(&self) -> bool
         ensures { result ≡ set_eq (canon self.now.key) self.now.key }
     {
-        self.set.is_canonical()
+        if self.references.is_empty() {
+            return self.list.is_sorted_by(
+                |attribute: &KeyValue, next: &KeyValue| -> bool
+                    ensures { result ≡ is_below attribute.now next.now }
+                { attribute.key < next.key },
+            );
+        }
+        self.references.is_sorted_by(
+            |reference: &&KeyValue, next: &&KeyValue| -> bool
+                ensures { result ≡ is_below reference.now.now next.now.now }
+            { reference.key < next.key },
+        )
     }
 
     /// The same set with the hash of this hasher.
@@ -103,13 +138,16 @@ impl<'a> HashedSet<'a> {
     {
         let hash = if hasher.is_same(&self.hasher) {
             self.hash
+        } else if self.references.is_empty() {
+            hash_list(hasher, self.list)
         } else {
-            self.set.hash(hasher)
+            hash_references(hasher, self.references)
         };
         HashedSet {
             hasher,
             hash,
-            set: self.set,
+            list: self.list,
+            references: self.references,
         }
     }
 }
@@ -150,7 +188,7 @@ impl OwnedSet {
     pub fn new(hasher: SetHashBuilder, set: SharedItems<KeyValue>) -> OwnedSet
         ensures { result ≡ set }
     {
-        let hash = Listed::list(set.as_slice()).hash(hasher);
+        let hash = hash_list(hasher, set.as_slice());
         OwnedSet { hasher, hash, set }
     }
 
@@ -161,7 +199,8 @@ impl OwnedSet {
         HashedSet {
             hasher: self.hasher,
             hash: self.hash,
-            set: Listed::list(self.set.as_slice()),
+            list: self.set.as_slice(),
+            references: &[],
         }
     }
 
@@ -185,7 +224,7 @@ impl OwnedSet {
         if hasher.is_same(&own) {
             return HashedKey { hash, key: set };
         }
-        let hash = Listed::list(set.as_slice()).hash(hasher);
+        let hash = hash_list(hasher, set.as_slice());
         HashedKey { hash, key: set }
     }
 }
@@ -235,7 +274,7 @@ impl<'a> GivenAttributes<'a> {
     pub fn hashed(hasher: SetHashBuilder, attributes: &'a [KeyValue]) -> GivenAttributes<'a>
         ensures { result ≡ attributes.now }
     {
-        let hash = Listed::list(attributes).hash(hasher);
+        let hash = hash_list(hasher, attributes);
         GivenAttributes {
             attributes,
             hashed: Some((hasher, hash)),
@@ -259,7 +298,8 @@ impl<'a> GivenAttributes<'a> {
             Some((hasher, hash)) => HashedSet {
                 hasher,
                 hash,
-                set: Listed::list(self.attributes),
+                list: self.attributes,
+                references: &[],
             },
             None => HashedSet::new(hasher, self.attributes),
         }
@@ -349,6 +389,6 @@ impl<'q, 'a> Equivalent<HashedKey> for &'q HashedSet<'a> {
 
     #[inline]
     fn equivalent(&self, key: &HashedKey) -> bool {
-        self.hash == key.hash && self.set.is_list(key.key.as_slice())
+        self.hash == key.hash && self.is_list(key.key.as_slice())
     }
 }

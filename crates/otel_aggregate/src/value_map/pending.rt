@@ -235,46 +235,12 @@ fn plan_sorted<A: Aggregator>(
     Ok(Pending::New(set, Some(key)))
 }
 
-/// Does what `plan` does where there are too many keys for sorting without memory. If memory for sorting is refused, the
-/// canonical form is looked for without being made.
-fn plan_many<A: Aggregator>(
-    alloc: Global,
-    table: &Table<A>,
-    few: bool,
-    overflow: Option<usize>,
-    list: &HashedSet,
-    allow: Option<&AllowedKeys>,
-    attributes: &[KeyValue],
-) -> Result<Pending, Fault>
-    requires overflow { IfSome overflow (IsOverflow few table.now.table.entries table.now.numbers) }
-    requires list { list.now.key ≡ allowed_part (option_copied allow) attributes.now }
-    requires unled { leads list.now.key table.now ≡ false }
-    requires other { set_eq (canon list.now.key) list.now.key ≡ false }
-    ensures plan { IfOk result (λ plan. IsPlanFor table.now few list.now.key (target_of overflow list.now.key table.now.table.entries) plan) }
-    ensures placed { IsTrue (has (canon list.now.key) table.now.table.entries) → IsOk result }
-    ensures only_memory { IsOkUnless result Fault.OutOfMemory }
-{
-    match many_references(alloc, allow, attributes) {
-        Ok(references) => {
-            let sorted = HashedSet::referenced(table.hasher(), references.as_slice());
-            plan_sorted(alloc, table, few, overflow, list, &sorted)
-        }
-        Err(fault) => match table.find_form(allow, attributes) {
-            Some(number) => Ok(Pending::At(number)),
-            None => match overflow {
-                Some(number) => Ok(Pending::At(number)),
-                None => Err(fault),
-            },
-        },
-    }
-}
-
 /// What a record is to do with a list that, as given, leads to no entry: with what is kept of these attributes. `few`
 /// says whether the number of counted entries is below the limit, and `overflow` is the number of the overflow entry, if that
 /// is to be used for a set without an entry, which then isn't copied.
 ///
 /// Looks the canonical form up if that is another list, by references that are sorted. For up to 16 keys this takes no
-/// memory.
+/// memory; if memory for more is refused, the canonical form is looked for without being made.
 #[inline(never)]
 pub fn plan<A: Aggregator>(
     alloc: Global,
@@ -301,12 +267,22 @@ pub fn plan<A: Aggregator>(
         let own = list.copied(alloc)?;
         return Ok(Pending::New(own, None));
     }
-    match few_references(allow, attributes) {
-        Some(references) => {
+    if let Some(references) = few_references(allow, attributes) {
+        let sorted = HashedSet::referenced(table.hasher(), references.as_slice());
+        return plan_sorted(alloc, table, few, overflow, list, &sorted);
+    }
+    match many_references(alloc, allow, attributes) {
+        Ok(references) => {
             let sorted = HashedSet::referenced(table.hasher(), references.as_slice());
             plan_sorted(alloc, table, few, overflow, list, &sorted)
         }
-        None => plan_many(alloc, table, few, overflow, list, allow, attributes),
+        Err(fault) => match table.find_form(allow, attributes) {
+            Some(number) => Ok(Pending::At(number)),
+            None => match overflow {
+                Some(number) => Ok(Pending::At(number)),
+                None => Err(fault),
+            },
+        },
     }
 }
 

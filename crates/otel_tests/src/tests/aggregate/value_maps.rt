@@ -8,8 +8,9 @@ use otel_aggregate::aggregators::buckets::{Buckets, counted_once};
 use otel_aggregate::aggregators::number::Number;
 use otel_aggregate::sets::allowed_keys::AllowedKeys;
 use otel_aggregate::sets::forms::is_form_of;
-use otel_aggregate::sets::listed::Listed;
 use otel_aggregate::sets::references::references_to;
+use otel_aggregate::value_map::hashed_key::HashedSet;
+use otel_aggregate::value_map::hashing::SetHashBuilder;
 use otel_common::faults::Fault;
 use std::fmt::{Debug, Display};
 
@@ -79,7 +80,8 @@ fn an_allow_list_drops_other_keys(rt: HostRuntime) {
         let given = attributes(alloc, set).expect(&rt, set);
         let left = attributes(alloc, left).expect(&rt, left);
         let kept = references_to(alloc, Some(&allow), &given).expect(&rt, set);
-        assert!(rt; Listed::references(&kept).is_list(&left), "{set}");
+        let kept = HashedSet::referenced(SetHashBuilder::default(), &kept);
+        assert!(rt; kept.is_list(&left), "{set}");
     }
 }
 
