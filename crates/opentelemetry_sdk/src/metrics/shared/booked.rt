@@ -1,6 +1,6 @@
 //! The core of a shared provider, with its book.
 
-ghost use Rattle.std.specs.Prelude.{◌≡◌, ◌≤◌, ◌+◌, ◌-◌, ◌%◌, ◌^◌, ◌==◌, true, false, if◌then◌else◌, [], map, sum_by, vec_len, is_ok, None, Some, IfOk, IfErr, OnOk};
+ghost use Rattle.std.specs.Prelude.{◌≡◌, ◌≤◌, ◌<◌, ◌+◌, ◌-◌, ◌%◌, ◌^◌, ◌==◌, ◌∷◌, true, false, if◌then◌else◌, [], map, sum_by, vec_len, is_ok, length, None, Some, Err, IfOk, IfErr, OnOk, OnErr};
 ghost use Rattle.opentelemetry_sdk.specs.Checks.{collect_refusal};
 ghost use Rattle.opentelemetry_sdk.specs.Correspondence.{call_of, fault_of, observed_of, reply_of, reply_from};
 ghost use Rattle.opentelemetry_sdk.specs.Known.{IsKnown};
@@ -275,6 +275,39 @@ impl<C: Account, S: Account> Booked<C, S> {
         self.accepted += 1;
         worker.submitted += 1;
         Ok(true)
+    }
+
+    /// Makes one record and enters it in a worker's share, unless records of that worker wait.
+    #[tactic(auto, using(crate::proofs::Lists::alone_refused, crate::proofs::Lists::alone_full))]
+    pub(crate) fn record(
+        &mut self,
+        worker: &mut Worker<C, S>,
+        made: LentRecord<'_>,
+    ) -> Result<(), Fault>
+        ensures done { OnOk result ((pending_of worker.old ≡ []) × IsDone self.old.core.state (call_in (lent_record made.entry)) self.new.core.state × (records_of worker.new ≡ records_of worker.old + 1) × (values_of worker.new ≡ values_of worker.old + bits_in (lent_record made.entry))) }
+        ensures waits { 0 < length (pending_of worker.old) → result ≡ Err Fault.UseWorker }
+        ensures fault { IfErr result (λ f. pending_of worker.old ≡ [] → StopsBy self.new.core.state (lent_record made.entry ∷ []) self.new.records.total f) }
+        ensures refused { OnErr result ((self.new.core.state ≡ self.old.core.state) × (records_of worker.new ≡ records_of worker.old) × (values_of worker.new ≡ values_of worker.old)) }
+        ensures seeded { self.new.core.hash_seed ≡ self.old.core.hash_seed }
+        ensures book { (self.new.records.total + records_of worker.old ≡ self.old.records.total + records_of worker.new) × (self.new.values.total + values_of worker.old ≡ self.old.values.total + values_of worker.new) }
+        ensures kept { (self.new.opened ≡ self.old.opened) × (worker_identity worker.new ≡ worker_identity worker.old) }
+        ensures series { waits_of worker.new ≡ waits_of worker.old }
+    {
+        if worker.waiting.len() > 0 {
+            return Err(Fault::UseWorker);
+        }
+        check_book(self.accepted)?;
+        if let Err(fault) = make(&mut self.core, made) {
+            return Err(fault);
+        }
+        let value = made.bits();
+        // (the share is at most the book, so it has room for one more)
+        self.records.audit(&mut worker.records);
+        self.records.add(&mut worker.records, 1);
+        self.values.add(&mut worker.values, value);
+        self.accepted += 1;
+        worker.submitted += 1;
+        Ok(())
     }
 
     /// Gives the core, if as many workers as were opened came back.

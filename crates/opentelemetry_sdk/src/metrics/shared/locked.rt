@@ -1,6 +1,6 @@
 //! What lies under the one lock of a shared provider.
 
-ghost use Rattle.std.specs.Prelude.{◌≡◌, ◌≤◌, ◌+◌, ◌-◌, ◌%◌, ◌^◌, ◌==◌, true, false, if◌then◌else◌, List, Option, Result, [], map, sum_by, vec_len, is_ok, None, Some, IfOk, IfErr, OnOk, OnErr};
+ghost use Rattle.std.specs.Prelude.{◌≡◌, ◌≤◌, ◌<◌, ◌∷◌, ◌+◌, ◌-◌, ◌%◌, ◌^◌, ◌==◌, true, false, if◌then◌else◌, List, Option, Result, [], map, sum_by, length, vec_len, is_ok, Err, None, Some, IfOk, IfErr, OnOk, OnErr};
 ghost use Rattle.otel_stream.specs.Runs.{Ran, RanAll};
 ghost use Rattle.otel_stream.specs.declared.observation.Observed.{Observed};
 ghost use Rattle.otel_common.specs.declared.faults.Fault.{Fault};
@@ -15,8 +15,8 @@ ghost use Rattle.otel_model.specs.Books.{count_in, sum_in};
 ghost use Rattle.otel_model.specs.Lawful.{Balances};
 ghost use Rattle.opentelemetry_sdk.specs.Callbacks.{IsCollectionOf};
 ghost use Rattle.opentelemetry_sdk.specs.Providers.{state_of, hash_seed_of, provider_views, provider_readers, callbacks_of};
-ghost use Rattle.opentelemetry_sdk.specs.Typed.{collect_reply};
-ghost use Rattle.opentelemetry_sdk.specs.Pending.{is_record, IsKnownFirst, StopsBy, Submits};
+ghost use Rattle.opentelemetry_sdk.specs.Typed.{collect_reply, instrument_number, instrument_identity, handle_number, handle_identity};
+ghost use Rattle.opentelemetry_sdk.specs.Pending.{call_in, bits_in, is_record, IsDone, IsKnownFirst, StopsBy, Submits};
 ghost use Rattle.opentelemetry_sdk.specs.Shared.{state_in, hash_seed_in, views_in, readers_in, callbacks_in, records_in, values_in, workers_in};
 ghost use Rattle.opentelemetry_sdk.specs.Waiting.{StaysListed};
 ghost use Rattle.opentelemetry_sdk.specs.Workers.{waits_of, pending_of, records_of, values_of, worker_identity};
@@ -25,11 +25,16 @@ ghost use Rattle.otel_stream.specs.Requests.{wanted_by};
 use crate::calls::{Call, Reply};
 use crate::metrics::shared::account::Account;
 use crate::metrics::shared::booked::{Booked, Receipt};
+use crate::metrics::shared::pending::{LentRecord, PendingRecord};
 use crate::metrics::shared::worker::Worker;
 use crate::parts::{Boxed, Parts};
 use crate::provider::Provider;
+use crate::values::bound::Bound;
+use crate::values::synchronous::Synchronous;
+use otel_common::attributes::KeyValue;
 use otel_common::faults::Fault;
 use otel_data::collections::ResourceMetrics;
+use otel_data::numbers::NumberType;
 use otel_stream::registered::{Registered, run_callbacks};
 use std::sync::Mutex;
 use std::sync::ledger::Blank;
@@ -210,6 +215,81 @@ impl<P: Parts, C: Account, S: Account> Locked<P, C, S> {
         let submitted = self.booked.submit(worker);
         self.booked.balances();
         submitted
+    }
+
+    /// Makes one record of a synchronous instrument, with attributes in any order, and enters it in the worker's share,
+    /// without its list. It costs what it costs as a call of a provider.
+    ///
+    /// Refused with `UnknownInstrument` if the instrument belongs to a provider of another identity, with `UseWorker`
+    /// while records of the worker wait, and otherwise as `submit` refuses it. A refused call changes nothing.
+    pub fn record<K, T: NumberType>(
+        &mut self,
+        worker: &mut Worker<C, S>,
+        instrument: &Synchronous<K, T>,
+        value: T,
+        attributes: &[KeyValue],
+    ) -> Result<(), Fault>
+        ensures foreign { ¬ (instrument_identity instrument.now ≡ worker_identity worker.old) → result ≡ Err Fault.UnknownInstrument }
+        ensures waits { instrument_identity instrument.now ≡ worker_identity worker.old → 0 < length (pending_of worker.old) → result ≡ Err Fault.UseWorker }
+        ensures done { OnOk result ((pending_of worker.old ≡ []) × IsDone (state_in self.old) (call_in (PendingRecord.Plain (instrument_number instrument.now) (T.value value) attributes.now)) (state_in self.new) × (records_of worker.new ≡ records_of worker.old + 1) × (values_of worker.new ≡ values_of worker.old + bits_in (PendingRecord.Plain (instrument_number instrument.now) (T.value value) attributes.now))) }
+        ensures fault { instrument_identity instrument.now ≡ worker_identity worker.old → IfErr result (λ f. pending_of worker.old ≡ [] → StopsBy (state_in self.new) ((PendingRecord.Plain (instrument_number instrument.now) (T.value value) attributes.now) ∷ []) (records_in self.new) f) }
+        ensures refused { OnErr result ((state_in self.new ≡ state_in self.old) × (records_of worker.new ≡ records_of worker.old) × (values_of worker.new ≡ values_of worker.old)) }
+        ensures book { (records_in self.new + records_of worker.old ≡ records_in self.old + records_of worker.new) × (values_in self.new + values_of worker.old ≡ values_in self.old + values_of worker.new) }
+        ensures balances { Balances (state_in self.new) }
+        ensures seeded { hash_seed_in self.new ≡ hash_seed_in self.old }
+        ensures worker { (worker_identity worker.new ≡ worker_identity worker.old) × (waits_of worker.new ≡ waits_of worker.old) }
+        ensures workers { workers_in self.new ≡ workers_in self.old }
+        ensures kept { readers_in self.new ≡ readers_in self.old }
+        ensures views { views_in self.new ≡ views_in self.old }
+        ensures callbacks { callbacks_in self.new ≡ callbacks_in self.old }
+    {
+        self.booked.balances();
+        if instrument.identity() != worker.identity {
+            return Err(Fault::UnknownInstrument);
+        }
+        let made = LentRecord::Plain {
+            instrument: instrument.number(),
+            value: value.into_value(),
+            attributes,
+        };
+        let recorded = self.booked.record(worker, made);
+        self.booked.balances();
+        recorded
+    }
+
+    /// Makes one record through a handle. Refused with `UnknownHandle` if the handle belongs to a provider of another
+    /// identity; otherwise the same as `record`.
+    pub fn record_through<T: NumberType>(
+        &mut self,
+        worker: &mut Worker<C, S>,
+        handle: &Bound<T>,
+        value: T,
+    ) -> Result<(), Fault>
+        ensures foreign { ¬ (handle_identity handle.now ≡ worker_identity worker.old) → result ≡ Err Fault.UnknownHandle }
+        ensures waits { handle_identity handle.now ≡ worker_identity worker.old → 0 < length (pending_of worker.old) → result ≡ Err Fault.UseWorker }
+        ensures done { OnOk result ((pending_of worker.old ≡ []) × IsDone (state_in self.old) (call_in (PendingRecord.Bound (handle_number handle.now) (T.value value))) (state_in self.new) × (records_of worker.new ≡ records_of worker.old + 1) × (values_of worker.new ≡ values_of worker.old + bits_in (PendingRecord.Bound (handle_number handle.now) (T.value value)))) }
+        ensures fault { handle_identity handle.now ≡ worker_identity worker.old → IfErr result (λ f. pending_of worker.old ≡ [] → StopsBy (state_in self.new) ((PendingRecord.Bound (handle_number handle.now) (T.value value)) ∷ []) (records_in self.new) f) }
+        ensures refused { OnErr result ((state_in self.new ≡ state_in self.old) × (records_of worker.new ≡ records_of worker.old) × (values_of worker.new ≡ values_of worker.old)) }
+        ensures book { (records_in self.new + records_of worker.old ≡ records_in self.old + records_of worker.new) × (values_in self.new + values_of worker.old ≡ values_in self.old + values_of worker.new) }
+        ensures balances { Balances (state_in self.new) }
+        ensures seeded { hash_seed_in self.new ≡ hash_seed_in self.old }
+        ensures worker { (worker_identity worker.new ≡ worker_identity worker.old) × (waits_of worker.new ≡ waits_of worker.old) }
+        ensures workers { workers_in self.new ≡ workers_in self.old }
+        ensures kept { readers_in self.new ≡ readers_in self.old }
+        ensures views { views_in self.new ≡ views_in self.old }
+        ensures callbacks { callbacks_in self.new ≡ callbacks_in self.old }
+    {
+        self.booked.balances();
+        if handle.identity() != worker.identity {
+            return Err(Fault::UnknownHandle);
+        }
+        let made = LentRecord::Bound {
+            handle: handle.number(),
+            value: value.into_value(),
+        };
+        let recorded = self.booked.record(worker, made);
+        self.booked.balances();
+        recorded
     }
 
     /// Gives the provider back, if as many workers are handed in as were opened. What they have in their lists is given

@@ -153,7 +153,7 @@ fn instruments_as_values(rt: HostRuntime) -> Result<(), Fail> {
     let wanted =
         "faults 3 3 4, 0 wait, accepted 0, value 0, faults 0 0 0, 3 wait, accepted 3, value 3, refused 14, 3 and 0; \
          fault 0, 1 wait, fault 0, 2 wait, accepted 2, fault 4, 0 wait, fault 4, 0 wait, fault 0, 1 wait, accepted 3, \
-         fault 4, 0 wait, foreign 3, foreign 3, refused 14, 9 and 0";
+         fault 4, 0 wait, foreign 3, at once 0 0 0 13, foreign 3, at once 0 0 0 13, refused 14, 27 and 0";
     assert_eq!(rt; text.as_str(), wanted);
     Ok(())
 }

@@ -136,7 +136,25 @@ fn name_each<P: Parts, C: Account, S: Account>(
     Ok(())
 }
 
-/// Has two workers record by the names of series, and of those of another provider. They come back.
+/// Makes records at once, of a counter, of a gauge and through a handle, and then one while another waits. Writes their
+/// faults, otherwise 0.
+fn record_at_once<P: Parts, C: Account, S: Account>(
+    locked: &mut Locked<P, C, S>,
+    worker: &mut Worker<C, S>,
+    own: &Instruments,
+    text: &mut String,
+) -> Result<(), Fault> {
+    let counter = fault_of(locked.record(worker, &own.counter, 3, &[]));
+    let gauge = fault_of(locked.record(worker, &own.gauge, -3, &[]));
+    let handle = fault_of(locked.record_through(worker, &own.handle, 3));
+    worker.add_to(&own.counter, 3, &[])?;
+    let waiting = fault_of(locked.record(worker, &own.counter, 3, &[]));
+    locked.submit(worker)?;
+    write!(text, "at once {counter} {gauge} {handle} {waiting}, ")?;
+    Ok(())
+}
+
+/// Has two workers record by the names of series, and of those of another provider, and at once. They come back.
 pub fn record_named<P: Parts, C: Account, S: Account>(
     alloc: Global,
     locked: &mut Locked<P, C, S>,
@@ -150,6 +168,7 @@ pub fn record_named<P: Parts, C: Account, S: Account>(
         if let Err(fault) = name(alloc, worker, foreign, 0) {
             write!(text, "foreign {}, ", fault.number())?;
         }
+        record_at_once(locked, worker, own, text)?;
     }
     Ok(workers)
 }
