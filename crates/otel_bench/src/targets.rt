@@ -59,8 +59,8 @@ pub fn lists_of<'a>(alloc: Global, calls: &'a [Call]) -> Result<Vec<&'a [KeyValu
 
 /// The attributes of the first of these calls, if it is a record.
 pub fn attributes_of(calls: &[Call]) -> &[KeyValue] {
-    match calls {
-        [Call::Record { attributes, .. }, ..] => attributes.as_slice(),
+    match calls.first() {
+        Some(Call::Record { attributes, .. }) => attributes.as_slice(),
         _ => &[],
     }
 }

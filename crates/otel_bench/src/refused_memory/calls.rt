@@ -51,9 +51,12 @@ fn make<R: Print, P: Parts>(
         "copy" => trial.take(copied(calls)),
         "timeout" => trial.take(provider.shutdown_with_timeout(Duration::from_secs(1))),
         word => match calls.as_slice() {
-            [Call::Collect { reader, now, .. }] if word == "collected" => {
-                trial.take(provider.collected(*reader, *now))
-            }
+            [call] if word == "collected" => match call {
+                Call::Collect { reader, now, .. } => {
+                    trial.take(provider.collected(*reader, *now))
+                }
+                _ => unknown(word),
+            },
             [call] if word == "line" => trial.take(answer_of(provider.step(call))),
             [call] if matches!(word, "typed" | "collect") => {
                 let answer = make_typed(trial.alloc, provider, instruments, call, metrics, spare);

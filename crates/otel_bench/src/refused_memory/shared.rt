@@ -50,10 +50,12 @@ fn make<R: Print, P: Parts, C: Account, S: Account>(
         "submit" => trial.take(locked.submit(worker)),
         "submit_all" => trial.take(submit_all(locked, worker)),
         "line" | "collect" => match calls.as_slice() {
-            [Call::Collect { reader, now, .. }] if call == "collect" => {
-                trial.take(locked.collect(*reader, *now, metrics))
-            }
-            [line] => trial.take(answer_of(locked.call(line))),
+            [line] => match line {
+                Call::Collect { reader, now, .. } if call == "collect" => {
+                    trial.take(locked.collect(*reader, *now, metrics))
+                }
+                _ => trial.take(answer_of(locked.call(line))),
+            },
             _ => unknown(call),
         },
         _ => make_at_worker(trial, worker, instruments, handle, calls),

@@ -117,8 +117,7 @@ fn workers_without_threads(rt: HostRuntime) -> Result<(), Fail> {
     )
 }
 
-/// Shares a provider, and has a worker record with instruments of another one, and with those of its own; and the same
-/// by the names of series.
+/// Shares a provider, and has a worker record with instruments of another one, and with those of its own.
 fn record_with<R: Abort + Threads + Wait + Sync>(
     rt: &R,
     alloc: Global,
@@ -127,14 +126,22 @@ fn record_with<R: Abort + Threads + Wait + Sync>(
 ) -> Result<(), Fault> {
     let mut provider = provider_of(rt, alloc, 5)?;
     let own = Instruments::build(alloc, &mut provider)?;
-    share_boxes(rt, alloc, provider, Case::Typed(foreign, &own), text)?;
-    text.push_str("; ")?;
+    share_boxes(rt, alloc, provider, Case::Typed(foreign, &own), text)
+}
+
+/// The same by the names of series, and at once.
+fn record_by_name<R: Abort + Threads + Wait + Sync>(
+    rt: &R,
+    alloc: Global,
+    foreign: &Instruments,
+    text: &mut String,
+) -> Result<(), Fault> {
     let mut provider = provider_of(rt, alloc, 5)?;
     let own = Instruments::build(alloc, &mut provider)?;
     share_boxes(rt, alloc, provider, Case::Named(foreign, &own), text)
 }
 
-/// The same, with the instruments of a provider that it makes.
+/// Both, with the instruments of a provider that it makes.
 fn record_with_foreign<R: Abort + Threads + Wait + Sync>(
     rt: &R,
     alloc: Global,
@@ -142,7 +149,9 @@ fn record_with_foreign<R: Abort + Threads + Wait + Sync>(
 ) -> Result<(), Fault> {
     let mut other = provider_of(rt, alloc, 7)?;
     let foreign = Instruments::build(alloc, &mut other)?;
-    record_with(rt, alloc, &foreign, text)
+    record_with(rt, alloc, &foreign, text)?;
+    text.push_str("; ")?;
+    record_by_name(rt, alloc, &foreign, text)
 }
 
 /// With instruments of another provider, and of the worker's own one.
