@@ -127,12 +127,11 @@ impl Pipeline {
         requires kept { (f : StreamContents → StreamContents) × KeepsAnswer f × Makes F.Fn change f }
         ensures { (f : StreamContents → StreamContents) → Makes F.Fn change f → part_of self.new ≡ part_changed_by f instrument self.old }
     {
-        let feeds = streams_fed(&self.feeds, instrument);
-        if feeds.len() == 1 {
-            change(&mut self.streams[feeds[0]]);
-            return;
-        }
-        change_each(&mut self.streams, feeds, &change);
+        change_each(
+            &mut self.streams,
+            streams_fed(&self.feeds, instrument),
+            &change,
+        );
     }
 
     /// Whether an instrument feeds a stream of this reader.

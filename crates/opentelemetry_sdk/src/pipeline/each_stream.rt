@@ -78,7 +78,7 @@ pub(crate) fn commit_bind_each(
 }
 
 /// Changes each of these streams.
-#[inline(never)]
+#[inline(always)]
 pub(crate) fn change_each<F: Fn(&mut MetricStream)>(
     streams: &mut Vec<MetricStream>,
     feeds: &[usize],
