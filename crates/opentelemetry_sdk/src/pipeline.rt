@@ -7,13 +7,13 @@ ghost use Rattle.opentelemetry_sdk.specs.pipeline.Collections.{IsCollectedFrom};
 ghost use Rattle.opentelemetry_sdk.specs.pipeline.Handles.{AreObservableFor, FeedsSynchronous, IsHeldByFed, IsReadyToBindAt, part_after_bind};
 ghost use Rattle.opentelemetry_sdk.specs.pipeline.Known.{is_known_at};
 ghost use Rattle.opentelemetry_sdk.specs.pipeline.Observations.{AreTypedFor, observed_of};
-ghost use Rattle.opentelemetry_sdk.specs.pipeline.Pipelines.{part_of, has_stream_at, number_of, part_after_record, part_changed_by, FeedsType, IsLawful, IsPreparedFor, KeepsAnswer, Makes};
-ghost use Rattle.opentelemetry_sdk.specs.pipeline.Streams.{StreamContents};
+ghost use Rattle.opentelemetry_sdk.specs.pipeline.Pipelines.{part_of, has_stream_at, number_of, part_after_record, FeedsType, IsLawful, IsPreparedFor};
 ghost use Rattle.otel_aggregate.specs.Any.{is_signed_value};
 
 use crate::pipeline::about::About;
 use crate::pipeline::each_stream::{
-    change_each, commit_bind_each, prepare_bind_each, prepare_each, streams_fed,
+    commit_bind_each, commit_each, prepare_bind_each, prepare_each, record_held_each,
+    record_none_each, streams_fed, unbind_each,
 };
 use crate::pipeline::metric_stream::MetricStream;
 use crate::pipeline::observing::collect_observed;
@@ -120,20 +120,6 @@ impl Pipeline {
         let _ = self.identities.len();
     }
 
-    /// Changes each stream that the instrument feeds.
-    #[inline(always)]
-    fn change_fed<F: Fn(&mut MetricStream)>(&mut self, instrument: usize, change: F)
-        requires callable { F.IsAlwaysCallable change }
-        requires kept { (f : StreamContents → StreamContents) × KeepsAnswer f × Makes F.Fn change f }
-        ensures { (f : StreamContents → StreamContents) → Makes F.Fn change f → part_of self.new ≡ part_changed_by f instrument self.old }
-    {
-        change_each(
-            &mut self.streams,
-            streams_fed(&self.feeds, instrument),
-            &change,
-        );
-    }
-
     /// Whether an instrument feeds a stream of this reader.
     pub fn has_stream(&self, instrument: usize) -> bool
         ensures { result ≡ has_stream_at instrument (part_of self.now) }
@@ -170,7 +156,11 @@ impl Pipeline {
     pub fn commit(&mut self, instrument: usize, value: NumberValue)
         ensures { part_of self.new ≡ part_after_record instrument value self.old }
     {
-        self.change_fed(instrument, |stream: &mut MetricStream| stream.commit(value));
+        commit_each(
+            &mut self.streams,
+            streams_fed(&self.feeds, instrument),
+            value,
+        );
     }
 
     /// Makes a record with these attributes in all streams that the instrument feeds or in none, in one pass if it feeds
@@ -233,10 +223,12 @@ impl Pipeline {
         ensures { part_of self.new ≡ part_after_call 0 (model.Call.Record instrument (number_of value) []) (part_of self.old) }
     {
         self.law_of_identities();
-        self.change_fed(
-            instrument,
-            |stream: &mut MetricStream| stream.record_none(value),
-        );
+        let feeds = streams_fed(&self.feeds, instrument);
+        if feeds.len() == 1 {
+            self.streams[feeds[0]].record_none(value);
+            return;
+        }
+        record_none_each(&mut self.streams, feeds, value);
     }
 
     /// Prepares a bind to these attributes in the streams that the instrument feeds, and makes room for its handle
@@ -282,10 +274,12 @@ impl Pipeline {
         ensures { part_of self.new ≡ part_after_call 0 (model.Call.RecordBound handle (number_of value)) (part_of self.old) }
     {
         self.law_of_identities();
-        self.change_fed(
-            instrument,
-            |stream: &mut MetricStream| stream.record_held(handle, place, value),
-        );
+        let feeds = streams_fed(&self.feeds, instrument);
+        if feeds.len() == 1 {
+            self.streams[feeds[0]].record_held(handle, place, value);
+            return;
+        }
+        record_held_each(&mut self.streams, feeds, handle, place, value);
     }
 
     /// Ends a handle in the streams that its instrument feeds. Takes no memory.
@@ -295,9 +289,10 @@ impl Pipeline {
         ensures { part_of self.new ≡ part_after_call 0 (model.Call.Unbind handle) (part_of self.old) }
     {
         self.law_of_identities();
-        self.change_fed(
-            instrument,
-            |stream: &mut MetricStream| stream.unbind(handle),
+        unbind_each(
+            &mut self.streams,
+            streams_fed(&self.feeds, instrument),
+            handle,
         );
     }
 

@@ -15,9 +15,16 @@ use Rattle.otel_model.specs.Demands.{Demand}
 use Rattle.otel_model.specs.Sent.{set_for}
 use Rattle.otel_model.specs.Streams.{is_drained}
 use Rattle.opentelemetry_sdk.specs.pipeline.Observations.{observed_all, observed_in, observing_numbers}
-use Rattle.opentelemetry_sdk.specs.pipeline.Pipelines.{KeepsAnswer, all_without_pending, answer_of}
+use Rattle.opentelemetry_sdk.specs.pipeline.Pipelines.{all_without_pending}
 use Rattle.opentelemetry_sdk.specs.pipeline.Streams.{StreamContents, contents_after_bind, bound_by, contents_after_commit, committed_by, contents_after_none, contents_after_record, contents_after_unbind, without_handle, contents_after_update, with_update, with_record, without_pending}
 use Rattle.opentelemetry_sdk.proofs.pipeline.Writes.{unseen-each}
+
+abbrev pub answer_of : StreamContents → Bool × Demand
+answer_of k = (k.resets, k.stream.demand)
+
+-- a change of streams that leaves both
+abbrev pub KeepsAnswer : (StreamContents → StreamContents) → Type 0
+KeepsAnswer f = (k : StreamContents) → answer_of (f k) ≡ answer_of k
 
 -- ======== what is done to one stream ========
 kept-if : (b : Bool) (m n k : StreamContents) → answer_of m ≡ answer_of k → answer_of n ≡ answer_of k → answer_of (cond b m n) ≡ answer_of k

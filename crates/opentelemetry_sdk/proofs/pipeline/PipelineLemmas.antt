@@ -7,9 +7,9 @@ use Rattle.std.proofs.lemmas.Simd.{map-map}
 use Rattle.otel_model.specs.Calls.{InstrumentKind, or_else}
 use Rattle.otel_model.specs.Demands.{Identity, Demand, ReaderAnswers, identity_eq}
 use Rattle.otel_model.specs.Streams.{is_delta}
-use Rattle.opentelemetry_sdk.specs.pipeline.Pipelines.{AreAnswered, AreFedOnce, AreNumbers, IsLawful, KeepsAnswer, Piped, all_without_pending, answer_of, changed_each, fates_of, stream_identities, part_by, part_changed_by, named_identities, identity_at, is_streamed, model_streams}
+use Rattle.opentelemetry_sdk.specs.pipeline.Pipelines.{AreAnswered, AreFedOnce, AreNumbers, IsLawful, Piped, all_without_pending, changed_each, fates_of, stream_identities, part_by, part_changed_by, named_identities, identity_at, is_streamed, model_streams}
 use Rattle.opentelemetry_sdk.specs.pipeline.Streams.{StreamContents, without_pending}
-use Rattle.opentelemetry_sdk.proofs.pipeline.Answered.{answered-same, answers-settled}
+use Rattle.opentelemetry_sdk.proofs.pipeline.Answered.{KeepsAnswer, answer_of, answered-same, answers-settled}
 use Rattle.opentelemetry_sdk.proofs.pipeline.Identities.{distinct-same, test_of}
 use Rattle.opentelemetry_sdk.proofs.pipeline.Writes.{length-seen, unseen-each}
 

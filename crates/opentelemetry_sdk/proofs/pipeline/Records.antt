@@ -19,9 +19,9 @@ use Rattle.otel_model.specs.Machine.{stream_after, part_after_call}
 use Rattle.otel_model.specs.Sent.{is_fed, set_for}
 use Rattle.otel_model.specs.State.{ReaderPart, Stream}
 use Rattle.otel_model.proofs.Gather.{identity_eq_self}
-use Rattle.opentelemetry_sdk.specs.pipeline.Pipelines.{fates_of, named_identities, identity_at, identity_of, is_streamed, model_streams, part_of, Piped, AreNumbers, IsLawful, IsPrepared, IsPreparedFor, changed_each, fed_by, number_of, part_after_record, part_changed_by, FeedsType, KeepsAnswer}
+use Rattle.opentelemetry_sdk.specs.pipeline.Pipelines.{fates_of, named_identities, identity_at, identity_of, is_streamed, model_streams, part_of, Piped, AreNumbers, IsLawful, IsPrepared, IsPreparedFor, changed_each, fed_by, number_of, part_after_record, part_changed_by, FeedsType}
 use Rattle.opentelemetry_sdk.specs.pipeline.Streams.{StreamContents, with_record, contents_after_commit, contents_after_none, contents_after_record, committed_by}
-use Rattle.opentelemetry_sdk.proofs.pipeline.Answered.{commits, measures, records}
+use Rattle.opentelemetry_sdk.proofs.pipeline.Answered.{KeepsAnswer, commits, measures, records}
 use Rattle.opentelemetry_sdk.proofs.pipeline.Identities.{AreApart, are_apart}
 use Rattle.opentelemetry_sdk.proofs.pipeline.NoAttributes.{set_of-nil}
 use Rattle.opentelemetry_sdk.proofs.pipeline.Once.{changed_in, fed-once, fold-once}

@@ -1,8 +1,6 @@
 -- One reader's streams: as the model's part of a reader, and with what the model leaves out.
 use Rattle.std.specs.Prelude.{◌≡◌, ◌<◌, ℕ, Bool, not, cond, ◌||◌, true, false, List, [], ◌∷◌, ◌++◌, map, filter, fold, length, take, All, Option, None, Some, slice_get, position}
 use Rattle.std.specs.List.{IsDistinct, AllByRecursion}
-use Rattle.std.specs.Fn.{Shared}
-use denote.Ref.{MutBor}
 use Rattle.otel_common.specs.declared.attributes.KeyValue.{KeyValue}
 use Rattle.otel_data.specs.declared.numbers.NumberValue.{NumberValue}
 use Rattle.otel_aggregate.specs.Any.{is_signed_value, amount_of}
@@ -185,19 +183,6 @@ pub record IsPreparedFor (instrument : ℕ) (attributes : List KeyValue) (p : Pi
 -- the streams, with nothing prepared and no room made
 abbrev pub all_without_pending : List StreamContents → List StreamContents
 all_without_pending streams = map without_pending streams
-
--- ======== changes of streams ========
--- whether a stream resets, and by which demand it was made
-abbrev pub answer_of : StreamContents → Bool × Demand
-answer_of k = (k.resets, k.stream.demand)
-
--- a change of streams that leaves both
-abbrev pub KeepsAnswer : (StreamContents → StreamContents) → Type 0
-KeepsAnswer f = (k : StreamContents) → answer_of (f k) ≡ answer_of k
-
--- a closure makes of each stream what f makes of it
-abbrev pub Makes : {F R : Type 0} → Shared F (MutBor StreamContents × Unit {0}) (R × (MutBor StreamContents × Unit {0})) → F → (StreamContents → StreamContents) → Type 0
-Makes {F} {R} g c f = (old new : MutBor StreamContents) (r : R) → g.post c (old, tt) (r, (new, tt)) → new.now ≡ f old.now
 
 -- the reader's part, once f is done to each stream that the instrument feeds
 abbrev pub part_changed_by : (StreamContents → StreamContents) → ℕ → Piped → ReaderPart

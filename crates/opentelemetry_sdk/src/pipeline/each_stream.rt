@@ -4,13 +4,14 @@ ghost use Rattle.std.specs.Prelude.{◌≡◌, ◌<◌, [], All, slice_get, OnOk
 ghost use Rattle.otel_model.specs.Calls.{or_else};
 ghost use Rattle.opentelemetry_sdk.specs.pipeline.Handles.{AreReadyToBind};
 ghost use Rattle.opentelemetry_sdk.specs.pipeline.Known.{IsKnownIfThere};
-ghost use Rattle.opentelemetry_sdk.specs.pipeline.Pipelines.{AreNumbers, ArePrepared, Makes, all_without_pending, changed_each, all_after_collection};
-ghost use Rattle.opentelemetry_sdk.specs.pipeline.Streams.{StreamContents, contents_after_bind};
+ghost use Rattle.opentelemetry_sdk.specs.pipeline.Pipelines.{AreNumbers, ArePrepared, all_without_pending, changed_each, all_after_collection};
+ghost use Rattle.opentelemetry_sdk.specs.pipeline.Streams.{contents_after_bind, contents_after_commit, contents_after_none, contents_after_unbind, contents_after_update};
 
 use crate::pipeline::metric_stream::MetricStream;
 use otel_aggregate::value_map::hashed_key::GivenAttributes;
 use otel_common::faults::Fault;
 use otel_common::lists::Items;
+use otel_data::numbers::NumberValue;
 use std::alloc::AllocError;
 
 /// The numbers of the streams that an instrument feeds; none if there is no such instrument.
@@ -77,19 +78,30 @@ pub(crate) fn commit_bind_each(
     place
 }
 
-/// Changes each of these streams.
-#[inline(always)]
-pub(crate) fn change_each<F: Fn(&mut MetricStream)>(
+/// Takes in a record through this handle in each of these streams. Looks for the handle at this place first.
+#[inline(never)]
+pub(crate) fn record_held_each(
     streams: &mut Vec<MetricStream>,
     feeds: &[usize],
-    change: &F,
+    handle: u64,
+    place: usize,
+    value: NumberValue,
 )
-    requires numbers { AreNumbers streams.old.items feeds.now }
-    requires callable { F.IsAlwaysCallable change.now }
-    ensures { (f : StreamContents → StreamContents) → Makes F.Fn change.now f → streams.new.items ≡ changed_each f feeds.now streams.old.items }
+    requires { AreNumbers streams.old.items feeds.now }
+    ensures { streams.new.items ≡ changed_each (contents_after_update handle value) feeds.now streams.old.items }
 {
     for k in feeds {
-        change(&mut streams[*k]);
+        streams[*k].record_held(handle, place, value);
+    }
+}
+
+/// Ends this handle in each of these streams.
+pub(crate) fn unbind_each(streams: &mut Vec<MetricStream>, feeds: &[usize], handle: u64)
+    requires { AreNumbers streams.old.items feeds.now }
+    ensures { streams.new.items ≡ changed_each (contents_after_unbind handle) feeds.now streams.old.items }
+{
+    for k in feeds {
+        streams[*k].unbind(handle);
     }
 }
 
@@ -99,5 +111,27 @@ pub(crate) fn finish_each(streams: &mut Vec<MetricStream>, now: u64)
 {
     for i in 0..streams.len() {
         streams[i].finish(now);
+    }
+}
+
+/// Takes in the prepared record in each of these streams.
+#[inline(always)]
+pub(crate) fn commit_each(streams: &mut Vec<MetricStream>, feeds: &[usize], value: NumberValue)
+    requires { AreNumbers streams.old.items feeds.now }
+    ensures { streams.new.items ≡ changed_each (contents_after_commit value) feeds.now streams.old.items }
+{
+    for k in feeds {
+        streams[*k].commit(value);
+    }
+}
+
+/// Takes in a record without attributes in each of these streams.
+#[inline(never)]
+pub(crate) fn record_none_each(streams: &mut Vec<MetricStream>, feeds: &[usize], value: NumberValue)
+    requires { AreNumbers streams.old.items feeds.now }
+    ensures { streams.new.items ≡ changed_each (contents_after_none value) feeds.now streams.old.items }
+{
+    for k in feeds {
+        streams[*k].record_none(value);
     }
 }

@@ -3,8 +3,7 @@ use Rattle.std.proofs.lemmas.Simd.{map-map}
 use Rattle.opentelemetry_sdk.specs.pipeline.Observations.{AreObservableIn, observed_all}
 use Rattle.opentelemetry_sdk.specs.pipeline.Pipelines.{Piped, all_without_pending, all_after_collection}
 use Rattle.opentelemetry_sdk.specs.pipeline.Streams.{StreamContents, contents_after_collection}
-use Rattle.opentelemetry_sdk.proofs.pipeline.Answered.{answers-observed, answers-settled}
-use Rattle.opentelemetry_sdk.specs.pipeline.Pipelines.{answer_of}
+use Rattle.opentelemetry_sdk.proofs.pipeline.Answered.{answer_of, answers-observed, answers-settled}
 use Rattle.opentelemetry_sdk.proofs.pipeline.Handles.{observable-in}
 use Rattle.opentelemetry_sdk.proofs.pipeline.Observes.{observed-finished, observed-is}
 use Rattle.opentelemetry_sdk.proofs.pipeline.Outcomes.{either, IfOk-both, OnErr-weaker, OnOk-weaker}

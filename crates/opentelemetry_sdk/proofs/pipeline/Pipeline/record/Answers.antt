@@ -2,9 +2,9 @@ use Rattle.std.proofs.Common.{◌∙◌, ap, sym, subst, [], List, ℕ, get_or, 
 use Rattle.std.specs.Prelude.{All}
 use Rattle.otel_model.specs.Calls.{or_else}
 use Rattle.opentelemetry_sdk.specs.pipeline.Known.{IsKnownIfThere}
-use Rattle.opentelemetry_sdk.specs.pipeline.Pipelines.{AreNumbers, Piped, all_without_pending, answer_of}
+use Rattle.opentelemetry_sdk.specs.pipeline.Pipelines.{AreNumbers, Piped, all_without_pending}
 use Rattle.opentelemetry_sdk.specs.pipeline.Streams.{StreamContents, contents_after_record, without_pending}
-use Rattle.opentelemetry_sdk.proofs.pipeline.Answered.{records-either}
+use Rattle.opentelemetry_sdk.proofs.pipeline.Answered.{answer_of, records-either}
 use Rattle.opentelemetry_sdk.proofs.pipeline.Known.{known-alone, known-at}
 use Rattle.opentelemetry_sdk.proofs.pipeline.Outcomes.{OnErr-weaker, OnOk-weaker}
 use Rattle.opentelemetry_sdk.proofs.pipeline.PipelineLemmas.{changed-part, lawful-inside, reader_of, settled-part, sound-same}

@@ -3,8 +3,7 @@ use Rattle.otel_common.specs.declared.attributes.KeyValue.{KeyValue}
 use Rattle.otel_model.specs.Demands.{Demand}
 use Rattle.opentelemetry_sdk.specs.pipeline.Observations.{restored_all}
 use Rattle.opentelemetry_sdk.specs.pipeline.Streams.{StreamContents, contents_after_record, without_pending}
-use Rattle.opentelemetry_sdk.proofs.pipeline.Answered.{records}
-use Rattle.opentelemetry_sdk.specs.pipeline.Pipelines.{answer_of}
+use Rattle.opentelemetry_sdk.proofs.pipeline.Answered.{answer_of, records}
 use Rattle.opentelemetry_sdk.proofs.pipeline.Undone.{restored-same, undone-at}
 use Rattle.opentelemetry_sdk.proofs.pipeline.Writes.{changed-more, number-inside, seen_same, set-changed}
 use Rattle.opentelemetry_sdk.proofs.pipeline.observing.observe_in.Goals as goal
