@@ -1,5 +1,5 @@
 -- Lists of records that wait.
-use Rattle.std.proofs.Common.{◌⊎◌, inl, inr, Result, Ok, Err, OnOk, OnErr, position, IfSome, OnSome, IfNone, Option, Some, None, cond, nat_lt, Bool, true, false, true≢false, Contains, ◌≡◌, ◌∙◌, zero, suc, ℕ, ◌+◌, ◌-◌, ◌<◌, ◌≤◌, List, [], ◌∷◌, ◌++◌, map, length, get_or, drop, take, refl, sym, ap, subst, arith, add-one, length-drop}
+use Rattle.std.proofs.Common.{◌⊎◌, inl, inr, Result, Ok, Err, OnOk, OnErr, position, IfSome, OnSome, IfNone, Option, Some, None, cond, true, true≢false, Contains, ◌≡◌, ◌∙◌, zero, suc, ℕ, ◌+◌, ◌-◌, ◌<◌, ◌≤◌, List, [], ◌∷◌, ◌++◌, map, length, get_or, drop, take, refl, sym, ap, subst, arith, length-drop}
 use Rattle.std.proofs.Math.Seq.{take-append_seam}
 use Rattle.std.proofs.lemmas.List.{drop_more, append-nil, drop-append-le, drop-drop, drop-map, map-append, get_or_append_left}
 use Rattle.std.proofs.lemmas.List.Quantifiers.{position-Some}

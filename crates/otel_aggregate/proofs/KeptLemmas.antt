@@ -20,7 +20,7 @@ use Rattle.otel_aggregate.specs.declared.settings.AnySettings.TheVariants as kin
 use Rattle.otel_aggregate.specs.Any.{Form, form_of, aggregate_of, drains_of}
 use Rattle.otel_aggregate.specs.Kept.{form_of_fold, IsWithin, IsWithinIfSome, IsKept, AreKept, IsKeptMap, IsReportedOf, AreShowable, state_of}
 use Rattle.otel_aggregate.specs.Links.{Link}
-use Rattle.otel_aggregate.proofs.ObservedLemmas.{drained-measured, drained-drained, drained-restored}
+use Rattle.otel_aggregate.proofs.ObservedLemmas.{drained-measured, drained-restored}
 
 -- ======== folds ========
 within-either : (s : Bool) (x y : ℤ) (b : Bool) → IsWithin s x → IsWithin s y → IsWithin s (cond b x y)

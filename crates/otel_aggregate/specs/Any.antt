@@ -1,5 +1,5 @@
 -- A stream with any aggregate and either number type.
-use Rattle.std.specs.Prelude.{ℕ, ℤ, pos, ◌≡◌, Bool, true, false, not, cond, ◌&&◌, ◌||◌, is_some, List, [], Option, None}
+use Rattle.std.specs.Prelude.{ℕ, ℤ, pos, ◌≡◌, Bool, true, false, not, cond, ◌&&◌, ◌||◌, is_some, List, [], None}
 use Rattle.std.specs.Bool.{beq}
 use Rattle.std.specs.Int.{cast_unsigned, w64}
 use Rattle.otel_common.specs.declared.attributes.KeyValue.{KeyValue}
@@ -9,10 +9,10 @@ use Rattle.otel_data.specs.declared.aggregated.MetricData.{MetricData}
 use Rattle.otel_data.specs.declared.aggregated.MetricData.TheVariants as metric
 use Rattle.otel_data.specs.declared.numbers.NumberValue.{NumberValue}
 use Rattle.otel_data.specs.declared.numbers.NumberValue.TheVariants as number
-use Rattle.otel_model_stream.specs.Sets.{AttributeSet, none_set}
+use Rattle.otel_model_stream.specs.Sets.{none_set}
 use Rattle.otel_model_stream.specs.Folds.{Aggregate, Sum, LastValue, Histogram, Amount}
 use Rattle.otel_model_stream.specs.Entries.{Table, Point}
-use Rattle.otel_model_stream.specs.Events.{Handles, held_by}
+use Rattle.otel_model_stream.specs.Events.{held_by}
 use Rattle.otel_model_stream.specs.Maps.{draining_points}
 use Rattle.otel_model_stream.specs.Data.{natural_of, signed_of}
 use Rattle.otel_aggregate.specs.value_map.Numbers.{without_handles}

@@ -1,6 +1,6 @@
 -- A stream of observed sums: values that are already sums when they are observed (Metrics SDK, "Asynchronous Counter"
 -- and "MetricReader").
-use Rattle.std.specs.Prelude.{ℕ, ℤ, Bool, false, cond, List, [], map, Option, None, Some}
+use Rattle.std.specs.Prelude.{ℕ, ℤ, Bool, cond, List, [], map, Option, None, Some}
 use Rattle.otel_common.specs.declared.attributes.KeyValue.{KeyValue}
 use Rattle.otel_data.specs.declared.sums.Sum.{Sum}
 use Rattle.otel_model_stream.specs.Sets.{AllowList}

@@ -12,7 +12,7 @@ use Rattle.otel_common.specs.Equality.{set_eq}
 use Rattle.otel_model_stream.specs.Sets.{AttributeSet, none_set, over_set}
 use Rattle.otel_aggregate.specs.value_map.Slots.{Kept, Look, SameLook, Keyed, with_slot, entry_of, entry_at, table_at}
 use Rattle.otel_aggregate.specs.value_map.Keyed.{Fits, Links, IsConsistent, IsNew, IsSpelling, is_lasting, is_counted, with_spelling}
-use Rattle.otel_aggregate.specs.value_map.Numbers.{number_of, KeepNumbers}
+use Rattle.otel_aggregate.specs.value_map.Numbers.{KeepNumbers}
 use Rattle.otel_aggregate.proofs.value_map.KeyedLemmas.{set_eq-self, set_eq_equiv, same_number, entries-same, fits-as, linked-set}
 use Rattle.otel_aggregate.proofs.value_map.SlotLemmas.{any_none}
 

@@ -1,10 +1,8 @@
 -- The entries of a table, one after another.
-use Rattle.std.proofs.Common.{ℕ, suc, ◌+◌, ◌≤◌, ◌≡◌, ◌||◌, Bool, true, false, cond, List, [], ◌∷◌, ◌++◌, Option, Some, None, is_some, map, filter, length, refl, ap, ◌∙◌, arith}
-use Rattle.std.proofs.lemmas.List.{append_assoc, map-append}
+use Rattle.std.proofs.Common.{suc, ◌+◌, ◌≤◌, ◌≡◌, ◌||◌, Bool, true, false, cond, List, [], ◌∷◌, Option, Some, None, is_some, map, filter, length, refl, arith}
 use Rattle.std.specs.Option.{option_map}
-use Rattle.otel_model_stream.specs.Sets.{AttributeSet}
 use Rattle.otel_model_stream.specs.Entries.{Entry, Point, point_of_entry, number_counted}
-use Rattle.otel_aggregate.specs.value_map.Slots.{Kept, Look, Keyed, entry_at, number_updated}
+use Rattle.otel_aggregate.specs.value_map.Slots.{Look, Keyed, entry_at, number_updated}
 
 pub is_some-map : {X Y : Type 0} (f : X → Y) (o : Option X) → is_some (option_map f o) ≡ is_some o
 is_some-map f None = refl

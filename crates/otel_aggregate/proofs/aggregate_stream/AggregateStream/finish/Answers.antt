@@ -7,7 +7,6 @@ use Rattle.otel_aggregate.specs.value_map.Numbers.{Numbers}
 use Rattle.otel_aggregate.specs.Any.{Form, form_of, aggregate_of}
 use Rattle.otel_aggregate.specs.Kept.{IsKeptMap}
 use Rattle.otel_aggregate.specs.Links.{Link, handles_of, AreHeld}
-use Rattle.otel_aggregate.specs.Streams.{AggregateContents}
 use Rattle.otel_aggregate.proofs.LinkLemmas.{IsLinkedStill, still-left, handles-still, linked-still}
 use Rattle.otel_aggregate.proofs.HandleLemmas.{placed-evicted, held-evicted}
 use Rattle.otel_aggregate.proofs.KeptLemmas.{kept-evicted, reported-none}

@@ -1,10 +1,9 @@
-use Rattle.std.proofs.Common.{◌≡◌, ◌∙◌, refl, ap, sym, subst, List}
+use Rattle.std.proofs.Common.{◌≡◌, ◌∙◌, refl, sym, subst, List}
 use Rattle.std.specs.Prelude.{OnOk, OnErr}
 use Rattle.std.specs.List.{AllByRecursion}
 use Rattle.otel_model_stream.specs.Folds.{Sample}
 use Rattle.otel_model_stream.specs.Maps.{measured_list}
 use Rattle.otel_aggregate.specs.value_map.Contents.{known_of}
-use Rattle.otel_aggregate.specs.value_map.Numbers.{Numbers}
 use Rattle.otel_aggregate.specs.Any.{Form, form_of, aggregate_of, amount_of}
 use Rattle.otel_aggregate.specs.AnyKept.{sample_in}
 use Rattle.otel_aggregate.specs.Kept.{IsWithin, state_of}

@@ -1,6 +1,5 @@
-use Rattle.std.proofs.Common.{Bool, cond, ap, sym, ◌∙◌}
+use Rattle.std.proofs.Common.{ap, sym, ◌∙◌}
 use Rattle.std.proofs.lemmas.List.{map-id}
-use Rattle.otel_common.specs.declared.metrics.Temporality.TheVariants.{Cumulative, Delta}
 use Rattle.otel_aggregate.specs.Any.{observed_in}
 use Rattle.otel_aggregate.specs.Data.{temporality_of}
 use Rattle.otel_aggregate.specs.Observed.{ObservedState, values_now}

@@ -1,7 +1,6 @@
-use Rattle.std.proofs.Common.{◌≡◌, ◌∙◌, List, Some, map, slice_get, ap, subst, sym}
+use Rattle.std.proofs.Common.{◌≡◌, ◌∙◌, List, Some, slice_get, ap, subst, sym}
 use Rattle.indexmap.proofs.CallerLemmas.{keys-with_value_at}
 use Rattle.opentelemetry_sdk.specs.Series.{Numbered}
-use Rattle.opentelemetry_sdk.specs.declared.calls.record_attributes.SharedAttributes.{SharedAttributes}
 use Rattle.opentelemetry_sdk.specs.declared.metrics.shared.series.Series.{Series}
 use Rattle.opentelemetry_sdk.proofs.SeriesLemmas.{lists-kept, list-there}
 use Rattle.opentelemetry_sdk.proofs.metrics.shared.series_table.SeriesTable.share.Goals as goal

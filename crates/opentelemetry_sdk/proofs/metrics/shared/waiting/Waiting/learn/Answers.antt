@@ -1,4 +1,4 @@
-use Rattle.std.proofs.Common.{◌≡◌, ◌∙◌, ◌++◌, List, map, drop, refl, ap, sym}
+use Rattle.std.proofs.Common.{◌∙◌, List, map, drop, ap}
 use Rattle.opentelemetry_sdk.specs.Series.{series}
 use Rattle.opentelemetry_sdk.specs.Waiting.{Waits, HasSeries, record_in}
 use Rattle.opentelemetry_sdk.specs.declared.metrics.shared.series.Series.{Series}

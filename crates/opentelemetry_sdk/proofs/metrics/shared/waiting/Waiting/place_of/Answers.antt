@@ -1,4 +1,4 @@
-use Rattle.std.proofs.Common.{◌≡◌, ◌∙◌, position, ap}
+use Rattle.std.proofs.Common.{◌∙◌, position, ap}
 use Rattle.opentelemetry_sdk.specs.Series.{series, series_eq}
 use Rattle.opentelemetry_sdk.specs.Waiting.{Waits}
 use Rattle.opentelemetry_sdk.proofs.WaitingLemmas.{place-there, place-known, place-unknown}
