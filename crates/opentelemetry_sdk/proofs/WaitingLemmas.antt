@@ -1,7 +1,7 @@
 -- Lists of records that wait.
 use Rattle.std.proofs.Common.{◌⊎◌, inl, inr, Result, Ok, Err, OnOk, OnErr, position, IfSome, OnSome, IfNone, Option, Some, None, cond, true, true≢false, Contains, ◌≡◌, ◌∙◌, zero, suc, ℕ, ◌+◌, ◌-◌, ◌<◌, ◌≤◌, List, [], ◌∷◌, ◌++◌, map, length, get_or, drop, take, refl, sym, ap, subst, arith, length-drop}
 use Rattle.std.proofs.Math.Seq.{take-append_seam}
-use Rattle.std.proofs.lemmas.List.{drop_more, append-nil, drop-append-le, drop-drop, drop-map, map-append, get_or_append_left}
+use Rattle.std.proofs.lemmas.List.{append-nil, drop-drop, drop-map, get_or_append_left}
 use Rattle.std.proofs.lemmas.List.Quantifiers.{position-Some}
 use Rattle.std.proofs.lemmas.Bool.{cases_lt, lt-ltb}
 use Rattle.std.proofs.lemmas.List.Sums.{fails_before_first}
@@ -9,9 +9,6 @@ use Rattle.std.specs.List.{AllByRecursion, position_or_len}
 use Rattle.opentelemetry_sdk.specs.Series.{series, series_eq, series_eq-Decides}
 use Rattle.opentelemetry_sdk.specs.Waiting.{HasSeries, plain, record_in}
 use Rattle.otel_common.specs.declared.faults.Fault.{Fault}
-use Rattle.otel_common.specs.declared.attributes.KeyValue.{KeyValue}
-use Rattle.otel_data.specs.declared.numbers.NumberValue.{NumberValue}
-use Rattle.opentelemetry_sdk.specs.declared.metrics.shared.pending.PendingRecord.TheVariants as pending
 use Rattle.opentelemetry_sdk.specs.declared.metrics.shared.pending.WaitingRecord.{WaitingRecord}
 use Rattle.opentelemetry_sdk.specs.declared.metrics.shared.pending.WaitingRecord.TheVariants as waiting
 use Rattle.opentelemetry_sdk.specs.declared.metrics.shared.series.Series.{Series}
@@ -19,14 +16,6 @@ use Rattle.opentelemetry_sdk.specs.declared.metrics.shared.series.Series.{Series
 -- one is passed
 pub passed : {X Y : Type 0} (f : X → Y) (xs : List X) (n : ℕ) → map f (drop (n + 1) xs) ≡ drop 1 (map f (drop n xs))
 passed f xs n = ap (map f) (sym (drop-drop 1 n xs)) ∙ sym (drop-map f 1 (drop n xs))
-
--- the first that is left
-pub first-of : {X Y : Type 0} (f : X → Y) (xs : List X) (n : ℕ) (d : X) → n < length xs → map f (drop n xs) ≡ f (get_or xs n d) ∷ drop 1 (map f (drop n xs))
-first-of f xs n d lt = ap (map f) (drop_more xs n d lt) ∙ ap (λ ys. f (get_or xs n d) ∷ ys) (passed f xs n)
-
--- one more at the end
-pub one-more : {X Y : Type 0} (f : X → Y) (xs : List X) (n : ℕ) (x : X) → n ≤ length xs → map f (drop n (xs ++ x ∷ [])) ≡ map f (drop n xs) ++ f x ∷ []
-one-more f xs n x le = ap (map f) (drop-append-le n xs (x ∷ []) le) ∙ map-append f (drop n xs) (x ∷ [])
 
 -- those at the front go behind, and are cut off
 pub cut : {X : Type 0} (xs : List X) (n : ℕ) → take (length xs - n) (drop n xs ++ take n xs) ≡ drop n xs
@@ -50,10 +39,6 @@ all-last P (y ∷ xs) x h p = (h.0, all-last P xs x h.1 p)
 -- ======== series ========
 some≢none : {X : Type 0} {x : X} → Some x ≡ None → ⊥
 some≢none e = cc
-
--- a record of a series that stands at a place
-pub record-there : (ss : List Series) (place n : ℕ) (l : List KeyValue) (v : NumberValue) → get_or ss place (series 0 []) ≡ series n l → record_in ss (waiting.Plain place v) ≡ pending.Plain n v l
-record-there ss place n l v is = ap (λ s. plain s (waiting.Plain place v)) is
 
 module _ (q : Series) where
   -- the series that is found is the one that was looked for

@@ -35,10 +35,6 @@ reset-on g v e = by (is_of g e)
 pub drained-measured : (s : AttributeSet) (v : Sample) (m : MapState) → drained_map (measured_map s v m) ≡ drained_map m
 drained-measured s v m = ap (λ (none : Entry). record m { table = record { none = none; entries = [] } }) (reset-on (entry_for s (entries_with_place m.limit m.empty s m.table.entries)) v m.table.none)
 
--- and when it was drained already
-pub drained-drained : (m : MapState) → drained_map (drained_map m) ≡ drained_map m
-drained-drained m = ap (λ f. record m { table = record { none = record m.table.none { updated = false; fold = f }; entries = [] } }) (cleared-cleared m.table.none.fold)
-
 -- a last value is forgotten
 cleared-last : (f : Fold) → form_of_fold f ≡ LastValues → clear_fold f ≡ Last 0
 cleared-last (Total n) e = absurd (cc)
